@@ -1,0 +1,6 @@
+pub mod Graph
+pub mod Opening
+pub mod OpeningLaws
+pub mod Parts
+pub mod Transcript
+pub mod WorkedRows

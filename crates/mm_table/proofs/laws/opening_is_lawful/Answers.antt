@@ -1,0 +1,5 @@
+use Rattle.mm_table.proofs.OpeningLaws.{opening_lawful}
+use Rattle.mm_table.proofs.laws.opening_is_lawful.Goals as goal
+
+pub returns : goal.returns
+returns c = opening_lawful

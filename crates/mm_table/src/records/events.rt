@@ -1,0 +1,37 @@
+ghost use Rattle.std.specs.Prelude.{◌≡◌};
+ghost use Rattle.mm_table.specs.Event.{Gives, begun, acquired};
+
+use super::Records;
+use crate::{Acquired, Key, Refusal};
+
+impl Records {
+    /// A new transaction in the first free slot. Constant time.
+    pub fn begin(&mut self) -> Result<Key, Refusal>
+        ensures { Gives (begun self.old) result self.new }
+    {
+        self.may_begin()?;
+        let key = self.give_process();
+        self.count();
+        Ok(key)
+    }
+
+    /// The key takes a free resource, or waits for its owner. Constant time.
+    pub fn acquire(&mut self, key: Key, resource: u32) -> Result<Acquired, Refusal>
+        ensures { Gives (acquired self.old key resource) result self.new }
+    {
+        self.may_acquire(key, resource)?;
+        let answer = match self.owners[resource as usize] {
+            None => {
+                self.grant(key, resource);
+                Acquired::Granted
+            }
+            Some(holder) => {
+                self.queue(key, resource);
+                let label = self.block(key.process, holder.process);
+                Acquired::Waits { holder, label }
+            }
+        };
+        self.count();
+        Ok(answer)
+    }
+}

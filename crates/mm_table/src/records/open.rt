@@ -1,0 +1,76 @@
+ghost use Rattle.std.specs.Prelude.{◌≡◌, ◌≤◌, ◌<◌, IfOk, map, None};
+ghost use Rattle.std.specs.List.{range_with_len};
+ghost use Rattle.mm_table.specs.Opened.{opening_process};
+ghost use Rattle.mm_table.specs.Event.{Opens};
+
+use super::{Process, Records};
+use crate::{Config, Key, Refusal, Totals};
+use mm_label::Label;
+use std::alloc::{AllocError, Global};
+
+impl Process {
+    /// A process that was never used.
+    fn at_opening(process: u32) -> Process
+        requires { process < 65536 }
+        ensures { result ≡ opening_process process }
+    {
+        let label = Label::new(0, process).unwrap();
+        Process {
+            generation: 1,
+            is_live: false,
+            has_verdict: false,
+            waits_for: None,
+            private: label,
+            public: label,
+        }
+    }
+}
+
+/// The processes of a table that was just opened.
+fn opening_processes(alloc: Global, count: u32) -> Result<Vec<Process>, AllocError>
+    requires { count ≤ 4096 }
+    ensures { IfOk result (λ v. v.items ≡ map opening_process (range_with_len 0 count)) }
+{
+    (0..count)
+        .map(|process| Process::at_opening(process))
+        .collect(alloc)
+}
+
+/// The owners of a table that was just opened: none.
+fn no_owners(alloc: Global, count: u32) -> Result<Vec<Option<Key>>, AllocError>
+    ensures { IfOk result (λ v. v.items ≡ map (λ _. None) (range_with_len 0 count)) }
+{
+    (0..count).map(|_| None).collect(alloc)
+}
+
+impl Records {
+    /// The opening of this configuration. Takes memory once for each part.
+    pub fn open(alloc: Global, config: Config) -> Result<Records, Refusal>
+        ensures { Opens config result }
+    {
+        if !config.is_in_range() {
+            return Err(Refusal::BadConfig);
+        }
+        let Ok(processes) = opening_processes(alloc, config.processes) else {
+            return Err(Refusal::Memory);
+        };
+        let Ok(owners) = no_owners(alloc, config.resources) else {
+            return Err(Refusal::Memory);
+        };
+        let Ok(waits) = Vec::with_capacity(alloc, config.processes as usize) else {
+            return Err(Refusal::Memory);
+        };
+        Ok(Records {
+            config,
+            processes,
+            unused: 0,
+            owners,
+            waits,
+            totals: Totals {
+                accepted: 0,
+                verdicts: 0,
+                aborts: 0,
+            },
+        })
+    }
+}

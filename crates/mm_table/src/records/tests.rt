@@ -1,0 +1,96 @@
+ghost use Rattle.std.specs.Prelude.{◌≡◌, ◌<◌, IsTrue, SomeIff};
+ghost use Rattle.mm_table.specs.TableState.{is_live, is_waiting};
+ghost use Rattle.mm_table.specs.Change.{label_against, block_fits};
+ghost use Rattle.mm_table.specs.Event.{counts_exhausted, allowed, begin_tests, key_tests, acquire_tests};
+
+use super::Records;
+use crate::{Key, Refusal};
+use mm_label::{Label, fresh};
+
+/// Where the accepted or the verdict count is this or more, every event is refused.
+const COUNT_LIMIT: u64 = 1 << 62;
+
+impl Records {
+    fn counts_exhausted(&self) -> bool
+        ensures { result ≡ counts_exhausted self.now }
+    {
+        self.totals.accepted >= COUNT_LIMIT || self.totals.verdicts >= COUNT_LIMIT
+    }
+
+    pub(super) fn is_live(&self, key: Key) -> bool
+        ensures live { result ≡ is_live self.now key }
+        ensures in_range { IsTrue result → key.process < self.now.config.processes }
+    {
+        match self.processes.get(key.process as usize) {
+            Some(process) => process.is_live && process.generation == key.generation,
+            None => false,
+        }
+    }
+
+    fn is_waiting(&self, process: u32) -> bool
+        requires { process < self.now.config.processes }
+        ensures { result ≡ is_waiting self.now process }
+    {
+        self.processes[process as usize].waits_for.is_some()
+    }
+
+    /// The label that `process` gets by waiting for `holder`; `None` past the label limit.
+    pub(super) fn label_against(&self, process: u32, holder: u32) -> Option<Label>
+        requires process { process < self.now.config.processes }
+        requires holder { holder < self.now.config.processes }
+        ensures { SomeIff result (IsTrue (block_fits self.now process holder)) (label_against self.now process holder) }
+    {
+        let own = self.processes[process as usize].public;
+        let shown = self.processes[holder as usize].public;
+        fresh(own, shown, process, self.config.label_limit)
+    }
+
+    /// The tests of `begin`, in their order.
+    pub(super) fn may_begin(&self) -> Result<(), Refusal>
+        ensures { result ≡ allowed (begin_tests self.now) }
+    {
+        if self.counts_exhausted() {
+            return Err(Refusal::CountsExhausted);
+        }
+        if self.unused == self.config.processes {
+            return Err(Refusal::Full);
+        }
+        Ok(())
+    }
+
+    /// The tests of every call with a key, in their order.
+    fn may_call(&self, key: Key) -> Result<(), Refusal>
+        ensures { result ≡ allowed (key_tests self.now key) }
+    {
+        if self.counts_exhausted() {
+            return Err(Refusal::CountsExhausted);
+        }
+        if !self.is_live(key) {
+            return Err(Refusal::Stale);
+        }
+        Ok(())
+    }
+
+    /// The tests of `acquire`, in their order.
+    pub(super) fn may_acquire(&self, key: Key, resource: u32) -> Result<(), Refusal>
+        ensures { result ≡ allowed (acquire_tests self.now key resource) }
+    {
+        self.may_call(key)?;
+        if resource >= self.config.resources {
+            return Err(Refusal::NoResource);
+        }
+        if self.is_waiting(key.process) {
+            return Err(Refusal::Waiting);
+        }
+        let Some(holder) = self.owners[resource as usize] else {
+            return Ok(());
+        };
+        if holder.process == key.process {
+            return Err(Refusal::AlreadyOwns);
+        }
+        if self.label_against(key.process, holder.process).is_none() {
+            return Err(Refusal::LabelsExhausted);
+        }
+        Ok(())
+    }
+}

@@ -1,0 +1,66 @@
+ghost use Rattle.std.specs.Prelude.{◌≡◌};
+ghost use Rattle.mm_table.specs.Event.{Opens, Step, Begin, Acquire, state_of};
+
+use crate::records::Records;
+use crate::{Acquired, Config, Key, Refusal, State};
+use std::alloc::Global;
+use std::marker::Model;
+
+/// A table of exclusive locks for transactions.
+///
+/// A contract sees it as a `TableState` (`specs/TableState.antt`). Each call is one event, or a read, by the definitions of
+/// `specs/Event.antt`: these say the answer, the refusal and the new state. A refused call changes nothing, and the refusals
+/// that a call can give stand in the order in which they are tested. No call but `open` takes memory.
+#[derive(Debug, Drop)]
+pub struct Table {
+    records: Records,
+}
+
+impl Model for Table {
+    ghost use Rattle.mm_table.specs.TableState.{TableState};
+
+    ghost Value = { TableState };
+
+    ghost view = { λ t. t.records };
+}
+
+impl Table {
+    /// A table of this configuration, in which no process is live and no resource has an owner.
+    ///
+    /// Refused as `BadConfig` exactly where a number is out of its range, and as `Memory` only where a request for memory was
+    /// refused. This is the one call that takes memory: once for the processes, once for the resources and once for the waits.
+    pub fn open(alloc: Global, config: Config) -> Result<Table, Refusal>
+        ensures { Opens config result }
+    {
+        let records = Records::open(alloc, config)?;
+        Ok(Table { records })
+    }
+
+    /// Starts a transaction in the first free process, and answers its key. The labels of the process stay as they are.
+    ///
+    /// Refused as `CountsExhausted` or `Full`. Constant time.
+    pub fn begin(&mut self) -> Result<Key, Refusal>
+        ensures { Step Begin self.old result self.new }
+    {
+        self.records.begin()
+    }
+
+    /// Grants a free resource; for an owned one the transaction waits, last in its queue, with a fresh label against the owner.
+    ///
+    /// Refused as `CountsExhausted`, `Stale`, `NoResource`, `Waiting`, `AlreadyOwns` or `LabelsExhausted`. Constant time.
+    /// That a block makes a label greater than both is Mitchell and Merritt's rule; the formula is this project's.
+    pub fn acquire(&mut self, key: Key, resource: u32) -> Result<Acquired, Refusal>
+        ensures { Step (Acquire key resource) self.old result self.new }
+    {
+        self.records.acquire(key, resource)
+    }
+
+    /// What the transaction does, and its two labels.
+    ///
+    /// Refused as `Stale`. Changes nothing and is not counted. Constant time.
+    pub fn state(&self, key: Key) -> Result<State, Refusal>
+        ensures { result ≡ state_of self.now key }
+    {
+        self.records.state(key)
+    }
+}

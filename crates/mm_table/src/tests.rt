@@ -1,0 +1,72 @@
+use super::*;
+use std::test::Fail;
+
+fn config(processes: u32, resources: u32) -> Config {
+    Config {
+        processes,
+        resources,
+        label_limit: 100,
+        generation_limit: 9,
+    }
+}
+
+#[test]
+fn two_transactions_wait_for_each_other(rt: HostRuntime) -> Result<(), Fail> {
+    let mut table = Table::open(rt.alloc(), config(4, 4))?;
+    let first = table.begin()?;
+    let second = table.begin()?;
+    assert_eq!(rt;
+        format!(in rt.alloc(); "{first} {second}")?.as_str(),
+        "0.1 1.1"
+    );
+    assert_eq!(rt; table.acquire(first, 0)?, Acquired::Granted);
+    assert_eq!(rt; table.acquire(second, 1)?, Acquired::Granted);
+    let label = Label::new(1, 0).ok_or("in range")?;
+    assert_eq!(rt;
+        table.acquire(first, 1)?,
+        Acquired::Waits {
+            holder: second,
+            label
+        }
+    );
+    let state = State {
+        mode: Mode::Waiting(1),
+        private: label,
+        public: label,
+    };
+    assert_eq!(rt; table.state(first)?, state);
+    assert_eq!(rt; table.acquire(first, 2), Err(Refusal::Waiting));
+    Ok(())
+}
+
+#[test]
+fn the_largest_table_opens_and_fills(rt: HostRuntime) -> Result<(), Fail> {
+    let mut table = Table::open(
+        rt.alloc(),
+        Config {
+            processes: Config::MOST_PROCESSES,
+            resources: Config::MOST_RESOURCES,
+            label_limit: Config::GREATEST_LABEL_LIMIT,
+            generation_limit: u32::MAX,
+        },
+    )?;
+    for _ in 0..Config::MOST_PROCESSES {
+        let key = table.begin()?;
+        table.acquire(key, 65535)?;
+    }
+    assert_eq!(rt; table.begin(), Err(Refusal::Full));
+    Ok(())
+}
+
+#[test]
+fn each_refusal_has_its_number_and_name(rt: HostRuntime) -> Result<(), Fail> {
+    assert_eq!(rt;
+        (Refusal::Stale.number(), Refusal::Stale.name()),
+        (1, "Stale")
+    );
+    assert_eq!(rt; Refusal::CountsExhausted.number(), 15);
+    assert!(rt;
+        Table::open(rt.alloc(), config(0, 1)).is_err_and(|refusal| refusal == Refusal::BadConfig)
+    );
+    Ok(())
+}
