@@ -1,4 +1,5 @@
 pub mod Graph
+pub mod LabelOrder
 pub mod Opening
 pub mod OpeningLaws
 pub mod Parts

@@ -41,6 +41,7 @@ pub record PartsFit (config : Config) (processes : List Process) (unused : ℕ) 
   pub owners_sized : length owners ≡ config.resources
   pub unused_in_range : unused ≤ config.processes
   pub owner_in_range : (r : ℕ) (k : Key) → slice_index_or owners r None ≡ Some k → k.process < config.processes
+  pub waited_in_range : (n r : ℕ) → slice_index_or (map (λ p. p.waits_for) processes) n None ≡ Some r → r < config.resources
   pub waiting : (n : ℕ) → slice_index_or (map (λ p. p.waits_for) processes) n None ≡ waited_for (map wait_kept waits) n
   pub room : length waits + sum_by idle processes ≡ config.processes
 

@@ -1,4 +1,5 @@
 pub mod Graph
+pub mod Key
 pub mod Refusal
 pub mod TableState
 pub mod Change

@@ -1,3 +1,6 @@
+ghost use Rattle.std.specs.Prelude.{Some};
+ghost use Rattle.mm_table.specs.Key.{key_text};
+
 use std::fmt;
 
 /// Names a transaction: a process, which is a slot of the table, and the generation in which the slot is used.
@@ -9,10 +12,11 @@ pub struct Key {
     pub generation: u32,
 }
 
+/// Writes the process, a dot and the generation, both in decimal.
 impl fmt::Display for Key {
+    ghost output = { λ key. Some (key_text key) };
+
     fn fmt<W: fmt::Write>(&self, f: &mut fmt::Formatter<W>) -> fmt::Result {
-        let process = self.process;
-        let generation = self.generation;
-        write!(f, "{process}.{generation}")
+        write!(f, "{}.{}", self.process, self.generation)
     }
 }

@@ -1,8 +1,8 @@
 ghost use Rattle.std.specs.Prelude.{◌≡◌};
-ghost use Rattle.mm_table.specs.Event.{Opens, Step, Begin, Acquire, state_of};
+ghost use Rattle.mm_table.specs.Event.{Opens, Step, Begin, Acquire, Transmit, state_of};
 
 use crate::records::Records;
-use crate::{Acquired, Config, Key, Refusal, State};
+use crate::{Acquired, Config, Key, Refusal, State, Transmitted};
 use std::alloc::Global;
 use std::marker::Model;
 
@@ -53,6 +53,15 @@ impl Table {
         ensures { Step (Acquire key resource) self.old result self.new }
     {
         self.records.acquire(key, resource)
+    }
+
+    /// The waiting transaction takes over its holder's public label where that is greater; its private label stays.
+    ///
+    /// Refused as `CountsExhausted`, `Stale` or `NotWaiting`. Constant time. The rule is Mitchell and Merritt's.
+    pub fn transmit(&mut self, key: Key) -> Result<Transmitted, Refusal>
+        ensures { Step (Transmit key) self.old result self.new }
+    {
+        self.records.transmit(key)
     }
 
     /// What the transaction does, and its two labels.

@@ -1,6 +1,6 @@
 ghost use Rattle.std.specs.Prelude.{◌≡◌, ◌≢◌, ◌<◌, ◌+◌, ◌^◌, ◌∷◌, ◌++◌, [], IsTrue, None, Some, true, drop, slice_set, slice_index};
 ghost use Rattle.mm_table.specs.TableState.{key_of, wait_of};
-ghost use Rattle.mm_table.specs.Change.{block, block_fits, label_against};
+ghost use Rattle.mm_table.specs.Change.{block, block_fits, label_against, greater_label};
 
 use super::{Records, WaitRecord};
 use crate::Key;
@@ -38,6 +38,7 @@ impl Records {
     /// Appends a wait.
     pub(super) fn queue(&mut self, key: Key, resource: u32)
         requires key { key.process < self.old.config.processes }
+        requires resource { resource < self.old.config.resources }
         requires idle { wait_of self.old key.process ≡ None }
         ensures { self.new ≡ record self.old { waits = self.old.waits ++ record { key = key; resource = resource } ∷ [] } }
     {
@@ -58,6 +59,26 @@ impl Records {
         blocked.private = label;
         blocked.public = label;
         label
+    }
+
+    /// The public label of the holder of `process`, where it is greater than the one of `process`.
+    pub(super) fn greater_label(&self, process: u32) -> Option<Label>
+        requires { process < self.now.config.processes }
+        ensures { result ≡ greater_label self.now process }
+    {
+        let waiting = &self.processes[process as usize];
+        let resource = waiting.waits_for?;
+        let holder = self.owners[resource as usize]?;
+        let shown = self.processes[holder.process as usize].public;
+        (waiting.public < shown).then_some(shown)
+    }
+
+    /// Makes this the public label of `process`.
+    pub(super) fn show(&mut self, process: u32, label: Label)
+        requires { process < self.old.config.processes }
+        ensures { self.new ≡ record self.old { public = slice_set self.old.public process label } }
+    {
+        self.processes[process as usize].public = label;
     }
 
     /// Counts an accepted event.

@@ -1,8 +1,8 @@
 ghost use Rattle.std.specs.Prelude.{◌≡◌};
-ghost use Rattle.mm_table.specs.Event.{Gives, begun, acquired};
+ghost use Rattle.mm_table.specs.Event.{Gives, begun, acquired, transmitted};
 
 use super::Records;
-use crate::{Acquired, Key, Refusal};
+use crate::{Acquired, Key, Refusal, Transmitted};
 
 impl Records {
     /// A new transaction in the first free slot. Constant time.
@@ -30,6 +30,22 @@ impl Records {
                 let label = self.block(key.process, holder.process);
                 Acquired::Waits { holder, label }
             }
+        };
+        self.count();
+        Ok(answer)
+    }
+
+    /// The waiting transaction takes over its holder's public label where that is greater. Constant time.
+    pub fn transmit(&mut self, key: Key) -> Result<Transmitted, Refusal>
+        ensures { Gives (transmitted self.old key) result self.new }
+    {
+        self.may_call_waiting(key)?;
+        let answer = match self.greater_label(key.process) {
+            Some(label) => {
+                self.show(key.process, label);
+                Transmitted::Raised(label)
+            }
+            None => Transmitted::Still,
         };
         self.count();
         Ok(answer)

@@ -1,7 +1,7 @@
-ghost use Rattle.std.specs.Prelude.{◌≡◌, ◌<◌, IsTrue, SomeIff};
+ghost use Rattle.std.specs.Prelude.{◌≡◌, ◌<◌, IsTrue, OnOk, SomeIff};
 ghost use Rattle.mm_table.specs.TableState.{is_live, is_waiting};
 ghost use Rattle.mm_table.specs.Change.{label_against, block_fits};
-ghost use Rattle.mm_table.specs.Event.{counts_exhausted, allowed, begin_tests, key_tests, acquire_tests};
+ghost use Rattle.mm_table.specs.Event.{counts_exhausted, allowed, begin_tests, key_tests, waiting_tests, acquire_tests};
 
 use super::Records;
 use crate::{Key, Refusal};
@@ -60,13 +60,26 @@ impl Records {
 
     /// The tests of every call with a key, in their order.
     fn may_call(&self, key: Key) -> Result<(), Refusal>
-        ensures { result ≡ allowed (key_tests self.now key) }
+        ensures tests { result ≡ allowed (key_tests self.now key) }
+        ensures in_range { OnOk result (key.process < self.now.config.processes) }
     {
         if self.counts_exhausted() {
             return Err(Refusal::CountsExhausted);
         }
         if !self.is_live(key) {
             return Err(Refusal::Stale);
+        }
+        Ok(())
+    }
+
+    /// The tests of every call that only a waiting transaction may make, in their order.
+    pub(super) fn may_call_waiting(&self, key: Key) -> Result<(), Refusal>
+        ensures tests { result ≡ allowed (waiting_tests self.now key) }
+        ensures in_range { OnOk result (key.process < self.now.config.processes) }
+    {
+        self.may_call(key)?;
+        if !self.is_waiting(key.process) {
+            return Err(Refusal::NotWaiting);
         }
         Ok(())
     }

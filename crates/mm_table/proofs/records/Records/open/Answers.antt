@@ -19,6 +19,9 @@ invariant_of-result c = record {
         let same = ap (λ owners. slice_index_or owners r None) c.in-Ok-no_owners.ensures in
         let never : None ≡ Some k = sym none ∙ sym same ∙ owned in
         cc;
+    waited_in_range = λ n r waits.
+        let never : None ≡ Some r = sym (none_waits 0 c.args.config.processes n) ∙ ap (λ processes. slice_index_or (map (λ p. p.waits_for) processes) n None) (sym c.in-Ok.ensures) ∙ waits in
+        cc;
     waiting = λ n. ap (λ processes. slice_index_or (map (λ p. p.waits_for) processes) n None) c.in-Ok.ensures ∙ none_waits 0 c.args.config.processes n ∙ ap (λ waits. waited_for (map wait_kept waits) n) (sym c.in-Ok-with_capacity.ensures.items);
     room = let idle_all : sum_by idle c.in-Ok.processes.items ≡ c.args.config.processes = ap (sum_by idle) c.in-Ok.ensures ∙ all_idle 0 c.args.config.processes in
         let waits : length c.in-Ok-with_capacity.waits.items ≡ 0 = ap length c.in-Ok-with_capacity.ensures.items in

@@ -13,7 +13,7 @@ pub invariant_of-self : goal.invariant_of-self
 invariant_of-self c = let inside = c.self.inside in record {
   parts = rw c.push_reserved.ensures.items (queued_fits inside.config inside.processes.items inside.unused inside.owners.items inside.waits.items (record { key = c.args.key; resource = c.args.resource })
       c.index_mut.result.now _ (process_within c.self.invariant.parts c.args.key.process (in_range c)) c.index_mut.ensures.value
-      (waits_for_read c.self.invariant.parts c.args.key.process c.index_mut.result.now (in_range c) c.index_mut.ensures.value ∙ ap (λ s. wait_of s c.args.key.process) c.self.view_is ∙ c.requires.idle) refl c.self.invariant.parts);
+      (waits_for_read c.self.invariant.parts c.args.key.process c.index_mut.result.now (in_range c) c.index_mut.ensures.value ∙ ap (λ s. wait_of s c.args.key.process) c.self.view_is ∙ c.requires.idle) refl (rw (ap (λ s. s.config.resources) c.self.view_is) c.requires.resource) c.self.invariant.parts);
   capacity = rw c.push_reserved.ensures.capacity c.self.invariant.capacity;
 }
 
