@@ -1,6 +1,6 @@
 -- What a table replies to calls, one after another, by the definitions alone.
 use Rattle.std.proofs.Common.{ℕ, List, [], ◌∷◌, Option, Result}
-use Rattle.mm_table.specs.declared.key.Key.{Key}
+use Rattle.mm_arena.specs.declared.key.Key.{Key}
 use Rattle.mm_table.specs.declared.refusal.Refusal.{Refusal}
 use Rattle.mm_table.specs.declared.reply.Acquired.{Acquired}
 use Rattle.mm_table.specs.declared.reply.Released.{Released}

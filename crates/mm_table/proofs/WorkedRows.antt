@@ -1,7 +1,7 @@
 -- Worked examples, computed on the definitions.
 use Rattle.std.proofs.Common.{◌≡◌, ℕ, [], ◌∷◌, Some, None, Ok, Err, refl}
 use Rattle.mm_label.specs.Label.{Label}
-use Rattle.mm_table.specs.declared.key.Key.{Key}
+use Rattle.mm_arena.specs.declared.key.Key.{Key}
 use Rattle.mm_table.specs.declared.refusal.Refusal.TheVariants.{Stale, NoResource, Waiting, AlreadyOwns, NotOwner, Full, LabelsExhausted, NotWaiting, NoVerdict, Carried}
 use Rattle.mm_table.specs.declared.reply.Acquired.TheVariants.{Granted, Waits}
 use Rattle.mm_table.specs.declared.reply.Released.TheVariants.{Free, To}

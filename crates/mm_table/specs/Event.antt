@@ -3,7 +3,7 @@ use Rattle.std.specs.Prelude.{◌≡◌, ℕ, ◌+◌, ◌^◌, ◌<◌, Bool, t
 use Rattle.std.specs.Option.{option_map_or}
 use Rattle.mm_label.specs.Label.{label_eq}
 use Rattle.mm_table.specs.declared.config.Config.{Config}
-use Rattle.mm_table.specs.declared.key.Key.{Key}
+use Rattle.mm_arena.specs.declared.key.Key.{Key}
 use Rattle.mm_table.specs.declared.refusal.Refusal.{Refusal}
 use Rattle.mm_table.specs.declared.refusal.Refusal.TheVariants.{Stale, NoResource, Waiting, AlreadyOwns, NotOwner, Full, LabelsExhausted, NotWaiting, NoVerdict, Memory, BadConfig, Carried, UnderVerdict, CountsExhausted}
 use Rattle.mm_table.specs.declared.reply.Acquired.{Acquired}

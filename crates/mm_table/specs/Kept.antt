@@ -1,51 +1,70 @@
 -- What the fields of `Records` mean, and what holds of them.
-use Rattle.std.specs.Prelude.{◌≡◌, ℕ, ◌+◌, ◌-◌, ◌<◌, ◌≤◌, List, length, Option, None, Some, if◌then◌else◌, is_some, map, sum_by, slice_index_or, vec_capacity}
-use Rattle.std.specs.List.{range_with_len}
+use Rattle.std.specs.Prelude.{◌≡◌, ℕ, ◌+◌, ◌<◌, ◌≤◌, List, length, Bool, false, Option, None, Some, if◌then◌else◌, is_some, option_and_then, map, sum_by, slice_index_or, vec_capacity}
+use Rattle.std.specs.List.{AllByRecursion}
+use Rattle.std.specs.Option.{option_map_or}
+use Rattle.mm_arena.specs.declared.key.Key.{Key}
+use Rattle.mm_arena.specs.Slots.{Slots, Place, IsLive}
+use Rattle.mm_label.specs.Label.{opening_label}
 use Rattle.mm_table.specs.declared.config.Config.{Config}
-use Rattle.mm_table.specs.declared.key.Key.{Key}
 use Rattle.mm_table.specs.declared.reply.Totals.{Totals}
 use Rattle.mm_table.specs.declared.records.Records.TheInside.{Inside}
-use Rattle.mm_table.specs.declared.records.Process.{Process}
+use Rattle.mm_table.specs.declared.records.Transaction.{Transaction}
+use Rattle.mm_table.specs.declared.records.Labels.{Labels}
 use Rattle.mm_table.specs.declared.records.WaitRecord.{WaitRecord}
+use Rattle.mm_table.specs.Graph.{NoRepeat}
 use Rattle.mm_table.specs.TableState.{TableState, Wait, IsInRange, waited_for}
 
 abbrev pub wait_kept : WaitRecord → Wait
 wait_kept w = record { key = w.key; resource = w.resource }
 
+-- both labels of process i at first
+abbrev pub opening_labels : ℕ → Labels
+opening_labels i = record { private = opening_label i; public = opening_label i }
+
+-- whether the transaction in a slot has a verdict, and what it waits for
+abbrev pub verdict_in : Place Transaction → Bool
+verdict_in p = option_map_or (λ t. t.has_verdict) p.value false
+
+abbrev pub wait_in : Place Transaction → Option ℕ
+wait_in p = option_and_then (λ t. t.waits_for) p.value
+
+-- 1 for a slot without a waiting transaction
+abbrev pub idle : Place Transaction → ℕ
+idle p = if is_some (wait_in p) then 0 else 1
+
 -- the state that the parts of a table stand for
-abbrev pub state_of_parts : Config → List Process → ℕ → List (Option Key) → List WaitRecord → Totals → TableState
-state_of_parts config processes unused owners waits totals = record {
+abbrev pub state_of_parts : Config → Slots Transaction → List Labels → List (Option Key) → List WaitRecord → Totals → TableState
+state_of_parts config slots labels owners waits totals = record {
   config = config;
-  generations = map (λ p. p.generation) processes;
-  live = map (λ p. p.is_live) processes;
-  free = range_with_len unused (config.processes - unused);
+  generations = map (λ p. p.generation) slots.places;
+  live = map (λ p. is_some p.value) slots.places;
+  free = slots.free;
   owners = owners;
   waits = map wait_kept waits;
-  private = map (λ p. p.private) processes;
-  public = map (λ p. p.public) processes;
-  verdicts = map (λ p. p.has_verdict) processes;
+  private = map (λ l. l.private) labels;
+  public = map (λ l. l.public) labels;
+  verdicts = map verdict_in slots.places;
   totals = totals;
 }
 
 abbrev pub state_kept : Inside → TableState
-state_kept t = state_of_parts t.config t.processes.items t.unused t.owners.items t.waits.items t.totals
+state_kept t = state_of_parts t.config t.transactions t.labels.items t.owners.items t.waits.items t.totals
 
--- 1 for a process that does not wait
-abbrev pub idle : Process → ℕ
-idle p = if is_some p.waits_for then 0 else 1
-
--- Each process knows what it waits for. The waits and the processes that do not wait are as many as the processes.
-pub record PartsFit (config : Config) (processes : List Process) (unused : ℕ) (owners : List (Option Key)) (waits : List WaitRecord) : Type 0 where
+-- Each transaction knows what it waits for. The waits and the slots without a waiting transaction are as many as the processes.
+pub record PartsFit (config : Config) (slots : Slots Transaction) (labels : List Labels) (owners : List (Option Key)) (waits : List WaitRecord) : Type 0 where
   pub config_in_range : IsInRange config
-  pub processes_sized : length processes ≡ config.processes
+  pub slots_sized : length slots.places ≡ config.processes
+  pub labels_sized : length labels ≡ config.processes
   pub owners_sized : length owners ≡ config.resources
-  pub unused_in_range : unused ≤ config.processes
+  pub last_generation : slots.limit ≡ config.generation_limit
   pub owner_in_range : (r : ℕ) (k : Key) → slice_index_or owners r None ≡ Some k → k.process < config.processes
-  pub waited_in_range : (n r : ℕ) → slice_index_or (map (λ p. p.waits_for) processes) n None ≡ Some r → r < config.resources
-  pub waiting : (n : ℕ) → slice_index_or (map (λ p. p.waits_for) processes) n None ≡ waited_for (map wait_kept waits) n
-  pub room : length waits + sum_by idle processes ≡ config.processes
+  pub wait_in_range : (n r : ℕ) → slice_index_or (map wait_in slots.places) n None ≡ Some r → r < config.resources
+  pub waiting : (n : ℕ) → slice_index_or (map wait_in slots.places) n None ≡ waited_for (map wait_kept waits) n
+  pub waits_once : NoRepeat (map (λ w. w.key.process) waits)
+  pub waits_live : AllByRecursion (λ w. IsLive slots w.key) waits
+  pub room : length waits + sum_by idle slots.places ≡ config.processes
 
 -- and there is room for the wait of each process
 pub record IsKept (t : Inside) : Type 0 where
-  pub parts : PartsFit t.config t.processes.items t.unused t.owners.items t.waits.items
+  pub parts : PartsFit t.config t.transactions t.labels.items t.owners.items t.waits.items
   pub capacity : t.config.processes ≤ vec_capacity t.waits

@@ -1,9 +1,8 @@
 pub mod Graph
-pub mod Key
 pub mod Refusal
 pub mod TableState
 pub mod Change
 pub mod Event
 pub mod Laws
+pub mod Queue
 pub mod Kept
-pub mod Opened

@@ -4,7 +4,7 @@ use Rattle.std.specs.List.{range_with_len}
 use Rattle.std.specs.Option.{option_map_or}
 use Rattle.mm_label.specs.Label.{Label, opening_label, word_of}
 use Rattle.mm_table.specs.declared.config.Config.{Config}
-use Rattle.mm_table.specs.declared.key.Key.{Key}
+use Rattle.mm_arena.specs.declared.key.Key.{Key}
 use Rattle.mm_table.specs.declared.reply.Totals.{Totals}
 use Rattle.mm_table.specs.Graph.{Graph}
 

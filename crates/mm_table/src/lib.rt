@@ -1,13 +1,12 @@
 //! A table of exclusive locks for transactions, which finds and breaks deadlocks by labels and searches for no cycle.
 //!
-//! - `config`, `key`, `refusal`, `reply`: the plain data of calls.
+//! - `config`, `refusal`, `reply`: the plain data of calls; keys are those of mm_arena, labels those of mm_label.
 //! - `table`: `Table`, with one method for each event and each read.
 //! - `records`: how a table is kept. Nothing else depends on it.
 //! - `laws`: facts about all tables, as the contracts of functions that do nothing.
 #![tactic(auto)]
 
 mod config;
-mod key;
 pub mod laws;
 mod records;
 mod refusal;
@@ -17,7 +16,7 @@ mod table;
 mod tests;
 
 pub use config::Config;
-pub use key::Key;
+pub use mm_arena::Key;
 pub use mm_label::Label;
 pub use refusal::Refusal;
 pub use reply::{Acquired, Detected, Mode, Released, Settled, State, Totals, Transmitted};

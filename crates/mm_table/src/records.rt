@@ -1,20 +1,28 @@
-use crate::{Acquired, Config, Key, Refusal, State, Totals};
+use crate::{Config, Key, Totals};
+use mm_arena::Arena;
 use mm_label::Label;
 use std::marker::Model;
+
+
 
 mod changes;
 mod events;
 mod open;
+mod queues;
+
 mod reads;
 mod tests;
 
-/// What is kept of a process.
+/// A live transaction.
 #[derive(Clone, Copy, Debug)]
-struct Process {
-    generation: u32,
-    is_live: bool,
-    has_verdict: bool,
+struct Transaction {
     waits_for: Option<u32>,
+    has_verdict: bool,
+}
+
+/// The labels of a process, which outlive its transactions.
+#[derive(Clone, Copy, Debug)]
+struct Labels {
     private: Label,
     public: Label,
 }
@@ -27,12 +35,11 @@ struct WaitRecord {
 }
 
 /// How a table is kept. Each event is one step by its definition; the laws of reached states are not known here.
-#[derive(Debug, Drop)]
+#[derive(Drop)]
 pub struct Records {
     config: Config,
-    processes: Vec<Process>,
-    /// The first process that was never used. It and those after it are free, in rising order.
-    unused: u32,
+    transactions: Arena<Transaction>,
+    labels: Vec<Labels>,
     owners: Vec<Option<Key>>,
     /// In order of arrival. There is room for each process.
     waits: Vec<WaitRecord>,

@@ -1,8 +1,8 @@
 ghost use Rattle.std.specs.Prelude.{◌≡◌};
-ghost use Rattle.mm_table.specs.Event.{Opens, Step, Begin, Acquire, Transmit, state_of};
+ghost use Rattle.mm_table.specs.Event.{Opens, Step, Begin, Acquire, Release, Transmit, Detect, state_of};
 
 use crate::records::Records;
-use crate::{Acquired, Config, Key, Refusal, State, Transmitted};
+use crate::{Acquired, Config, Detected, Key, Refusal, Released, State, Transmitted};
 use std::alloc::Global;
 use std::marker::Model;
 
@@ -11,17 +11,20 @@ use std::marker::Model;
 /// A contract sees it as a `TableState` (`specs/TableState.antt`). Each call is one event, or a read, by the definitions of
 /// `specs/Event.antt`: these say the answer, the refusal and the new state. A refused call changes nothing, and the refusals
 /// that a call can give stand in the order in which they are tested. No call but `open` takes memory.
-#[derive(Debug, Drop)]
+#[derive(Drop)]
 pub struct Table {
     records: Records,
 }
 
 impl Model for Table {
     ghost use Rattle.mm_table.specs.TableState.{TableState};
+    ghost use Rattle.mm_table.specs.Laws.{Laws};
 
     ghost Value = { TableState };
 
     ghost view = { λ t. t.records };
+
+    ghost invariant = { λ t. Laws t.records };
 }
 
 impl Table {
@@ -55,6 +58,17 @@ impl Table {
         self.records.acquire(key, resource)
     }
 
+    /// Hands the resource over: the longest waiter owns it from now on, and each other waiter keeps its place and gets a fresh
+    /// label against the new owner; with no waiter it is free.
+    ///
+    /// Refused as `CountsExhausted`, `Stale`, `NoResource`, `Waiting`, `NotOwner` or `LabelsExhausted`. By how many wait.
+    /// The rule is this project's.
+    pub fn release(&mut self, key: Key, resource: u32) -> Result<Released, Refusal>
+        ensures { Step (Release key resource) self.old result self.new }
+    {
+        self.records.release(key, resource)
+    }
+
     /// The waiting transaction takes over its holder's public label where that is greater; its private label stays.
     ///
     /// Refused as `CountsExhausted`, `Stale` or `NotWaiting`. Constant time. The rule is Mitchell and Merritt's.
@@ -62,6 +76,16 @@ impl Table {
         ensures { Step (Transmit key) self.old result self.new }
     {
         self.records.transmit(key)
+    }
+
+    /// Gives the waiting transaction a verdict where its private label, its public one and its holder's public one are one label.
+    /// It is then on a cycle of waits, and its private label is the greatest there.
+    ///
+    /// Refused as `CountsExhausted`, `Stale` or `NotWaiting`. Constant time: no wait is followed. The rule is Mitchell and Merritt's.
+    pub fn detect(&mut self, key: Key) -> Result<Detected, Refusal>
+        ensures { Step (Detect key) self.old result self.new }
+    {
+        self.records.detect(key)
     }
 
     /// What the transaction does, and its two labels.

@@ -59,7 +59,7 @@ sweeps_run after raised waiting (suc n) laws sweep =
     runs_join (after 0) (after 1) (after (suc n)) (raised 0) (total more n) first.0 later
 
 -- where the n-th is the first that raises nothing, they settle
-sweeps_settle : (after : ℕ → Graph) (raised : ℕ → ℕ) (waiting : List ℕ) (n : ℕ) → IsLawful (after 0) → AreSweeps after raised waiting
+pub sweeps_settle : (after : ℕ → Graph) (raised : ℕ → ℕ) (waiting : List ℕ) (n : ℕ) → IsLawful (after 0) → AreSweeps after raised waiting
     → raised n ≡ 0 → ((i : ℕ) → i < n → 0 < raised i) → Settles (after 0) waiting n (total raised n) (after (suc n))
 sweeps_settle after raised waiting zero laws sweep none before = (refl, rw none at (sweep 0 laws))
 sweeps_settle after raised waiting (suc n) laws sweep none before =

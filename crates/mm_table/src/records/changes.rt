@@ -1,29 +1,29 @@
-ghost use Rattle.std.specs.Prelude.{◌≡◌, ◌≢◌, ◌<◌, ◌+◌, ◌^◌, ◌∷◌, ◌++◌, [], IsTrue, None, Some, true, drop, slice_set, slice_index};
-ghost use Rattle.mm_table.specs.TableState.{key_of, wait_of};
-ghost use Rattle.mm_table.specs.Change.{block, block_fits, label_against, greater_label};
+ghost use Rattle.std.specs.Prelude.{◌≡◌, ◌≢◌, ◌<◌, ◌+◌, ◌^◌, ◌∷◌, ◌++◌, [], IsTrue, None, Some, true, drop, length, slice_set, slice_index, option_map, MatchResult};
+ghost use Rattle.mm_table.specs.TableState.{key_of, wait_of, holder_of, is_live, has_verdict, public_of};
+ghost use Rattle.mm_table.specs.Change.{block, block_fits, label_against, greater_label, can_detect, detect};
 
-use super::{Records, WaitRecord};
-use crate::Key;
+use super::{Records, Transaction, WaitRecord};
+use crate::{Key, Refusal};
 use mm_label::Label;
 
 impl Records {
-    /// Gives the first free process a live key.
-    pub(super) fn give_process(&mut self) -> Key
-        requires { self.old.free ≢ [] }
-        ensures key { result ≡ key_of self.old (slice_index self.old.free 0) }
-        ensures state { self.new ≡ record self.old {
-          free = drop 1 self.old.free;
-          live = slice_set self.old.live (slice_index self.old.free 0) true;
-        } }
+    /// Gives the first free process a live key. Refused as `Full` where there is none.
+    pub(super) fn give_process(&mut self) -> Result<Key, Refusal>
+        ensures { MatchResult result
+            (λ key. (self.old.free ≢ []) × (key ≡ key_of self.old (slice_index self.old.free 0)) × (self.new ≡ record self.old {
+              free = drop 1 self.old.free;
+              live = slice_set self.old.live (slice_index self.old.free 0) true;
+            }))
+            (λ refusal. (self.old.free ≡ []) × (refusal ≡ Refusal.Full) × (self.new ≡ self.old)) }
     {
-        let process = &mut self.processes[self.unused as usize];
-        process.is_live = true;
-        let key = Key {
-            process: self.unused,
-            generation: process.generation,
+        let transaction = Transaction {
+            waits_for: None,
+            has_verdict: false,
         };
-        self.unused += 1;
-        key
+        let Ok(key) = self.transactions.insert(transaction) else {
+            return Err(Refusal::Full);
+        };
+        Ok(key)
     }
 
     /// Makes the key the owner of a resource.
@@ -35,14 +35,15 @@ impl Records {
         self.owners[resource as usize] = Some(key);
     }
 
-    /// Appends a wait.
+    /// Appends the wait of a live transaction that does not wait.
     pub(super) fn queue(&mut self, key: Key, resource: u32)
-        requires key { key.process < self.old.config.processes }
+        requires live { IsTrue (is_live self.old key) }
         requires resource { resource < self.old.config.resources }
         requires idle { wait_of self.old key.process ≡ None }
         ensures { self.new ≡ record self.old { waits = self.old.waits ++ record { key = key; resource = resource } ∷ [] } }
     {
-        self.processes[key.process as usize].waits_for = Some(resource);
+        let transaction = self.transactions.get_mut(key).unwrap();
+        transaction.waits_for = Some(resource);
         self.waits.push_reserved(WaitRecord { key, resource });
     }
 
@@ -55,22 +56,52 @@ impl Records {
         ensures state { self.new ≡ block self.old process holder }
     {
         let label = self.label_against(process, holder).unwrap();
-        let blocked = &mut self.processes[process as usize];
+        let blocked = &mut self.labels[process as usize];
         blocked.private = label;
         blocked.public = label;
         label
     }
 
-    /// The public label of the holder of `process`, where it is greater than the one of `process`.
-    pub(super) fn greater_label(&self, process: u32) -> Option<Label>
-        requires { process < self.now.config.processes }
-        ensures { result ≡ greater_label self.now process }
+    /// The public label of the holder of a live transaction; `None` where it does not wait.
+    fn holder_label(&self, key: Key) -> Option<Label>
+        requires { IsTrue (is_live self.now key) }
+        ensures { result ≡ option_map (public_of self.now) (holder_of self.now key.process) }
     {
-        let waiting = &self.processes[process as usize];
-        let resource = waiting.waits_for?;
+        let resource = self.transactions.get(key)?.waits_for?;
         let holder = self.owners[resource as usize]?;
-        let shown = self.processes[holder.process as usize].public;
-        (waiting.public < shown).then_some(shown)
+        Some(self.labels[holder.process as usize].public)
+    }
+
+    /// The public label of the holder of a live transaction, where it is greater than its own.
+    pub(super) fn greater_label(&self, key: Key) -> Option<Label>
+        requires { IsTrue (is_live self.now key) }
+        ensures { result ≡ greater_label self.now key.process }
+    {
+        let shown = self.holder_label(key)?;
+        let own = self.labels[key.process as usize].public;
+        (own < shown).then_some(shown)
+    }
+
+    /// Whether a live transaction has no verdict yet, and both its labels and its holder's public one are one label.
+    pub(super) fn can_detect(&self, key: Key) -> bool
+        requires { IsTrue (is_live self.now key) }
+        ensures { result ≡ can_detect self.now key.process }
+    {
+        let labels = self.labels[key.process as usize];
+        if self.has_verdict(key) || labels.private != labels.public {
+            return false;
+        }
+        match self.holder_label(key) {
+            Some(shown) => labels.public == shown,
+            None => false,
+        }
+    }
+
+    pub(super) fn has_verdict(&self, key: Key) -> bool
+        requires { IsTrue (is_live self.now key) }
+        ensures { result ≡ has_verdict self.now key.process }
+    {
+        self.transactions.get(key).unwrap().has_verdict
     }
 
     /// Makes this the public label of `process`.
@@ -78,7 +109,19 @@ impl Records {
         requires { process < self.old.config.processes }
         ensures { self.new ≡ record self.old { public = slice_set self.old.public process label } }
     {
-        self.processes[process as usize].public = label;
+        self.labels[process as usize].public = label;
+    }
+
+    /// Gives a verdict to a live transaction that can detect, and counts it.
+    pub(super) fn convict(&mut self, key: Key)
+        requires live { IsTrue (is_live self.old key) }
+        requires can { IsTrue (can_detect self.old key.process) }
+        requires count { self.old.totals.verdicts < 2 ^ 62 }
+        ensures { self.new ≡ detect self.old key.process }
+    {
+        let transaction = self.transactions.get_mut(key).unwrap();
+        transaction.has_verdict = true;
+        self.totals.verdicts += 1;
     }
 
     /// Counts an accepted event.

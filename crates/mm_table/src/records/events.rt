@@ -1,16 +1,18 @@
 ghost use Rattle.std.specs.Prelude.{◌≡◌};
-ghost use Rattle.mm_table.specs.Event.{Gives, begun, acquired, transmitted};
+ghost use Rattle.mm_table.specs.Event.{Gives, begun, acquired, released, transmitted, detected};
 
 use super::Records;
-use crate::{Acquired, Key, Refusal, Transmitted};
+use crate::{Acquired, Detected, Key, Refusal, Released, Transmitted};
 
 impl Records {
     /// A new transaction in the first free slot. Constant time.
     pub fn begin(&mut self) -> Result<Key, Refusal>
         ensures { Gives (begun self.old) result self.new }
     {
-        self.may_begin()?;
-        let key = self.give_process();
+        if self.counts_exhausted() {
+            return Err(Refusal::CountsExhausted);
+        }
+        let key = self.give_process()?;
         self.count();
         Ok(key)
     }
@@ -40,12 +42,40 @@ impl Records {
         ensures { Gives (transmitted self.old key) result self.new }
     {
         self.may_call_waiting(key)?;
-        let answer = match self.greater_label(key.process) {
+        let answer = match self.greater_label(key) {
             Some(label) => {
                 self.show(key.process, label);
                 Transmitted::Raised(label)
             }
             None => Transmitted::Still,
+        };
+        self.count();
+        Ok(answer)
+    }
+
+    /// Hands a resource over. By how many wait.
+    pub fn release(&mut self, key: Key, resource: u32) -> Result<Released, Refusal>
+        ensures { Gives (released self.old key resource) result self.new }
+    {
+        self.may_release(key, resource)?;
+        let answer = self.hand_over(resource);
+        self.count();
+        Ok(answer)
+    }
+
+    /// The waiting transaction gets a verdict where its own label came round to its holder. Constant time.
+    pub fn detect(&mut self, key: Key) -> Result<Detected, Refusal>
+        ensures { Gives (detected self.old key) result self.new }
+    {
+        self.may_call_waiting(key)?;
+        let answer = if self.has_verdict(key) {
+            Detected::Standing
+        } else if self.can_detect(key) {
+            let label = self.labels[key.process as usize].private;
+            self.convict(key);
+            Detected::Deadlock(label)
+        } else {
+            Detected::Clear
         };
         self.count();
         Ok(answer)

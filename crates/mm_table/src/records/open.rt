@@ -1,39 +1,34 @@
 ghost use Rattle.std.specs.Prelude.{◌≡◌, ◌≤◌, ◌<◌, IfOk, map, None};
 ghost use Rattle.std.specs.List.{range_with_len};
-ghost use Rattle.mm_table.specs.Opened.{opening_process};
 ghost use Rattle.mm_table.specs.Event.{Opens};
+ghost use Rattle.mm_table.specs.Kept.{opening_labels};
 
-use super::{Process, Records};
+use super::{Labels, Records};
 use crate::{Config, Key, Refusal, Totals};
+use mm_arena::Arena;
 use mm_label::Label;
 use std::alloc::{AllocError, Global};
 
-impl Process {
-    /// A process that was never used.
-    fn at_opening(process: u32) -> Process
+impl Labels {
+    /// The labels of a process that was never used.
+    fn at_opening(process: u32) -> Labels
         requires { process < 65536 }
-        ensures { result ≡ opening_process process }
+        ensures { result ≡ opening_labels process }
     {
         let label = Label::new(0, process).unwrap();
-        Process {
-            generation: 1,
-            is_live: false,
-            has_verdict: false,
-            waits_for: None,
+        Labels {
             private: label,
             public: label,
         }
     }
 }
 
-/// The processes of a table that was just opened.
-fn opening_processes(alloc: Global, count: u32) -> Result<Vec<Process>, AllocError>
+/// The labels of a table that was just opened.
+fn labels_at_opening(alloc: Global, count: u32) -> Result<Vec<Labels>, AllocError>
     requires { count ≤ 4096 }
-    ensures { IfOk result (λ v. v.items ≡ map opening_process (range_with_len 0 count)) }
+    ensures { IfOk result (λ v. v.items ≡ map opening_labels (range_with_len 0 count)) }
 {
-    (0..count)
-        .map(|process| Process::at_opening(process))
-        .collect(alloc)
+    (0..count).map(|process| Labels::at_opening(process)).collect(alloc)
 }
 
 /// The owners of a table that was just opened: none.
@@ -51,7 +46,10 @@ impl Records {
         if !config.is_in_range() {
             return Err(Refusal::BadConfig);
         }
-        let Ok(processes) = opening_processes(alloc, config.processes) else {
+        let Ok(transactions) = Arena::new(alloc, config.processes, config.generation_limit) else {
+            return Err(Refusal::Memory);
+        };
+        let Ok(labels) = labels_at_opening(alloc, config.processes) else {
             return Err(Refusal::Memory);
         };
         let Ok(owners) = no_owners(alloc, config.resources) else {
@@ -62,8 +60,8 @@ impl Records {
         };
         Ok(Records {
             config,
-            processes,
-            unused: 0,
+            transactions,
+            labels,
             owners,
             waits,
             totals: Totals {

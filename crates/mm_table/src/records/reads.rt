@@ -9,19 +9,19 @@ impl Records {
     pub fn state(&self, key: Key) -> Result<State, Refusal>
         ensures { result ≡ state_of self.now key }
     {
-        if !self.is_live(key) {
+        let Some(transaction) = self.transactions.get(key) else {
             return Err(Refusal::Stale);
-        }
-        let process = self.processes[key.process as usize];
-        let mode = match process.waits_for {
+        };
+        let mode = match transaction.waits_for {
             None => Mode::Active,
-            Some(resource) if process.has_verdict => Mode::Convicted(resource),
+            Some(resource) if transaction.has_verdict => Mode::Convicted(resource),
             Some(resource) => Mode::Waiting(resource),
         };
+        let labels = self.labels[key.process as usize];
         Ok(State {
             mode,
-            private: process.private,
-            public: process.public,
+            private: labels.private,
+            public: labels.public,
         })
     }
 }

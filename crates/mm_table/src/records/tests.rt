@@ -1,7 +1,7 @@
 ghost use Rattle.std.specs.Prelude.{◌≡◌, ◌<◌, IsTrue, OnOk, SomeIff};
-ghost use Rattle.mm_table.specs.TableState.{is_live, is_waiting};
-ghost use Rattle.mm_table.specs.Change.{label_against, block_fits};
-ghost use Rattle.mm_table.specs.Event.{counts_exhausted, allowed, begin_tests, key_tests, waiting_tests, acquire_tests};
+ghost use Rattle.mm_table.specs.TableState.{is_live, is_waiting, owns};
+ghost use Rattle.mm_table.specs.Change.{label_against, block_fits, hand_over_fits};
+ghost use Rattle.mm_table.specs.Event.{counts_exhausted, allowed, key_tests, waiting_tests, acquire_tests, release_tests};
 
 use super::Records;
 use crate::{Key, Refusal};
@@ -11,7 +11,7 @@ use mm_label::{Label, fresh};
 const COUNT_LIMIT: u64 = 1 << 62;
 
 impl Records {
-    fn counts_exhausted(&self) -> bool
+    pub(super) fn counts_exhausted(&self) -> bool
         ensures { result ≡ counts_exhausted self.now }
     {
         self.totals.accepted >= COUNT_LIMIT || self.totals.verdicts >= COUNT_LIMIT
@@ -21,17 +21,15 @@ impl Records {
         ensures live { result ≡ is_live self.now key }
         ensures in_range { IsTrue result → key.process < self.now.config.processes }
     {
-        match self.processes.get(key.process as usize) {
-            Some(process) => process.is_live && process.generation == key.generation,
-            None => false,
-        }
+        self.transactions.contains(key)
     }
 
-    fn is_waiting(&self, process: u32) -> bool
-        requires { process < self.now.config.processes }
-        ensures { result ≡ is_waiting self.now process }
+    /// Whether a live transaction waits.
+    fn is_waiting(&self, key: Key) -> bool
+        requires { IsTrue (is_live self.now key) }
+        ensures { result ≡ is_waiting self.now key.process }
     {
-        self.processes[process as usize].waits_for.is_some()
+        self.transactions.get(key).unwrap().waits_for.is_some()
     }
 
     /// The label that `process` gets by waiting for `holder`; `None` past the label limit.
@@ -40,27 +38,15 @@ impl Records {
         requires holder { holder < self.now.config.processes }
         ensures { SomeIff result (IsTrue (block_fits self.now process holder)) (label_against self.now process holder) }
     {
-        let own = self.processes[process as usize].public;
-        let shown = self.processes[holder as usize].public;
+        let own = self.labels[process as usize].public;
+        let shown = self.labels[holder as usize].public;
         fresh(own, shown, process, self.config.label_limit)
-    }
-
-    /// The tests of `begin`, in their order.
-    pub(super) fn may_begin(&self) -> Result<(), Refusal>
-        ensures { result ≡ allowed (begin_tests self.now) }
-    {
-        if self.counts_exhausted() {
-            return Err(Refusal::CountsExhausted);
-        }
-        if self.unused == self.config.processes {
-            return Err(Refusal::Full);
-        }
-        Ok(())
     }
 
     /// The tests of every call with a key, in their order.
     fn may_call(&self, key: Key) -> Result<(), Refusal>
         ensures tests { result ≡ allowed (key_tests self.now key) }
+        ensures live { OnOk result (IsTrue (is_live self.now key)) }
         ensures in_range { OnOk result (key.process < self.now.config.processes) }
     {
         if self.counts_exhausted() {
@@ -75,10 +61,11 @@ impl Records {
     /// The tests of every call that only a waiting transaction may make, in their order.
     pub(super) fn may_call_waiting(&self, key: Key) -> Result<(), Refusal>
         ensures tests { result ≡ allowed (waiting_tests self.now key) }
+        ensures live { OnOk result (IsTrue (is_live self.now key)) }
         ensures in_range { OnOk result (key.process < self.now.config.processes) }
     {
         self.may_call(key)?;
-        if !self.is_waiting(key.process) {
+        if !self.is_waiting(key) {
             return Err(Refusal::NotWaiting);
         }
         Ok(())
@@ -92,7 +79,7 @@ impl Records {
         if resource >= self.config.resources {
             return Err(Refusal::NoResource);
         }
-        if self.is_waiting(key.process) {
+        if self.is_waiting(key) {
             return Err(Refusal::Waiting);
         }
         let Some(holder) = self.owners[resource as usize] else {
@@ -102,6 +89,36 @@ impl Records {
             return Err(Refusal::AlreadyOwns);
         }
         if self.label_against(key.process, holder.process).is_none() {
+            return Err(Refusal::LabelsExhausted);
+        }
+        Ok(())
+    }
+
+    /// Whether `process` owns a resource.
+    fn owns(&self, process: u32, resource: u32) -> bool
+        requires { resource < self.now.config.resources }
+        ensures { result ≡ owns self.now process resource }
+    {
+        self.owners[resource as usize].is_some_and(|owner| owner.process == process)
+    }
+
+    /// The tests of `release`, in their order.
+    pub(super) fn may_release(&self, key: Key, resource: u32) -> Result<(), Refusal>
+        ensures tests { result ≡ allowed (release_tests self.now key resource) }
+        ensures resource { OnOk result (resource < self.now.config.resources) }
+        ensures fits { OnOk result (IsTrue (hand_over_fits self.now resource)) }
+    {
+        self.may_call(key)?;
+        if resource >= self.config.resources {
+            return Err(Refusal::NoResource);
+        }
+        if self.is_waiting(key) {
+            return Err(Refusal::Waiting);
+        }
+        if !self.owns(key.process, resource) {
+            return Err(Refusal::NotOwner);
+        }
+        if !self.hand_over_fits(resource) {
             return Err(Refusal::LabelsExhausted);
         }
         Ok(())

@@ -1,4 +1,4 @@
-use Rattle.mm_table.proofs.OpeningLaws.{opening_lawful}
+use Rattle.mm_table.proofs.States.Opening.{opening_lawful}
 use Rattle.mm_table.proofs.laws.opening_is_lawful.Goals as goal
 
 pub returns : goal.returns

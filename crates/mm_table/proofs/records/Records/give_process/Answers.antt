@@ -1,43 +1,31 @@
-use Rattle.std.proofs.Common.{◌<◌, ℕ, ◌+◌, List, length, drop, refl, ap, sym, ◌∙◌, arith, slice_set, slice_index, true}
+use Rattle.std.proofs.Common.{◌≡◌, ℕ, [], ◌∷◌, List, ap, sym, ◌∙◌, slice_index, drop, slice_set, true}
 use Rattle.std.proofs.lemmas.List.{get_or-map}
-use Rattle.mm_table.specs.declared.key.Key.{Key}
+use Rattle.mm_arena.specs.declared.key.Key.{Key}
+use Rattle.mm_arena.specs.Slots.{never_used}
 use Rattle.mm_table.specs.TableState.{TableState, key_of}
-use Rattle.mm_table.specs.Kept.{state_kept}
-use Rattle.mm_table.proofs.Parts.{enlivened, changed_fits, process_within, unused_more, unused_left}
+use Rattle.mm_table.specs.Kept.{state_kept, state_of_parts}
+use Rattle.mm_table.proofs.Kept.Seating.{taken, seated, seated_fits, empty_slot}
 use Rattle.mm_table.proofs.records.Records.give_process.Goals as goal
-
-some_left : (c : goal.After-self-2-1) → c.self.inside.unused < c.self.inside.config.processes
-some_left c = unused_left c.self.inside.unused c.self.inside.config.processes (λ none. c.requires (ap (λ s. s.free) (sym c.self.view_is) ∙ none))
 
 abbrev key_at : ℕ → ℕ → Key
 key_at n g = record { process = n; generation = g }
 
--- the state that is kept, after the first free process is given a live key
-given : TableState → TableState
-given s = record s { free = drop 1 s.free; live = slice_set s.live (slice_index s.free 0) true }
-
-pub invariant_of-self : goal.invariant_of-self
-invariant_of-self c = let inside = c.self.inside in let left : inside.unused < inside.config.processes = some_left c in record {
-  parts = changed_fits inside.config inside.processes.items inside.unused (inside.unused + 1) inside.owners.items inside.waits.items
-      inside.unused c.index_mut-process.result.now _ (process_within c.self.invariant.parts inside.unused left) c.index_mut-process.ensures.value refl (omega arith) c.self.invariant.parts;
+pub invariant_of-self-2 : goal.invariant_of-self-2
+invariant_of-self-2 c = let inside = c.self.inside in record {
+  parts = seated_fits inside.config inside.transactions c.insert.new.self inside.labels.items inside.owners.items inside.waits.items c.in-Ok.key
+      c.insert.ensures.slots (taken inside.transactions _ c.in-Ok.key c.in-Ok.ensures.key) c.in-Ok.ensures.added c.self.invariant.parts;
   capacity = c.self.invariant.capacity;
 }
 
-pub returns-clause-key : goal.returns-clause-key
-returns-clause-key c =
+pub returns : goal.returns
+returns c =
     let inside = c.self.inside in
+    let free = taken inside.transactions _ c.in-Ok.key c.in-Ok.ensures.key in
     let old : TableState = state_kept inside in
-    let free = unused_more inside.unused inside.config.processes (some_left c) in
-    let within : inside.unused < length inside.processes.items = process_within c.self.invariant.parts inside.unused (some_left c) in
-    let generation = get_or-map (λ p. p.generation) inside.processes.items inside.unused c.index_mut-process.result.now 0 within ∙ ap (λ p. p.generation) (sym c.index_mut-process.ensures.value) in
-    ap (λ (g : ℕ). key_at inside.unused g) (sym generation) ∙ ap (λ (l : List ℕ). key_of old (slice_index l 0)) (sym free) ∙ ap (λ s. key_of s (slice_index s.free 0)) c.self.view_is
-
-pub returns-clause-state : goal.returns-clause-state
-unfolding given
-returns-clause-state c =
-    let inside = c.self.inside in
-    let old : TableState = state_kept inside in
-    let free = unused_more inside.unused inside.config.processes (some_left c) in
-    enlivened inside.config inside.processes.items inside.unused (inside.unused + 1) inside.owners.items inside.waits.items inside.totals
-    inside.unused c.index_mut-process.result.now c.index_mut-process.ensures.value
-    ∙ ap (λ (l : List ℕ). record old { free = drop 1 l; live = slice_set old.live (slice_index l 0) true }) (sym free) ∙ ap given c.self.view_is
+    let process = c.in-Ok.key.process in
+    let generation = get_or-map (λ q. q.generation) inside.transactions.places process never_used 0 c.in-Ok.ensures.added.within in
+    (λ none. let never : [] ≡ process ∷ free.rest = sym none ∙ ap (λ s. s.free) (sym c.self.view_is) ∙ free.free in cc,
+        free.key_is ∙ ap (key_at process) (sym generation) ∙ ap (λ (l : List ℕ). key_of old (slice_index l 0)) (sym free.free) ∙ ap (λ s. key_of s (slice_index s.free 0)) c.self.view_is,
+        ap (λ s. state_of_parts inside.config s inside.labels.items inside.owners.items inside.waits.items inside.totals) c.insert.ensures.slots
+        ∙ seated inside.config inside.transactions inside.labels.items inside.owners.items inside.waits.items inside.totals c.in-Ok.key free (empty_slot inside.transactions c.insert.new.self c.in-Ok.key c.in-Ok.ensures.added)
+        ∙ ap (λ (s : TableState). record s { free = drop 1 s.free; live = slice_set s.live (slice_index s.free 0) true }) c.self.view_is)

@@ -5,7 +5,6 @@ use Rattle.mm_table.proofs.records.Records.may_acquire.Goals as goal
 pub label_against-requires-clause-holder : goal.label_against-requires-clause-holder
 label_against-requires-clause-holder c =
     let owners = c.self.inside.owners.items in
-    let within : c.args.resource < length owners = omega arith in
+    let within : c.args.resource < length owners = omega (arith, c.self.invariant.parts.owners_sized) in
     let owned : slice_index_or owners c.args.resource None ≡ Some c.in-Some.holder = get_or_default owners c.args.resource None c.index.result.now within ∙ sym c.index.ensures ∙ c.in-Some.is in
-    let in_range = c.self.invariant.parts.owner_in_range c.args.resource c.in-Some.holder owned in
-    rw (← c.self.view_is) in_range
+    rw (← c.self.view_is) (c.self.invariant.parts.owner_in_range c.args.resource c.in-Some.holder owned)

@@ -1,34 +1,41 @@
-use Rattle.std.proofs.Common.{◌≡◌, map, length, ap, ◌∙◌, sym, arith, None, Some, slice_index_or, rules}
+use Rattle.std.proofs.Common.{◌≡◌, length, map, ap, ◌∙◌, sym, arith, None, Some, slice_index_or, rules}
+use Rattle.std.proofs.lemmas.List.{length-replicate}
 use Rattle.std.proofs.lemmas.List.FromFn.{length-map-range_with_len}
 use Rattle.std.specs.List.{sum_by}
-use Rattle.mm_table.specs.Kept.{idle, wait_kept}
+use Rattle.mm_arena.specs.Slots.{never_used}
 use Rattle.mm_table.specs.TableState.{waited_for}
-use Rattle.mm_table.specs.Opened.{opening_process}
-use Rattle.mm_table.proofs.Opening.{all_idle, none_waits, none_owned, opened}
+use Rattle.mm_table.specs.Kept.{idle, wait_in, wait_kept, opening_labels}
+use Rattle.mm_table.proofs.Kept.Opening.{all_idle, none_waits, none_owned, opened}
 use Rattle.mm_table.proofs.records.Records.open.Goals as goal
 
 pub invariant_of-result : goal.invariant_of-result
-invariant_of-result c = record {
-  parts = record {
-    config_in_range = search rules;
-    processes_sized = ap length c.in-Ok.ensures ∙ length-map-range_with_len opening_process 0 c.args.config.processes;
-    owners_sized = ap length c.in-Ok-no_owners.ensures ∙ length-map-range_with_len (λ _. None) 0 c.args.config.resources;
-    unused_in_range = omega arith;
-    owner_in_range = λ r k owned.
-        let none = none_owned 0 c.args.config.resources r in
-        let same = ap (λ owners. slice_index_or owners r None) c.in-Ok-no_owners.ensures in
-        let never : None ≡ Some k = sym none ∙ sym same ∙ owned in
-        cc;
-    waited_in_range = λ n r waits.
-        let never : None ≡ Some r = sym (none_waits 0 c.args.config.processes n) ∙ ap (λ processes. slice_index_or (map (λ p. p.waits_for) processes) n None) (sym c.in-Ok.ensures) ∙ waits in
-        cc;
-    waiting = λ n. ap (λ processes. slice_index_or (map (λ p. p.waits_for) processes) n None) c.in-Ok.ensures ∙ none_waits 0 c.args.config.processes n ∙ ap (λ waits. waited_for (map wait_kept waits) n) (sym c.in-Ok-with_capacity.ensures.items);
-    room = let idle_all : sum_by idle c.in-Ok.processes.items ≡ c.args.config.processes = ap (sum_by idle) c.in-Ok.ensures ∙ all_idle 0 c.args.config.processes in
-        let waits : length c.in-Ok-with_capacity.waits.items ≡ 0 = ap length c.in-Ok-with_capacity.ensures.items in
-        omega arith;
-  };
-  capacity = omega (arith, c.in-Ok-with_capacity.ensures.exact);
-}
+invariant_of-result c =
+    let places = ap (λ s. s.places) c.in-Ok.ensures in
+    let no_waits = c.in-Ok-with_capacity.ensures.items in
+    record {
+      parts = record {
+        config_in_range = search rules;
+        slots_sized = ap length places ∙ length-replicate c.args.config.processes never_used;
+        labels_sized = ap length c.in-Ok-labels_at_opening.ensures ∙ length-map-range_with_len opening_labels 0 c.args.config.processes;
+        owners_sized = ap length c.in-Ok-no_owners.ensures ∙ length-map-range_with_len (λ _. None) 0 c.args.config.resources;
+        last_generation = ap (λ s. s.limit) c.in-Ok.ensures;
+        owner_in_range = λ r k owned.
+            let never : None ≡ Some k = sym (none_owned 0 c.args.config.resources r) ∙ sym (ap (λ owners. slice_index_or owners r None) c.in-Ok-no_owners.ensures) ∙ owned in
+            cc;
+        wait_in_range = λ n r waits.
+            let never : None ≡ Some r = sym (none_waits c.args.config.processes n) ∙ ap (λ places. slice_index_or (map wait_in places) n None) (sym places) ∙ waits in
+            cc;
+        waiting = λ n. ap (λ places. slice_index_or (map wait_in places) n None) places ∙ none_waits c.args.config.processes n ∙ ap (λ waits. waited_for (map wait_kept waits) n) (sym no_waits);
+        waits_once = rw no_waits tt;
+        waits_live = rw no_waits tt;
+        room =
+            let idle_all : sum_by idle c.in-Ok.transactions.places ≡ c.args.config.processes = ap (sum_by idle) places ∙ all_idle c.args.config.processes in
+            let waits : length c.in-Ok-with_capacity.waits.items ≡ 0 = ap length no_waits in
+            omega arith;
+      };
+      capacity = omega (arith, c.in-Ok-with_capacity.ensures.exact);
+    }
 
 pub returns : goal.returns
-returns c = (search rules, opened c.args.config c.in-Ok.processes.items c.in-Ok-no_owners.owners.items c.in-Ok-with_capacity.waits.items c.in-Ok.ensures c.in-Ok-no_owners.ensures c.in-Ok-with_capacity.ensures.items)
+returns c = (search rules, opened c.args.config c.in-Ok.transactions c.in-Ok-labels_at_opening.labels.items c.in-Ok-no_owners.owners.items c.in-Ok-with_capacity.waits.items
+    c.in-Ok.ensures c.in-Ok-labels_at_opening.ensures c.in-Ok-no_owners.ensures c.in-Ok-with_capacity.ensures.items)

@@ -1,0 +1,18 @@
+//! Values under keys that the arena picks: a process number, and a generation that tells one use of the number from the next.
+//!
+//! A key is live from the insert that gives it until it is removed, and never again.
+//! A contract sees an arena as one value, the record `Slots` of `specs/Slots.antt`.
+#![tactic(auto)]
+
+mod arena;
+mod key;
+mod law;
+mod memory;
+mod slot;
+#[cfg(test)]
+mod tests;
+
+pub use arena::{Arena, MAX_CAPACITY};
+pub use key::Key;
+pub use law::removed_is_never_live;
+pub use memory::Memory;

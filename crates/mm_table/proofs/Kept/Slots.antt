@@ -1,0 +1,72 @@
+-- Slots of transactions: what a live key tells of its slot, and what a write of one slot changes.
+use Rattle.std.proofs.Common.{◌≡◌, ℕ, zero, suc, subst, ◌<◌, true, false, List, [], ◌∷◌, ◌++◌, length, map, slice_index_or, slice_set, Option, Some, None, is_some, nat_eq, refl, ap, sym, ◌∙◌, arith, get_or-set_same, get_or-set_other, inl, inr}
+use Rattle.std.proofs.Math.Seq.{map-set_same}
+use Rattle.std.proofs.lemmas.List.{get_or_past}
+use Rattle.std.proofs.lemmas.Bool.{cases_eq, cases_lt, cases_Bool, eqb-true}
+use Rattle.std.specs.List.{AllByRecursion}
+use Rattle.mm_arena.specs.declared.key.Key.{Key}
+use Rattle.mm_arena.specs.Slots.{Slots, Place, never_used, place_at, value_under, lookup, IsLive, with_value}
+
+module _ {T : Type 0} where
+  -- the slot of a live key is in range, has its generation, and has the value that is found under it
+  pub record Holds (s : Slots T) (key : Key) (value : T) : Type 0 where
+    pub within : key.process < length s.places
+    pub place : place_at s key.process ≡ record { generation = key.generation; value = Some value }
+
+  found_under : (generation : ℕ) (place : Place T) (value : T) → value_under generation place ≡ Some value → place ≡ record { generation = generation; value = Some value }
+  found_under generation place value found =
+      elim (cases_Bool (nat_eq place.generation generation)) [
+      | inl same ↦ λ i. record { generation = eqb-true place.generation generation same i; value = (rw same at found) i }
+      | inr other ↦ let never : None ≡ Some value = rw other at found in cc
+      ]
+
+  pub holds : (s : Slots T) (key : Key) (value : T) → lookup s key ≡ Some value → Holds s key value
+  holds s key value found =
+      let place = found_under key.generation (place_at s key.process) value found in
+      record {
+        within = elim (cases_lt key.process (length s.places)) [
+          | inl within ↦ within
+          | inr past ↦ let never : None ≡ Some value = ap (λ p. p.value) (sym (get_or_past s.places key.process never_used past) ∙ place) in cc
+          ];
+        place = place;
+      }
+
+  -- a slot is written: what the new one tells as the old one did, is as it was
+  pub same_slot : {X : Type 0} (f : Place T → X) (s : Slots T) (n : ℕ) (p : Place T) → f p ≡ f (place_at s n) → map f (slice_set s.places n p) ≡ map f s.places
+  same_slot f s n p alike = map-set_same f s.places n p never_used alike
+
+  -- a live key's value is written anew: every live key stays live
+  pub with_value_live : (s : Slots T) (key other : Key) (old new : T) → lookup s key ≡ Some old → IsLive s other → IsLive (with_value s key new) other
+  with_value_live s key other old new found live =
+      let held = holds s key old found in
+      let written : Place T = record { generation = key.generation; value = Some new } in
+      elim (cases_eq other.process key.process) [
+      | inl here ↦ elim (cases_Bool (nat_eq key.generation other.generation)) [
+          | inl same ↦ rw (here, get_or-set_same s.places key.process written never_used held.within, same) refl
+          | inr apart ↦ let never : is_some (value_under other.generation (place_at s key.process)) ≡ true = rw here at live in
+              let none : is_some (value_under other.generation (place_at s key.process)) ≡ false = rw (held.place, apart) refl in
+              let both : false ≡ true = sym none ∙ never in
+              cc
+        ]
+      | inr elsewhere ↦ let stays = get_or-set_other s.places key.process other.process written never_used elsewhere in rw stays live
+      ]
+
+pub all_append : {X : Type 0} (P : X → Type 0) (xs ys : List X) → AllByRecursion P xs → AllByRecursion P ys → AllByRecursion P (xs ++ ys)
+all_append P [] ys first second = second
+all_append P (x ∷ xs) ys first second = (first.0, all_append P xs ys first.1 second)
+
+pub all_map : {X : Type 0} (P Q : X → Type 0) → ((x : X) → P x → Q x) → (xs : List X) → AllByRecursion P xs → AllByRecursion Q xs
+all_map P Q each [] all = tt
+all_map P Q each (x ∷ xs) all = (each x all.0, all_map P Q each xs all.1)
+
+pub all_at : {X : Type 0} (P : X → Type 0) (xs : List X) (i : ℕ) (x : X) → AllByRecursion P xs → i < length xs → x ≡ slice_index_or xs i x → P x
+all_at P [] i x all within is = absurd (omega arith)
+all_at P (y ∷ xs) zero x all within is = subst P (sym is) all.0
+all_at P (y ∷ xs) (suc i) x all within is = all_at P xs i x all.1 (omega arith) is
+
+pub live_within : {T : Type 0} (s : Slots T) (k : Key) → IsLive s k → k.process < length s.places
+live_within {T} s k live = from (lookup s k) refl live
+  where
+    from : (o : Option T) → lookup s k ≡ o → is_some o ≡ true → k.process < length s.places
+    from None is none = let never : false ≡ true = none in cc
+    from (Some value) is some = (holds s k value is).within

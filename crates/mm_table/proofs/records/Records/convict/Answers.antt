@@ -1,0 +1,25 @@
+use Rattle.std.proofs.Common.{◌≡◌, ◌+◌, Some, true, refl, ap, sym, ◌∙◌, slice_set}
+use Rattle.std.specs.Option.{option_copied_mut}
+use Rattle.mm_arena.specs.Slots.{lookup}
+use Rattle.mm_table.specs.TableState.{TableState}
+use Rattle.mm_table.proofs.Kept.Parts.{marked, marked_fits}
+use Rattle.mm_table.proofs.records.Records.convict.Goals as goal
+
+pub invariant_of-self : goal.invariant_of-self
+invariant_of-self c =
+    let inside = c.self.inside in
+    let found : lookup inside.transactions c.args.key ≡ Some c.unwrap-transaction.result.now = sym c.get_mut.ensures.value ∙ ap option_copied_mut c.unwrap-transaction.ensures in
+    record {
+      parts = marked_fits inside.config inside.transactions inside.labels.items inside.owners.items inside.waits.items c.args.key c.unwrap-transaction.result.now true found c.self.invariant.parts;
+      capacity = c.self.invariant.capacity;
+    }
+
+pub returns : goal.returns
+returns c =
+    let inside = c.self.inside in
+    let found : lookup inside.transactions c.args.key ≡ Some c.unwrap-transaction.result.now = sym c.get_mut.ensures.value ∙ ap option_copied_mut c.unwrap-transaction.ensures in
+    let counted = record inside.totals { verdicts = inside.totals.verdicts + 1 } in
+    let n = c.args.key.process in
+    marked inside.config inside.transactions inside.labels.items inside.owners.items inside.waits.items counted c.args.key c.unwrap-transaction.result.now true found
+    ∙ ap (λ (s : TableState). record s { verdicts = slice_set s.verdicts n true; totals = record s.totals { verdicts = s.totals.verdicts + 1 } }) c.self.view_is
+    ∙ sym (rw c.requires.can refl)

@@ -1,0 +1,21 @@
+-- The queue of a resource from a place among the waits on, as the contracts of private functions see it.
+use Rattle.std.specs.Prelude.{ℕ, ◌≢◌, Bool, List, filter, fold, drop, nat_eq}
+use Rattle.std.specs.List.{list_all, AllByRecursion}
+use Rattle.mm_table.specs.TableState.{TableState, Wait}
+use Rattle.mm_table.specs.Change.{block, block_fits}
+
+-- those that wait for r, from this place among the waits on
+abbrev pub queue_from : TableState → ℕ → ℕ → List Wait
+queue_from s r place = filter (λ w. nat_eq w.resource r) (drop place s.waits)
+
+-- whether the limit allows the label of each of these against process h
+abbrev pub fits_from : TableState → ℕ → ℕ → ℕ → Bool
+fits_from s r h place = list_all (λ w. block_fits s w.key.process h) (queue_from s r place)
+
+-- each of these, in turn, is blocked on process h
+abbrev pub blocked_on : TableState → ℕ → List Wait → TableState
+blocked_on s h ws = fold (λ t w. block t w.key.process h) s ws
+
+-- none of these is process h
+abbrev pub NoneIs : ℕ → List Wait → Type 0
+NoneIs h ws = AllByRecursion (λ w. w.key.process ≢ h) ws

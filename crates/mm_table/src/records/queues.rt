@@ -1,0 +1,102 @@
+//! The queues of resources, found in the one list of waits.
+ghost use Rattle.std.specs.Prelude.{◌≡◌, ◌≢◌, ◌<◌, ◌≤◌, ◌+◌, IsTrue, IfSome, IfNone, None, Some, [], ◌∷◌, drop, filter, fold, length, slice_set, slice_get, position, remove, nat_eq, MatchOption, option_map, vec_capacity};
+ghost use Rattle.std.specs.List.{list_all};
+ghost use Rattle.mm_table.specs.TableState.{waiters_of};
+ghost use Rattle.mm_table.specs.Event.{release_answer};
+ghost use Rattle.mm_table.specs.Queue.{queue_from, fits_from, blocked_on, NoneIs};
+ghost use Rattle.mm_table.specs.Change.{activate, block, block_fits, hand_over, hand_over_fits};
+
+use super::{Records, WaitRecord};
+use crate::{Key, Released};
+
+/// The place of the longest waiter for a resource.
+fn first_place(waits: &[WaitRecord], resource: u32) -> Option<usize>
+    ensures { result ≡ position (λ w. nat_eq w.resource resource) waits.now }
+{
+    waits.iter().position(|wait| wait.resource == resource)
+}
+
+impl Records {
+    /// The waiter at this place among the waits becomes the owner of `resource`, and waits no longer.
+    fn take_over(&mut self, place: usize, resource: u32) -> Key
+        requires resource { resource < self.old.config.resources }
+        requires place { place < length self.old.waits }
+        ensures key { option_map (λ w. w.key) (slice_get self.old.waits place) ≡ Some result }
+        ensures in_range { result.process < self.new.config.processes }
+        ensures state { self.new ≡ activate (record self.old { owners = slice_set self.old.owners resource (Some result) }) result.process }
+    {
+        let first = self.waits.remove(place).key;
+        self.transactions.get_mut(first).unwrap().waits_for = None;
+        self.owners[resource as usize] = Some(first);
+        first
+    }
+
+    /// Whether the limit allows the labels of all that wait for `resource`, from this place among the waits on, against `holder`.
+    fn blocks_fit(&self, resource: u32, from: usize, holder: u32) -> bool
+        requires holder { holder < self.now.config.processes }
+        requires from { from ≤ length self.now.waits }
+        ensures { result ≡ fits_from self.now resource holder from }
+    {
+        for place in from..self.waits.len() {
+            let wait = self.waits[place];
+            if wait.resource == resource && self.label_against(wait.key.process, holder).is_none() {
+                return false;
+            }
+        }
+        true
+    }
+
+    /// Blocks on `holder` all that wait for `resource`, from this place among the waits on.
+    fn block_queue(&mut self, resource: u32, from: usize, holder: u32)
+        requires holder { holder < self.old.config.processes }
+        requires from { from ≤ length self.old.waits }
+        requires fits { IsTrue (fits_from self.old resource holder from) }
+        requires apart { NoneIs holder (queue_from self.old resource from) }
+        ensures { self.new ≡ blocked_on self.old holder (queue_from self.old resource from) }
+    {
+        for place in from..self.waits.len() {
+            let wait = self.waits[place];
+            if wait.resource == resource {
+                self.block(wait.key.process, holder);
+            }
+        }
+    }
+
+    /// Whether the limit allows each label that the hand-over of `resource` makes.
+    pub(super) fn hand_over_fits(&self, resource: u32) -> bool
+        ensures { result ≡ hand_over_fits self.now resource }
+    {
+        match first_place(&self.waits, resource) {
+            None => true,
+            Some(place) => {
+                let first = self.waits[place].key;
+                self.blocks_fit(resource, place + 1, first.process)
+            }
+        }
+    }
+
+    /// Takes the owner of `resource` away.
+    fn free(&mut self, resource: u32)
+        requires { resource < self.old.config.resources }
+        ensures { self.new ≡ record self.old { owners = slice_set self.old.owners resource None } }
+    {
+        self.owners[resource as usize] = None;
+    }
+
+    /// Hands a resource over, and answers what becomes of it.
+    pub(super) fn hand_over(&mut self, resource: u32) -> Released
+        requires resource { resource < self.old.config.resources }
+        requires fits { IsTrue (hand_over_fits self.old resource) }
+        ensures answer { result ≡ release_answer (waiters_of self.old resource) }
+        ensures state { self.new ≡ hand_over self.old resource }
+        ensures totals { self.new.totals ≡ self.old.totals }
+    {
+        let Some(place) = first_place(&self.waits, resource) else {
+            self.free(resource);
+            return Released::Free;
+        };
+        let first = self.take_over(place, resource);
+        self.block_queue(resource, place, first.process);
+        Released::To(first)
+    }
+}
