@@ -3,13 +3,10 @@ use mm_arena::Arena;
 use mm_label::Label;
 use std::marker::Model;
 
-
-
 mod changes;
 mod events;
 mod open;
 mod queues;
-
 mod reads;
 mod tests;
 

@@ -29,8 +29,8 @@ pub not_among_queue : (r n : ℕ) (xs : List Wait) → (Among n (map (λ w. w.ke
 not_among_queue r n [] none = tt
 not_among_queue r n (x ∷ xs) none =
     elim (cases_Bool (nat_eq x.resource r)) [
-    | inl mine ↦ rw mine ((λ e. none (inl (sym e))), not_among_queue r n xs (λ later. none (inr later)))
-    | inr other ↦ rw other (not_among_queue r n xs (λ later. none (inr later)))
+      | inl mine ↦ rw mine ((λ e. none (inl (sym e))), not_among_queue r n xs (λ later. none (inr later)))
+      | inr other ↦ rw other (not_among_queue r n xs (λ later. none (inr later)))
     ]
 
 -- a block of n leaves whether others fit
@@ -55,7 +55,7 @@ blocked_here old s r h from i ws w way are within is for_r =
     let n = w.key.process in
     let rest = queue_from s r (i + 1) in
     let queue : queue_from s r i ≡ wait_kept w ∷ rest =
-        ap (λ l. filter (λ w. nat_eq w.resource r) (drop i l)) are ∙ queue_here ws i w r within is for_r ∙ ap (λ l. wait_kept w ∷ filter (λ w. nat_eq w.resource r) (drop (i + 1) l)) (sym are) in
+    ap (λ l. filter (λ w. nat_eq w.resource r) (drop i l)) are ∙ queue_here ws i w r within is for_r ∙ ap (λ l. wait_kept w ∷ filter (λ w. nat_eq w.resource r) (drop (i + 1) l)) (sym are) in
     let here : drop i s.waits ≡ wait_kept w ∷ drop (i + 1) s.waits = ap (drop i) are ∙ next_at ws i w within is ∙ ap (λ l. wait_kept w ∷ drop (i + 1) l) (sym are) in
     let once = subst (λ (l : List Wait). NoRepeat (map (λ w. w.key.process) l)) here (once_drop s.waits i way.once) in
     let none = not_among_queue r n (drop (i + 1) s.waits) once.0 in
@@ -74,7 +74,7 @@ pub skipped_here : (old s : TableState) (r h from i : ℕ) (ws : List WaitRecord
     → i < length ws → w ≡ slice_index_or ws i w → w.resource ≢ r → IsUnderWay old s r h from (i + 1)
 skipped_here old s r h from i ws w way are within is for_other =
     let queue : queue_from s r i ≡ queue_from s r (i + 1) =
-        ap (λ l. filter (λ w. nat_eq w.resource r) (drop i l)) are ∙ queue_past ws i w r within is for_other ∙ ap (λ l. filter (λ w. nat_eq w.resource r) (drop (i + 1) l)) (sym are) in
+    ap (λ l. filter (λ w. nat_eq w.resource r) (drop i l)) are ∙ queue_past ws i w r within is for_other ∙ ap (λ l. filter (λ w. nat_eq w.resource r) (drop (i + 1) l)) (sym are) in
     record {
       rest = ap (blocked_on s h) (sym queue) ∙ way.rest;
       processes = way.processes;

@@ -85,11 +85,11 @@ filter_in : (p : Wait → Bool) (ws : List Wait) (w : Wait) → In w (filter p w
 filter_in p [] w none = elim none [ ]
 filter_in p (v ∷ vs) w found =
     elim (cases_Bool (p v)) [
-    | inl e ↦ elim (rw e at found) [
+      | inl e ↦ elim (rw e at found) [
         | inl here ↦ (inl here, ap p here ∙ e)
         | inr later ↦ (inr (filter_in p vs w later).0, (filter_in p vs w later).1)
       ]
-    | inr e ↦ (inr (filter_in p vs w (rw e at found)).0, (filter_in p vs w (rw e at found)).1)
+      | inr e ↦ (inr (filter_in p vs w (rw e at found)).0, (filter_in p vs w (rw e at found)).1)
     ]
 
 -- activating a process that does not wait for r leaves the queue of r
@@ -98,11 +98,11 @@ queue_stays : (ws : List Wait) (n r : ℕ) → ((w : Wait) → In w ws → w.res
 queue_stays [] n r others = refl
 queue_stays (w ∷ ws) n r others =
     elim (cases_Bool (is_of n w)) [
-    | inl gone ↦
-        let not_queued : nat_eq w.resource r ≡ false = ne_eqb w.resource r (λ e. others w (inl refl) e (eqb-true w.key.process n gone)) in
-        rw (gone, not_queued) (queue_stays ws n r (λ v v_in. others v (inr v_in)))
-    | inr stays ↦
-        rw stays (ap (λ vs. cond (nat_eq w.resource r) (w ∷ vs) vs) (queue_stays ws n r (λ v v_in. others v (inr v_in))))
+      | inl gone ↦
+          let not_queued : nat_eq w.resource r ≡ false = ne_eqb w.resource r (λ e. others w (inl refl) e (eqb-true w.key.process n gone)) in
+          rw (gone, not_queued) (queue_stays ws n r (λ v v_in. others v (inr v_in)))
+      | inr stays ↦
+          rw stays (ap (λ vs. cond (nat_eq w.resource r) (w ∷ vs) vs) (queue_stays ws n r (λ v v_in. others v (inr v_in))))
     ]
 
 -- who waits for one resource, waits for no other
@@ -116,16 +116,16 @@ among_filtered : (p : Wait → Bool) (ws : List Wait) (n : ℕ) → Among n (map
 among_filtered p [] n none = elim none [ ]
 among_filtered p (w ∷ ws) n found =
     elim (cases_Bool (p w)) [
-    | inl e ↦ elim (rw e at found) [ | inl here ↦ inl here | inr later ↦ inr (among_filtered p ws n later) ]
-    | inr e ↦ inr (among_filtered p ws n (rw e at found))
+      | inl e ↦ elim (rw e at found) [ inl here ↦ inl here | inr later ↦ inr (among_filtered p ws n later) ]
+      | inr e ↦ inr (among_filtered p ws n (rw e at found))
     ]
 
 once_filtered : (p : Wait → Bool) (ws : List Wait) → Once ws → Once (filter p ws)
 once_filtered p [] once = tt
 once_filtered p (w ∷ ws) once =
     elim (cases_Bool (p w)) [
-    | inl e ↦ rw e ((λ again. once.0 (among_filtered p ws w.key.process again)), once_filtered p ws once.1)
-    | inr e ↦ rw e (once_filtered p ws once.1)
+      | inl e ↦ rw e ((λ again. once.0 (among_filtered p ws w.key.process again)), once_filtered p ws once.1)
+      | inr e ↦ rw e (once_filtered p ws once.1)
     ]
 
 -- ---- two hand-overs
@@ -153,19 +153,21 @@ apart_from (w ∷ ws) m g each = (each w (inl refl), apart_from ws m g (λ v v_i
 
 all_apart : (ws vs : List Wait) (h g : ℕ) → NotShared ws vs → ((v : Wait) → In v vs → v.key.process ≢ h) → ((w : Wait) → In w ws → w.key.process ≢ g) → AllApart h g ws vs
 all_apart ws [] h g apart not_h not_g = tt
-all_apart ws (v ∷ vs) h g apart not_h not_g =
-    (not_h v (inl refl), apart_from ws v.key.process g (λ w w_in. (apart w v w_in (inl refl), not_g w w_in)),
-        all_apart ws vs h g (λ w u w_in u_in. apart w u w_in (inr u_in)) (λ u u_in. not_h u (inr u_in)) not_g)
+all_apart ws (v ∷ vs) h g apart not_h not_g = (
+  not_h v (inl refl),
+  apart_from ws v.key.process g (λ w w_in. (apart w v w_in (inl refl), not_g w w_in)),
+  all_apart ws vs h g (λ w u w_in u_in. apart w u w_in (inr u_in)) (λ u u_in. not_h u (inr u_in)) not_g,
+)
 
 filter_comm : (n m : ℕ) (ws : List Wait) → filter (λ w. not (is_of n w)) (filter (λ w. not (is_of m w)) ws) ≡ filter (λ w. not (is_of m w)) (filter (λ w. not (is_of n w)) ws)
 filter_comm n m [] = refl
 filter_comm n m (w ∷ ws) =
     elim (cases_Bool (is_of m w)) [
-    | inl a ↦ elim (cases_Bool (is_of n w)) [
+      | inl a ↦ elim (cases_Bool (is_of n w)) [
         | inl b ↦ simp (a, b) (filter_comm n m ws)
         | inr b ↦ simp (a, b) (filter_comm n m ws)
       ]
-    | inr a ↦ elim (cases_Bool (is_of n w)) [
+      | inr a ↦ elim (cases_Bool (is_of n w)) [
         | inl b ↦ simp (a, b) (filter_comm n m ws)
         | inr b ↦ simp (a, b) (ap (λ vs. w ∷ vs) (filter_comm n m ws))
       ]
@@ -209,8 +211,8 @@ hand_overs_comm s r q once apart =
     let ws = waiters_of s r in
     let vs = waiters_of s q in
     let not_shared = λ (w v : Wait) (w_in : In w ws) (v_in : In v vs) (same : w.key.process ≡ v.key.process).
-        let found = filter_in (λ o. nat_eq o.resource q) s.waits v v_in in
-        other_queue s.waits once r q apart w v w_in found.0 (eqb-true v.resource q found.1) (sym same) in
+    let found = filter_in (λ o. nat_eq o.resource q) s.waits v v_in in
+    other_queue s.waits once r q apart w v w_in found.0 (eqb-true v.resource q found.1) (sym same) in
     ap (give_to (hand_over s r) q) (waiters_stay s r q ws once apart refl)
     ∙ gives_comm s r q ws vs apart not_shared
     ∙ ap (give_to (hand_over s q) r) (sym (waiters_stay s q r vs once (λ e. apart (sym e)) refl))
@@ -248,13 +250,13 @@ split r (q ∷ rs) (inr later) once =
       before = q ∷ rest.before;
       after = rest.after;
       is = ap (λ l. q ∷ l) rest.is;
-      new = λ found. elim found [ | inl here ↦ once.0 (let P : ℕ → Type 0 = λ n. Among n rs in subst P here later) | inr before ↦ rest.new before ];
+      new = λ found. elim found [ inl here ↦ once.0 (let P : ℕ → Type 0 = λ n. Among n rs in subst P here later) | inr before ↦ rest.new before ];
     }
 
 among_middle : (x r : ℕ) (before after : List ℕ) → Among x (before ++ r ∷ after) → (x ≡ r) ⊎ Among x (before ++ after)
 among_middle x r [] after found = found
 among_middle x r (q ∷ before) after (inl here) = inr (inl here)
-among_middle x r (q ∷ before) after (inr later) = elim (among_middle x r before after later) [ | inl is ↦ inl is | inr rest ↦ inr (inr rest) ]
+among_middle x r (q ∷ before) after (inr later) = elim (among_middle x r before after later) [ inl is ↦ inl is | inr rest ↦ inr (inr rest) ]
 
 among_around : (x r : ℕ) (before after : List ℕ) → Among x (before ++ after) → Among x (before ++ r ∷ after)
 among_around x r [] after found = inr found
@@ -268,9 +270,10 @@ among_here r q (p ∷ before) after is = inr (among_here r q before after is)
 no_repeat_around : (r : ℕ) (before after : List ℕ) → NoRepeat (before ++ r ∷ after) → NoRepeat (before ++ after) × (Among r (before ++ after) → ⊥)
 no_repeat_around r [] after once = (once.1, once.0)
 no_repeat_around r (q ∷ before) after once =
-    let rest = no_repeat_around r before after once.1 in
-    ((λ again. once.0 (among_around q r before after again), rest.0),
-        λ found. elim found [ | inl here ↦ once.0 (among_here r q before after here) | inr later ↦ rest.1 later ])
+    let rest = no_repeat_around r before after once.1 in (
+      (λ again. once.0 (among_around q r before after again), rest.0),
+      λ found. elim found [ inl here ↦ once.0 (among_here r q before after here) | inr later ↦ rest.1 later ],
+    )
 
 pub any_order : (s : TableState) (xs ys : List ℕ) → Once s.waits → NoRepeat xs → NoRepeat ys → ((r : ℕ) → Among r xs → Among r ys) → ((r : ℕ) → Among r ys → Among r xs) → fold hand_over s xs ≡ fold hand_over s ys
 any_order s [] [] once x_once y_once there back = refl
@@ -279,13 +282,13 @@ any_order s (x ∷ xs) ys once x_once y_once there back =
     let place = split x ys (there x (inl refl)) y_once in
     let around = no_repeat_around x place.before place.after (let P : List ℕ → Type 0 = λ l. NoRepeat l in subst P place.is y_once) in
     any_order (hand_over s x) xs (place.before ++ place.after) (hand_over_once s x once) x_once.1 around.0
-        (λ r found. elim (among_middle r x place.before place.after (let P : List ℕ → Type 0 = λ l. Among r l in subst P place.is (there r (inr found)))) [
-          | inl is ↦ absurd (x_once.0 (let P : ℕ → Type 0 = λ n. Among n xs in subst P is found))
-          | inr rest ↦ rest
-        ])
-        (λ r found. elim (back r (let P : List ℕ → Type 0 = λ l. Among r l in subst P (sym place.is) (among_around r x place.before place.after found))) [
-          | inl is ↦ absurd (around.1 (let P : ℕ → Type 0 = λ n. Among n (place.before ++ place.after) in subst P is found))
-          | inr rest ↦ rest
-        ])
+    (λ r found. elim (among_middle r x place.before place.after (let P : List ℕ → Type 0 = λ l. Among r l in subst P place.is (there r (inr found)))) [
+      | inl is ↦ absurd (x_once.0 (let P : ℕ → Type 0 = λ n. Among n xs in subst P is found))
+      | inr rest ↦ rest
+    ])
+    (λ r found. elim (back r (let P : List ℕ → Type 0 = λ l. Among r l in subst P (sym place.is) (among_around r x place.before place.after found))) [
+      | inl is ↦ absurd (around.1 (let P : ℕ → Type 0 = λ n. Among n (place.before ++ place.after) in subst P is found))
+      | inr rest ↦ rest
+    ])
     ∙ sym (to_front s place.before x place.after once place.new)
     ∙ ap (fold hand_over s) (sym place.is)

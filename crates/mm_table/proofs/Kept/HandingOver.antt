@@ -121,7 +121,7 @@ pub handed_over : (s t : TableState) (ws : List WaitRecord) (r i : ℕ) (key : K
     → option_map (λ w. w.key) (slice_get s.waits i) ≡ Some key → t ≡ taken_over s r key → IsHandedOver s t r i key
 handed_over s t ws r i key are once f at_place is =
     let one : Some f.wait.key ≡ Some key =
-        ap (λ o. option_map (λ (w : Wait). w.key) (option_map wait_kept o)) (sym f.at_place) ∙ ap (option_map (λ (w : Wait). w.key)) (sym (slice_get-map wait_kept ws i)) ∙ ap (λ l. option_map (λ (w : Wait). w.key) (slice_get l i)) are ∙ at_place in
+    ap (λ o. option_map (λ (w : Wait). w.key) (option_map wait_kept o)) (sym f.at_place) ∙ ap (option_map (λ (w : Wait). w.key)) (sym (slice_get-map wait_kept ws i)) ∙ ap (λ l. option_map (λ (w : Wait). w.key) (slice_get l i)) are ∙ at_place in
     let same : f.wait.key ≡ key = cc in
     subst (λ (u : TableState). IsHandedOver s u r i key) (sym is) (subst (λ (k : Key). IsHandedOver s (taken_over s r k) r i k) same (is_handed_over s ws r i are once f))
 

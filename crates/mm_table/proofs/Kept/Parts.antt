@@ -76,15 +76,15 @@ queued_waits : (xs : List (Option ℕ)) (ws : List WaitRecord) (w : WaitRecord) 
 queued_waits xs ws w within idle_before before m =
     let n = w.key.process in
     elim (cases_eq m n) [
-    | inl here ↦
-        let now : slice_index_or (slice_set xs n (Some w.resource)) m None ≡ Some w.resource = rw here (get_or-set_same xs n (Some w.resource) None within) in
-        let free : waited_for (map wait_kept ws) m ≡ None = sym (before m) ∙ rw here idle_before in
-        let mine : nat_eq n m ≡ true = eq-eqb n m (sym here) in
-        rw (waited_push, now, free, mine) refl
-    | inr other ↦
-        let stays = get_or-set_other xs n m (Some w.resource) None other in
-        let not_mine : nat_eq n m ≡ false = ne_eqb n m (λ e. other (sym e)) in
-        rw (waited_push, stays, before m, not_mine) (or_none (waited_for (map wait_kept ws) m))
+      | inl here ↦
+          let now : slice_index_or (slice_set xs n (Some w.resource)) m None ≡ Some w.resource = rw here (get_or-set_same xs n (Some w.resource) None within) in
+          let free : waited_for (map wait_kept ws) m ≡ None = sym (before m) ∙ rw here idle_before in
+          let mine : nat_eq n m ≡ true = eq-eqb n m (sym here) in
+          rw (waited_push, now, free, mine) refl
+      | inr other ↦
+          let stays = get_or-set_other xs n m (Some w.resource) None other in
+          let not_mine : nat_eq n m ≡ false = ne_eqb n m (λ e. other (sym e)) in
+          rw (waited_push, stays, before m, not_mine) (or_none (waited_for (map wait_kept ws) m))
     ]
 
 -- what is waited for stays below m where n comes to wait for r
@@ -92,11 +92,11 @@ set_in_range : (xs : List (Option ℕ)) (n r m : ℕ) → n < length xs → r < 
     → (i s : ℕ) → slice_index_or (slice_set xs n (Some r)) i None ≡ Some s → s < m
 set_in_range xs n r m within below before i s waited =
     elim (cases_eq i n) [
-    | inl here ↦
-        let now : Some r ≡ Some s = sym (get_or-set_same xs n (Some r) None within) ∙ ap (λ j. slice_index_or (slice_set xs n (Some r)) j None) (sym here) ∙ waited in
-        let same_resource : r ≡ s = cc in
-        omega arith
-    | inr other ↦ before i s (sym (get_or-set_other xs n i (Some r) None other) ∙ waited)
+      | inl here ↦
+          let now : Some r ≡ Some s = sym (get_or-set_same xs n (Some r) None within) ∙ ap (λ j. slice_index_or (slice_set xs n (Some r)) j None) (sym here) ∙ waited in
+          let same_resource : r ≡ s = cc in
+          omega arith
+      | inr other ↦ before i s (sym (get_or-set_other xs n i (Some r) None other) ∙ waited)
     ]
 
 pub waited_past : (w : WaitRecord) (ws : List WaitRecord) (n : ℕ) → nat_eq w.key.process n ≡ false → waited_for (map wait_kept (w ∷ ws)) n ≡ waited_for (map wait_kept ws) n
@@ -106,26 +106,26 @@ among_push : (ws : List WaitRecord) (w : WaitRecord) (n : ℕ) → Among n (map 
 among_push [] w n (inl last) = inr last
 among_push [] w n (inr none) = elim none [ ]
 among_push (v ∷ ws) w n (inl here) = inl (inl here)
-among_push (v ∷ ws) w n (inr later) = elim (among_push ws w n later) [ | inl before ↦ inl (inr before) | inr last ↦ inr last ]
+among_push (v ∷ ws) w n (inr later) = elim (among_push ws w n later) [ inl before ↦ inl (inr before) | inr last ↦ inr last ]
 
 -- a process among the waits waits
 among_waits : (ws : List WaitRecord) (n : ℕ) → Among n (map (λ w. w.key.process) ws) → waited_for (map wait_kept ws) n ≡ None → ⊥
 among_waits [] n none idle_now = elim none [ ]
 among_waits (w ∷ ws) n found idle_now =
     elim (cases_eq w.key.process n) [
-    | inl here ↦
-        let mine : nat_eq w.key.process n ≡ true = eq-eqb w.key.process n here in
-        let never : Some w.resource ≡ None = sym (rw mine refl) ∙ idle_now in
-        cc
-    | inr elsewhere ↦
-        let not_mine : nat_eq w.key.process n ≡ false = ne_eqb w.key.process n elsewhere in
-        elim found [ | inl here ↦ absurd (elsewhere (sym here)) | inr later ↦ among_waits ws n later (sym (waited_past w ws n not_mine) ∙ idle_now) ]
+      | inl here ↦
+          let mine : nat_eq w.key.process n ≡ true = eq-eqb w.key.process n here in
+          let never : Some w.resource ≡ None = sym (rw mine refl) ∙ idle_now in
+          cc
+      | inr elsewhere ↦
+          let not_mine : nat_eq w.key.process n ≡ false = ne_eqb w.key.process n elsewhere in
+          elim found [ inl here ↦ absurd (elsewhere (sym here)) | inr later ↦ among_waits ws n later (sym (waited_past w ws n not_mine) ∙ idle_now) ]
     ]
 
 once_push : (ws : List WaitRecord) (w : WaitRecord) → NoRepeat (map (λ v. v.key.process) ws) → (Among w.key.process (map (λ v. v.key.process) ws) → ⊥) → NoRepeat (map (λ v. v.key.process) (ws ++ w ∷ []))
 once_push [] w once new = ((λ none. none), tt)
 once_push (v ∷ ws) w once new =
-    ((λ again. elim (among_push ws w v.key.process again) [ | inl before ↦ once.0 before | inr last ↦ new (inl (sym last)) ]), once_push ws w once.1 (λ later. new (inr later)))
+    ((λ again. elim (among_push ws w v.key.process again) [ inl before ↦ once.0 before | inr last ↦ new (inl (sym last)) ]), once_push ws w once.1 (λ later. new (inr later)))
 
 -- a wait of live transaction k for r was appended, and k did not wait before
 pub queued_fits : (c : Config) (s : Slots Transaction) (ls : List Labels) (os : List (Option Key)) (ws : List WaitRecord) (k : Key) (o : Transaction) (r : ℕ)

@@ -40,7 +40,7 @@ fits_by None b v given found = let never : false ≡ true = found in cc
 fits_by (Some l) b v given found = given.0
 
 pub fits_not_by : (o : Option Label) (b : Bool) (v : Label) → SomeIff o (IsTrue b) v → is_some o ≡ false → b ≡ false
-fits_not_by None b v given found = elim (cases_Bool b) [ | inl it_fits ↦ absurd (given it_fits) | inr past ↦ past ]
+fits_not_by None b v given found = elim (cases_Bool b) [ inl it_fits ↦ absurd (given it_fits) | inr past ↦ past ]
 fits_not_by (Some l) b v given found = let never : true ≡ false = found in cc
 
 -- ---- the first of a queue
@@ -63,11 +63,11 @@ queue_empty (w ∷ ws) r none =
     let all = w ∷ ws in
     let first = position_or_len (λ (v : WaitRecord). nat_eq v.resource r) all in
     elim (cases_Bool (nat_lt first (length all))) [
-    | inl found ↦ let never : Some first ≡ None = sym (rw found refl) ∙ none in cc
-    | inr past ↦
-        let beyond : length all ≤ first = ltb-false first (length all) past in
-        let whole = drop_kept all in
-        skip all (length all) r w (omega arith) (λ k below. fails_before_first (λ (v : WaitRecord). nat_eq v.resource r) all k w (omega arith)) ∙ ap (queue r) whole
+      | inl found ↦ let never : Some first ≡ None = sym (rw found refl) ∙ none in cc
+      | inr past ↦
+          let beyond : length all ≤ first = ltb-false first (length all) past in
+          let whole = drop_kept all in
+          skip all (length all) r w (omega arith) (λ k below. fails_before_first (λ (v : WaitRecord). nat_eq v.resource r) all k w (omega arith)) ∙ ap (queue r) whole
     ]
 
 pub queue_first : (ws : List WaitRecord) (r i : ℕ) (w : WaitRecord) → position (λ w. nat_eq w.resource r) ws ≡ Some i → w ≡ slice_index_or ws i w

@@ -73,9 +73,9 @@ seated_fits c s new ls os ws key is free added fits =
     let same_idle : idle p ≡ idle (place_at s n) = ap (λ w. if is_some w then 0 else 1) no_wait in
     let idle_places : sum_by idle new.places ≡ sum_by idle (slice_set s.places n p) = ap (sum_by idle) places in
     let none_here : (k : Key) → IsLive s k → k ≢ key = λ k live here.
-        let none = dead key.generation (place_at s n) empty in
-        let never : false ≡ true = sym (ap is_some none) ∙ subst (λ j. is_some (lookup s j) ≡ true) here live in
-        cc in
+    let none = dead key.generation (place_at s n) empty in
+    let never : false ≡ true = sym (ap is_some none) ∙ subst (λ j. is_some (lookup s j) ≡ true) here live in
+    cc in
     record {
       config_in_range = fits.config_in_range;
       slots_sized = added.capacity ∙ fits.slots_sized;

@@ -16,8 +16,8 @@ module _ {T : Type 0} where
   found_under : (generation : ℕ) (place : Place T) (value : T) → value_under generation place ≡ Some value → place ≡ record { generation = generation; value = Some value }
   found_under generation place value found =
       elim (cases_Bool (nat_eq place.generation generation)) [
-      | inl same ↦ λ i. record { generation = eqb-true place.generation generation same i; value = (rw same at found) i }
-      | inr other ↦ let never : None ≡ Some value = rw other at found in cc
+        | inl same ↦ λ i. record { generation = eqb-true place.generation generation same i; value = (rw same at found) i }
+        | inr other ↦ let never : None ≡ Some value = rw other at found in cc
       ]
 
   pub holds : (s : Slots T) (key : Key) (value : T) → lookup s key ≡ Some value → Holds s key value
@@ -27,7 +27,7 @@ module _ {T : Type 0} where
         within = elim (cases_lt key.process (length s.places)) [
           | inl within ↦ within
           | inr past ↦ let never : None ≡ Some value = ap (λ p. p.value) (sym (get_or_past s.places key.process never_used past) ∙ place) in cc
-          ];
+        ];
         place = place;
       }
 
@@ -41,14 +41,14 @@ module _ {T : Type 0} where
       let held = holds s key old found in
       let written : Place T = record { generation = key.generation; value = Some new } in
       elim (cases_eq other.process key.process) [
-      | inl here ↦ elim (cases_Bool (nat_eq key.generation other.generation)) [
+        | inl here ↦ elim (cases_Bool (nat_eq key.generation other.generation)) [
           | inl same ↦ rw (here, get_or-set_same s.places key.process written never_used held.within, same) refl
           | inr apart ↦ let never : is_some (value_under other.generation (place_at s key.process)) ≡ true = rw here at live in
               let none : is_some (value_under other.generation (place_at s key.process)) ≡ false = rw (held.place, apart) refl in
               let both : false ≡ true = sym none ∙ never in
               cc
         ]
-      | inr elsewhere ↦ let stays = get_or-set_other s.places key.process other.process written never_used elsewhere in rw stays live
+        | inr elsewhere ↦ let stays = get_or-set_other s.places key.process other.process written never_used elsewhere in rw stays live
       ]
 
 pub all_append : {X : Type 0} (P : X → Type 0) (xs ys : List X) → AllByRecursion P xs → AllByRecursion P ys → AllByRecursion P (xs ++ ys)

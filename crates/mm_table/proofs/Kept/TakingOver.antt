@@ -41,12 +41,13 @@ among_middle (v ∷ b) w a = inr (among_middle b w a)
 pub once_around : (b : List WaitRecord) (w : WaitRecord) (a : List WaitRecord) → NoRepeat (processes (b ++ w ∷ a)) → NoRepeat (processes (b ++ a)) × (Among w.key.process (processes (b ++ a)) → ⊥)
 once_around [] w a once = (once.1, once.0)
 once_around (v ∷ b) w a once =
-    let rest = once_around b w a once.1 in
-    ((λ again. once.0 (among_around b w a v.key.process again), rest.0),
-        λ found. elim found [
-          | inl here ↦ once.0 (let P : ℕ → Type 0 = λ n. Among n (processes (b ++ w ∷ a)) in subst P here (among_middle b w a))
-          | inr later ↦ rest.1 later
-        ])
+    let rest = once_around b w a once.1 in (
+      (λ again. once.0 (among_around b w a v.key.process again), rest.0),
+      λ found. elim found [
+        | inl here ↦ once.0 (let P : ℕ → Type 0 = λ n. Among n (processes (b ++ w ∷ a)) in subst P here (among_middle b w a))
+        | inr later ↦ rest.1 later
+      ],
+    )
 
 all_around : {X : Type 0} (P : X → Type 0) (b : List X) (x : X) (a : List X) → AllByRecursion P (b ++ x ∷ a) → AllByRecursion P (b ++ a)
 all_around P [] x a all = all.1
@@ -63,10 +64,10 @@ waited_around : (b : List WaitRecord) (w : WaitRecord) (a : List WaitRecord) (m 
 waited_around [] w a m other = waited_past w a m (ne_eqb w.key.process m other)
 waited_around (v ∷ b) w a m other =
     elim (cases_eq v.key.process m) [
-    | inl here ↦ let mine : nat_eq v.key.process m ≡ true = eq-eqb v.key.process m here in rw mine refl
-    | inr elsewhere ↦
-        let not_mine : nat_eq v.key.process m ≡ false = ne_eqb v.key.process m elsewhere in
-        waited_past v (b ++ w ∷ a) m not_mine ∙ waited_around b w a m other ∙ sym (waited_past v (b ++ a) m not_mine)
+      | inl here ↦ let mine : nat_eq v.key.process m ≡ true = eq-eqb v.key.process m here in rw mine refl
+      | inr elsewhere ↦
+          let not_mine : nat_eq v.key.process m ≡ false = ne_eqb v.key.process m elsewhere in
+          waited_past v (b ++ w ∷ a) m not_mine ∙ waited_around b w a m other ∙ sym (waited_past v (b ++ a) m not_mine)
     ]
 
 -- activating a process of the waits takes that one wait
@@ -105,21 +106,21 @@ took_over c s ls os ws t i w o r place found fits =
 set_none_in_range : (xs : List (Option ℕ)) (n m : ℕ) → n < length xs → ((i s : ℕ) → slice_index_or xs i None ≡ Some s → s < m) → (i s : ℕ) → slice_index_or (slice_set xs n None) i None ≡ Some s → s < m
 set_none_in_range xs n m within before i s waited =
     elim (cases_eq i n) [
-    | inl here ↦
-        let never : None ≡ Some s = sym (get_or-set_same xs n None None within) ∙ ap (λ j. slice_index_or (slice_set xs n None) j None) (sym here) ∙ waited in
-        cc
-    | inr other ↦ before i s (sym (get_or-set_other xs n i None None other) ∙ waited)
+      | inl here ↦
+          let never : None ≡ Some s = sym (get_or-set_same xs n None None within) ∙ ap (λ j. slice_index_or (slice_set xs n None) j None) (sym here) ∙ waited in
+          cc
+      | inr other ↦ before i s (sym (get_or-set_other xs n i None None other) ∙ waited)
     ]
 
 set_owner_in_range : (os : List (Option Key)) (r m : ℕ) (k : Key) → r < length os → k.process < m → ((q : ℕ) (j : Key) → slice_index_or os q None ≡ Some j → j.process < m)
     → (q : ℕ) (j : Key) → slice_index_or (slice_set os r (Some k)) q None ≡ Some j → j.process < m
 set_owner_in_range os r m k within below before q j owned =
     elim (cases_eq q r) [
-    | inl here ↦
-        let now : Some k ≡ Some j = sym (get_or-set_same os r (Some k) None within) ∙ ap (λ x. slice_index_or (slice_set os r (Some k)) x None) (sym here) ∙ owned in
-        let same : k ≡ j = cc in
-        subst (λ (x : Key). x.process < m) same below
-    | inr other ↦ before q j (sym (get_or-set_other os r q (Some k) None other) ∙ owned)
+      | inl here ↦
+          let now : Some k ≡ Some j = sym (get_or-set_same os r (Some k) None within) ∙ ap (λ x. slice_index_or (slice_set os r (Some k)) x None) (sym here) ∙ owned in
+          let same : k ≡ j = cc in
+          subst (λ (x : Key). x.process < m) same below
+      | inr other ↦ before q j (sym (get_or-set_other os r q (Some k) None other) ∙ owned)
     ]
 
 waited_here : (b : List WaitRecord) (w : WaitRecord) (a : List WaitRecord) → NoRepeat (processes (b ++ w ∷ a)) → waited_for (map wait_kept (b ++ w ∷ a)) w.key.process ≡ Some w.resource
@@ -137,10 +138,10 @@ waits_left : (xs : List (Option ℕ)) (b : List WaitRecord) (w : WaitRecord) (a 
 waits_left xs b w a within gone before m =
     let n = w.key.process in
     elim (cases_eq m n) [
-    | inl here ↦
-        ap (λ j. slice_index_or (slice_set xs n None) j None) here ∙ get_or-set_same xs n None None within
-        ∙ sym (none_among (b ++ a) n gone) ∙ ap (waited_for (map wait_kept (b ++ a))) (sym here)
-    | inr other ↦ get_or-set_other xs n m None None other ∙ before m ∙ waited_around b w a m (λ e. other (sym e))
+      | inl here ↦
+          ap (λ j. slice_index_or (slice_set xs n None) j None) here ∙ get_or-set_same xs n None None within
+          ∙ sym (none_among (b ++ a) n gone) ∙ ap (waited_for (map wait_kept (b ++ a))) (sym here)
+      | inr other ↦ get_or-set_other xs n m None None other ∙ before m ∙ waited_around b w a m (λ e. other (sym e))
     ]
 
 pub took_over_fits : (c : Config) (s : Slots Transaction) (ls : List Labels) (os : List (Option Key)) (ws : List WaitRecord) (i : ℕ) (w : WaitRecord) (o : Transaction) (r : ℕ)

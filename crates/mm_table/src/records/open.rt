@@ -28,7 +28,9 @@ fn labels_at_opening(alloc: Global, count: u32) -> Result<Vec<Labels>, AllocErro
     requires { count ≤ 4096 }
     ensures { IfOk result (λ v. v.items ≡ map opening_labels (range_with_len 0 count)) }
 {
-    (0..count).map(|process| Labels::at_opening(process)).collect(alloc)
+    (0..count)
+        .map(|process| Labels::at_opening(process))
+        .collect(alloc)
 }
 
 /// The owners of a table that was just opened: none.

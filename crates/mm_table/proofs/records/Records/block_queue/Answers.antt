@@ -44,7 +44,7 @@ block-requires-clause-fits c =
     let long = as_long c.self.inside.waits.items ws c.args.self.now c.loop-place.self (ap (λ s. s.waits) c.self.view_is) c.loop-place.invariant.waits (ap (λ s. s.waits) c.self-in-loop-place.view_is) in
     let within : c.loop-place.place < length ws = omega (arith, c.self.inside.waits.ok.0) in
     fits_here c.args.self.now c.loop-place.self c.args.resource c.args.holder c.args.from c.loop-place.place ws c.index-wait.result.now c.loop-place.invariant
-        (sym (ap (λ s. s.waits) c.self-in-loop-place.view_is)) within c.index-wait.ensures c.if-wait-resource.true
+    (sym (ap (λ s. s.waits) c.self-in-loop-place.view_is)) within c.index-wait.ensures c.if-wait-resource.true
 
 pub loop-place-preserved : goal.loop-place-preserved
 loop-place-preserved c =
@@ -56,8 +56,8 @@ loop-place-preserved c =
     let within : c.loop-place.place < length ws = omega (arith, c.self.inside.waits.ok.0) in
     let are = sym (ap (λ s. s.waits) c.self-in-loop-place.view_is) in
     elim c.if-wait-resource.branch [
-    | then-wait-resource w ↦ subst (λ (s : TableState). IsUnderWay old s c.args.resource c.args.holder c.args.from (c.loop-place.place + 1)) (sym (w.self-is ∙ w.block.ensures.state))
-        (blocked_here old now c.args.resource c.args.holder c.args.from c.loop-place.place ws wait c.loop-place.invariant are within c.index-wait.ensures w.if-wait-resource.true)
-    | else-wait-resource w ↦ subst (λ (s : TableState). IsUnderWay old s c.args.resource c.args.holder c.args.from (c.loop-place.place + 1)) (sym w.self-is)
-        (skipped_here old now c.args.resource c.args.holder c.args.from c.loop-place.place ws wait c.loop-place.invariant are within c.index-wait.ensures w.if-wait-resource.false)
+      | then-wait-resource w ↦ subst (λ (s : TableState). IsUnderWay old s c.args.resource c.args.holder c.args.from (c.loop-place.place + 1)) (sym (w.self-is ∙ w.block.ensures.state))
+          (blocked_here old now c.args.resource c.args.holder c.args.from c.loop-place.place ws wait c.loop-place.invariant are within c.index-wait.ensures w.if-wait-resource.true)
+      | else-wait-resource w ↦ subst (λ (s : TableState). IsUnderWay old s c.args.resource c.args.holder c.args.from (c.loop-place.place + 1)) (sym w.self-is)
+          (skipped_here old now c.args.resource c.args.holder c.args.from c.loop-place.place ws wait c.loop-place.invariant are within c.index-wait.ensures w.if-wait-resource.false)
     ]

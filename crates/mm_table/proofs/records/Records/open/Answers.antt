@@ -37,5 +37,8 @@ invariant_of-result c =
     }
 
 pub returns : goal.returns
-returns c = (search rules, opened c.args.config c.in-Ok.transactions c.in-Ok-labels_at_opening.labels.items c.in-Ok-no_owners.owners.items c.in-Ok-with_capacity.waits.items
-    c.in-Ok.ensures c.in-Ok-labels_at_opening.ensures c.in-Ok-no_owners.ensures c.in-Ok-with_capacity.ensures.items)
+returns c = (
+  search rules,
+  opened c.args.config c.in-Ok.transactions c.in-Ok-labels_at_opening.labels.items c.in-Ok-no_owners.owners.items c.in-Ok-with_capacity.waits.items
+      c.in-Ok.ensures c.in-Ok-labels_at_opening.ensures c.in-Ok-no_owners.ensures c.in-Ok-with_capacity.ensures.items,
+)
