@@ -6,7 +6,7 @@ use Rattle.mm_table.specs.declared.config.Config.{Config}
 use Rattle.mm_table.specs.declared.refusal.Refusal.{Refusal}
 use Rattle.mm_table.specs.declared.refusal.Refusal.TheVariants.{BadConfig}
 use Rattle.mm_table.specs.TableState.{TableState, IsInRange, opening}
-use Rattle.mm_table.specs.Event.{Opens, begun, acquired, released, transmitted, detected, state_of}
+use Rattle.mm_table.specs.Event.{Opens, begun, acquired, released, transmitted, detected, state_of, owner_told}
 use Rattle.mm_detect.specs.declared.script.line.Line.{Line}
 use Rattle.mm_detect.specs.declared.script.line.Line.TheVariants as kind
 use Rattle.mm_detect.specs.declared.script.line.Call.{Call}
@@ -49,6 +49,8 @@ replies (calls.Release k r) (Some s) = (reply_to replies_are.Released (released 
 replies (calls.Transmit k) (Some s) = (reply_to replies_are.Transmitted (transmitted s k).reply, Some (transmitted s k).state, ((transmitted s k).reply, (transmitted s k).state, (refl, refl), refl, refl))
 replies (calls.Detect k) (Some s) = (reply_to replies_are.Detected (detected s k).reply, Some (detected s k).state, ((detected s k).reply, (detected s k).state, (refl, refl), refl, refl))
 replies (calls.State k) (Some s) = (reply_to replies_are.Read (state_of s k), Some s, (refl, refl))
+replies (calls.Owner r) (Some s) = (reply_to replies_are.Owned (owner_told s r), Some s, (refl, refl))
+replies calls.Totals (Some s) = (replies_are.Counted s.totals, Some s, (refl, refl))
 replies (calls.Table c) None = let o = opens c in (reply_to (λ _. replies_are.Opened) o.0, result_ok o.0, (o.0, o.1, refl, refl))
 replies calls.Begin None = (replies_are.NoTable, None, (refl, refl))
 replies (calls.Acquire k r) None = (replies_are.NoTable, None, (refl, refl))
@@ -56,6 +58,8 @@ replies (calls.Release k r) None = (replies_are.NoTable, None, (refl, refl))
 replies (calls.Transmit k) None = (replies_are.NoTable, None, (refl, refl))
 replies (calls.Detect k) None = (replies_are.NoTable, None, (refl, refl))
 replies (calls.State k) None = (replies_are.NoTable, None, (refl, refl))
+replies (calls.Owner r) None = (replies_are.NoTable, None, (refl, refl))
+replies calls.Totals None = (replies_are.NoTable, None, (refl, refl))
 
 answers : (line : Line) (table : Option TableState) → (reply : List ℕ) × (one : ℕ) × (next : Option TableState) × Answers line table reply one next
 answers kind.Silent table = ([], 0, table, (refl, refl, refl))

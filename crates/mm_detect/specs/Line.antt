@@ -20,10 +20,10 @@ table_call (p ∷ r ∷ l ∷ g ∷ []) = do
   Some (calls.Table (record { processes = processes; resources = resources; label_limit = label_limit; generation_limit = generation_limit }))
 table_call _ = None
 
--- begin
-abbrev pub begin_call : List (List ℕ) → Option Call
-begin_call [] = Some calls.Begin
-begin_call _ = None
+-- a word alone
+abbrev pub no_arguments : Call → List (List ℕ) → Option Call
+no_arguments call [] = Some call
+no_arguments call _ = None
 
 -- K r
 abbrev pub key_and_resource : List (List ℕ) → Option (Key × ℕ)
@@ -32,6 +32,11 @@ key_and_resource (k ∷ r ∷ []) = do
   resource ← number_at_most (2 ^ 32 - 1) r
   Some (key, resource)
 key_and_resource _ = None
+
+-- r
+abbrev pub resource_alone : List (List ℕ) → Option ℕ
+resource_alone (r ∷ []) = number_at_most (2 ^ 32 - 1) r
+resource_alone _ = None
 
 -- K
 abbrev pub key_alone : List (List ℕ) → Option Key
@@ -42,13 +47,15 @@ key_alone _ = None
 abbrev pub call_of : List ℕ → List (List ℕ) → Option Call
 call_of word arguments =
     if bytes_eq word (codes "table") then table_call arguments
-    else (if bytes_eq word (codes "begin") then begin_call arguments
+    else (if bytes_eq word (codes "begin") then no_arguments calls.Begin arguments
     else (if bytes_eq word (codes "acquire") then option_map (λ t. calls.Acquire t.0 t.1) (key_and_resource arguments)
     else (if bytes_eq word (codes "release") then option_map (λ t. calls.Release t.0 t.1) (key_and_resource arguments)
     else (if bytes_eq word (codes "transmit") then option_map calls.Transmit (key_alone arguments)
     else (if bytes_eq word (codes "detect") then option_map calls.Detect (key_alone arguments)
     else (if bytes_eq word (codes "state") then option_map calls.State (key_alone arguments)
-    else None))))))
+    else (if bytes_eq word (codes "owner") then option_map calls.Owner (resource_alone arguments)
+    else (if bytes_eq word (codes "totals") then no_arguments calls.Totals arguments
+    else None))))))))
 
 -- a line of these words
 abbrev pub line_of_words : List (List ℕ) → Line

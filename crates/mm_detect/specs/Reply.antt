@@ -1,5 +1,6 @@
 -- How replies are printed.
-use Rattle.std.specs.Prelude.{◌≡◌, ℕ, ◌≤◌, List, ◌++◌, length, codes, decimal}
+use Rattle.std.specs.Prelude.{Option, Some, None, ◌≡◌, ℕ, ◌≤◌, List, ◌++◌, length, codes, decimal}
+use Rattle.mm_arena.specs.declared.key.Key.{Key}
 use Rattle.mm_arena.specs.Key.{key_text}
 use Rattle.mm_label.specs.Label.{label_text}
 use Rattle.mm_table.specs.declared.refusal.Refusal.{Refusal}
@@ -14,9 +15,10 @@ use Rattle.mm_table.specs.declared.reply.Detected.TheVariants.{Deadlock, Standin
 use Rattle.mm_table.specs.declared.reply.Mode.{Mode}
 use Rattle.mm_table.specs.declared.reply.Mode.TheVariants.{Active, Waiting, Convicted}
 use Rattle.mm_table.specs.declared.reply.State.{State}
+use Rattle.mm_table.specs.declared.reply.Totals.{Totals}
 use Rattle.mm_table.specs.Refusal.{number_of, name_of}
 use Rattle.mm_detect.specs.declared.script.reply.Reply.{Reply}
-use Rattle.mm_detect.specs.declared.script.reply.Reply.TheVariants.{Malformed, NoTable, TableStands, Opened, Begun, Acquired as Acquired_, Released as Released_, Transmitted as Transmitted_, Detected as Detected_, Read, Refused}
+use Rattle.mm_detect.specs.declared.script.reply.Reply.TheVariants.{Malformed, NoTable, TableStands, Opened, Begun, Acquired as Acquired_, Released as Released_, Transmitted as Transmitted_, Detected as Detected_, Read, Owned, Counted, Refused}
 
 abbrev pub acquired_text : Acquired → List ℕ
 acquired_text Granted = codes "granted"
@@ -43,6 +45,13 @@ mode_text (Convicted resource) = codes "convicted " ++ decimal resource
 abbrev pub state_text : State → List ℕ
 state_text state = mode_text state.mode ++ codes " " ++ label_text state.private ++ codes " " ++ label_text state.public
 
+abbrev pub owner_text : Option Key → List ℕ
+owner_text None = codes "free"
+owner_text (Some owner) = codes "owner " ++ key_text owner
+
+abbrev pub totals_text : Totals → List ℕ
+totals_text totals = codes "totals " ++ decimal totals.accepted ++ codes " " ++ decimal totals.verdicts ++ codes " " ++ decimal totals.aborts
+
 abbrev pub refusal_text : Refusal → List ℕ
 refusal_text refusal = codes "refused " ++ decimal (number_of refusal) ++ codes " " ++ name_of refusal
 
@@ -57,6 +66,8 @@ reply_text (Released_ released) = released_text released
 reply_text (Transmitted_ transmitted) = transmitted_text transmitted
 reply_text (Detected_ detected) = detected_text detected
 reply_text (Read state) = state_text state
+reply_text (Owned owner) = owner_text owner
+reply_text (Counted totals) = totals_text totals
 reply_text (Refused refusal) = refusal_text refusal
 
 -- a reply and its newline

@@ -3,7 +3,7 @@ use Rattle.std.specs.Prelude.{◌≡◌, ℕ, ◌+◌, List, [], ◌∷◌, ◌+
 use Rattle.std.specs.Result.{result_ok}
 use Rattle.mm_table.specs.declared.refusal.Refusal.{Refusal}
 use Rattle.mm_table.specs.TableState.{TableState}
-use Rattle.mm_table.specs.Event.{Event, Answer, Step, Opens, state_of}
+use Rattle.mm_table.specs.Event.{Event, Answer, Step, Opens, state_of, owner_told}
 use Rattle.mm_table.specs.Event as events
 use Rattle.mm_detect.specs.declared.script.line.Line.{Line}
 use Rattle.mm_detect.specs.declared.script.line.Line.TheVariants as kind
@@ -32,6 +32,8 @@ RepliesWithTable (calls.Release key resource) old reply new = Makes (events.Rele
 RepliesWithTable (calls.Transmit key) old reply new = Makes (events.Transmit key) replies.Transmitted old reply new
 RepliesWithTable (calls.Detect key) old reply new = Makes (events.Detect key) replies.Detected old reply new
 RepliesWithTable (calls.State key) old reply new = (reply ≡ reply_to replies.Read (state_of old key)) × (new ≡ Some old)
+RepliesWithTable (calls.Owner resource) old reply new = (reply ≡ reply_to replies.Owned (owner_told old resource)) × (new ≡ Some old)
+RepliesWithTable calls.Totals old reply new = (reply ≡ replies.Counted old.totals) × (new ≡ Some old)
 
 -- the same while none stands; a refused `table` leaves none
 abbrev pub RepliesWithNone : Call → Reply → Option TableState → Type 0

@@ -3,6 +3,7 @@
 -- slots, and what the parts of a table stand for
 pub mod Slots
 pub mod Parts
+pub mod Tenants
 pub mod Opening
 pub mod Seating
 -- queues, found in the one list of waits

@@ -1,5 +1,5 @@
 -- The events of a table: their refusals, replies and new states; steps, and runs of them.
-use Rattle.std.specs.Prelude.{◌≡◌, ℕ, ◌+◌, ◌^◌, ◌<◌, Bool, true, false, not, List, [], ◌∷◌, ◌++◌, Option, Some, None, Result, Ok, Err, ◌||◌, if◌then◌else◌, length, fold, drop, count_by, nat_eq, nat_le, slice_index, slice_set, MatchBool, ◌⊎◌}
+use Rattle.std.specs.Prelude.{◌≡◌, ℕ, ◌+◌, ◌^◌, ◌<◌, Bool, true, false, not, List, [], ◌∷◌, ◌++◌, Option, Some, None, Result, Ok, Err, ◌||◌, if◌then◌else◌, length, fold, drop, count_by, nat_eq, nat_le, nat_lt, slice_index, slice_index_or, slice_set, MatchBool, ◌⊎◌}
 use Rattle.std.specs.Option.{option_map_or}
 use Rattle.mm_label.specs.Label.{label_eq}
 use Rattle.mm_table.specs.declared.config.Config.{Config}
@@ -212,3 +212,11 @@ state_of s k =
     if is_live s k
     then Ok (record { mode = mode_of (wait_of s k.process) (has_verdict s k.process); private = private_of s k.process; public = public_of s k.process })
     else Err Stale
+
+-- what `owner` answers
+abbrev pub owner_told : TableState → ℕ → Result (Option Key) Refusal
+owner_told s r = if nat_lt r s.config.resources then Ok (owner_of s r) else Err NoResource
+
+-- what `tenant` answers: the live key of process n
+abbrev pub tenant_of : TableState → ℕ → Option Key
+tenant_of s n = if slice_index_or s.live n false then Some (key_of s n) else None

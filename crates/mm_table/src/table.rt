@@ -1,8 +1,9 @@
 ghost use Rattle.std.specs.Prelude.{◌≡◌};
-ghost use Rattle.mm_table.specs.Event.{Opens, Step, Begin, Acquire, Release, Transmit, Detect, state_of};
+ghost use Rattle.mm_table.specs.Event.{Opens, Step, Begin, Acquire, Release, Transmit, Detect, state_of, owner_told, tenant_of};
+ghost use Rattle.mm_table.specs.Laws.{HasSoundVerdicts};
 
 use crate::records::Records;
-use crate::{Acquired, Config, Detected, Key, Refusal, Released, State, Transmitted};
+use crate::{Acquired, Config, Detected, Key, Refusal, Released, State, Totals, Transmitted};
 use std::alloc::Global;
 use std::marker::Model;
 
@@ -95,5 +96,39 @@ impl Table {
         ensures { result ≡ state_of self.now key }
     {
         self.records.state(key)
+    }
+
+    /// The key that owns the resource; `None` where it is free.
+    ///
+    /// Refused as `NoResource`. Changes nothing and is not counted. Constant time.
+    pub fn owner(&self, resource: u32) -> Result<Option<Key>, Refusal>
+        ensures { result ≡ owner_told self.now resource }
+    {
+        self.records.owner(resource)
+    }
+
+    /// The live key of the process; `None` where it has none, or is not one of the table's.
+    ///
+    /// Changes nothing and is not counted. Constant time.
+    pub fn tenant(&self, process: u32) -> Option<Key>
+        ensures { result ≡ tenant_of self.now process }
+    {
+        self.records.tenant(process)
+    }
+
+    /// What was counted since the opening. Changes nothing and is not counted. Constant time.
+    pub fn totals(&self) -> Totals
+        ensures { result ≡ self.now.totals }
+    {
+        self.records.totals()
+    }
+
+    /// Does nothing. Its contract is what holds of every table that is lent, whatever was called: no owner or wait names a freed
+    /// key, private labels are distinct, and each standing verdict names a transaction on a cycle of waits whose private label is
+    /// that cycle's greatest, and no cycle has two.
+    pub fn verdicts_are_sound(&self)
+        ensures { HasSoundVerdicts self.now }
+    {
+        let _ = &self.records;
     }
 }

@@ -36,6 +36,10 @@ fn make_with_table(table: &mut Table, call: Call) -> Reply
             .detect(key)
             .map_or_else(Reply::Refused, Reply::Detected),
         Call::State(key) => table.state(key).map_or_else(Reply::Refused, Reply::Read),
+        Call::Owner(resource) => table
+            .owner(resource)
+            .map_or_else(Reply::Refused, Reply::Owned),
+        Call::Totals => Reply::Counted(table.totals()),
     }
 }
 

@@ -1,7 +1,7 @@
 //! A line of a script, and the call that it makes.
 ghost use Rattle.std.specs.Prelude.{◌≡◌};
 ghost use Rattle.std.specs.Str.Lines.{strip_carriage_return};
-ghost use Rattle.mm_detect.specs.Line.{line_of, call_of, table_call, begin_call, key_and_resource, key_alone};
+ghost use Rattle.mm_detect.specs.Line.{line_of, call_of, table_call, no_arguments, key_and_resource, key_alone, resource_alone};
 ghost use Rattle.mm_detect.specs.WordsLeft.{words_left};
 
 use super::words::{Words, key, number32, number64};
@@ -30,6 +30,8 @@ pub enum Call {
     Transmit(Key),
     Detect(Key),
     State(Key),
+    Owner(u32),
+    Totals,
 }
 
 /// What a line is, without its newline.
@@ -68,7 +70,7 @@ fn call_of(word: &[u8], arguments: Words<'_>) -> Option<Call>
     if word == b"table".as_slice() {
         table_call(arguments)
     } else if word == b"begin".as_slice() {
-        begin_call(arguments)
+        no_arguments(Call::Begin, arguments)
     } else if word == b"acquire".as_slice() {
         let (key, resource) = key_and_resource(arguments)?;
         Some(Call::Acquire { key, resource })
@@ -81,6 +83,10 @@ fn call_of(word: &[u8], arguments: Words<'_>) -> Option<Call>
         key_alone(arguments).map(Call::Detect)
     } else if word == b"state".as_slice() {
         key_alone(arguments).map(Call::State)
+    } else if word == b"owner".as_slice() {
+        resource_alone(arguments).map(Call::Owner)
+    } else if word == b"totals".as_slice() {
+        no_arguments(Call::Totals, arguments)
     } else {
         None
     }
@@ -98,10 +104,10 @@ fn table_call(mut words: Words<'_>) -> Option<Call>
     words.next().is_none().then_some(Call::Table(config))
 }
 
-fn begin_call(mut words: Words<'_>) -> Option<Call>
-    ensures { result ≡ begin_call (words_left words.entry) }
+fn no_arguments(call: Call, mut words: Words<'_>) -> Option<Call>
+    ensures { result ≡ no_arguments call (words_left words.entry) }
 {
-    words.next().is_none().then_some(Call::Begin)
+    words.next().is_none().then_some(call)
 }
 
 fn key_and_resource(mut words: Words<'_>) -> Option<(Key, u32)>
@@ -117,4 +123,11 @@ fn key_alone(mut words: Words<'_>) -> Option<Key>
 {
     let key = key(words.next()?)?;
     words.next().is_none().then_some(key)
+}
+
+fn resource_alone(mut words: Words<'_>) -> Option<u32>
+    ensures { result ≡ resource_alone (words_left words.entry) }
+{
+    let resource = number32(words.next()?)?;
+    words.next().is_none().then_some(resource)
 }

@@ -1,13 +1,15 @@
 //! Replies, and how they are printed.
 ghost use Rattle.std.specs.Prelude.{◌≡◌, ◌≤◌, ◌+◌, ◌++◌, length, codes, decimal};
 ghost use Rattle.arrayvec.specs.ArrayVec.{array_vec_len};
-ghost use Rattle.mm_detect.specs.Reply.{reply_line, state_text, refusal_text, Prints};
+ghost use Rattle.mm_detect.specs.Reply.{reply_line, state_text, totals_text, refusal_text, Prints};
 ghost use Rattle.mm_arena.specs.Key.{key_text};
 ghost use Rattle.mm_label.specs.Label.{label_text};
 
 use arrayvec::ArrayVec;
 use itoa::Buffer;
-use mm_table::{Acquired, Detected, Key, Label, Mode, Refusal, Released, State, Transmitted};
+use mm_table::{
+    Acquired, Detected, Key, Label, Mode, Refusal, Released, State, Totals, Transmitted,
+};
 
 /// What a line is answered.
 #[derive(Clone, Copy, Debug, PartialEq, Eq)]
@@ -22,6 +24,8 @@ pub enum Reply {
     Transmitted(Transmitted),
     Detected(Detected),
     Read(State),
+    Owned(Option<Key>),
+    Counted(Totals),
     Refused(Refusal),
 }
 
@@ -64,6 +68,9 @@ pub fn print_reply(replies: &mut Replies, reply: &Reply)
         Reply::Detected(Detected::Standing) => print_text(replies, b"standing"),
         Reply::Detected(Detected::Clear) => print_text(replies, b"clear"),
         Reply::Read(state) => print_state(replies, state),
+        Reply::Owned(None) => print_text(replies, b"free"),
+        Reply::Owned(Some(owner)) => print_key(replies, b"owner ", *owner),
+        Reply::Counted(totals) => print_totals(replies, totals),
         Reply::Refused(refusal) => print_refusal(replies, *refusal),
     }
     replies.push(b'\n');
@@ -98,6 +105,15 @@ fn print_label(replies: &mut Replies, label: Label)
 {
     print_number(replies, b" ", label.counter());
     print_number(replies, b".", u64::from(label.process()));
+}
+
+fn print_totals(replies: &mut Replies, totals: &Totals)
+    requires { array_vec_len replies.old + 69 ≤ REPLIES_LEN }
+    ensures { Prints replies.old.items (totals_text totals.now) 69 replies.new.items }
+{
+    print_number(replies, b"totals ", totals.accepted);
+    print_number(replies, b" ", totals.verdicts);
+    print_number(replies, b" ", totals.aborts);
 }
 
 fn print_state(replies: &mut Replies, state: &State)

@@ -1,8 +1,8 @@
 ghost use Rattle.std.specs.Prelude.{◌≡◌};
-ghost use Rattle.mm_table.specs.Event.{state_of};
+ghost use Rattle.mm_table.specs.Event.{state_of, owner_told, tenant_of};
 
 use super::Records;
-use crate::{Key, Mode, Refusal, State};
+use crate::{Key, Mode, Refusal, State, Totals};
 
 impl Records {
     /// What the transaction does, and its labels. Constant time.
@@ -23,5 +23,29 @@ impl Records {
             private: labels.private,
             public: labels.public,
         })
+    }
+
+    /// Who owns the resource. Constant time.
+    pub fn owner(&self, resource: u32) -> Result<Option<Key>, Refusal>
+        ensures { result ≡ owner_told self.now resource }
+    {
+        if resource >= self.config.resources {
+            return Err(Refusal::NoResource);
+        }
+        Ok(self.owners[resource as usize])
+    }
+
+    /// The live key of the process. Constant time.
+    pub fn tenant(&self, process: u32) -> Option<Key>
+        ensures { result ≡ tenant_of self.now process }
+    {
+        self.transactions.key_at(process)
+    }
+
+    /// What was counted. Constant time.
+    pub fn totals(&self) -> Totals
+        ensures { result ≡ self.now.totals }
+    {
+        self.totals
     }
 }

@@ -1,0 +1,5 @@
+pub mod OwnedChains
+pub mod OwnedChanges
+pub mod OwnedLinked
+pub mod OwnedLists
+pub mod OwnedWalks

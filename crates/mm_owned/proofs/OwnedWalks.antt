@@ -1,0 +1,55 @@
+-- A walk through a list, by `first` and `next`.
+use Rattle.std.specs.Prelude.{◌==◌, if◌then◌else◌}
+use Rattle.std.proofs.Common.{◌≡◌, ℕ, List, [], ◌∷◌, ◌++◌, Option, Some, None, refl, sym, ap, subst, ◌∙◌, inl, inr}
+use Rattle.std.proofs.lemmas.Bool.{eq-eqb, ne_eqb}
+use Rattle.mm_owned.specs.Graph.{Among, NoRepeat}
+use Rattle.mm_owned.specs.Owned.{Lists, list_at, head, IsNext}
+use Rattle.mm_owned.proofs.OwnedLists.{cut_at, AreApart, AreApart-cut, Among-right}
+use Rattle.mm_owned.proofs.OwnedChains.{head_or-None, Among-head_or}
+
+-- the part of a list from this one on
+abbrev pub rest_from : List ℕ → Option ℕ → List ℕ
+rest_from rs None = []
+rest_from [] (Some q) = []
+rest_from (r ∷ rs) (Some q) = if r == q then r ∷ rs else rest_from rs (Some q)
+
+pub Among-head : (rs : List ℕ) (q : ℕ) → head rs ≡ Some q → Among q rs
+Among-head rs q is = Among-head_or rs q (head_or-None rs ∙ is)
+
+-- from its first on, the list is whole
+pub rest_from-head : (rs : List ℕ) → rest_from rs (head rs) ≡ rs
+rest_from-head [] = refl
+rest_from-head (r ∷ rs) = rw (eq-eqb r r refl) refl
+
+-- what stands before q is left out
+rest_from-append : (earlier rs : List ℕ) (q : ℕ) → (Among q earlier → ⊥) → rest_from (earlier ++ rs) (Some q) ≡ rest_from rs (Some q)
+rest_from-append [] rs q absent = refl
+rest_from-append (r ∷ earlier) rs q absent =
+    rw (ne_eqb r q (λ same. absent (inl (sym same)))) (rest_from-append earlier rs q (λ among. absent (inr among)))
+
+-- what follows r leads to the rest after it
+rest_from-after : (earlier : List ℕ) (r : ℕ) (later : List ℕ) → AreApart earlier r later → rest_from (earlier ++ r ∷ later) (head later) ≡ later
+rest_from-after earlier r [] apart = refl
+rest_from-after earlier r (q ∷ later) apart =
+    rest_from-append earlier (r ∷ q ∷ later) q (λ among. apart.disjoint q among (inl refl))
+    ∙ rw (ne_eqb r q (λ same. apart.not_later (inl same))) (rest_from-head (q ∷ later))
+
+module _ (s : Lists) (n r : ℕ) (next : Option ℕ) (among : Among r (list_at s n)) (is_next : IsNext s r next) where
+  -- what follows r is in its list
+  pub Among-next : (q : ℕ) → next ≡ Some q → Among q (list_at s n)
+  Among-next q is =
+      let cut = cut_at r (list_at s n) among in
+      let first = sym (is_next n cut.earlier cut.later cut.whole) ∙ is in
+      subst (Among q) (sym cut.whole) (Among-right q cut.earlier (r ∷ cut.later) (inr (Among-head cut.later q first)))
+
+  -- from r on, the list is r and what is left from the next on
+  pub rest_from-next : NoRepeat (list_at s n) → rest_from (list_at s n) (Some r) ≡ r ∷ rest_from (list_at s n) next
+  rest_from-next once =
+      let cut = cut_at r (list_at s n) among in
+      let apart = AreApart-cut cut.earlier r cut.later (subst NoRepeat cut.whole once) in
+      let here : rest_from (list_at s n) (Some r) ≡ r ∷ cut.later =
+      ap (λ rs. rest_from rs (Some r)) cut.whole ∙ rest_from-append cut.earlier (r ∷ cut.later) r apart.not_earlier ∙ rest_from-head (r ∷ cut.later) in
+      let after : rest_from (list_at s n) next ≡ cut.later =
+      ap (λ rs. rest_from rs next) cut.whole ∙ ap (rest_from (cut.earlier ++ r ∷ cut.later)) (is_next n cut.earlier cut.later cut.whole)
+      ∙ rest_from-after cut.earlier r cut.later apart in
+      here ∙ ap (λ rs. r ∷ rs) (sym after)
