@@ -32,7 +32,7 @@ impl Table {
     /// A table of this configuration, in which no process is live and no resource has an owner.
     ///
     /// Refused as `BadConfig` exactly where a number is out of its range, and as `Memory` only where a request for memory was
-    /// refused. This is the one call that takes memory: once for the processes, once for the resources and once for the waits.
+    /// refused. This is the one call that takes memory: for the transactions, for the labels, for the owners and for the waits.
     pub fn open(alloc: Global, config: Config) -> Result<Table, Refusal>
         ensures { Opens config result }
     {
