@@ -1,3 +1,3 @@
-pub mod Graph
+pub mod Members
 pub mod Owned
 pub mod Linked

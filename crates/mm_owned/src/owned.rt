@@ -1,7 +1,7 @@
 //! Lists of resources by process, each resource in at most one list, linked in both directions.
 ghost use Rattle.std.specs.Prelude.{◌≡◌, ◌<◌, length, IfOk, IsNone};
 ghost use Rattle.std.specs.Option.{ForSome};
-ghost use Rattle.mm_owned.specs.Graph.{Among};
+ghost use Rattle.mm_owned.specs.Members.{Among};
 ghost use Rattle.mm_owned.specs.Owned.{empty_lists, list_at, head, pushed, removed, IsExclusive, IsLoose, IsNext};
 ghost use Rattle.mm_owned.specs.Linked.{first_with_next, with_before, with_next};
 

@@ -1,3 +1,11 @@
+//! How a table is kept.
+//!
+//! - `open`: the opening.
+//! - `events`: one function for each event: its refusals, then its changes.
+//! - `refusals`: the tests of each call, in their order.
+//! - `changes`: the small changes that events are made of.
+//! - `queues`: hand-overs.
+//! - `reads`: what changes nothing.
 use crate::{Config, Key, Totals};
 use mm_arena::Arena;
 use mm_label::Label;
@@ -8,7 +16,7 @@ mod events;
 mod open;
 mod queues;
 mod reads;
-mod tests;
+mod refusals;
 
 /// A live transaction.
 #[derive(Clone, Copy, Debug)]

@@ -62,7 +62,7 @@ impl Table {
     /// Hands the resource over: the longest waiter owns it from now on, and each other waiter keeps its place and gets a fresh
     /// label against the new owner; with no waiter it is free.
     ///
-    /// Refused as `CountsExhausted`, `Stale`, `NoResource`, `Waiting`, `NotOwner` or `LabelsExhausted`. By how many wait.
+    /// Refused as `CountsExhausted`, `Stale`, `NoResource`, `Waiting`, `NotOwner` or `LabelsExhausted`. Time by how many transactions wait in the table.
     /// The rule is this project's.
     pub fn release(&mut self, key: Key, resource: u32) -> Result<Released, Refusal>
         ensures { Step (Release key resource) self.old result self.new }

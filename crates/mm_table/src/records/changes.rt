@@ -1,3 +1,4 @@
+//! The small changes that events are made of.
 ghost use Rattle.std.specs.Prelude.{◌≡◌, ◌≢◌, ◌<◌, ◌+◌, ◌^◌, ◌∷◌, ◌++◌, [], IsTrue, None, Some, true, drop, length, slice_set, slice_index, option_map, MatchResult};
 ghost use Rattle.mm_table.specs.TableState.{key_of, wait_of, holder_of, is_live, has_verdict, public_of};
 ghost use Rattle.mm_table.specs.Change.{block, block_fits, label_against, greater_label, can_detect, detect};

@@ -1,3 +1,4 @@
+//! The events: each makes its tests first, and then its changes.
 ghost use Rattle.std.specs.Prelude.{◌≡◌};
 ghost use Rattle.mm_table.specs.Event.{Gives, begun, acquired, released, transmitted, detected};
 

@@ -1,3 +1,4 @@
+//! The opening.
 ghost use Rattle.std.specs.Prelude.{◌≡◌, ◌≤◌, ◌<◌, IfOk, map, None};
 ghost use Rattle.std.specs.List.{range_with_len};
 ghost use Rattle.mm_table.specs.Event.{Opens};

@@ -1,3 +1,4 @@
+//! Reads, which change nothing.
 ghost use Rattle.std.specs.Prelude.{◌≡◌};
 ghost use Rattle.mm_table.specs.Event.{state_of, owner_told, tenant_of};
 

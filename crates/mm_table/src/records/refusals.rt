@@ -1,3 +1,4 @@
+//! The tests of each call, in the order in which their refusals are answered.
 ghost use Rattle.std.specs.Prelude.{◌≡◌, ◌<◌, IsTrue, OnOk, SomeIff};
 ghost use Rattle.mm_table.specs.TableState.{is_live, is_waiting, owns};
 ghost use Rattle.mm_table.specs.Change.{label_against, block_fits, hand_over_fits};
