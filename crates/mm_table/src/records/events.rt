@@ -54,7 +54,7 @@ impl Records {
         Ok(answer)
     }
 
-    /// Hands a resource over. By how many wait.
+    /// Hands a resource over. Time by how many transactions wait in the table.
     pub fn release(&mut self, key: Key, resource: u32) -> Result<Released, Refusal>
         ensures { Gives (released self.old key resource) result self.new }
     {
