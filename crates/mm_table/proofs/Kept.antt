@@ -13,3 +13,8 @@ pub mod BlockingQueue
 pub mod HandingOver
 -- hand-overs in any order
 pub mod HandOverOrder
+-- settle: the turn of one process, one round of turns, all sweeps, and the whole
+pub mod Turns
+pub mod Rounds
+pub mod Sweeping
+pub mod Settling

@@ -31,6 +31,7 @@ pub mod Vacate
 pub mod Abort
 -- settle
 pub mod Sweeps
+pub mod SweepRaises
 pub mod Convictions
 pub mod Settling
 -- all events, and what follows

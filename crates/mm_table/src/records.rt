@@ -5,6 +5,7 @@
 //! - `refusals`: the tests of each call, in their order.
 //! - `changes`: the small changes that events are made of.
 //! - `queues`: hand-overs.
+//! - `settle`: what all waiting transactions do in turn.
 //! - `reads`: what changes nothing.
 use crate::{Config, Key, Totals};
 use mm_arena::Arena;
@@ -17,6 +18,7 @@ mod open;
 mod queues;
 mod reads;
 mod refusals;
+mod settle;
 
 /// A live transaction.
 #[derive(Clone, Copy, Debug)]

@@ -117,7 +117,7 @@ impl Records {
     pub(super) fn convict(&mut self, key: Key)
         requires live { IsTrue (is_live self.old key) }
         requires can { IsTrue (can_detect self.old key.process) }
-        requires count { self.old.totals.verdicts < 2 ^ 62 }
+        requires count { self.old.totals.verdicts < u64.MAX }
         ensures { self.new ≡ detect self.old key.process }
     {
         let transaction = self.transactions.get_mut(key).unwrap();

@@ -1,0 +1,10 @@
+use Rattle.std.proofs.Common.{◌-◌}
+use Rattle.mm_table.specs.Laws.{most_raises}
+use Rattle.mm_table.proofs.Kept.Sweeping.{IsSweeping}
+use Rattle.mm_table.proofs.records.Records.sweep_all.Given as goal
+
+abbrev pub invariant-loop-raises : goal.invariant-loop-raises
+invariant-loop-raises l = IsSweeping l.fn.self l.raises l.self
+
+abbrev pub decreases-loop-raises : goal.decreases-loop-raises
+decreases-loop-raises l = most_raises l.fn.self - l.raises
