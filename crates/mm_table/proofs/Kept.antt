@@ -18,3 +18,5 @@ pub mod Turns
 pub mod Rounds
 pub mod Sweeping
 pub mod Settling
+-- tables
+pub mod Tables

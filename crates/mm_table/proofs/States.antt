@@ -35,6 +35,7 @@ pub mod SweepRaises
 pub mod Convictions
 pub mod Settling
 -- all events, and what follows
+pub mod Configs
 pub mod Events
 pub mod Few
 pub mod Sound

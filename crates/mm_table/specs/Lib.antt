@@ -7,3 +7,4 @@ pub mod Laws
 pub mod Queue
 pub mod Sweep
 pub mod Kept
+pub mod TableKept
