@@ -3,7 +3,9 @@ ghost use Rattle.mm_table.specs.Event.{Opens, Step, Begin, Acquire, Release, Tra
 ghost use Rattle.mm_table.specs.Laws.{Laws, HasSoundVerdicts};
 
 use crate::records::Records;
-use crate::{Acquired, Config, Detected, Key, Refusal, Released, Settled, State, Totals, Transmitted};
+use crate::{
+    Acquired, Config, Detected, Key, Refusal, Released, Settled, State, Totals, Transmitted,
+};
 use std::alloc::Global;
 use std::marker::Model;
 
