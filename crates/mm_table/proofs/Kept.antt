@@ -16,6 +16,7 @@ pub mod HandOverOrder
 -- settle: the turn of one process, one round of turns, all sweeps, and the whole
 pub mod Turns
 pub mod Rounds
+pub mod Waiters
 pub mod Sweeping
 pub mod Settling
 -- tables

@@ -3,7 +3,7 @@ use Rattle.std.specs.Prelude.{◌≤◌, vec_capacity}
 use Rattle.mm_table.specs.declared.table.Table.TheInside.{Inside}
 use Rattle.mm_table.specs.Laws.{Laws}
 
--- all laws, and room for the number of each process
+-- all laws, and room for each process that may wait
 pub record IsTableKept (t : Inside) : Type 0 where
   pub laws : Laws t.records
-  pub room : t.records.config.processes ≤ vec_capacity t.waiting
+  pub room : t.records.config.processes ≤ vec_capacity t.waiters

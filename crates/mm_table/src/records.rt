@@ -20,6 +20,8 @@ mod reads;
 mod refusals;
 mod settle;
 
+pub use settle::Waiter;
+
 /// A live transaction.
 #[derive(Clone, Copy, Debug)]
 struct Transaction {

@@ -2,7 +2,7 @@ ghost use Rattle.std.specs.Prelude.{◌≡◌};
 ghost use Rattle.mm_table.specs.Event.{Opens, Step, Begin, Acquire, Release, Transmit, Detect, Settle, state_of, owner_told, tenant_of};
 ghost use Rattle.mm_table.specs.Laws.{Laws, HasSoundVerdicts};
 
-use crate::records::Records;
+use crate::records::{Records, Waiter};
 use crate::{
     Acquired, Config, Detected, Key, Refusal, Released, Settled, State, Totals, Transmitted,
 };
@@ -17,8 +17,8 @@ use std::marker::Model;
 #[derive(Drop)]
 pub struct Table {
     records: Records,
-    /// Room for the number of each process, for `settle`.
-    waiting: Vec<u32>,
+    /// Room for those that wait, for `settle`.
+    waiters: Vec<Waiter>,
 }
 
 impl Model for Table {
@@ -36,16 +36,16 @@ impl Table {
     /// A table of this configuration, in which no process is live and no resource has an owner.
     ///
     /// Refused as `BadConfig` exactly where a number is out of its range, and as `Memory` only where a request for memory was
-    /// refused. This is the one call that takes memory: for the transactions, for the labels, for the owners, for the waits, and for the process
-    /// numbers that `settle` goes over.
+    /// refused. This is the one call that takes memory: for the transactions, for the labels, for the owners, for the waits, and for the list that
+    /// `settle` goes over.
     pub fn open(alloc: Global, config: Config) -> Result<Table, Refusal>
         ensures { Opens config result }
     {
         let records = Records::open(alloc, config)?;
-        let Ok(waiting) = Vec::with_capacity(alloc, config.processes as usize) else {
+        let Ok(waiters) = Vec::with_capacity(alloc, config.processes as usize) else {
             return Err(Refusal::Memory);
         };
-        Ok(Table { records, waiting })
+        Ok(Table { records, waiters })
     }
 
     /// Starts a transaction in the first free process, and answers its key. The labels of the process stay as they are.
@@ -108,7 +108,7 @@ impl Table {
     pub fn settle(&mut self) -> Result<Settled, Refusal>
         ensures { Step Settle self.old result self.new }
     {
-        self.records.settle(&mut self.waiting)
+        self.records.settle(&mut self.waiters)
     }
 
     /// What the transaction does, and its two labels.

@@ -1,5 +1,5 @@
 //! The small changes that events are made of.
-ghost use Rattle.std.specs.Prelude.{◌≡◌, ◌≢◌, ◌<◌, ◌+◌, ◌^◌, ◌∷◌, ◌++◌, [], IsTrue, None, Some, true, drop, length, slice_set, slice_index, option_map, MatchResult};
+ghost use Rattle.std.specs.Prelude.{◌≡◌, ◌≢◌, ◌<◌, ◌+◌, ◌^◌, ◌∷◌, ◌++◌, [], IsTrue, IfSome, None, Some, true, drop, length, slice_set, slice_index, option_map, MatchResult};
 ghost use Rattle.mm_table.specs.TableState.{key_of, wait_of, holder_of, is_live, has_verdict, public_of};
 ghost use Rattle.mm_table.specs.Change.{block, block_fits, label_against, greater_label, can_detect, detect};
 
@@ -63,14 +63,24 @@ impl Records {
         label
     }
 
+    /// The holder of a live transaction; `None` where it does not wait.
+    pub(super) fn holder(&self, key: Key) -> Option<u32>
+        requires { IsTrue (is_live self.now key) }
+        ensures holder { result ≡ holder_of self.now key.process }
+        ensures in_range { IfSome result (λ holder. holder < self.now.config.processes) }
+    {
+        let resource = self.transactions.get(key)?.waits_for?;
+        let holder = self.owners[resource as usize]?;
+        Some(holder.process)
+    }
+
     /// The public label of the holder of a live transaction; `None` where it does not wait.
     fn holder_label(&self, key: Key) -> Option<Label>
         requires { IsTrue (is_live self.now key) }
         ensures { result ≡ option_map (public_of self.now) (holder_of self.now key.process) }
     {
-        let resource = self.transactions.get(key)?.waits_for?;
-        let holder = self.owners[resource as usize]?;
-        Some(self.labels[holder.process as usize].public)
+        let holder = self.holder(key)?;
+        Some(self.labels[holder as usize].public)
     }
 
     /// The public label of the holder of a live transaction, where it is greater than its own.

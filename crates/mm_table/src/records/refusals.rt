@@ -26,7 +26,7 @@ impl Records {
     }
 
     /// Whether a live transaction waits.
-    pub(super) fn is_waiting(&self, key: Key) -> bool
+    fn is_waiting(&self, key: Key) -> bool
         requires { IsTrue (is_live self.now key) }
         ensures { result ≡ is_waiting self.now key.process }
     {

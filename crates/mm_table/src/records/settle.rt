@@ -1,14 +1,22 @@
 //! What all waiting transactions do in turn: sweeps of transmits, and then detects.
 ghost use Rattle.std.specs.Prelude.{◌≡◌, ◌+◌, ◌<◌, ◌≤◌, IsTrue, IfSome, IfNone, None, fold, length, count_by, vec_capacity};
-ghost use Rattle.mm_table.specs.TableState.{is_live, wait_of, is_waiting, waiting_processes};
+ghost use Rattle.std.specs.List.{AllByRecursion};
+ghost use Rattle.mm_table.specs.TableState.{is_live, wait_of, holder_of, waiting_processes};
 ghost use Rattle.mm_table.specs.Change.{can_transmit, transmit, raises_along, can_detect, detect};
 ghost use Rattle.mm_table.specs.Event.{Step, Settle};
 ghost use Rattle.mm_table.specs.Graph.{NoRepeat};
 ghost use Rattle.mm_table.specs.Laws.{Laws};
-ghost use Rattle.mm_table.specs.Sweep.{IsSwept};
+ghost use Rattle.mm_table.specs.Sweep.{IsWaiter, processes_of, IsSwept};
 
 use super::Records;
 use crate::{Key, Refusal, Settled};
+
+/// A process that waits, and its holder. Neither changes while a table settles.
+#[derive(Clone, Copy, Debug)]
+pub struct Waiter {
+    process: u32,
+    holder: u32,
+}
 
 impl Records {
     /// The live key of `process`. A process that has none waits for nothing.
@@ -19,53 +27,56 @@ impl Records {
         self.transactions.key_at(process)
     }
 
-    /// Whether `process` waits.
-    fn waits(&self, process: u32) -> bool
-        ensures { result ≡ is_waiting self.now process }
+    /// `process` with its holder; `None` where it has none.
+    fn waiter(&self, process: u32) -> Option<Waiter>
+        ensures waits { IfSome result (λ waiter. (waiter.process ≡ process) × IsWaiter self.now waiter) }
+        ensures idle { IfNone result (holder_of self.now process ≡ None) }
     {
-        let Some(key) = self.live_key(process) else {
-            return false;
-        };
-        self.is_waiting(key)
+        let key = self.live_key(process)?;
+        let holder = self.holder(key)?;
+        Some(Waiter { process, holder })
     }
 
-    /// Writes the waiting processes into `waiting`, rising. One pass over all processes.
-    fn gather_waiting(&self, waiting: &mut Vec<u32>)
-        requires { self.now.config.processes ≤ vec_capacity waiting.old }
-        ensures items { waiting.new.items ≡ waiting_processes self.now }
-        ensures capacity { vec_capacity waiting.new ≡ vec_capacity waiting.old }
+    /// Writes all that wait into `waiters`, by rising process. One pass over all processes.
+    fn gather_waiters(&self, waiters: &mut Vec<Waiter>)
+        requires laws { Laws self.now }
+        requires room { self.now.config.processes ≤ vec_capacity waiters.old }
+        ensures processes { processes_of waiters.new.items ≡ waiting_processes self.now }
+        ensures held { AllByRecursion (IsWaiter self.now) waiters.new.items }
+        ensures capacity { vec_capacity waiters.new ≡ vec_capacity waiters.old }
     {
-        waiting.clear();
+        waiters.clear();
         for process in 0..self.config.processes {
-            if self.waits(process) {
-                waiting.push_reserved(process);
+            if let Some(waiter) = self.waiter(process) {
+                waiters.push_reserved(waiter);
             }
         }
     }
 
-    /// `process` takes over its holder's public label where that is greater. Answers whether it did.
-    fn transmit_at(&mut self, process: u32) -> bool
-        ensures raised { result ≡ can_transmit self.old process }
-        ensures state { self.new ≡ transmit self.old process }
+    /// The process takes over its holder's public label where that is greater. Answers whether it did.
+    fn transmit_by(&mut self, waiter: Waiter) -> bool
+        requires { IsWaiter self.old waiter }
+        ensures raised { result ≡ can_transmit self.old waiter.process }
+        ensures state { self.new ≡ transmit self.old waiter.process }
     {
-        let Some(key) = self.live_key(process) else {
-            return false;
-        };
-        let Some(label) = self.greater_label(key) else {
-            return false;
-        };
-        self.show(process, label);
-        true
+        let shown = self.labels[waiter.holder as usize].public;
+        let raised = self.labels[waiter.process as usize].public < shown;
+        if raised {
+            self.show(waiter.process, shown);
+        }
+        raised
     }
 
-    /// Each of these processes in turn transmits where it can. Answers how many did.
-    fn sweep(&mut self, waiting: &[u32]) -> u64
-        ensures raises { result ≡ raises_along self.old waiting.now }
-        ensures state { self.new ≡ fold transmit self.old waiting.now }
+    /// Each of these in turn transmits where it can. Answers how many did.
+    fn sweep(&mut self, waiters: &[Waiter]) -> u64
+        requires { AllByRecursion (IsWaiter self.old) waiters.now }
+        ensures raises { result ≡ raises_along self.old (processes_of waiters.now) }
+        ensures state { self.new ≡ fold transmit self.old (processes_of waiters.now) }
+        ensures held { AllByRecursion (IsWaiter self.new) waiters.now }
     {
         let mut raises = 0;
-        for process in waiting {
-            if self.transmit_at(*process) {
+        for waiter in waiters {
+            if self.transmit_by(*waiter) {
                 raises += 1;
             }
         }
@@ -73,14 +84,15 @@ impl Records {
     }
 
     /// Sweeps until one raises nothing. Answers how many labels were raised.
-    fn sweep_all(&mut self, waiting: &[u32]) -> u64
+    fn sweep_all(&mut self, waiters: &[Waiter]) -> u64
         requires laws { Laws self.old }
-        requires waiting { waiting.now ≡ waiting_processes self.old }
+        requires processes { processes_of waiters.now ≡ waiting_processes self.old }
+        requires held { AllByRecursion (IsWaiter self.old) waiters.now }
         ensures { IsSwept self.old result self.new }
     {
         let mut raises = 0;
         loop {
-            let more = self.sweep(waiting);
+            let more = self.sweep(waiters);
             if more == 0 {
                 return raises;
             }
@@ -104,35 +116,36 @@ impl Records {
         can
     }
 
-    /// Each of these processes in turn detects where it can. Answers how many verdicts are new.
-    fn detect_all(&mut self, waiting: &[u32]) -> u64
-        requires once { NoRepeat waiting.now }
-        requires count { self.old.totals.verdicts + length waiting.now < u64.MAX }
-        ensures verdicts { result ≡ count_by (can_detect self.old) waiting.now }
-        ensures state { self.new ≡ fold detect self.old waiting.now }
+    /// Each of these in turn detects where it can. Answers how many verdicts are new.
+    fn detect_all(&mut self, waiters: &[Waiter]) -> u64
+        requires once { NoRepeat (processes_of waiters.now) }
+        requires count { self.old.totals.verdicts + length waiters.now < u64.MAX }
+        ensures verdicts { result ≡ count_by (can_detect self.old) (processes_of waiters.now) }
+        ensures state { self.new ≡ fold detect self.old (processes_of waiters.now) }
     {
         let mut verdicts = 0;
-        for process in waiting {
-            if self.detect_at(*process) {
+        for waiter in waiters {
+            if self.detect_at(waiter.process) {
                 verdicts += 1;
             }
         }
         verdicts
     }
 
-    /// Sweeps until no label can be transmitted, and then gives each verdict that is due. `waiting` has room for each process.
-    pub fn settle(&mut self, waiting: &mut Vec<u32>) -> Result<Settled, Refusal>
+    /// Sweeps until no label can be transmitted, and then gives each verdict that is due. `waiters` has room for each process; what
+    /// it holds before does not matter.
+    pub fn settle(&mut self, waiters: &mut Vec<Waiter>) -> Result<Settled, Refusal>
         requires laws { Laws self.old }
-        requires room { self.old.config.processes ≤ vec_capacity waiting.old }
+        requires room { self.old.config.processes ≤ vec_capacity waiters.old }
         ensures step { Step Settle self.old result self.new }
-        ensures room { vec_capacity waiting.new ≡ vec_capacity waiting.old }
+        ensures room { vec_capacity waiters.new ≡ vec_capacity waiters.old }
     {
         if self.counts_exhausted() {
             return Err(Refusal::CountsExhausted);
         }
-        self.gather_waiting(waiting);
-        let raises = self.sweep_all(waiting);
-        let verdicts = self.detect_all(waiting);
+        self.gather_waiters(waiters);
+        let raises = self.sweep_all(waiters);
+        let verdicts = self.detect_all(waiters);
         self.count();
         Ok(Settled { raises, verdicts })
     }
