@@ -1,0 +1,74 @@
+-- Each line has an answer, so each text has replies.
+use Rattle.std.proofs.Common.{refl, ℕ, ◌+◌, ◌≤◌, ◌^◌, ◌⊎◌, inl, inr, List, [], ◌∷◌, ◌++◌, Option, Some, None, Result, Ok, Err, arith}
+use Rattle.std.proofs.lemmas.Bool.{cases_lt}
+use Rattle.std.specs.Result.{result_ok}
+use Rattle.mm_table.specs.declared.config.Config.{Config}
+use Rattle.mm_table.specs.declared.refusal.Refusal.{Refusal}
+use Rattle.mm_table.specs.declared.refusal.Refusal.TheVariants.{BadConfig}
+use Rattle.mm_table.specs.TableState.{TableState, IsInRange, opening}
+use Rattle.mm_table.specs.Event.{Opens, begun, acquired, released, transmitted, detected, state_of, owner_told}
+use Rattle.mm_work.specs.declared.script.line.Line.{Line}
+use Rattle.mm_work.specs.declared.script.line.Line.TheVariants as kind
+use Rattle.mm_work.specs.declared.script.line.Call.{Call}
+use Rattle.mm_work.specs.declared.script.line.Call.TheVariants as calls
+use Rattle.mm_work.specs.declared.script.reply.Reply.{Reply}
+use Rattle.mm_work.specs.declared.script.reply.Reply.TheVariants as replies_are
+use Rattle.mm_work.specs.Reply.{reply_line}
+use Rattle.mm_work.specs.Line.{line_of}
+use Rattle.mm_work.specs.Text.{Answers, Replies, Text, reply_to}
+
+both : {A B : Type 0} → A ⊎ (¬ A) → B ⊎ (¬ B) → (A × B) ⊎ (¬ (A × B))
+both (inl a) (inl b) = inl (a, b)
+both (inl a) (inr b) = inr (λ p. b p.1)
+both (inr a) b = inr (λ p. a p.0)
+
+at_most : (m n : ℕ) → (m ≤ n) ⊎ (¬ (m ≤ n))
+at_most m n = elim (cases_lt n m) [ inl over ↦ inr (λ h. omega arith) | inr h ↦ inl h ]
+
+-- the numbers of a table are in range or not
+in_range : (c : Config) → IsInRange c ⊎ (¬ IsInRange c)
+in_range c =
+    let tests = both (both (at_most 1 c.processes) (at_most c.processes 4096))
+    (both (both (at_most 1 c.resources) (at_most c.resources 65536)) (both (both (at_most 1 c.label_limit) (at_most (c.label_limit + 1) (2 ^ 44))) (at_most 1 c.generation_limit))) in
+    elim tests [
+      | inl t ↦ inl (record { processes = t.0; resources = t.1.0; label_limit = (t.1.1.0.0, omega (arith, t.1.1.0.1)); generation_limit = t.1.1.1 })
+      | inr t ↦ inr (λ h. t (h.processes, (h.resources, ((h.label_limit.0, omega (arith, h.label_limit.1)), h.generation_limit))))
+    ]
+
+opens : (c : Config) → (result : Result TableState Refusal) × Opens c result
+opens c = elim (in_range c) [
+  | inl fits ↦ (Ok (opening c), (fits, refl))
+  | inr not_fits ↦ (Err BadConfig, inl (refl, not_fits))
+]
+
+replies : (call : Call) (table : Option TableState) → (reply : Reply) × (next : Option TableState) × Replies call table reply next
+replies (calls.Table c) (Some s) = (replies_are.TableStands, Some s, (refl, refl))
+replies calls.Begin (Some s) = (reply_to replies_are.Begun (begun s).reply, Some (begun s).state, ((begun s).reply, (begun s).state, (refl, refl), refl, refl))
+replies (calls.Acquire k r) (Some s) = (reply_to replies_are.Acquired (acquired s k r).reply, Some (acquired s k r).state, ((acquired s k r).reply, (acquired s k r).state, (refl, refl), refl, refl))
+replies (calls.Release k r) (Some s) = (reply_to replies_are.Released (released s k r).reply, Some (released s k r).state, ((released s k r).reply, (released s k r).state, (refl, refl), refl, refl))
+replies (calls.Transmit k) (Some s) = (reply_to replies_are.Transmitted (transmitted s k).reply, Some (transmitted s k).state, ((transmitted s k).reply, (transmitted s k).state, (refl, refl), refl, refl))
+replies (calls.Detect k) (Some s) = (reply_to replies_are.Detected (detected s k).reply, Some (detected s k).state, ((detected s k).reply, (detected s k).state, (refl, refl), refl, refl))
+replies (calls.State k) (Some s) = (reply_to replies_are.Read (state_of s k), Some s, (refl, refl))
+replies (calls.Owner r) (Some s) = (reply_to replies_are.Owned (owner_told s r), Some s, (refl, refl))
+replies calls.Totals (Some s) = (replies_are.Counted s.totals, Some s, (refl, refl))
+replies (calls.Table c) None = let o = opens c in (reply_to (λ _. replies_are.Opened) o.0, result_ok o.0, (o.0, o.1, refl, refl))
+replies calls.Begin None = (replies_are.NoTable, None, (refl, refl))
+replies (calls.Acquire k r) None = (replies_are.NoTable, None, (refl, refl))
+replies (calls.Release k r) None = (replies_are.NoTable, None, (refl, refl))
+replies (calls.Transmit k) None = (replies_are.NoTable, None, (refl, refl))
+replies (calls.Detect k) None = (replies_are.NoTable, None, (refl, refl))
+replies (calls.State k) None = (replies_are.NoTable, None, (refl, refl))
+replies (calls.Owner r) None = (replies_are.NoTable, None, (refl, refl))
+replies calls.Totals None = (replies_are.NoTable, None, (refl, refl))
+
+answers : (line : Line) (table : Option TableState) → (reply : List ℕ) × (one : ℕ) × (next : Option TableState) × Answers line table reply one next
+answers kind.Silent table = ([], 0, table, (refl, refl, refl))
+answers kind.Malformed table = (reply_line replies_are.Malformed, 1, table, (refl, refl, refl))
+answers (kind.Call call) table = let r = replies call table in (reply_line r.0, 0, r.1, (r.0, r.2, refl, refl))
+
+pub text_total : (table : Option TableState) (lines : List (List ℕ)) → (out : List ℕ) × (malformed : ℕ) × Text table lines out malformed
+text_total table [] = ([], 0, (refl, refl))
+text_total table (line ∷ lines) =
+    let first = answers (line_of line) table in
+    let rest = text_total first.2 lines in
+    (first.0 ++ rest.0, first.1 + rest.1, (first.2, first.0, rest.0, first.1, rest.1, first.3, rest.2, refl, refl))
