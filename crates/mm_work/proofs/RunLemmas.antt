@@ -11,7 +11,7 @@ use Rattle.mm_work.specs.declared.script.input.Input.{Input}
 use Rattle.mm_work.specs.Input.{held, within_limit, IsReady, Reads}
 use Rattle.mm_work.specs.Lines.{lines_of, whole_lines, whole_parts}
 use Rattle.mm_work.specs.Script.{Ends, input_limit}
-use Rattle.mm_work.specs.Session.{AnswersLines, IsOpen, Leads, Writes, cut}
+use Rattle.mm_work.specs.Session.{AnswersLines, IsLawful, IsOpen, Leads, Writes, cut}
 use Rattle.mm_work.specs.Text.{Text}
 use Rattle.mm_work.proofs.LeadsLemmas.{leads_none, leads_then, leads_more, leads_short}
 use Rattle.mm_work.proofs.LinesLemmas.{parts-open, open_part}
@@ -27,6 +27,7 @@ pub record Reached (reader_before reader_after writer_before writer_after : Opti
   pub whole : replies ≡ written ++ lost
   pub taken : count ≡ length allowed + length past
   pub few : session.malformed + length rest ≤ length allowed
+  pub lawful : IsLawful session.table
 
 -- before each read all replies are written, and an open line is left
 pub record Progress (reader_before reader_after writer_before writer_after : Option (List ℕ)) (input : Input) (session : Session) : Type 0 where
@@ -55,6 +56,7 @@ module _ {rb ra wb wa : Option (List ℕ)} {t : ℕ} {session : Session} where
         whole = so_far.whole;
         taken = omega (arith, so_far.taken, length-append allowed front, length-append front past);
         few = omega (arith, so_far.few, length-append allowed front, length-append rest front);
+        lawful = so_far.lawful;
       }
 
   -- lines are answered
@@ -73,6 +75,7 @@ module _ {rb ra wb wa : Option (List ℕ)} {t : ℕ} {session : Session} where
             ∙ (ap (λ l. so_far.written ++ l) replies ∙ sym (append_assoc so_far.written answered.writes.written lost));
         taken = so_far.taken;
         few = omega (arith, so_far.few, answered.few, answered.malformed);
+        lawful = answered.lawful so_far.lawful;
       }
 
   -- the replies to the lines whose newline came
@@ -109,7 +112,7 @@ module _ {rb ra wb wa : Option (List ℕ)} {t : ℕ} {session : Session} where
 
   pub ran_write : (allowed past rest lost : List ℕ) → Reached rb ra wb wa t session allowed past rest lost → Ran rb ra wb wa (Err Write)
   ran_write allowed past rest lost so_far =
-      let more = text_total session.table (cut true (rest ++ past)) in
+      let more = text_total session.table so_far.lawful (cut true (rest ++ past)) in
       let text = so_far.leads true past more.0 more.1 more.2 in
       let split : so_far.replies ++ more.0 ≡ so_far.written ++ (lost ++ more.0) = ap (λ l. l ++ more.0) so_far.whole ∙ append_assoc so_far.written lost more.0 in (
         allowed ++ past,
@@ -179,6 +182,7 @@ progress_first rb wb input session none taken ready table malformed replies = re
     whole = refl;
     taken = omega (arith, taken);
     few = omega (arith, malformed, ap length none);
+    lawful = subst IsLawful (sym table) tt;
   };
   none_kept = replies;
   ready = ready;
@@ -206,6 +210,7 @@ progress_next rb ra wb wa read input session rest answered open_rest none h shor
         whole = reached.whole;
         taken = omega (arith, reached.taken, ap length no_past, taken);
         few = omega (arith, reached.few, ap length short, length-take 129 rest);
+        lawful = reached.lawful;
       };
       none_kept = none;
       ready = record { room = len; within_limit = omega arith };

@@ -9,6 +9,7 @@ use Rattle.mm_work.specs.Line.{line_of}
 use Rattle.std.specs.List.{position_or_len, before_first, after_first}
 use Rattle.mm_work.specs.Cut.{is}
 use Rattle.mm_work.proofs.LeadsLemmas.{leads_none, leads_then, leads_line}
+use Rattle.mm_work.proofs.TextLemmas.{answers_keep}
 use Rattle.mm_work.specs.Text.{Answers, Text}
 use Rattle.mm_work.specs.Lines.{lines_of_parts}
 use Rattle.mm_work.proofs.LinesLemmas.{parts-open}
@@ -49,6 +50,7 @@ answers_none at session bytes = record {
   writes = record { written = []; appended = Appends-nil at; whole = append-nil session.replies.items };
   malformed = omega arith;
   few = omega arith;
+  lawful = λ lawful. lawful;
 }
 
 -- the replies are written, or lost
@@ -61,6 +63,7 @@ answers_written before mid after old next replies bytes rest kept lost so_far wr
   writes = writes_then before mid after (old.replies.items ++ so_far.replies) kept lost so_far.writes written;
   malformed = so_far.malformed;
   few = so_far.few;
+  lawful = so_far.lawful;
 }
 
 -- the next line is answered
@@ -78,6 +81,7 @@ answers_more before after old next new bytes rest so_far h line = record {
   };
   malformed = omega (arith, line.malformed, so_far.malformed);
   few = omega (arith, line.at_most_one, so_far.few, length-drop (position_or_len (is 0x0a) rest + 1) rest);
+  lawful = λ lawful. answers_keep (line_of (before_first (is 0x0a) rest)) next.table new.table line.reply line.one line.answer (so_far.lawful lawful);
 }
 
 -- nothing is said of a value that is not there

@@ -1,9 +1,10 @@
 -- What the contracts of private functions say of a session and its input. The contract of `run_script` needs none of it.
-use Rattle.std.specs.Prelude.{◌≡◌, ℕ, ◌+◌, ◌≤◌, Bool, true, false, List, ◌++◌, length, Option}
+use Rattle.std.specs.Prelude.{◌≡◌, ℕ, ◌+◌, ◌≤◌, Bool, true, false, List, ◌++◌, length, Option, Some, None, ⊤}
 use Rattle.std.specs.List.{position_or_len}
 use Rattle.mm_work.specs.Cut.{is}
 use Rattle.std.specs.Io.KnownBytes.{Appends}
 use Rattle.mm_table.specs.TableState.{TableState}
+use Rattle.mm_table.specs.Laws.{Laws}
 use Rattle.mm_work.specs.declared.script.engine.Session.{Session}
 use Rattle.mm_work.specs.Line.{line_of}
 use Rattle.mm_work.specs.Lines.{lines_of, whole_lines}
@@ -23,6 +24,11 @@ abbrev pub Leads : Option TableState → List ℕ → List ℕ → ℕ → Optio
 Leads table bytes replies malformed next rest = (all : Bool) (more out : List ℕ) (others : ℕ)
     → Text next (cut all (rest ++ more)) out others
     → Text table (cut all (bytes ++ more)) (replies ++ out) (malformed + others)
+
+-- no table stands, or its laws hold
+abbrev pub IsLawful : Option TableState → Type 0
+IsLawful None = ⊤
+IsLawful (Some state) = Laws state
 
 -- bytes are written to a writer that held some, and those that are lost are left
 pub record Writes (before after : Option (List ℕ)) (bytes lost : List ℕ) : Type 0 where
@@ -47,6 +53,7 @@ pub record AnswersLines (before after : Option (List ℕ)) (old : Session) (byte
   pub writes : Writes before after (old.replies.items ++ replies) lost
   pub malformed : new.malformed ≡ old.malformed + count
   pub few : count + length rest ≤ length bytes
+  pub lawful : IsLawful old.table → IsLawful new.table
 
 -- the session answered the line that no newline ends, if there is one
 pub record AnswersOpen (old : Session) (bytes : List ℕ) (new : Session) : Type 0 where
