@@ -13,11 +13,11 @@ pub mod BlockingQueue
 pub mod HandingOver
 -- hand-overs in any order
 pub mod HandOverOrder
--- settle: the turn of one process, one round of turns, all sweeps, and the whole
-pub mod Turns
+-- settle: live keys, one round of turns, those that wait, all sweeps, and the whole
+pub mod LiveKeys
 pub mod Rounds
 pub mod Waiters
 pub mod Sweeping
 pub mod Settling
--- tables
+-- tables, by any event
 pub mod Tables
