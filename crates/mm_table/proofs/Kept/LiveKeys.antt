@@ -1,8 +1,6 @@
--- The turn of one process: a process without a live key waits for nothing, so it neither transmits nor detects.
-use Rattle.std.proofs.Common.{◌≡◌, ◌<◌, ℕ, zero, suc, ◌&&◌, length, arith, IfSome, IfNone, Bool, true, false, List, [], ◌∷◌, map, slice_index, slice_index_or, Option, Some, None, is_some, nat_eq, not, IsTrue, option_map, option_and_then, refl, ap, sym, subst, ◌∙◌, inl, inr}
+-- What the live key of a process tells; a process without one waits for nothing.
+use Rattle.std.proofs.Common.{◌≡◌, ◌<◌, ℕ, zero, suc, length, arith, IfSome, IfNone, false, List, [], ◌∷◌, map, slice_index, slice_index_or, Option, Some, None, nat_eq, IsTrue, option_and_then, refl, ap, sym, subst, ◌∙◌, inl, inr}
 use Rattle.std.proofs.lemmas.Bool.{cases_Bool, and_parts, and_from, eq-eqb}
-use Rattle.std.specs.Option.{option_map_or}
-use Rattle.mm_label.specs.Label.{label_eq}
 use Rattle.mm_arena.specs.declared.key.Key.{Key}
 use Rattle.mm_arena.specs.Slots.{Slots, Place, never_used, place_at, live_key}
 use Rattle.mm_arena.specs.Slots as slots
@@ -10,13 +8,10 @@ use Rattle.mm_table.specs.declared.config.Config.{Config}
 use Rattle.mm_table.specs.declared.records.Transaction.{Transaction}
 use Rattle.mm_table.specs.declared.records.Labels.{Labels}
 use Rattle.mm_table.specs.declared.records.WaitRecord.{WaitRecord}
-use Rattle.mm_table.specs.TableState.{TableState, key_of, is_live, private_of, public_of, has_verdict, owner_of, waited_for, wait_of, is_waiting, holder_of}
-use Rattle.mm_table.specs.Change.{greater_label, can_transmit, transmit, can_detect, detect}
+use Rattle.mm_table.specs.TableState.{TableState, key_of, is_live, waited_for}
 use Rattle.mm_table.specs.Event.{tenant_of}
 use Rattle.mm_table.specs.Kept.{wait_in, wait_kept, PartsFit}
 use Rattle.mm_table.proofs.States.Read.{map_none, true_within}
-use Rattle.mm_table.proofs.States.Transmit.{shown}
-use Rattle.mm_table.proofs.States.Detect.{detect_still}
 
 -- the live key of a process is live
 tenant_lives : (s : TableState) (n : ℕ) (k : Key) → Some k ≡ tenant_of s n → IsTrue (is_live s k) × (k.process ≡ n)
@@ -54,30 +49,3 @@ pub idle_by : {c : Config} {s : Slots Transaction} {ls : List Labels} {os : List
 idle_by {c} {s} fits n none =
     let empty : (place_at s n).value ≡ None = map_none (λ _. slots.key_of s n) (place_at s n).value none in
     sym (fits.waiting n) ∙ wait_in_place s.places n ∙ ap (option_and_then (λ (t : Transaction). t.waits_for)) empty
-
--- one that waits for nothing does nothing in its turn
-module _ (s : TableState) (n : ℕ) (idle : wait_of s n ≡ None) where
-  pub idle_waits_not : is_waiting s n ≡ false
-  idle_waits_not = ap is_some idle
-
-  unheld : holder_of s n ≡ None
-  unheld = ap (λ (o : Option ℕ). option_map (λ (k : Key). k.process) (option_and_then (owner_of s) o)) idle
-
-  none_greater : greater_label s n ≡ None
-  none_greater = rw unheld refl
-
-  pub idle_transmits_not : can_transmit s n ≡ false
-  idle_transmits_not = ap is_some none_greater
-
-  pub idle_transmit : transmit s n ≡ s
-  idle_transmit = ap (λ o. option_map_or (shown s n) o s) none_greater
-
-  pub idle_detects_not : can_detect s n ≡ false
-  idle_detects_not = rw unheld (after_all (not (has_verdict s n) && label_eq (private_of s n) (public_of s n)))
-    where
-      after_all : (b : Bool) → (b && false) ≡ false
-      after_all true = refl
-      after_all false = refl
-
-  pub idle_detect : detect s n ≡ s
-  idle_detect = detect_still s n idle_detects_not
