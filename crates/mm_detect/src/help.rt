@@ -16,8 +16,11 @@ Calls of a script, one a line:
   begin          key K: a new transaction
   acquire K r    granted, or waits H B: the holder's key and the new label
   release K r    free, or to K: the key that owns the resource now
+  finish K       finished: it hands over all that it owns, and its key is no longer live
   transmit K     raised B: the label that the transaction shows now; or still
   detect K       deadlock B: a verdict from now on, on this label; standing, where it has one; or clear
+  abort K        aborted: a transaction with a verdict gives way, and ends as by finish
+  settle         settled N M: so many labels raised and so many verdicts given, until nothing is left to do
   state K        active V U, waiting r V U or convicted r V U: the private and the public label
   owner r        owner K, or free
   totals         totals N M A: accepted events, verdicts, aborts

@@ -1,6 +1,7 @@
 //! What no clause says: which faults come, and that a flush is made.
 
 mod faults;
+mod ring;
 
 use super::{ScriptFault, run_script};
 use faults::{FailingReader, FailingWriter, Newlines, WhenFull};
