@@ -1,18 +1,15 @@
 -- What clap's rules give for the words that the contract names.
-use Rattle.std.proofs.Common.{◌≡◌, ◌∙◌, ◌⊎◌, inl, inr, sym, ap, refl, subst, true, List, [], ◌∷◌, Result, Ok, Err, codes, drop}
-use Rattle.clap.specs.Words.{App, FailsBy, IsAmong, Kinds, Text, fault_of, is_simple_and_free, kind_of}
+use Rattle.std.proofs.Common.{◌≡◌, ◌∙◌, inl, inr, ap, refl, subst, List, [], ◌∷◌, Result, Ok, Err, codes, drop}
+use Rattle.clap.specs.Words.{FailsBy, IsAmong, Kinds, Text, fault_of, kind_of}
 use Rattle.clap.specs.Faults.{built_fault}
 use Rattle.clap.specs.Simple.{built}
 use Rattle.clap.specs.Walk.{nothing_held}
 use Rattle.clap.proofs.OnLiterals.{clap_on_literals}
 use Rattle.clap.specs.declared.error.Error.{Error}
-use Rattle.clap.specs.declared.error.kind.ErrorKind.{ErrorKind}
 use Rattle.clap.specs.declared.error.kind.ErrorKind.TheVariants.{DisplayHelp, OutOfMemory}
-use Rattle.clap.specs.declared.error.kind.ErrorKind.TheVariants as kind
 use Rattle.clap.specs.declared.parser.matches.ArgMatches.{ArgMatches}
 use Rattle.mm_detect.specs.CommandLine.{AsksForHelp, AsksForScript, IsHelp, IsScript, program, request_at, request_by}
-use Rattle.mm_detect.specs.declared.command_line.Request.{Request}
-use Rattle.mm_detect.specs.declared.command_line.Request.TheVariants.{Script, Help, Wrong, Memory}
+use Rattle.mm_detect.specs.declared.command_line.Request.TheVariants.{Help, Memory}
 
 -- the kinds that clap's rules give for the words behind the program's name
 faults : List Text → Kinds

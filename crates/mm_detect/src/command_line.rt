@@ -24,25 +24,24 @@ pub enum Request {
     Memory,
 }
 
-/// Reads the command line that the program was started with. Takes memory.
+/// What the command line asks for that the program was started with. Takes memory.
 pub fn asked(rt: &HostRuntime) -> Request {
-    let alloc = rt.alloc();
-    match env::args(rt) {
-        Ok(words) => match words.collect::<Vec<String>>(alloc) {
-            Ok(words) => request_of(alloc, words.as_slice()),
-            Err(_) => Request::Memory,
-        },
-        Err(fault) if fault.kind() == io::ErrorKind::OutOfMemory => Request::Memory,
-        Err(_) => match no_text(alloc) {
-            Ok(error) => Request::Wrong(error),
-            Err(_) => Request::Memory,
-        },
-    }
+    asked_or_refused(rt).unwrap_or(Request::Memory)
 }
 
-/// Some word is no text.
-fn no_text(alloc: Global) -> Result<Error, AllocError> {
-    command(alloc)?.error(ErrorKind::InvalidValue, "a word is not UTF-8 text")
+fn asked_or_refused(rt: &HostRuntime) -> Result<Request, AllocError> {
+    let alloc = rt.alloc();
+    match env::args(rt) {
+        Ok(words) => {
+            let words = words.collect::<Vec<String>>(alloc)?;
+            Ok(request_of(alloc, words.as_slice()))
+        }
+        Err(fault) if fault.kind() == io::ErrorKind::OutOfMemory => Ok(Request::Memory),
+        Err(_) => {
+            let error = command(alloc)?.error(ErrorKind::InvalidValue, "a word is not UTF-8 text")?;
+            Ok(Request::Wrong(error))
+        }
+    }
 }
 
 /// What words ask for; the first is the program's name. Takes memory.

@@ -2,50 +2,45 @@
 //!
 //! - `command_line`: what the words of the command line ask for.
 //! - `help`: the text of the help.
-//! - `status`: the status that the program exits with.
+//! - `ending`: how a run of the program ends, and the status that it exits with.
 #![tactic(auto)]
 
 mod command_line;
+mod ending;
 mod help;
-mod status;
 #[cfg(test)]
 mod tests;
 
 use command_line::{Request, asked};
+use ending::{Ending, fault, status};
 use mm_work::{ScriptFault, run_script};
-use status::{HELPED, REFUSED, WRONG, script_status, told_status};
 use std::process::ExitCode;
 
 fn main(rt: HostRuntime) -> ExitCode {
-    let status = match asked(&rt) {
+    let ending = answer(&rt, asked(&rt));
+    if let Some(fault) = fault(&ending) {
+        // Where standard error takes nothing either, the status still tells.
+        let _ = eprintln!(rt; "{fault}");
+    }
+    ExitCode::from(status(&ending))
+}
+
+/// Does what the command line asks for.
+fn answer(rt: &HostRuntime, request: Request) -> Ending {
+    match request {
         Request::Script => {
-            let outcome = run_script(rt.alloc(), &mut rt.stdin(), &mut rt.stdout());
-            tell_fault(&rt, &outcome);
-            script_status(&outcome)
+            Ending::Ran(run_script(rt.alloc(), &mut rt.stdin(), &mut rt.stdout()))
         }
         Request::Help(text) => {
-            let told = print!(rt; "{text}").map_err(|_| ScriptFault::Write);
-            tell_fault(&rt, &told);
-            told_status(&told, HELPED)
-        }
-        Request::Memory => {
-            let told = println!(rt; "refused 10 Memory").map_err(|_| ScriptFault::Write);
-            tell_fault(&rt, &told);
-            told_status(&told, REFUSED)
+            Ending::Helped(print!(rt; "{text}").map_err(|_| ScriptFault::Write))
         }
         Request::Wrong(text) => {
             // Where standard error takes nothing either, the status still tells.
             let _ = eprint!(rt; "{text}");
-            WRONG
+            Ending::Wrong
         }
-    };
-    ExitCode::from(status)
-}
-
-/// Tells a fault in one line on standard error.
-fn tell_fault<T>(rt: &HostRuntime, outcome: &Result<T, ScriptFault>) {
-    if let Err(fault) = outcome {
-        // Where standard error takes nothing either, the status still tells.
-        let _ = eprintln!(rt; "{fault}");
+        Request::Memory => {
+            Ending::Refused(println!(rt; "refused 10 Memory").map_err(|_| ScriptFault::Write))
+        }
     }
 }

@@ -3,7 +3,7 @@
 mod rows;
 
 use crate::command_line::{Request, request_of};
-use crate::status::script_status;
+use crate::ending::script_status;
 use mm_work::run_script;
 use rows::ROWS;
 use std::test::Fail;
@@ -50,10 +50,7 @@ fn help_is_asked_for(rt: HostRuntime) -> Result<(), Fail> {
         }
     }
     let words = ["mmdetect", "script", "--help"];
-    assert!(rt; matches!(
-        request_of(rt.alloc(), words.as_slice()),
-        Request::Help(_)
-    ));
+    assert!(rt; matches!(request_of(rt.alloc(), words.as_slice()), Request::Help(_)));
     Ok(())
 }
 
@@ -70,7 +67,10 @@ fn other_words_are_wrong(rt: HostRuntime) -> Result<(), Fail> {
         ["mmdetect", "--version"].as_slice(),
         ["mmdetect", ""].as_slice(),
     ] {
-        assert!(rt; matches!(request_of(rt.alloc(), words), Request::Wrong(_)), "{words:?}");
+        assert!(rt;
+            matches!(request_of(rt.alloc(), words), Request::Wrong(_)),
+            "{words:?}"
+        );
     }
     Ok(())
 }

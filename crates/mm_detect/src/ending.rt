@@ -1,0 +1,55 @@
+//! How a run of the program ends, and the status that it exits with.
+ghost use Rattle.std.specs.Prelude.{◌≡◌};
+ghost use Rattle.mm_detect.specs.Ending.{ending_status, fault_told, status_of};
+
+use mm_work::ScriptFault;
+
+/// How a run of the program ended.
+#[derive(Clone, Copy, Debug, PartialEq, Eq)]
+pub enum Ending {
+    /// A script was run: so many lines were malformed, or a fault came.
+    Ran(Result<u64, ScriptFault>),
+    /// Help was asked for, and was printed or could not be.
+    Helped(Result<(), ScriptFault>),
+    /// The command line was wrong.
+    Wrong,
+    /// Memory for the command line was refused, and the line that says so was printed or could not be.
+    Refused(Result<(), ScriptFault>),
+}
+
+/// The status that the program exits with.
+pub fn status(ending: &Ending) -> u8
+    ensures { result ≡ ending_status ending.now }
+{
+    match ending {
+        Ending::Ran(outcome) => script_status(outcome),
+        Ending::Helped(Ok(())) => 0,
+        Ending::Wrong => 2,
+        Ending::Refused(Ok(())) => 4,
+        Ending::Helped(Err(_)) => 3,
+        Ending::Refused(Err(_)) => 3,
+    }
+}
+
+/// The status after a script: 0 where no line was malformed, 1 where some was, and 3 after a fault.
+pub fn script_status(outcome: &Result<u64, ScriptFault>) -> u8
+    ensures { result ≡ status_of outcome.now }
+{
+    match outcome {
+        Ok(0) => 0,
+        Ok(_) => 1,
+        Err(_fault) => 3,
+    }
+}
+
+/// The fault that standard error is to tell, if any.
+pub fn fault(ending: &Ending) -> Option<ScriptFault>
+    ensures { result ≡ fault_told ending.now }
+{
+    match ending {
+        Ending::Ran(outcome) => outcome.err(),
+        Ending::Helped(told) => told.err(),
+        Ending::Wrong => None,
+        Ending::Refused(told) => told.err(),
+    }
+}
