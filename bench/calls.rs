@@ -1,0 +1,123 @@
+//! Times workloads over the proved table and over the plain one, and prints a table of both.
+//!
+//! The proved table is called through the static library of crates/mm_bench. Each workload is a loop inside the library, beside
+//! the table, as the plain one is a loop beside its table, so that both compilers can inline. Each number is the least of many short
+//! rounds, in which the two tables take turns, less what the same loop costs that only opens and prepares its tables.
+
+mod plain;
+mod workloads;
+
+use std::hint::black_box;
+use std::time::Instant;
+
+const ROUNDS: u32 = 150;
+
+unsafe extern "C" {
+    safe fn mm_bench_nothing(number: u64) -> u64;
+    safe fn mm_bench_rounds(mask: u32, count: u64) -> u64;
+    safe fn mm_bench_crosswise(pairs: u32, count: u64) -> u64;
+    safe fn mm_bench_rings(size: u32, is_closed: bool, count: u64) -> u64;
+}
+
+/// A workload over both tables; its argument tells whether what is timed is done, or only what prepares it.
+struct Workload<'a> {
+    name: &'a str,
+    size: u32,
+    /// What the time is divided by, and its name.
+    units: u64,
+    unit: &'a str,
+    proved: &'a dyn Fn(bool) -> u64,
+    plain: &'a dyn Fn(bool) -> u64,
+}
+
+/// How long one run takes, in nanoseconds.
+fn time(work: &dyn Fn(bool) -> u64, is_whole: bool) -> f64 {
+    let start = Instant::now();
+    black_box(work(black_box(is_whole)));
+    start.elapsed().as_nanos() as f64
+}
+
+impl Workload<'_> {
+    /// Times both tables, and prints one line.
+    fn measure(&self) {
+        let accepted = (self.proved)(true);
+        assert_eq!(accepted, (self.plain)(true), "the tables differ at {}", self.name);
+        assert!(accepted > 0, "a call was refused at {}", self.name);
+        let mut least = [f64::INFINITY; 4];
+        for _ in 0..ROUNDS {
+            let tried = [
+                time(self.proved, true),
+                time(self.proved, false),
+                time(self.plain, true),
+                time(self.plain, false),
+            ];
+            least = std::array::from_fn(|at| least[at].min(tried[at]));
+        }
+        let proved = (least[0] - least[1]) / self.units as f64;
+        let plain = (least[2] - least[3]) / self.units as f64;
+        println!("{:<44} {:>6} {:>11.2} {:>11.2} {:>6.2}  ns a {}", self.name, self.size, proved, plain, proved / plain, self.unit);
+    }
+}
+
+fn measure_rounds(resources: u32) {
+    let count = 4_000;
+    let mask = resources - 1;
+    Workload {
+        name: "16 acquires, 16 releases",
+        size: resources,
+        units: 32 * count,
+        unit: "call",
+        proved: &|is_whole| mm_bench_rounds(mask, if is_whole { count } else { 0 }),
+        plain: &|is_whole| workloads::rounds(mask, if is_whole { count } else { 0 }).unwrap(),
+    }
+    .measure();
+}
+
+fn measure_crosswise() {
+    let (pairs, count) = (2_048, 4);
+    Workload {
+        name: "two wait for each other, one gets a verdict",
+        size: 2,
+        units: u64::from(pairs) * count,
+        unit: "deadlock",
+        proved: &|is_whole| mm_bench_crosswise(if is_whole { pairs } else { 0 }, count),
+        plain: &|is_whole| workloads::crosswise(if is_whole { pairs } else { 0 }, count).unwrap(),
+    }
+    .measure();
+}
+
+fn measure_rings(size: u32) {
+    let count = (8_192 / u64::from(size)).max(2);
+    Workload {
+        name: "ring closed, label goes round, verdict",
+        size,
+        units: count,
+        unit: "ring",
+        proved: &|is_whole| mm_bench_rings(size, is_whole, count),
+        plain: &|is_whole| workloads::rings(size, is_whole, count).unwrap(),
+    }
+    .measure();
+}
+
+/// What a call through the C boundary costs by itself, which no other line has.
+fn measure_nothing() {
+    let count = 500_000;
+    let least = (0..ROUNDS)
+        .map(|_| {
+            time(&|_| (0..count).fold(0, |sum, _| mm_bench_nothing(sum)), true)
+        })
+        .fold(f64::INFINITY, f64::min);
+    println!("{:<44} {:>6} {:>11.2} {:>11} {:>6}  ns a call", "a call through C that does nothing", "", least / count as f64, "", "");
+}
+
+fn main() {
+    println!("{:<44} {:>6} {:>11} {:>11} {:>6}", "workload", "size", "proved", "plain", "ratio");
+    for resources in [16, 1_024, 65_536] {
+        measure_rounds(resources);
+    }
+    measure_crosswise();
+    for size in [2, 64, 4_096] {
+        measure_rings(size);
+    }
+    measure_nothing();
+}
