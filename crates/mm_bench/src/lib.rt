@@ -6,7 +6,7 @@
 
 ghost use Rattle.std.specs.Prelude.{◌≡◌};
 
-use mm_table::{Config, Detected, Key, Refusal, Table};
+use mm_table::{Config, Refusal, Table};
 use std::alloc::Global;
 
 mod rounds;
