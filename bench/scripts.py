@@ -31,6 +31,7 @@ MOST_IDLE_CALLS = 40  # a script ends after this many calls in a row that change
 LATE_TABLE_RATE = 0.1  # scripts that begin with calls before there is a table
 SECOND_TABLE_RATE = 0.003
 AIMED_RATE = 0.9  # calls with a key that the call is for
+MOST_DRAWS = 20  # of words, until one is of use
 STALE_RATE = 0.03
 NO_RESOURCE_RATE = 0.01
 ODD_LINE_RATE = 0.02
@@ -90,10 +91,11 @@ class ScriptWriter:
 
     def word(self):
         """The next word, mostly one that some process can be used for."""
-        word = self.rng.choices(self.words, self.weights)[0]
-        if self.rng.random() < AIMED_RATE:
-            while not self.is_of_use(word):
-                word = self.rng.choices(self.words, self.weights)[0]
+        draws = MOST_DRAWS if self.rng.random() < AIMED_RATE else 1
+        for _ in range(draws):
+            word = self.rng.choices(self.words, self.weights)[0]
+            if self.is_of_use(word):
+                break
         return word
 
     def is_of_use(self, word):
