@@ -18,7 +18,7 @@ WORDS = {
     "give_up": (2, "k"),
 }
 
-READS = ("state", "owner", "totals")
+READS = ("state", "owner", "totals")  # these change nothing
 
 LONGEST_LINE = 128
 MOST_PROCESSES = 4_096
@@ -54,7 +54,7 @@ def random_config(rng):
 
 
 def bad_config(rng):
-    """Four numbers of which one is out of its range, most of them by one."""
+    """Four numbers of which one is out of its range by one."""
     config = list(random_config(rng))
     past = [MOST_PROCESSES + 1, MOST_RESOURCES + 1, GREATEST_LABEL_LIMIT + 1, 0]
     at = rng.randrange(len(config))
