@@ -6,10 +6,14 @@ pub mod Parts
 pub mod Tenants
 pub mod Opening
 pub mod Seating
+pub mod FreeingSlot
+pub mod Withdrawing
+pub mod Owning
 -- queues, found in the one list of waits
 pub mod Queues
-pub mod TakingOver
+pub mod EndingWait
 pub mod BlockingQueue
 pub mod HandingOver
 -- hand-overs in any order
 pub mod HandOverOrder
+pub mod HandingAll

@@ -1,5 +1,6 @@
 -- The wait graph: who waits for whom, and two labels of each process, as numbers in one order. Processes are the numbers below `processes`.
 use Rattle.std.specs.Prelude.{ℕ, Option, Some, None, ◌≡◌, ◌≢◌, ◌≤◌, ◌<◌, ◌⊎◌, List, [], ◌∷◌, length, ⊤}
+use Rattle.mm_owned.specs.Members.{Among, NoRepeat}
 
 pub record Graph : Type 0 where
   pub processes : ℕ
@@ -18,15 +19,6 @@ abbrev pub IsActive : Graph → ℕ → Type 0
 IsActive g k = g.holder k ≡ None
 
 -- ---- paths along the waits
-
--- x is one of the list
-abbrev pub Among : ℕ → List ℕ → Type 0
-Among x [] = ⊥
-Among x (y ∷ ys) = (x ≡ y) ⊎ Among x ys
-
-abbrev pub NoRepeat : List ℕ → Type 0
-NoRepeat [] = ⊤
-NoRepeat (x ∷ xs) = (Among x xs → ⊥) × NoRepeat xs
 
 -- from n along the holders, by the places after n, to m; each process that is left on the way is as `Each` says
 abbrev pub Walk : Graph → (ℕ → Type 0) → ℕ → List ℕ → ℕ → Type 0

@@ -1,5 +1,5 @@
 -- What the fields of `Records` mean, and what holds of them.
-use Rattle.std.specs.Prelude.{◌≡◌, ℕ, ◌+◌, ◌<◌, ◌≤◌, List, length, Bool, false, Option, None, Some, if◌then◌else◌, is_some, option_and_then, map, sum_by, slice_index_or, vec_capacity}
+use Rattle.std.specs.Prelude.{◌≡◌, ℕ, ◌+◌, ◌<◌, ◌≤◌, List, length, Bool, false, Option, None, Some, if◌then◌else◌, is_some, option_and_then, option_map, map, sum_by, slice_index_or, vec_capacity}
 use Rattle.std.specs.List.{AllByRecursion}
 use Rattle.std.specs.Option.{option_map_or}
 use Rattle.mm_arena.specs.declared.key.Key.{Key}
@@ -11,7 +11,8 @@ use Rattle.mm_table.specs.declared.records.Records.TheInside.{Inside}
 use Rattle.mm_table.specs.declared.records.Transaction.{Transaction}
 use Rattle.mm_table.specs.declared.records.Labels.{Labels}
 use Rattle.mm_table.specs.declared.records.WaitRecord.{WaitRecord}
-use Rattle.mm_table.specs.Graph.{NoRepeat}
+use Rattle.mm_owned.specs.Members.{Among, NoRepeat}
+use Rattle.mm_owned.specs.Owned.{Lists, IsExclusive, list_at}
 use Rattle.mm_table.specs.TableState.{TableState, Wait, IsInRange, waited_for}
 
 abbrev pub wait_kept : WaitRecord → Wait
@@ -64,7 +65,20 @@ pub record PartsFit (config : Config) (slots : Slots Transaction) (labels : List
   pub waits_live : AllByRecursion (λ w. IsLive slots w.key) waits
   pub room : length waits + sum_by idle slots.places ≡ config.processes
 
+-- the process that owns resource r
+abbrev pub owning : List (Option Key) → ℕ → Option ℕ
+owning owners r = option_map (λ k. k.process) (slice_index_or owners r None)
+
+-- The list of each process has the resources that it owns, and no others.
+pub record OwnedFit (config : Config) (owners : List (Option Key)) (owned : Lists) : Type 0 where
+  pub lists : length owned.lists ≡ config.processes
+  pub resources : owned.resources ≡ config.resources
+  pub exclusive : IsExclusive owned
+  pub listed : (n r : ℕ) → Among r (list_at owned n) → owning owners r ≡ Some n
+  pub all : (n r : ℕ) → owning owners r ≡ Some n → Among r (list_at owned n)
+
 -- and there is room for the wait of each process
 pub record IsKept (t : Inside) : Type 0 where
   pub parts : PartsFit t.config t.transactions t.labels.items t.owners.items t.waits.items
+  pub owned : OwnedFit t.config t.owners.items t.owned
   pub capacity : t.config.processes ≤ vec_capacity t.waits

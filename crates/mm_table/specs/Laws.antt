@@ -9,7 +9,8 @@ use Rattle.mm_table.specs.declared.reply.Settled.{Settled}
 use Rattle.mm_table.specs.declared.reply.Transmitted.TheVariants.{Raised}
 use Rattle.mm_table.specs.TableState.{TableState, Wait, IsInRange, IsSized, opening, is_live, private_of, public_of, has_verdict, owner_of, is_waiting, waiting_processes, graph_of}
 use Rattle.mm_table.specs.Event.{Event, Begin, Transmit, Detect, Settle, Answer, Step, Run, IsReached, Settles}
-use Rattle.mm_table.specs.Graph.{Among, NoRepeat, Cycle, LabelReturned, Deadlocked, IsGreatest, CarriedLaw, RisingLaw, ToppedLaw, IsSettled}
+use Rattle.mm_owned.specs.Members.{Among, NoRepeat}
+use Rattle.mm_table.specs.Graph.{Cycle, LabelReturned, Deadlocked, IsGreatest, CarriedLaw, RisingLaw, ToppedLaw, IsSettled}
 
 -- ---- lawful
 

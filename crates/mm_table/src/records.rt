@@ -5,13 +5,16 @@
 //! - `refusals`: the tests of each call, in their order.
 //! - `changes`: the small changes that events are made of.
 //! - `queues`: hand-overs.
+//! - `endings`: what happens when a transaction ends.
 //! - `reads`: what changes nothing.
 use crate::{Config, Key, Totals};
 use mm_arena::Arena;
 use mm_label::Label;
+use mm_owned::Owned;
 use std::marker::Model;
 
 mod changes;
+mod endings;
 mod events;
 mod open;
 mod queues;
@@ -46,6 +49,8 @@ pub struct Records {
     transactions: Arena<Transaction>,
     labels: Vec<Labels>,
     owners: Vec<Option<Key>>,
+    /// The resources of each process.
+    owned: Owned,
     /// In order of arrival. There is room for each process.
     waits: Vec<WaitRecord>,
     totals: Totals,

@@ -1,5 +1,5 @@
 ghost use Rattle.std.specs.Prelude.{◌≡◌};
-ghost use Rattle.mm_table.specs.Event.{Opens, Step, Begin, Acquire, Release, Transmit, Detect, state_of, owner_told, tenant_of};
+ghost use Rattle.mm_table.specs.Event.{Opens, Step, Begin, Acquire, Release, Finish, Transmit, Detect, Abort, state_of, owner_told, tenant_of};
 ghost use Rattle.mm_table.specs.Laws.{HasSoundVerdicts};
 
 use crate::records::Records;
@@ -32,7 +32,8 @@ impl Table {
     /// A table of this configuration, in which no process is live and no resource has an owner.
     ///
     /// Refused as `BadConfig` exactly where a number is out of its range, and as `Memory` only where a request for memory was
-    /// refused. This is the one call that takes memory: for the transactions, for the labels, for the owners and for the waits.
+    /// refused. This is the one call that takes memory: for the transactions, for the labels, for the owners,
+    /// twice for the lists of what each process owns, and for the waits.
     pub fn open(alloc: Global, config: Config) -> Result<Table, Refusal>
         ensures { Opens config result }
     {
@@ -70,6 +71,17 @@ impl Table {
         self.records.release(key, resource)
     }
 
+    /// Ends the transaction: hands over all that it owns, each resource as `release` does, and frees its slot. The slot is the next
+    /// to be given again, under the next generation; at the last generation it is retired, and never given again.
+    ///
+    /// Refused as `CountsExhausted`, `Stale`, `Waiting` or `LabelsExhausted`; the last is tested for all of its resources before
+    /// anything changes. For each resource that it owns, time by how many transactions wait in the table. The rule is this project's.
+    pub fn finish(&mut self, key: Key) -> Result<(), Refusal>
+        ensures { Step (Finish key) self.old result self.new }
+    {
+        self.records.finish(key)
+    }
+
     /// The waiting transaction takes over its holder's public label where that is greater; its private label stays.
     ///
     /// Refused as `CountsExhausted`, `Stale` or `NotWaiting`. Constant time. The rule is Mitchell and Merritt's.
@@ -87,6 +99,17 @@ impl Table {
         ensures { Step (Detect key) self.old result self.new }
     {
         self.records.detect(key)
+    }
+
+    /// Ends a transaction with a verdict: takes back its wait, and then hands over all that it owns and frees its slot as `finish` does.
+    ///
+    /// Refused as `CountsExhausted`, `Stale`, `NoVerdict` or `LabelsExhausted`; a refused call keeps the wait and the verdict.
+    /// For each resource that it owns, time by how many transactions wait in the table.
+    /// That a convicted transaction gives way is Mitchell and Merritt's rule; how it hands over is this project's.
+    pub fn abort(&mut self, key: Key) -> Result<(), Refusal>
+        ensures { Step (Abort key) self.old result self.new }
+    {
+        self.records.abort(key)
     }
 
     /// What the transaction does, and its two labels.

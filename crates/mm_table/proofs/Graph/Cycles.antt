@@ -1,7 +1,8 @@
 -- Paths and cycles: each process has one holder, so two paths to one end have one length, and a cycle holds each process that its members reach.
 use Rattle.std.specs.Prelude.{ℕ, suc, ◌≡◌, ◌≢◌, ◌≤◌, ◌⊎◌, List, [], ◌∷◌, length, ⊤}
 use Rattle.std.proofs.Common.{inl, inr, arith, sym, ap, subst, ◌∙◌, refl}
-use Rattle.mm_table.specs.Graph.{Graph, WaitsFor, Among, NoRepeat, Walk, Path, Cycle}
+use Rattle.mm_owned.specs.Members.{Among, NoRepeat}
+use Rattle.mm_table.specs.Graph.{Graph, WaitsFor, Walk, Path, Cycle}
 use Rattle.mm_table.proofs.Graph.Walks.{one_holder}
 
 -- a walk that stops where it first reaches m

@@ -1,7 +1,8 @@
 -- Settling ends: as long as each sweep raises something, no more sweeps are made than raises are possible.
 use Rattle.std.specs.Prelude.{ℕ, zero, suc, ◌+◌, ◌*◌, ◌≡◌, ◌≤◌, ◌<◌, ◌⊎◌, List, length}
 use Rattle.std.proofs.Common.{inl, inr, arith, ap, refl}
-use Rattle.mm_table.specs.Graph.{Graph, WaitsFor, Among}
+use Rattle.mm_owned.specs.Members.{Among}
+use Rattle.mm_table.specs.Graph.{Graph, WaitsFor}
 use Rattle.mm_table.proofs.Graph.Laws.{IsLawful}
 use Rattle.mm_table.proofs.Graph.RaiseRun.{RaiseRun, runs_join, run_keeps_laws}
 use Rattle.mm_table.proofs.Graph.Few.{raises_are_few}

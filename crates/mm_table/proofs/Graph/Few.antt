@@ -1,7 +1,8 @@
 -- Raises are few: each lifts a waiting process over one at least of the labels that were shown at the start, and raises make no label.
 use Rattle.std.specs.Prelude.{ℕ, zero, suc, ◌+◌, ◌*◌, ◌-◌, min, length, ◌≡◌, ◌≤◌, ◌<◌, ◌⊎◌, List, [], ◌∷◌}
 use Rattle.std.proofs.Common.{inl, inr, arith, sym, ap, ◌∙◌, refl}
-use Rattle.mm_table.specs.Graph.{Graph, WaitsFor, Among}
+use Rattle.mm_owned.specs.Members.{Among}
+use Rattle.mm_table.specs.Graph.{Graph, WaitsFor}
 use Rattle.mm_table.proofs.Graph.Laws.{WithinLaw}
 use Rattle.mm_table.proofs.Graph.Change.{Raises}
 use Rattle.mm_table.proofs.Graph.Raise.{raise_lowers_nothing, raised_shows}

@@ -2,7 +2,8 @@
 use Rattle.std.specs.Prelude.{ℕ, None, ◌≡◌, ◌≢◌, ◌<◌, List, [], ◌∷◌}
 use Rattle.std.proofs.Common.{inl, inr, arith, sym, subst, ◌∙◌, refl}
 use Rattle.std.proofs.Math.Decide.{ℕ_discrete}
-use Rattle.mm_table.specs.Graph.{Graph, WaitsFor, IsActive, Among, NoRepeat, LabelReturned}
+use Rattle.mm_owned.specs.Members.{Among, NoRepeat}
+use Rattle.mm_table.specs.Graph.{Graph, WaitsFor, IsActive, LabelReturned}
 use Rattle.mm_table.proofs.Graph.Laws.{IsLawful, IsLabelled}
 use Rattle.mm_table.proofs.Graph.Change.{SameAt, Blocks, Activates, same_then, same_back}
 use Rattle.mm_table.proofs.Graph.Walks.{active_waits_not, one_holder}

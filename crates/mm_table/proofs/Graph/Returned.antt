@@ -3,7 +3,8 @@
 use Rattle.std.specs.Prelude.{ℕ, ◌<◌, ◌≡◌, ◌≢◌, ◌≤◌, List, [], ◌∷◌, ⊤}
 use Rattle.std.proofs.Common.{inl, inr, arith, sym, ap, ◌∙◌, refl}
 use Rattle.std.proofs.Math.Decide.{ℕ_discrete}
-use Rattle.mm_table.specs.Graph.{Graph, Among, Walk, Cycle, Carries, Carried, LabelReturned, Deadlocked, RisingLaw}
+use Rattle.mm_owned.specs.Members.{Among}
+use Rattle.mm_table.specs.Graph.{Graph, Walk, Cycle, Carries, Carried, LabelReturned, Deadlocked, RisingLaw}
 use Rattle.mm_table.proofs.Graph.Laws.{IsLawful}
 use Rattle.mm_table.proofs.Graph.Walks.{walk_again, OnTheWay}
 use Rattle.mm_table.proofs.Graph.Cycles.{no_repeat, leaves, cycles_meet, start_on_cycle}

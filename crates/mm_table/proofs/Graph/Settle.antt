@@ -1,7 +1,8 @@
 -- Settling, which is sweeps of raises until one raises nothing: the last sweep shows that no raise applies, and all of them are one run of raises.
 use Rattle.std.specs.Prelude.{ℕ, zero, suc, ◌+◌, ◌*◌, ◌≡◌, ◌≤◌, ◌<◌, ◌⊎◌, List, [], ◌∷◌, length}
 use Rattle.std.proofs.Common.{inl, inr, arith, sym, ◌∙◌, refl}
-use Rattle.mm_table.specs.Graph.{Graph, WaitsFor, Among, LabelReturned, IsGreatest, IsSettled}
+use Rattle.mm_owned.specs.Members.{Among}
+use Rattle.mm_table.specs.Graph.{Graph, WaitsFor, LabelReturned, IsGreatest, IsSettled}
 use Rattle.mm_table.proofs.Graph.Laws.{IsLawful, IsLabelled}
 use Rattle.mm_table.proofs.Graph.Change.{Raises}
 use Rattle.mm_table.proofs.Graph.RaiseRun.{RaiseRun, runs_join, run_keeps_holders, run_keeps_laws, run_keeps_labelled, run_keeps_returned, settling_gives_greatest}

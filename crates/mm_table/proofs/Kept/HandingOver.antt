@@ -1,11 +1,11 @@
 -- The first of a queue, where it stands among the waits, and what is left of the queue without it.
-use Rattle.std.proofs.Common.{◌≡◌, ◌≢◌, ℕ, zero, suc, ◌+◌, ◌<◌, ◌≤◌, true, false, not, List, [], ◌∷◌, length, map, filter, drop, slice_index_or, Some, None, nat_eq, refl, ap, sym, ◌∙◌, inl, inr, arith, subst, add-one, slice_set, option_map, IsTrue}
+use Rattle.std.proofs.Common.{◌≡◌, ◌≢◌, ℕ, zero, suc, ◌+◌, ◌<◌, ◌≤◌, true, false, not, List, [], ◌∷◌, length, map, filter, drop, slice_index_or, Option, Some, None, nat_eq, refl, ap, sym, ◌∙◌, inl, inr, arith, subst, add-one, slice_set, option_map, IsTrue}
 use Rattle.std.proofs.lemmas.List.Quantifiers.{position-Some}
 use Rattle.std.proofs.lemmas.Bool.{eq-eqb, ne_eqb}
 use Rattle.std.specs.List.{position, slice_get, list_all}
 use Rattle.mm_arena.specs.declared.key.Key.{Key}
 use Rattle.mm_table.specs.declared.records.WaitRecord.{WaitRecord}
-use Rattle.mm_table.specs.Graph.{Among, NoRepeat}
+use Rattle.mm_owned.specs.Members.{Among, NoRepeat}
 use Rattle.mm_table.specs.TableState.{TableState, Wait, is_of, waiters_of}
 use Rattle.mm_table.specs.Change.{activate, block, block_fits, give_to, give_to_fits, hand_over, hand_over_fits}
 use Rattle.mm_table.specs.Event.{release_answer}
@@ -14,7 +14,7 @@ use Rattle.mm_table.specs.Queue.{queue_from, fits_from, blocked_on, NoneIs}
 use Rattle.mm_table.specs.Kept.{wait_kept}
 use Rattle.mm_table.proofs.Kept.Queues.{queue, queue_first, next_at}
 use Rattle.mm_table.proofs.Kept.BlockingQueue.{once_drop, not_among_queue, processes_kept}
-use Rattle.mm_table.proofs.Kept.TakingOver.{all_kept, got, slice_get-map}
+use Rattle.mm_table.proofs.Kept.EndingWait.{all_kept, got, slice_get-map}
 
 -- an element in range
 record Placed {X : Type 0} (xs : List X) (i : ℕ) : Type 0 where
@@ -124,6 +124,24 @@ handed_over s t ws r i key are once f at_place is =
     ap (λ o. option_map (λ (w : Wait). w.key) (option_map wait_kept o)) (sym f.at_place) ∙ ap (option_map (λ (w : Wait). w.key)) (sym (slice_get-map wait_kept ws i)) ∙ ap (λ l. option_map (λ (w : Wait). w.key) (slice_get l i)) are ∙ at_place in
     let same : f.wait.key ≡ key = cc in
     subst (λ (u : TableState). IsHandedOver s u r i key) (sym is) (subst (λ (k : Key). IsHandedOver s (taken_over s r k) r i k) same (is_handed_over s ws r i are once f))
+
+-- ---- the owner's resource is freed before the first waiter owns it
+
+set_again : (os : List (Option Key)) (r : ℕ) (a b : Option Key) → slice_set (slice_set os r a) r b ≡ slice_set os r b
+set_again [] r a b = refl
+set_again (o ∷ os) zero a b = refl
+set_again (o ∷ os) (suc r) a b = ap (λ xs. o ∷ xs) (set_again os r a b)
+
+pub none_owns : (os : List (Option Key)) (r : ℕ) → slice_index_or (slice_set os r None) r None ≡ None
+none_owns [] r = refl
+none_owns (o ∷ os) zero = refl
+none_owns (o ∷ os) (suc r) = none_owns os r
+
+pub freed_then_owned : (old free waited t : TableState) (r : ℕ) (key : Key) → free ≡ record old { owners = slice_set old.owners r None } → waited ≡ activate free key.process
+    → t ≡ record waited { owners = slice_set waited.owners r (Some key) } → t ≡ taken_over old r key
+freed_then_owned old free waited t r key was left is =
+    is ∙ ap (λ (s : TableState). record s { owners = slice_set s.owners r (Some key) }) (left ∙ ap (λ s. activate s key.process) was)
+    ∙ ap (λ os. record (activate old key.process) { owners = os }) (set_again old.owners r None (Some key))
 
 -- ---- a hand-over counts nothing
 

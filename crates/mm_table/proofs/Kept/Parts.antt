@@ -14,7 +14,7 @@ use Rattle.mm_table.specs.declared.reply.Totals.{Totals}
 use Rattle.mm_table.specs.declared.records.Transaction.{Transaction}
 use Rattle.mm_table.specs.declared.records.Labels.{Labels}
 use Rattle.mm_table.specs.declared.records.WaitRecord.{WaitRecord}
-use Rattle.mm_table.specs.Graph.{Among, NoRepeat}
+use Rattle.mm_owned.specs.Members.{Among, NoRepeat}
 use Rattle.mm_table.specs.TableState.{Wait, is_of, waited_for}
 use Rattle.mm_table.specs.Kept.{idle, wait_in, verdict_in, wait_kept, state_of_parts, PartsFit}
 use Rattle.mm_table.proofs.Kept.Slots.{holds, same_slot, with_value_live, all_append, all_map}
@@ -109,7 +109,7 @@ among_push (v ∷ ws) w n (inl here) = inl (inl here)
 among_push (v ∷ ws) w n (inr later) = elim (among_push ws w n later) [ inl before ↦ inl (inr before) | inr last ↦ inr last ]
 
 -- a process among the waits waits
-among_waits : (ws : List WaitRecord) (n : ℕ) → Among n (map (λ w. w.key.process) ws) → waited_for (map wait_kept ws) n ≡ None → ⊥
+pub among_waits : (ws : List WaitRecord) (n : ℕ) → Among n (map (λ w. w.key.process) ws) → waited_for (map wait_kept ws) n ≡ None → ⊥
 among_waits [] n none idle_now = elim none [ ]
 among_waits (w ∷ ws) n found idle_now =
     elim (cases_eq w.key.process n) [

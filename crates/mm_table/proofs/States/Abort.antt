@@ -27,7 +27,7 @@ module _ (s : TableState) (n : ℕ) (laws : Laws s) where
       let key : other.0 ≡ owner.0 = cc in
       not_from_false (is_of n w) (ne_eqb w.key.process n (λ e. other.2 (ap (λ (k : Key). k.process) key ∙ owner.2 ∙ sym e))))
 
-  fits_still : IsTrue (vacate_fits s n) → IsTrue (vacate_fits (withdraw s n) n)
+  pub fits_still : IsTrue (vacate_fits s n) → IsTrue (vacate_fits (withdraw s n) n)
   fits_still fits = list_all_from (hand_over_fits (withdraw s n)) (resources_of s n) (λ r among.
       let own : IsTrue (owns s n r) = (filter_gives (owns s n) (range_with_len 0 s.config.resources) r among).1 in
       rw (own_waiters r own) (fits_again s (withdraw s n) (waiters_of s r) refl (λ w found. refl) (list_all_at (hand_over_fits s) (resources_of s n) r fits among)))

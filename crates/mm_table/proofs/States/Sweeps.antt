@@ -4,7 +4,8 @@ use Rattle.std.specs.Option.{option_map_or}
 use Rattle.std.specs.List.{range_with_len}
 use Rattle.std.proofs.lemmas.Bool.{cases_Bool}
 use Rattle.mm_label.specs.Label.{Label}
-use Rattle.mm_table.specs.Graph.{Graph, Among, WaitsFor}
+use Rattle.mm_owned.specs.Members.{Among}
+use Rattle.mm_table.specs.Graph.{Graph, WaitsFor}
 use Rattle.mm_table.specs.TableState.{TableState, waited_for, is_waiting, waiting_processes, graph_of}
 use Rattle.mm_table.specs.Change.{greater_label, can_transmit, transmit, raises_along, sweep_raises, swept, total_raises}
 use Rattle.mm_table.specs.Event.{Settles}

@@ -3,7 +3,7 @@ use Rattle.std.proofs.Common.{◌≡◌, ◌≢◌, ℕ, ◌<◌, List, [], ◌�
 use Rattle.std.specs.List.{range_with_len}
 use Rattle.std.proofs.lemmas.Bool.{cases_eq, eq-eqb, and_parts, not-false}
 use Rattle.mm_arena.specs.declared.key.Key.{Key}
-use Rattle.mm_table.specs.Graph.{NoRepeat}
+use Rattle.mm_owned.specs.Members.{NoRepeat}
 use Rattle.mm_table.specs.TableState.{TableState, is_live, owner_of, owns, wait_of, resources_of}
 use Rattle.mm_table.specs.Change.{hand_over, hand_over_fits, vacate, vacate_fits}
 use Rattle.mm_table.specs.Event.{finished, finish_tests}
@@ -20,6 +20,7 @@ use Rattle.mm_table.proofs.States.FreeSlot.{IsVacant, free_slot_keeps}
 pub record Vacating (old s : TableState) (n : ℕ) (rs : List ℕ) : Type 0 where
   pub keeps : Keeps old s
   pub live : s.live ≡ old.live
+  pub generations : s.generations ≡ old.generations
   pub active : wait_of s n ≡ None
   pub owned : (r : ℕ) → In r rs → (k : Key) × (owner_of s r ≡ Some k) × (k.process ≡ n)
   pub fits : (r : ℕ) → In r rs → IsTrue (hand_over_fits s r)
@@ -33,6 +34,7 @@ module _ (old s : TableState) (n r : ℕ) (rs : List ℕ) (once : NoRepeat (r �
   vacated_more o e over = record {
     keeps = keeps_then old s (hand_over s r) now.keeps over.keeps;
     live = over.live ∙ now.live;
+    generations = over.generations ∙ now.generations;
     active = rw e at (over.still (rw e now.active));
     owned = λ q among. ((now.owned q (inr among)).0, over.owners q (rest_apart q among) ∙ (now.owned q (inr among)).1, (now.owned q (inr among)).2);
     fits = λ q among. others_fit s (hand_over s r) r o q over (rest_apart q among) (now.fits q (inr among));
@@ -42,7 +44,7 @@ module _ (old s : TableState) (n r : ℕ) (rs : List ℕ) (once : NoRepeat (r �
     ];
   }
 
-  vacates_one : Vacating old (hand_over s r) n rs
+  pub vacates_one : Vacating old (hand_over s r) n rs
   vacates_one =
       let owner : (k : Key) × (owner_of s r ≡ Some k) × (k.process ≡ n) = now.owned r (inl refl) in
       let may : MayHand s r owner.0 = may_hand s n r owner.0 now.keeps.laws now.active owner.1 owner.2 in
@@ -52,25 +54,29 @@ vacates_all : (old s : TableState) (n : ℕ) (rs : List ℕ) → NoRepeat rs →
 vacates_all old s n [] once now = now
 vacates_all old s n (r ∷ rs) once now = vacates_all old (hand_over s r) n rs once.1 (vacates_one old s n r rs once now)
 
-module _ (s : TableState) (n : ℕ) (laws : Laws s) (live : slice_index_or s.live n false ≡ true) (active : wait_of s n ≡ None) (fits : IsTrue (vacate_fits s n)) where
-  begins : Vacating s s n (resources_of s n)
-  begins = record {
-    keeps = keeps_same s laws;
-    live = refl;
-    active = active;
-    owned = λ r among. owns_gives s n r (filter_gives (owns s n) (range_with_len 0 s.config.resources) r among).1;
-    fits = λ r among. list_all_at (hand_over_fits s) (resources_of s n) r fits among;
-    only = λ r k owned mine.
-        let within : r < length s.owners = owner_within s r k (may_hand s n r k laws active owned mine) in
-        let in_all : In r (range_with_len 0 s.config.resources) = range_holds 0 s.config.resources r (omega arith) (omega (arith, laws.lawful.well_formed.sizes.owners)) in
-        let mine_too : IsTrue (owns s n r) = rw owned (eq-eqb k.process n mine) in
-        filter_keeps (owns s n) (range_with_len 0 s.config.resources) r in_all mine_too;
-  }
+pub begins : (s : TableState) (n : ℕ) → Laws s → wait_of s n ≡ None → IsTrue (vacate_fits s n) → Vacating s s n (resources_of s n)
+begins s n laws active fits = record {
+  keeps = keeps_same s laws;
+  live = refl;
+  generations = refl;
+  active = active;
+  owned = λ r among. owns_gives s n r (filter_gives (owns s n) (range_with_len 0 s.config.resources) r among).1;
+  fits = λ r among. list_all_at (hand_over_fits s) (resources_of s n) r fits among;
+  only = λ r k owned mine.
+      let within : r < length s.owners = owner_within s r k (may_hand s n r k laws active owned mine) in
+      let in_all : In r (range_with_len 0 s.config.resources) = range_holds 0 s.config.resources r (omega arith) (omega (arith, laws.lawful.well_formed.sizes.owners)) in
+      let mine_too : IsTrue (owns s n r) = rw owned (eq-eqb k.process n mine) in
+      filter_keeps (owns s n) (range_with_len 0 s.config.resources) r in_all mine_too;
+}
 
+-- after all hand-overs
+pub vacates : (s : TableState) (n : ℕ) → Laws s → wait_of s n ≡ None → IsTrue (vacate_fits s n) → Vacating s (fold hand_over s (resources_of s n)) n []
+vacates s n laws active fits = vacates_all s s n (resources_of s n) (some_of_range_once (owns s n) 0 s.config.resources) (begins s n laws active fits)
+
+module _ (s : TableState) (n : ℕ) (laws : Laws s) (live : slice_index_or s.live n false ≡ true) (active : wait_of s n ≡ None) (fits : IsTrue (vacate_fits s n)) where
   pub vacate_keeps : Keeps s (vacate s n)
   vacate_keeps =
-      let done : Vacating s (fold hand_over s (resources_of s n)) n []
-      = vacates_all s s n (resources_of s n) (some_of_range_once (owns s n) 0 s.config.resources) begins in
+      let done : Vacating s (fold hand_over s (resources_of s n)) n [] = vacates s n laws active fits in
       let vacant : IsVacant (fold hand_over s (resources_of s n)) n = record {
         laws = done.keeps.laws;
         live = rw done.live live;

@@ -1,7 +1,7 @@
 //! The small changes that events are made of.
-ghost use Rattle.std.specs.Prelude.{◌≡◌, ◌≢◌, ◌<◌, ◌+◌, ◌^◌, ◌∷◌, ◌++◌, [], IsTrue, None, Some, true, drop, length, slice_set, slice_index, option_map, MatchResult};
-ghost use Rattle.mm_table.specs.TableState.{key_of, wait_of, holder_of, is_live, has_verdict, public_of};
-ghost use Rattle.mm_table.specs.Change.{block, block_fits, label_against, greater_label, can_detect, detect};
+ghost use Rattle.std.specs.Prelude.{◌≡◌, ◌≢◌, ◌<◌, ◌+◌, ◌^◌, ◌∷◌, ◌++◌, [], IsTrue, None, Some, true, drop, length, slice_get, slice_set, slice_index, option_map, MatchResult};
+ghost use Rattle.mm_table.specs.TableState.{key_of, wait_of, holder_of, owner_of, is_live, has_verdict, public_of};
+ghost use Rattle.mm_table.specs.Change.{activate, block, block_fits, label_against, greater_label, can_detect, detect};
 
 use super::{Records, Transaction, WaitRecord};
 use crate::{Key, Refusal};
@@ -27,13 +27,15 @@ impl Records {
         Ok(key)
     }
 
-    /// Makes the key the owner of a resource.
+    /// Makes the key the owner of a free resource.
     pub(super) fn grant(&mut self, key: Key, resource: u32)
         requires resource { resource < self.old.config.resources }
         requires key { key.process < self.old.config.processes }
+        requires free { owner_of self.old resource ≡ None }
         ensures { self.new ≡ record self.old { owners = slice_set self.old.owners resource (Some key) } }
     {
         self.owners[resource as usize] = Some(key);
+        self.owned.push(key.process, resource);
     }
 
     /// Appends the wait of a live transaction that does not wait.
@@ -46,6 +48,18 @@ impl Records {
         let transaction = self.transactions.get_mut(key).unwrap();
         transaction.waits_for = Some(resource);
         self.waits.push_reserved(WaitRecord { key, resource });
+    }
+
+    /// Takes away the wait at this place among the waits. Answers who waited.
+    pub(super) fn end_wait(&mut self, place: usize) -> Key
+        requires { place < length self.old.waits }
+        ensures key { option_map (λ w. w.key) (slice_get self.old.waits place) ≡ Some result }
+        ensures in_range { result.process < self.new.config.processes }
+        ensures state { self.new ≡ activate self.old result.process }
+    {
+        let key = self.waits.remove(place).key;
+        self.transactions.get_mut(key).unwrap().waits_for = None;
+        key
     }
 
     /// Gives `process` both its new labels, by which it waits for `holder`.

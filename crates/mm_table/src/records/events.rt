@@ -1,6 +1,7 @@
 //! The events: each makes its tests first, and then its changes.
 ghost use Rattle.std.specs.Prelude.{◌≡◌};
-ghost use Rattle.mm_table.specs.Event.{Gives, begun, acquired, released, transmitted, detected};
+ghost use Rattle.mm_table.specs.Event.{Gives, begun, acquired, released, finished, transmitted, detected, aborted};
+ghost use Rattle.mm_table.specs.Laws.{Laws};
 
 use super::Records;
 use crate::{Acquired, Detected, Key, Refusal, Released, Transmitted};
@@ -62,6 +63,31 @@ impl Records {
         let answer = self.hand_over(resource);
         self.count();
         Ok(answer)
+    }
+
+    /// Hands over all that the transaction owns, and frees its slot.
+    /// Time by how many resources it owns, and by how many transactions wait in the table, for each of them.
+    pub fn finish(&mut self, key: Key) -> Result<(), Refusal>
+        requires { Laws self.old }
+        ensures { Gives (finished self.old key) result self.new }
+    {
+        self.may_finish(key)?;
+        self.vacate(key);
+        self.count();
+        Ok(())
+    }
+
+    /// Takes back the wait of a transaction with a verdict, hands over all that it owns, and frees its slot.
+    /// Time by how many resources it owns, and by how many transactions wait in the table, for each of them.
+    pub fn abort(&mut self, key: Key) -> Result<(), Refusal>
+        requires { Laws self.old }
+        ensures { Gives (aborted self.old key) result self.new }
+    {
+        self.may_abort(key)?;
+        self.withdraw(key);
+        self.vacate(key);
+        self.count();
+        Ok(())
     }
 
     /// The waiting transaction gets a verdict where its own label came round to its holder. Constant time.

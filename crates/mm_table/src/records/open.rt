@@ -8,6 +8,7 @@ use super::{Labels, Records};
 use crate::{Config, Key, Refusal, Totals};
 use mm_arena::Arena;
 use mm_label::Label;
+use mm_owned::Owned;
 use std::alloc::{AllocError, Global};
 
 impl Labels {
@@ -58,6 +59,9 @@ impl Records {
         let Ok(owners) = no_owners(alloc, config.resources) else {
             return Err(Refusal::Memory);
         };
+        let Ok(owned) = Owned::new(alloc, config.processes, config.resources) else {
+            return Err(Refusal::Memory);
+        };
         let Ok(waits) = Vec::with_capacity(alloc, config.processes as usize) else {
             return Err(Refusal::Memory);
         };
@@ -66,6 +70,7 @@ impl Records {
             transactions,
             labels,
             owners,
+            owned,
             waits,
             totals: Totals {
                 accepted: 0,

@@ -17,20 +17,6 @@ fn first_place(waits: &[WaitRecord], resource: u32) -> Option<usize>
 }
 
 impl Records {
-    /// The waiter at this place among the waits becomes the owner of `resource`, and waits no longer.
-    fn take_over(&mut self, place: usize, resource: u32) -> Key
-        requires resource { resource < self.old.config.resources }
-        requires place { place < length self.old.waits }
-        ensures key { option_map (λ w. w.key) (slice_get self.old.waits place) ≡ Some result }
-        ensures in_range { result.process < self.new.config.processes }
-        ensures state { self.new ≡ activate (record self.old { owners = slice_set self.old.owners resource (Some result) }) result.process }
-    {
-        let first = self.waits.remove(place).key;
-        self.transactions.get_mut(first).unwrap().waits_for = None;
-        self.owners[resource as usize] = Some(first);
-        first
-    }
-
     /// Whether the limit allows the labels of all that wait for `resource`, from this place among the waits on, against `holder`.
     fn blocks_fit(&self, resource: u32, from: usize, holder: u32) -> bool
         requires holder { holder < self.now.config.processes }
@@ -75,12 +61,14 @@ impl Records {
         }
     }
 
-    /// Takes the owner of `resource` away.
+    /// Takes a resource from its owner, if it has one.
     fn free(&mut self, resource: u32)
         requires { resource < self.old.config.resources }
         ensures { self.new ≡ record self.old { owners = slice_set self.old.owners resource None } }
     {
-        self.owners[resource as usize] = None;
+        if let Some(owner) = self.owners[resource as usize].take() {
+            self.owned.remove(owner.process, resource);
+        }
     }
 
     /// Hands a resource over, and answers what becomes of it.
@@ -91,11 +79,12 @@ impl Records {
         ensures state { self.new ≡ hand_over self.old resource }
         ensures totals { self.new.totals ≡ self.old.totals }
     {
+        self.free(resource);
         let Some(place) = first_place(&self.waits, resource) else {
-            self.free(resource);
             return Released::Free;
         };
-        let first = self.take_over(place, resource);
+        let first = self.end_wait(place);
+        self.grant(first, resource);
         self.block_queue(resource, place, first.process);
         Released::To(first)
     }

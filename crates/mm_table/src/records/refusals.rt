@@ -1,8 +1,8 @@
 //! The tests of each call, in the order in which their refusals are answered.
-ghost use Rattle.std.specs.Prelude.{◌≡◌, ◌<◌, IsTrue, OnOk, SomeIff};
-ghost use Rattle.mm_table.specs.TableState.{is_live, is_waiting, owns};
-ghost use Rattle.mm_table.specs.Change.{label_against, block_fits, hand_over_fits};
-ghost use Rattle.mm_table.specs.Event.{counts_exhausted, allowed, key_tests, waiting_tests, acquire_tests, release_tests};
+ghost use Rattle.std.specs.Prelude.{◌≡◌, ◌<◌, IsTrue, None, OnOk, SomeIff};
+ghost use Rattle.mm_table.specs.TableState.{is_live, is_waiting, has_verdict, owns, wait_of};
+ghost use Rattle.mm_table.specs.Change.{label_against, block_fits, hand_over_fits, vacate_fits};
+ghost use Rattle.mm_table.specs.Event.{counts_exhausted, allowed, key_tests, waiting_tests, acquire_tests, release_tests, finish_tests, abort_tests};
 
 use super::Records;
 use crate::{Key, Refusal};
@@ -120,6 +120,39 @@ impl Records {
             return Err(Refusal::NotOwner);
         }
         if !self.hand_over_fits(resource) {
+            return Err(Refusal::LabelsExhausted);
+        }
+        Ok(())
+    }
+    /// The tests of `finish`, in their order.
+    pub(super) fn may_finish(&self, key: Key) -> Result<(), Refusal>
+        ensures tests { result ≡ allowed (finish_tests self.now key) }
+        ensures live { OnOk result (IsTrue (is_live self.now key)) }
+        ensures active { OnOk result (wait_of self.now key.process ≡ None) }
+        ensures fits { OnOk result (IsTrue (vacate_fits self.now key.process)) }
+    {
+        self.may_call(key)?;
+        if self.is_waiting(key) {
+            return Err(Refusal::Waiting);
+        }
+        if !self.vacate_fits(key.process) {
+            return Err(Refusal::LabelsExhausted);
+        }
+        Ok(())
+    }
+
+    /// The tests of `abort`, in their order.
+    pub(super) fn may_abort(&self, key: Key) -> Result<(), Refusal>
+        ensures tests { result ≡ allowed (abort_tests self.now key) }
+        ensures live { OnOk result (IsTrue (is_live self.now key)) }
+        ensures verdict { OnOk result (IsTrue (has_verdict self.now key.process)) }
+        ensures fits { OnOk result (IsTrue (vacate_fits self.now key.process)) }
+    {
+        self.may_call(key)?;
+        if !self.has_verdict(key) {
+            return Err(Refusal::NoVerdict);
+        }
+        if !self.vacate_fits(key.process) {
             return Err(Refusal::LabelsExhausted);
         }
         Ok(())

@@ -11,6 +11,7 @@ invariant_of-self c =
     let found : lookup inside.transactions c.args.key ≡ Some c.unwrap-transaction.result.now = sym c.get_mut.ensures.value ∙ ap option_copied_mut c.unwrap-transaction.ensures in
     record {
       parts = marked_fits inside.config inside.transactions inside.labels.items inside.owners.items inside.waits.items c.args.key c.unwrap-transaction.result.now true found c.self.invariant.parts;
+      owned = c.self.invariant.owned;
       capacity = c.self.invariant.capacity;
     }
 

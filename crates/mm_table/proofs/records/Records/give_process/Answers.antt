@@ -14,6 +14,7 @@ pub invariant_of-self-2 : goal.invariant_of-self-2
 invariant_of-self-2 c = let inside = c.self.inside in record {
   parts = seated_fits inside.config inside.transactions c.insert.new.self inside.labels.items inside.owners.items inside.waits.items c.in-Ok.key
       c.insert.ensures.slots (taken inside.transactions _ c.in-Ok.key c.in-Ok.ensures.key) c.in-Ok.ensures.added c.self.invariant.parts;
+  owned = c.self.invariant.owned;
   capacity = c.self.invariant.capacity;
 }
 

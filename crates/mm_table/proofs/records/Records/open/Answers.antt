@@ -6,6 +6,7 @@ use Rattle.mm_arena.specs.Slots.{never_used}
 use Rattle.mm_table.specs.TableState.{waited_for}
 use Rattle.mm_table.specs.Kept.{idle, wait_in, wait_kept, opening_labels}
 use Rattle.mm_table.proofs.Kept.Opening.{all_idle, none_waits, none_owned, opened}
+use Rattle.mm_table.proofs.Kept.Owning.{nothing_owned}
 use Rattle.mm_table.proofs.records.Records.open.Goals as goal
 
 pub invariant_of-result : goal.invariant_of-result
@@ -33,6 +34,8 @@ invariant_of-result c =
             let waits : length c.in-Ok-with_capacity.waits.items ≡ 0 = ap length no_waits in
             omega arith;
       };
+      owned = nothing_owned c.args.config c.in-Ok-no_owners.owners.items c.in-Ok-new.owned c.in-Ok-new.ensures
+          (λ r. ap (λ owners. slice_index_or owners r None) c.in-Ok-no_owners.ensures ∙ none_owned 0 c.args.config.resources r);
       capacity = omega (arith, c.in-Ok-with_capacity.ensures.exact);
     }
 

@@ -15,6 +15,7 @@ pub invariant_of-self : goal.invariant_of-self
 invariant_of-self c = let inside = c.self.inside in record {
   parts = rw c.push_reserved.ensures.items (queued_fits inside.config inside.transactions inside.labels.items inside.owners.items inside.waits.items c.args.key c.unwrap-transaction.result.now c.args.resource
       (found c) (ap (λ s. wait_of s c.args.key.process) c.self.view_is ∙ c.requires.idle) (rw (ap (λ s. s.config.resources) c.self.view_is) c.requires.resource) c.self.invariant.parts);
+  owned = c.self.invariant.owned;
   capacity = rw c.push_reserved.ensures.capacity c.self.invariant.capacity;
 }
 

@@ -1,4 +1,4 @@
--- The waiter at a place among the waits becomes an owner: its wait goes, and the others keep their order.
+-- The wait at a place among the waits goes, and the others keep their order.
 use Rattle.std.proofs.Common.{◌≡◌, ◌≢◌, ℕ, zero, suc, ◌+◌, ◌<◌, true, false, not, List, [], ◌∷◌, ◌++◌, length, map, filter, take, drop, slice_index_or, slice_set, Option, Some, None, is_some, nat_eq, if◌then◌else◌, refl, ap, sym, ◌∙◌, inl, inr, arith, subst, length-set, length-append, get_or-set_same, get_or-set_other}
 use Rattle.std.proofs.lemmas.List.{map-set, length-map, get_or-map}
 use Rattle.std.proofs.lemmas.List.Sums.{sum_by-set}
@@ -12,12 +12,12 @@ use Rattle.mm_table.specs.declared.reply.Totals.{Totals}
 use Rattle.mm_table.specs.declared.records.Transaction.{Transaction}
 use Rattle.mm_table.specs.declared.records.Labels.{Labels}
 use Rattle.mm_table.specs.declared.records.WaitRecord.{WaitRecord}
-use Rattle.mm_table.specs.Graph.{Among, NoRepeat}
+use Rattle.mm_owned.specs.Members.{Among, NoRepeat}
 use Rattle.mm_table.specs.TableState.{is_of, waited_for}
 use Rattle.mm_table.specs.Change.{activate}
 use Rattle.mm_table.specs.Kept.{idle, wait_in, wait_kept, state_of_parts, PartsFit}
 use Rattle.mm_table.proofs.Kept.Slots.{holds, with_value_live, all_map}
-use Rattle.mm_table.proofs.Kept.Parts.{noted, key_within, waited_past}
+use Rattle.mm_table.proofs.Kept.Parts.{noted, waited_past}
 
 -- ---- a list around one place
 
@@ -89,19 +89,18 @@ filter_around (v ∷ b) w a once =
 
 -- ---- the parts then
 
--- the transaction of w, which waited, waits no more, and owns r
-pub took_over : (c : Config) (s : Slots Transaction) (ls : List Labels) (os : List (Option Key)) (ws : List WaitRecord) (t : Totals) (i : ℕ) (w : WaitRecord) (o : Transaction) (r : ℕ)
+-- the transaction of w, which waited, waits no more
+pub ended : (c : Config) (s : Slots Transaction) (ls : List Labels) (os : List (Option Key)) (ws : List WaitRecord) (t : Totals) (i : ℕ) (w : WaitRecord) (o : Transaction)
     → slice_get ws i ≡ Some w → lookup s w.key ≡ Some o → PartsFit c s ls os ws
-    → state_of_parts c (with_value s w.key (record o { waits_for = None })) ls (slice_set os r (Some w.key)) (take i ws ++ drop (suc i) ws) t
-    ≡ activate (record (state_of_parts c s ls os ws t) { owners = slice_set os r (Some w.key) }) w.key.process
-took_over c s ls os ws t i w o r place found fits =
+    → state_of_parts c (with_value s w.key (record o { waits_for = None })) ls os (take i ws ++ drop (suc i) ws) t ≡ activate (state_of_parts c s ls os ws t) w.key.process
+ended c s ls os ws t i w o place found fits =
     let b = take i ws in
     let a = drop (suc i) ws in
     let is : ws ≡ b ++ w ∷ a = split_at_place ws i w place in
     let once = subst (λ (l : List WaitRecord). NoRepeat (processes l)) is fits.waits_once in
     let gone = filter_around b w a once in
-    noted c s ls (slice_set os r (Some w.key)) (b ++ a) t w.key o None found
-    ∙ ap (λ vs. record (state_of_parts c s ls (slice_set os r (Some w.key)) ws t) { waits = vs }) (sym gone ∙ ap (λ l. filter (λ v. not (is_of w.key.process v)) (map wait_kept l)) (sym is))
+    noted c s ls os (b ++ a) t w.key o None found
+    ∙ ap (λ vs. record (state_of_parts c s ls os ws t) { waits = vs }) (sym gone ∙ ap (λ l. filter (λ v. not (is_of w.key.process v)) (map wait_kept l)) (sym is))
 
 set_none_in_range : (xs : List (Option ℕ)) (n m : ℕ) → n < length xs → ((i s : ℕ) → slice_index_or xs i None ≡ Some s → s < m) → (i s : ℕ) → slice_index_or (slice_set xs n None) i None ≡ Some s → s < m
 set_none_in_range xs n m within before i s waited =
@@ -110,17 +109,6 @@ set_none_in_range xs n m within before i s waited =
           let never : None ≡ Some s = sym (get_or-set_same xs n None None within) ∙ ap (λ j. slice_index_or (slice_set xs n None) j None) (sym here) ∙ waited in
           cc
       | inr other ↦ before i s (sym (get_or-set_other xs n i None None other) ∙ waited)
-    ]
-
-set_owner_in_range : (os : List (Option Key)) (r m : ℕ) (k : Key) → r < length os → k.process < m → ((q : ℕ) (j : Key) → slice_index_or os q None ≡ Some j → j.process < m)
-    → (q : ℕ) (j : Key) → slice_index_or (slice_set os r (Some k)) q None ≡ Some j → j.process < m
-set_owner_in_range os r m k within below before q j owned =
-    elim (cases_eq q r) [
-      | inl here ↦
-          let now : Some k ≡ Some j = sym (get_or-set_same os r (Some k) None within) ∙ ap (λ x. slice_index_or (slice_set os r (Some k)) x None) (sym here) ∙ owned in
-          let same : k ≡ j = cc in
-          subst (λ (x : Key). x.process < m) same below
-      | inr other ↦ before q j (sym (get_or-set_other os r q (Some k) None other) ∙ owned)
     ]
 
 waited_here : (b : List WaitRecord) (w : WaitRecord) (a : List WaitRecord) → NoRepeat (processes (b ++ w ∷ a)) → waited_for (map wait_kept (b ++ w ∷ a)) w.key.process ≡ Some w.resource
@@ -144,10 +132,10 @@ waits_left xs b w a within gone before m =
       | inr other ↦ get_or-set_other xs n m None None other ∙ before m ∙ waited_around b w a m (λ e. other (sym e))
     ]
 
-pub took_over_fits : (c : Config) (s : Slots Transaction) (ls : List Labels) (os : List (Option Key)) (ws : List WaitRecord) (i : ℕ) (w : WaitRecord) (o : Transaction) (r : ℕ)
-    → slice_get ws i ≡ Some w → lookup s w.key ≡ Some o → r < c.resources → PartsFit c s ls os ws
-    → PartsFit c (with_value s w.key (record o { waits_for = None })) ls (slice_set os r (Some w.key)) (take i ws ++ drop (suc i) ws)
-took_over_fits c s ls os ws i w o r place found resource fits =
+pub ended_fits : (c : Config) (s : Slots Transaction) (ls : List Labels) (os : List (Option Key)) (ws : List WaitRecord) (i : ℕ) (w : WaitRecord) (o : Transaction)
+    → slice_get ws i ≡ Some w → lookup s w.key ≡ Some o → PartsFit c s ls os ws
+    → PartsFit c (with_value s w.key (record o { waits_for = None })) ls os (take i ws ++ drop (suc i) ws)
+ended_fits c s ls os ws i w o place found fits =
     let n = w.key.process in
     let b = take i ws in
     let a = drop (suc i) ws in
@@ -161,9 +149,9 @@ took_over_fits c s ls os ws i w o r place found resource fits =
       config_in_range = fits.config_in_range;
       slots_sized = length-set s.places n p ∙ fits.slots_sized;
       labels_sized = fits.labels_sized;
-      owners_sized = length-set os r (Some w.key) ∙ fits.owners_sized;
+      owners_sized = fits.owners_sized;
       last_generation = fits.last_generation;
-      owner_in_range = set_owner_in_range os r c.processes w.key (rw fits.owners_sized resource) (key_within fits w.key o found) fits.owner_in_range;
+      owner_in_range = fits.owner_in_range;
       wait_in_range = λ m q waits. set_none_in_range (map wait_in s.places) n c.resources (simp length-map within) fits.wait_in_range m q (ap (λ xs. slice_index_or xs m None) (sym changed) ∙ waits);
       waiting = λ m. ap (λ xs. slice_index_or xs m None) changed ∙ waits_left (map wait_in s.places) b w a (simp length-map within) once.1 (λ j. fits.waiting j ∙ ap (λ l. waited_for (map wait_kept l) j) is) m;
       waits_once = once.0;

@@ -1,0 +1,24 @@
+use Rattle.std.proofs.Common.{ap, sym, subst, ◌∙◌, IsTrue, IsFalse}
+use Rattle.mm_table.specs.TableState.{TableState, is_live, wait_of, has_verdict}
+use Rattle.mm_table.specs.Change.{free_slot}
+use Rattle.mm_table.proofs.Kept.HandingAll.{live_still, active_still, no_verdict_then, vacate_totals}
+use Rattle.mm_table.proofs.records.Records.vacate.Goals as goal
+
+pub free_slot-requires-clause-live : goal.free_slot-requires-clause-live
+free_slot-requires-clause-live c =
+    subst (λ (s : TableState). IsTrue (is_live s c.args.key)) (sym c.hand_over_all.ensures) (live_still c.args.self.now c.args.key c.requires.laws c.requires.active c.requires.fits c.requires.live)
+
+pub free_slot-requires-clause-active : goal.free_slot-requires-clause-active
+free_slot-requires-clause-active c =
+    ap (λ s. wait_of s c.args.key.process) c.hand_over_all.ensures ∙ active_still c.args.self.now c.args.key c.requires.laws c.requires.active c.requires.fits
+
+pub free_slot-requires-clause-no_verdict : goal.free_slot-requires-clause-no_verdict
+free_slot-requires-clause-no_verdict c =
+    subst (λ (s : TableState). IsFalse (has_verdict s c.args.key.process)) (sym c.hand_over_all.ensures) (no_verdict_then c.args.self.now c.args.key c.requires.laws c.requires.active c.requires.fits)
+
+pub returns-clause-state : goal.returns-clause-state
+returns-clause-state c = c.free_slot.ensures ∙ ap (λ s. free_slot s c.args.key.process) c.hand_over_all.ensures
+
+pub returns-clause-totals : goal.returns-clause-totals
+returns-clause-totals c =
+    ap (λ s. s.totals) (c.free_slot.ensures ∙ ap (λ s. free_slot s c.args.key.process) c.hand_over_all.ensures) ∙ vacate_totals c.args.self.now c.args.key.process
