@@ -15,7 +15,8 @@ const ROUNDS: u32 = 150;
 unsafe extern "C" {
     safe fn mm_bench_nothing(number: u64) -> u64;
     safe fn mm_bench_rounds(mask: u32, count: u64) -> u64;
-    safe fn mm_bench_crosswise(pairs: u32, count: u64) -> u64;
+    safe fn mm_bench_rounds_beside(waiters: u32, count: u64) -> u64;
+    safe fn mm_bench_crosswise(count: u64) -> u64;
     safe fn mm_bench_rings(size: u32, is_closed: bool, count: u64) -> u64;
 }
 
@@ -63,9 +64,9 @@ fn measure_rounds(resources: u32) {
     let count = 4_000;
     let mask = resources - 1;
     Workload {
-        name: "16 acquires, 16 releases",
+        name: "begin, 16 acquires, finish",
         size: resources,
-        units: 32 * count,
+        units: 18 * count,
         unit: "call",
         proved: &|is_whole| mm_bench_rounds(mask, if is_whole { count } else { 0 }),
         plain: &|is_whole| workloads::rounds(mask, if is_whole { count } else { 0 }).unwrap(),
@@ -73,15 +74,28 @@ fn measure_rounds(resources: u32) {
     .measure();
 }
 
-fn measure_crosswise() {
-    let (pairs, count) = (2_048, 4);
+fn measure_rounds_beside(waiters: u32) {
+    let count = 50;
     Workload {
-        name: "two wait for each other, one gets a verdict",
+        name: "the same, while so many others wait",
+        size: waiters,
+        units: 18 * count,
+        unit: "call",
+        proved: &|is_whole| mm_bench_rounds_beside(waiters, if is_whole { count } else { 0 }),
+        plain: &|is_whole| workloads::rounds_beside(waiters, if is_whole { count } else { 0 }).unwrap(),
+    }
+    .measure();
+}
+
+fn measure_crosswise() {
+    let count = 10_000;
+    Workload {
+        name: "two-party deadlock, from begin to finish",
         size: 2,
-        units: u64::from(pairs) * count,
+        units: count,
         unit: "deadlock",
-        proved: &|is_whole| mm_bench_crosswise(if is_whole { pairs } else { 0 }, count),
-        plain: &|is_whole| workloads::crosswise(if is_whole { pairs } else { 0 }, count).unwrap(),
+        proved: &|is_whole| mm_bench_crosswise(if is_whole { count } else { 0 }),
+        plain: &|is_whole| workloads::crosswise(if is_whole { count } else { 0 }).unwrap(),
     }
     .measure();
 }
@@ -114,6 +128,9 @@ fn main() {
     println!("{:<44} {:>6} {:>11} {:>11} {:>6}", "workload", "size", "proved", "plain", "ratio");
     for resources in [16, 1_024, 65_536] {
         measure_rounds(resources);
+    }
+    for waiters in [64, 4_000] {
+        measure_rounds_beside(waiters);
     }
     measure_crosswise();
     for size in [2, 64, 4_096] {

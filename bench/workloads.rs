@@ -4,6 +4,7 @@ use crate::plain::{Config, Key, Refusal, Table};
 
 const STRIDE: u32 = 40_503;
 const PROCESSES: u32 = 1_024;
+const RESOURCES_BESIDE: u32 = 1_024;
 
 fn open(processes: u32, resources: u32) -> Result<Table, Refusal> {
     Table::open(Config { processes, resources, label_limit: 17_592_186_044_415, generation_limit: u32::MAX })
@@ -13,47 +14,52 @@ fn key_of(process: u32) -> Key {
     Key { process, generation: 1 }
 }
 
-pub fn rounds(mask: u32, count: u64) -> Result<u64, Refusal> {
-    let mut table = open(PROCESSES, mask + 1)?;
-    let key = table.begin()?;
+fn make_rounds(table: &mut Table, mask: u32, count: u64) -> Result<u64, Refusal> {
     let mut resource = 0u32;
     for _ in 0..count {
-        let first = resource;
+        let key = table.begin()?;
         for _ in 0..16 {
             table.acquire(key, resource & mask)?;
             resource = resource.wrapping_add(STRIDE);
         }
-        resource = first;
-        for _ in 0..16 {
-            table.release(key, resource & mask)?;
-            resource = resource.wrapping_add(STRIDE);
-        }
+        table.finish(key)?;
     }
     Ok(table.accepted())
 }
 
-fn wait_crosswise(table: &mut Table, one: u32, other: u32) -> Result<(), Refusal> {
-    let first = table.begin()?;
-    let second = table.begin()?;
-    table.acquire(first, one)?;
-    table.acquire(second, other)?;
-    table.acquire(first, other)?;
-    table.acquire(second, one)?;
-    table.transmit(first)?;
-    table.detect(second)?;
-    Ok(())
+pub fn rounds(mask: u32, count: u64) -> Result<u64, Refusal> {
+    let mut table = open(PROCESSES, mask + 1)?;
+    make_rounds(&mut table, mask, count)
 }
 
-pub fn crosswise(pairs: u32, count: u64) -> Result<u64, Refusal> {
-    let mut accepted = 0;
-    for _ in 0..count {
-        let mut table = open(4_096, 4_096)?;
-        for pair in 0..pairs {
-            wait_crosswise(&mut table, 2 * pair, 2 * pair + 1)?;
-        }
-        accepted += table.accepted();
+pub fn rounds_beside(waiters: u32, count: u64) -> Result<u64, Refusal> {
+    let mut table = open(4_096, RESOURCES_BESIDE + 1)?;
+    for _ in 0..=waiters {
+        let key = table.begin()?;
+        table.acquire(key, RESOURCES_BESIDE)?;
     }
-    Ok(accepted)
+    make_rounds(&mut table, RESOURCES_BESIDE - 1, count)
+}
+
+fn wait_crosswise(table: &mut Table) -> Result<(), Refusal> {
+    let first = table.begin()?;
+    let second = table.begin()?;
+    table.acquire(first, 0)?;
+    table.acquire(second, 1)?;
+    table.acquire(first, 1)?;
+    table.acquire(second, 0)?;
+    table.transmit(first)?;
+    table.detect(second)?;
+    table.abort(second)?;
+    table.finish(first)
+}
+
+pub fn crosswise(count: u64) -> Result<u64, Refusal> {
+    let mut table = open(1_024, 1_024)?;
+    for _ in 0..count {
+        wait_crosswise(&mut table)?;
+    }
+    Ok(table.accepted())
 }
 
 fn row(size: u32) -> Result<Table, Refusal> {

@@ -33,16 +33,22 @@ pub extern "C" fn mm_bench_nothing(number: u64) -> u64
     number
 }
 
-/// `count` rounds of sixteen free resources, in a table of `mask + 1` resources.
+/// `count` transactions in a table of `mask + 1` resources, one after another, each of which takes sixteen of them and finishes.
 #[unsafe(no_mangle)]
 pub extern "C" fn mm_bench_rounds(alloc: Global, mask: u32, count: u64) -> u64 {
     rounds::rounds(alloc, mask, count).unwrap_or(0)
 }
 
-/// `pairs` deadlocks of two transactions in each of `count` tables.
+/// The same in a table of 1,025 resources, while `waiters` other transactions, 4,000 at most, wait for a resource that no round takes.
 #[unsafe(no_mangle)]
-pub extern "C" fn mm_bench_crosswise(alloc: Global, pairs: u32, count: u64) -> u64 {
-    waits::crosswise(alloc, pairs, count).unwrap_or(0)
+pub extern "C" fn mm_bench_rounds_beside(alloc: Global, waiters: u32, count: u64) -> u64 {
+    rounds::rounds_beside(alloc, waiters, count).unwrap_or(0)
+}
+
+/// `count` deadlocks of two transactions in one table, from begin to finish.
+#[unsafe(no_mangle)]
+pub extern "C" fn mm_bench_crosswise(alloc: Global, count: u64) -> u64 {
+    waits::crosswise(alloc, count).unwrap_or(0)
 }
 
 /// `count` tables in each of which `size` transactions wait for one another in a row; where `is_closed`, the last one waits for
