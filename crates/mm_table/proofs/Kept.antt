@@ -8,12 +8,21 @@ pub mod Opening
 pub mod Seating
 pub mod FreeingSlot
 pub mod Withdrawing
+-- what each process owns
 pub mod Owning
 -- queues, found in the one list of waits
 pub mod Queues
 pub mod EndingWait
 pub mod BlockingQueue
 pub mod HandingOver
--- hand-overs in any order
+-- hand-overs in any order, and all that a process owns
 pub mod HandOverOrder
 pub mod HandingAll
+-- settle: the turn of one process, one round of turns, all sweeps, and the whole
+pub mod Turns
+pub mod Rounds
+pub mod Waiters
+pub mod Sweeping
+pub mod Settling
+-- tables
+pub mod Tables

@@ -31,9 +31,11 @@ pub mod Vacate
 pub mod Abort
 -- settle
 pub mod Sweeps
+pub mod SweepRaises
 pub mod Convictions
 pub mod Settling
 -- all events, and what follows
+pub mod Configs
 pub mod Events
 pub mod Few
 pub mod Sound

@@ -5,4 +5,6 @@ pub mod Change
 pub mod Event
 pub mod Laws
 pub mod Queue
+pub mod Sweep
 pub mod Kept
+pub mod TableKept

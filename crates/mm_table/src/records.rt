@@ -6,6 +6,7 @@
 //! - `changes`: the small changes that events are made of.
 //! - `queues`: hand-overs.
 //! - `endings`: what happens when a transaction ends.
+//! - `settle`: what all waiting transactions do in turn.
 //! - `reads`: what changes nothing.
 use crate::{Config, Key, Totals};
 use mm_arena::Arena;
@@ -20,6 +21,9 @@ mod open;
 mod queues;
 mod reads;
 mod refusals;
+mod settle;
+
+pub use settle::Waiter;
 
 /// A live transaction.
 #[derive(Clone, Copy, Debug)]

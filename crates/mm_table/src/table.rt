@@ -1,9 +1,11 @@
 ghost use Rattle.std.specs.Prelude.{◌≡◌};
-ghost use Rattle.mm_table.specs.Event.{Opens, Step, Begin, Acquire, Release, Finish, Transmit, Detect, Abort, state_of, owner_told, tenant_of};
-ghost use Rattle.mm_table.specs.Laws.{HasSoundVerdicts};
+ghost use Rattle.mm_table.specs.Event.{Opens, Step, Begin, Acquire, Release, Finish, Transmit, Detect, Abort, Settle, state_of, owner_told, tenant_of};
+ghost use Rattle.mm_table.specs.Laws.{Laws, HasSoundVerdicts};
 
-use crate::records::Records;
-use crate::{Acquired, Config, Detected, Key, Refusal, Released, State, Totals, Transmitted};
+use crate::records::{Records, Waiter};
+use crate::{
+    Acquired, Config, Detected, Key, Refusal, Released, Settled, State, Totals, Transmitted,
+};
 use std::alloc::Global;
 use std::marker::Model;
 
@@ -15,17 +17,19 @@ use std::marker::Model;
 #[derive(Drop)]
 pub struct Table {
     records: Records,
+    /// Room for those that wait, for `settle`.
+    waiters: Vec<Waiter>,
 }
 
 impl Model for Table {
     ghost use Rattle.mm_table.specs.TableState.{TableState};
-    ghost use Rattle.mm_table.specs.Laws.{Laws};
+    ghost use Rattle.mm_table.specs.TableKept.{IsTableKept};
 
     ghost Value = { TableState };
 
     ghost view = { λ t. t.records };
 
-    ghost invariant = { λ t. Laws t.records };
+    ghost invariant = { IsTableKept };
 }
 
 impl Table {
@@ -33,12 +37,15 @@ impl Table {
     ///
     /// Refused as `BadConfig` exactly where a number is out of its range, and as `Memory` only where a request for memory was
     /// refused. This is the one call that takes memory: for the transactions, for the labels, for the owners,
-    /// twice for the lists of what each process owns, and for the waits.
+    /// twice for the lists of what each process owns, for the waits, and for the list that `settle` goes over.
     pub fn open(alloc: Global, config: Config) -> Result<Table, Refusal>
         ensures { Opens config result }
     {
         let records = Records::open(alloc, config)?;
-        Ok(Table { records })
+        let Ok(waiters) = Vec::with_capacity(alloc, config.processes as usize) else {
+            return Err(Refusal::Memory);
+        };
+        Ok(Table { records, waiters })
     }
 
     /// Starts a transaction in the first free process, and answers its key. The labels of the process stay as they are.
@@ -112,6 +119,20 @@ impl Table {
         self.records.abort(key)
     }
 
+    /// Each waiting transaction in turn, by rising process number, transmits where it can; this is done again until a whole sweep
+    /// raises nothing. Then each of them detects where it can. One accepted event; the answer counts the raises and the verdicts.
+    /// The table is then at rest: one verdict stands on each cycle of waits, and nothing is left to transmit or to detect.
+    ///
+    /// Refused as `CountsExhausted`. Time by one pass over the processes, and by how many transactions wait for each sweep; there is
+    /// one sweep more than those that raise something, and a settle raises at most waiting transactions times processes: the first
+    /// settle of a long chain of waits that was built from its head owes the most. The two rules are Mitchell and Merritt's; to call
+    /// them in sweeps is this project's way.
+    pub fn settle(&mut self) -> Result<Settled, Refusal>
+        ensures { Step Settle self.old result self.new }
+    {
+        self.records.settle(&mut self.waiters)
+    }
+
     /// What the transaction does, and its two labels.
     ///
     /// Refused as `Stale`. Changes nothing and is not counted. Constant time.
@@ -151,6 +172,14 @@ impl Table {
     /// that cycle's greatest, and no cycle has two.
     pub fn verdicts_are_sound(&self)
         ensures { HasSoundVerdicts self.now }
+    {
+        let _ = &self.records;
+    }
+
+    /// Does nothing. Its contract is that all laws hold of every table that is lent, whatever was called; what the functions of
+    /// `laws` tell of a lawful table, they tell of it.
+    pub fn keeps_laws(&self)
+        ensures { Laws self.now }
     {
         let _ = &self.records;
     }

@@ -70,3 +70,66 @@ fn each_refusal_has_its_number_and_name(rt: HostRuntime) -> Result<(), Fail> {
     );
     Ok(())
 }
+
+/// Begins so many transactions, each of which takes the resource of its own number and then waits for the next one's, in a ring.
+fn make_ring(table: &mut Table, count: u32) -> Result<(), Refusal> {
+    for resource in 0..count {
+        let key = table.begin()?;
+        table.acquire(key, resource)?;
+    }
+    for process in 0..count {
+        let key = table.tenant(process).ok_or(Refusal::Stale)?;
+        table.acquire(key, (process + 1) % count)?;
+    }
+    Ok(())
+}
+
+/// What the transaction of a process does, and the counters and the processes of its private and its public label.
+fn told(table: &Table, process: u32) -> Option<(Mode, u64, u32, u64, u32)> {
+    let state = table.state(table.tenant(process)?).ok()?;
+    Some((
+        state.mode,
+        state.private.counter(),
+        state.private.process(),
+        state.public.counter(),
+        state.public.process(),
+    ))
+}
+
+#[test]
+fn a_ring_of_three_settles(rt: HostRuntime) -> Result<(), Fail> {
+    let mut table = Table::open(rt.alloc(), config(4, 4))?;
+    make_ring(&mut table, 3)?;
+    let answer = Settled {
+        raises: 3,
+        verdicts: 1,
+    };
+    assert_eq!(rt; table.settle()?, answer);
+    assert_eq!(rt; told(&table, 0), Some((Mode::Waiting(1), 1, 0, 2, 2)));
+    assert_eq!(rt; told(&table, 1), Some((Mode::Waiting(2), 1, 1, 2, 2)));
+    assert_eq!(rt; told(&table, 2), Some((Mode::Convicted(0), 2, 2, 2, 2)));
+    let totals = Totals {
+        accepted: 10,
+        verdicts: 1,
+        aborts: 0,
+    };
+    assert_eq!(rt; table.totals(), totals);
+    let nothing = Settled {
+        raises: 0,
+        verdicts: 0,
+    };
+    assert_eq!(rt; table.settle()?, nothing);
+    Ok(())
+}
+
+#[test]
+fn a_ring_of_four_settles(rt: HostRuntime) -> Result<(), Fail> {
+    let mut table = Table::open(rt.alloc(), config(5, 4))?;
+    make_ring(&mut table, 4)?;
+    let answer = Settled {
+        raises: 6,
+        verdicts: 1,
+    };
+    assert_eq!(rt; table.settle()?, answer);
+    Ok(())
+}

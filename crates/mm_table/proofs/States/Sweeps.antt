@@ -29,7 +29,7 @@ pub record SameWaits (s t : TableState) : Type 0 where
 same_waits_then : (a b c : TableState) → SameWaits a b → SameWaits b c → SameWaits a c
 same_waits_then a b c first second = record { waits = second.waits ∙ first.waits; config = second.config ∙ first.config }
 
-same_waiting : (s t : TableState) → SameWaits s t → waiting_processes t ≡ waiting_processes s
+pub same_waiting : (s t : TableState) → SameWaits s t → waiting_processes t ≡ waiting_processes s
 same_waiting s t same = λ i. filter (λ n. is_some (waited_for (same.waits i) n)) (range_with_len 0 (same.config i).processes)
 
 shown_same_waits : (s : TableState) (n : ℕ) (o : Option Label) → SameWaits s (option_map_or (shown s n) o s)
@@ -41,7 +41,7 @@ transmits_same_waits s [] = record { waits = refl; config = refl }
 transmits_same_waits s (k ∷ ks) =
     same_waits_then s (transmit s k) (fold transmit (transmit s k) ks) (shown_same_waits s k (greater_label s k)) (transmits_same_waits (transmit s k) ks)
 
-swept_same_waits : (s : TableState) (n : ℕ) → SameWaits s (swept s n)
+pub swept_same_waits : (s : TableState) (n : ℕ) → SameWaits s (swept s n)
 swept_same_waits s zero = record { waits = refl; config = refl }
 swept_same_waits s (suc n) = same_waits_then s (swept s n) (swept s (suc n)) (swept_same_waits s n) (transmits_same_waits (swept s n) (waiting_processes (swept s n)))
 
@@ -78,7 +78,7 @@ module _ (s : TableState) (k : ℕ) (ks : List ℕ) (next : TableState) (can : B
 pub transmit_raises : (s : TableState) (k h : ℕ) → Laws s → HolderIsAbove s k h → Raises (graph_of s) k h (graph_of (transmit s k))
 transmit_raises s k h laws above = rw (transmit_shown s laws k h above) (shown_raises s laws k h above)
 
-transmits_sweep : (s : TableState) (ks : List ℕ) → Laws s → Sweep (graph_of s) ks (raises_along s ks) (graph_of (fold transmit s ks))
+pub transmits_sweep : (s : TableState) (ks : List ℕ) → Laws s → Sweep (graph_of s) ks (raises_along s ks) (graph_of (fold transmit s ks))
 transmits_sweep s [] laws = (refl, refl)
 transmits_sweep s (k ∷ ks) laws = elim (transmit_cases s laws k) [
   | inl still ↦ still_first s k ks (transmit s k) (can_transmit s k) (transmit_still s laws k still.0) (ap is_some still.0) still.1 (transmits_sweep s ks laws)
@@ -87,7 +87,7 @@ transmits_sweep s (k ∷ ks) laws = elim (transmit_cases s laws k) [
 ]
 
 -- where nothing was raised, nothing changed
-raised_nothing : (s : TableState) (ks : List ℕ) → raises_along s ks ≡ 0 → fold transmit s ks ≡ s
+pub raised_nothing : (s : TableState) (ks : List ℕ) → raises_along s ks ≡ 0 → fold transmit s ks ≡ s
 raised_nothing s [] none = refl
 raised_nothing s (k ∷ ks) none = elim (cases_Bool (can_transmit s k)) [
   | inl can ↦ absurd (let some : 1 + raises_along (transmit s k) ks ≡ 0 = rw can at none in omega arith)

@@ -1,5 +1,5 @@
 //! The small changes that events are made of.
-ghost use Rattle.std.specs.Prelude.{◌≡◌, ◌≢◌, ◌<◌, ◌+◌, ◌^◌, ◌∷◌, ◌++◌, [], IsTrue, None, Some, true, drop, length, slice_get, slice_set, slice_index, option_map, MatchResult};
+ghost use Rattle.std.specs.Prelude.{◌≡◌, ◌≢◌, ◌<◌, ◌+◌, ◌^◌, ◌∷◌, ◌++◌, [], IsTrue, IfSome, None, Some, true, drop, length, slice_get, slice_set, slice_index, option_map, MatchResult};
 ghost use Rattle.mm_table.specs.TableState.{key_of, wait_of, holder_of, owner_of, is_live, has_verdict, public_of};
 ghost use Rattle.mm_table.specs.Change.{activate, block, block_fits, label_against, greater_label, can_detect, detect};
 
@@ -77,14 +77,24 @@ impl Records {
         label
     }
 
+    /// The holder of a live transaction; `None` where it does not wait.
+    pub(super) fn holder(&self, key: Key) -> Option<u32>
+        requires { IsTrue (is_live self.now key) }
+        ensures holder { result ≡ holder_of self.now key.process }
+        ensures in_range { IfSome result (λ holder. holder < self.now.config.processes) }
+    {
+        let resource = self.transactions.get(key)?.waits_for?;
+        let holder = self.owners[resource as usize]?;
+        Some(holder.process)
+    }
+
     /// The public label of the holder of a live transaction; `None` where it does not wait.
     fn holder_label(&self, key: Key) -> Option<Label>
         requires { IsTrue (is_live self.now key) }
         ensures { result ≡ option_map (public_of self.now) (holder_of self.now key.process) }
     {
-        let resource = self.transactions.get(key)?.waits_for?;
-        let holder = self.owners[resource as usize]?;
-        Some(self.labels[holder.process as usize].public)
+        let holder = self.holder(key)?;
+        Some(self.labels[holder as usize].public)
     }
 
     /// The public label of the holder of a live transaction, where it is greater than its own.
@@ -131,7 +141,7 @@ impl Records {
     pub(super) fn convict(&mut self, key: Key)
         requires live { IsTrue (is_live self.old key) }
         requires can { IsTrue (can_detect self.old key.process) }
-        requires count { self.old.totals.verdicts < 2 ^ 62 }
+        requires count { self.old.totals.verdicts < u64.MAX }
         ensures { self.new ≡ detect self.old key.process }
     {
         let transaction = self.transactions.get_mut(key).unwrap();

@@ -1,6 +1,6 @@
 use Rattle.mm_table.specs.Event.{Acquire}
-use Rattle.mm_table.proofs.States.Events.{event_keeps}
+use Rattle.mm_table.proofs.Kept.Tables.{table_kept}
 use Rattle.mm_table.proofs.table.Table.acquire.Goals as goal
 
 pub invariant_of-self : goal.invariant_of-self
-invariant_of-self c = (event_keeps (Acquire c.args.key c.args.resource) c.self.inside.records c.acquire.new.self c.acquire.result c.acquire.ensures c.self.invariant).laws
+invariant_of-self c = table_kept (Acquire c.args.key c.args.resource) c.self.inside c.acquire.new.self c.acquire.result c.acquire.ensures c.self.invariant

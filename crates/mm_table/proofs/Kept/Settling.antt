@@ -1,0 +1,80 @@
+-- A settle is its sweeps, its detects and a count.
+use Rattle.std.proofs.Common.{◌≡◌, nat_le, ◌+◌, ◌*◌, ◌<◌, ◌≤◌, ◌^◌, ℕ, zero, suc, Bool, true, false, List, [], ◌∷◌, length, fold, count_by, Option, Some, None, Ok, MatchBool, refl, sym, ap, subst, ◌∙◌, arith, inl, inr}
+use Rattle.std.specs.Option.{option_map_or}
+use Rattle.std.proofs.lemmas.Bool.{cases_Bool, or_parts, leb-false}
+use Rattle.mm_label.specs.Label.{Label}
+use Rattle.mm_table.specs.declared.reply.Settled.{Settled}
+use Rattle.mm_table.specs.declared.reply.Totals.{Totals}
+use Rattle.mm_owned.specs.Members.{NoRepeat}
+use Rattle.mm_table.specs.TableState.{TableState, is_waiting, waiting_processes}
+use Rattle.mm_table.specs.Change.{greater_label, transmit, can_detect, detect, swept}
+use Rattle.mm_table.specs.Event.{counts_exhausted, settled, Settle, Settles, Step, Gives, outcome}
+use Rattle.mm_table.specs.declared.refusal.Refusal.TheVariants.{CountsExhausted}
+use Rattle.mm_table.specs.Sweep.{IsSwept}
+use Rattle.mm_table.proofs.States.Lists.{some_of_range_once}
+use Rattle.mm_table.proofs.States.Outcomes.{counting}
+use Rattle.mm_table.proofs.States.Transmit.{shown}
+use Rattle.mm_table.proofs.States.Detect.{detect_still, detect_convicts}
+use Rattle.mm_table.proofs.States.Sweeps.{same_waiting, swept_same_waits}
+
+pub waiting_once : (s : TableState) → NoRepeat (waiting_processes s)
+waiting_once s = some_of_range_once (is_waiting s) 0 s.config.processes
+
+pub below_limit : (s : TableState) → counts_exhausted s ≡ false → (s.totals.accepted < 2 ^ 62) × (s.totals.verdicts < 2 ^ 62)
+below_limit s free =
+    let both = or_parts (nat_le (2 ^ 62) s.totals.accepted) (nat_le (2 ^ 62) s.totals.verdicts) free in
+    (leb-false (2 ^ 62) s.totals.accepted both.0, leb-false (2 ^ 62) s.totals.verdicts both.1)
+
+-- ---- sweeps count nothing, and detects no accepted event
+
+shown_totals : (s : TableState) (n : ℕ) (o : Option Label) → (option_map_or (shown s n) o s).totals ≡ s.totals
+shown_totals s n None = refl
+shown_totals s n (Some l) = refl
+
+transmits_totals : (s : TableState) (ns : List ℕ) → (fold transmit s ns).totals ≡ s.totals
+transmits_totals s [] = refl
+transmits_totals s (n ∷ ns) = transmits_totals (transmit s n) ns ∙ shown_totals s n (greater_label s n)
+
+swept_totals : (s : TableState) (n : ℕ) → (swept s n).totals ≡ s.totals
+swept_totals s zero = refl
+swept_totals s (suc n) = transmits_totals (swept s n) (waiting_processes (swept s n)) ∙ swept_totals s n
+
+pub sweeps_totals : (old : TableState) (raises : ℕ) (mid : TableState) → IsSwept old raises mid → mid.totals ≡ old.totals
+sweeps_totals old raises mid all = ap (λ (s : TableState). s.totals) all.state ∙ swept_totals old all.sweeps
+
+detect_accepted : (s : TableState) (n : ℕ) → (detect s n).totals.accepted ≡ s.totals.accepted
+detect_accepted s n = elim (cases_Bool (can_detect s n)) [
+  | inl can ↦ ap (λ (t : TableState). t.totals.accepted) (detect_convicts s n can)
+  | inr no_detect ↦ ap (λ (t : TableState). t.totals.accepted) (detect_still s n no_detect)
+]
+
+pub detects_accepted : (s : TableState) (ns : List ℕ) → (fold detect s ns).totals.accepted ≡ s.totals.accepted
+detects_accepted s [] = refl
+detects_accepted s (n ∷ ns) = detects_accepted (detect s n) ns ∙ detect_accepted s n
+
+-- ---- the whole
+
+step_by : (b : Bool) (A B : Type 0) → b ≡ false → B → MatchBool b A B
+step_by true A B never given = absurd (cc)
+step_by false A B free given = given
+
+gives_by : (b : Bool) (old rested new : TableState) (answer said : Settled) → b ≡ false → answer ≡ said → new ≡ counting rested (rested.totals.accepted + 1)
+    → Gives (outcome ((b, CountsExhausted) ∷ []) old said rested) (Ok answer) new
+gives_by true old rested new answer said never is state = absurd (cc)
+gives_by false old rested new answer said free is state = (ap Ok is, state)
+
+pub settle_gives : (old mid new : TableState) (waiting : List ℕ) (raises verdicts : ℕ) → counts_exhausted old ≡ false → waiting ≡ waiting_processes old
+    → IsSwept old raises mid → verdicts ≡ count_by (can_detect mid) waiting
+    → new ≡ counting (fold detect mid waiting) ((fold detect mid waiting).totals.accepted + 1)
+    → Step Settle old (Ok (record { raises = raises; verdicts = verdicts })) new
+settle_gives old mid new waiting raises verdicts free all swept_all counted state =
+    let last : TableState = swept old swept_all.sweeps in
+    let waiting_now : waiting ≡ waiting_processes last = all ∙ sym (same_waiting old last (swept_same_waits old swept_all.sweeps)) in
+    let verdicts_are : verdicts ≡ count_by (can_detect last) (waiting_processes last) = counted ∙ ap (λ (t : TableState). count_by (can_detect t) waiting) swept_all.state ∙ ap (count_by (can_detect last)) waiting_now in
+    let rested : fold detect mid waiting ≡ fold detect last (waiting_processes last) = ap (λ t. fold detect t waiting) swept_all.state ∙ ap (fold detect last) waiting_now in
+    step_by (counts_exhausted old) _ _ free (
+      swept_all.sweeps,
+      swept_all.settles,
+      gives_by (counts_exhausted old) old (fold detect last (waiting_processes last)) new _ _ free
+          (rw (swept_all.raised, verdicts_are) refl) (state ∙ ap (λ (t : TableState). counting t (t.totals.accepted + 1)) rested),
+    )
