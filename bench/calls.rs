@@ -10,14 +10,19 @@ mod workloads;
 use std::hint::black_box;
 use std::time::Instant;
 
-const ROUNDS: u32 = 150;
+const MOST_ROUNDS: u32 = 400;
+const LEAST_ROUNDS: u32 = 5;
+/// No round is begun after this many seconds, but for the first few.
+const SECONDS: f64 = 2.0;
 
 unsafe extern "C" {
     safe fn mm_bench_nothing(number: u64) -> u64;
     safe fn mm_bench_rounds(mask: u32, count: u64) -> u64;
     safe fn mm_bench_rounds_beside(waiters: u32, count: u64) -> u64;
     safe fn mm_bench_crosswise(count: u64) -> u64;
-    safe fn mm_bench_rings(size: u32, is_closed: bool, count: u64) -> u64;
+    safe fn mm_bench_probed_rings(size: u32, is_closed: bool, count: u64) -> u64;
+    safe fn mm_bench_settled_rings(size: u32, is_rising: bool, is_closed: bool, count: u64) -> u64;
+    safe fn mm_bench_idle_settles(size: u32, count: u64) -> u64;
 }
 
 /// A workload over both tables; its argument tells whether what is timed is done, or only what prepares it.
@@ -45,7 +50,11 @@ impl Workload<'_> {
         assert_eq!(accepted, (self.plain)(true), "the tables differ at {}", self.name);
         assert!(accepted > 0, "a call was refused at {}", self.name);
         let mut least = [f64::INFINITY; 4];
-        for _ in 0..ROUNDS {
+        let start = Instant::now();
+        for round in 0..MOST_ROUNDS {
+            if round >= LEAST_ROUNDS && start.elapsed().as_secs_f64() > SECONDS {
+                break;
+            }
             let tried = [
                 time(self.proved, true),
                 time(self.proved, false),
@@ -100,15 +109,41 @@ fn measure_crosswise() {
     .measure();
 }
 
-fn measure_rings(size: u32) {
+fn measure_probed_rings(size: u32) {
     let count = (8_192 / u64::from(size)).max(2);
     Workload {
-        name: "ring closed, label goes round, verdict",
+        name: "ring closed, transmits all round, detect",
         size,
         units: count,
         unit: "ring",
-        proved: &|is_whole| mm_bench_rings(size, is_whole, count),
-        plain: &|is_whole| workloads::rings(size, is_whole, count).unwrap(),
+        proved: &|is_whole| mm_bench_probed_rings(size, is_whole, count),
+        plain: &|is_whole| workloads::probed_rings(size, is_whole, count).unwrap(),
+    }
+    .measure();
+}
+
+fn measure_settled_rings(size: u32, is_rising: bool) {
+    let count = (8_192 / u64::from(size)).max(2);
+    Workload {
+        name: if is_rising { "ring closed and settled, against the numbers" } else { "ring closed and settled, along the numbers" },
+        size,
+        units: count,
+        unit: "ring",
+        proved: &|is_whole| mm_bench_settled_rings(size, is_rising, is_whole, count),
+        plain: &|is_whole| workloads::settled_rings(size, is_rising, is_whole, count).unwrap(),
+    }
+    .measure();
+}
+
+fn measure_idle_settles(size: u32) {
+    let count = 500;
+    Workload {
+        name: "settle while all but one wait, and none rises",
+        size,
+        units: count,
+        unit: "settle",
+        proved: &|is_whole| mm_bench_idle_settles(size, if is_whole { count } else { 0 }),
+        plain: &|is_whole| workloads::idle_settles(size, if is_whole { count } else { 0 }).unwrap(),
     }
     .measure();
 }
@@ -116,7 +151,7 @@ fn measure_rings(size: u32) {
 /// What a call through the C boundary costs by itself, which no other line has.
 fn measure_nothing() {
     let count = 500_000;
-    let least = (0..ROUNDS)
+    let least = (0..MOST_ROUNDS)
         .map(|_| {
             time(&|_| (0..count).fold(0, |sum, _| mm_bench_nothing(sum)), true)
         })
@@ -134,7 +169,10 @@ fn main() {
     }
     measure_crosswise();
     for size in [2, 64, 4_096] {
-        measure_rings(size);
+        measure_probed_rings(size);
+        measure_settled_rings(size, false);
+        measure_settled_rings(size, true);
     }
+    measure_idle_settles(4_096);
     measure_nothing();
 }

@@ -176,4 +176,9 @@ impl Table {
     pub fn accepted(&self) -> u64 {
         self.accepted
     }
+
+    /// How many verdicts were given.
+    pub fn verdicts(&self) -> u64 {
+        self.verdicts
+    }
 }

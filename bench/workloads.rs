@@ -62,21 +62,31 @@ pub fn crosswise(count: u64) -> Result<u64, Refusal> {
     Ok(table.accepted())
 }
 
-fn row(size: u32) -> Result<Table, Refusal> {
+fn process_at(place: u32, size: u32, is_rising: bool) -> u32 {
+    if is_rising { place } else { size - 1 - place }
+}
+
+fn row(size: u32, is_rising: bool) -> Result<Table, Refusal> {
     let mut table = open(size, size)?;
     for process in 0..size {
         let key = table.begin()?;
         table.acquire(key, process)?;
     }
-    for process in 1..size {
-        table.acquire(key_of(process - 1), process)?;
+    for place in (1..size).rev() {
+        let waiter = key_of(process_at(place - 1, size, is_rising));
+        table.acquire(waiter, process_at(place, size, is_rising))?;
     }
     Ok(table)
 }
 
-fn close(table: &mut Table, size: u32) -> Result<(), Refusal> {
-    let last = key_of(size - 1);
-    table.acquire(last, 0)?;
+fn close(table: &mut Table, size: u32, is_rising: bool) -> Result<Key, Refusal> {
+    let last = key_of(process_at(size - 1, size, is_rising));
+    table.acquire(last, process_at(0, size, is_rising))?;
+    Ok(last)
+}
+
+fn probe(table: &mut Table, size: u32) -> Result<(), Refusal> {
+    let last = close(table, size, true)?;
     for process in (1..size).rev() {
         table.transmit(key_of(process - 1))?;
     }
@@ -84,14 +94,36 @@ fn close(table: &mut Table, size: u32) -> Result<(), Refusal> {
     Ok(())
 }
 
-pub fn rings(size: u32, is_closed: bool, count: u64) -> Result<u64, Refusal> {
+pub fn probed_rings(size: u32, is_closed: bool, count: u64) -> Result<u64, Refusal> {
     let mut accepted = 0;
     for _ in 0..count {
-        let mut table = row(size)?;
+        let mut table = row(size, true)?;
         if is_closed {
-            close(&mut table, size)?;
+            probe(&mut table, size)?;
         }
         accepted += table.accepted();
     }
     Ok(accepted)
+}
+
+pub fn settled_rings(size: u32, is_rising: bool, is_closed: bool, count: u64) -> Result<u64, Refusal> {
+    let mut accepted = 0;
+    for _ in 0..count {
+        let mut table = row(size, is_rising)?;
+        table.settle()?;
+        if is_closed {
+            close(&mut table, size, is_rising)?;
+            table.settle()?;
+        }
+        accepted += table.accepted() + table.verdicts();
+    }
+    Ok(accepted)
+}
+
+pub fn idle_settles(size: u32, count: u64) -> Result<u64, Refusal> {
+    let mut table = row(size, true)?;
+    for _ in 0..count {
+        table.settle()?;
+    }
+    Ok(table.accepted())
 }

@@ -3,6 +3,7 @@
 use super::{COUNT_LIMIT, Key, Label, NONE, Process, Refusal, Resource, Table};
 
 impl Table {
+    #[inline]
     pub(super) fn may_count(&self) -> Result<(), Refusal> {
         if self.accepted >= COUNT_LIMIT || self.verdicts >= COUNT_LIMIT {
             return Err(Refusal::CountsExhausted);
@@ -10,6 +11,7 @@ impl Table {
         Ok(())
     }
 
+    #[inline]
     pub(super) fn live(&self, key: Key) -> Result<&Process, Refusal> {
         match self.processes.get(key.process as usize) {
             Some(process) if process.is_live && process.generation == key.generation => Ok(process),
@@ -17,11 +19,13 @@ impl Table {
         }
     }
 
+    #[inline]
     pub(super) fn key(&self, process: u32) -> Key {
         Key { process, generation: self.processes[process as usize].generation }
     }
 
     /// A label of the process above both public labels.
+    #[inline]
     pub(super) fn fresh(&self, process: u32, holder: u32) -> Label {
         let own = self.processes[process as usize].public;
         let shown = self.processes[holder as usize].public;
@@ -29,6 +33,7 @@ impl Table {
     }
 
     /// Makes it both labels of the process.
+    #[inline]
     pub(super) fn block(&mut self, process: u32, label: Label) {
         self.greatest = self.greatest.max(label.counter());
         self.touched.add(process);
@@ -38,6 +43,7 @@ impl Table {
     }
 
     /// Adds a free resource to what the process owns.
+    #[inline]
     pub(super) fn give(&mut self, resource: u32, process: u32) {
         let head = std::mem::replace(&mut self.processes[process as usize].owned, resource);
         let given = &mut self.resources[resource as usize];
@@ -50,6 +56,7 @@ impl Table {
     }
 
     /// Takes a resource out of what the process owns.
+    #[inline]
     pub(super) fn take(&mut self, resource: u32, process: u32) {
         let Resource { next, previous, .. } = self.resources[resource as usize];
         match previous {
@@ -62,6 +69,7 @@ impl Table {
     }
 
     /// Puts a process last into the queue of a resource.
+    #[inline]
     pub(super) fn enqueue(&mut self, process: u32, resource: u32) {
         let last = std::mem::replace(&mut self.resources[resource as usize].last, process);
         match last {
@@ -155,12 +163,14 @@ impl Table {
         }
     }
 
+    #[inline]
     pub(super) fn holders_label(&self, process: u32) -> Label {
         let resource = self.processes[process as usize].waits_for;
         self.processes[self.resources[resource as usize].owner as usize].public
     }
 
     /// Takes over the holder's label where it is greater.
+    #[inline]
     pub(super) fn raise(&mut self, process: u32) -> bool {
         let shown = self.holders_label(process);
         let own = &mut self.processes[process as usize].public;
@@ -172,6 +182,7 @@ impl Table {
     }
 
     /// Gives a waiting process a verdict where it has none and three labels are one.
+    #[inline]
     pub(super) fn convict(&mut self, process: u32) -> bool {
         let shown = self.holders_label(process);
         let waiter = &mut self.processes[process as usize];

@@ -3,6 +3,7 @@
 use super::{Acquired, Detected, Key, NONE, Refusal, Released, Settled, Table, Transmitted};
 
 impl Table {
+    #[inline]
     pub fn begin(&mut self) -> Result<Key, Refusal> {
         self.may_count()?;
         let number = if self.freed != NONE {
@@ -24,6 +25,7 @@ impl Table {
         Ok(Key { process: number, generation: process.generation })
     }
 
+    #[inline]
     pub fn acquire(&mut self, key: Key, resource: u32) -> Result<Acquired, Refusal> {
         self.may_count()?;
         let process = self.live(key)?;
@@ -37,6 +39,12 @@ impl Table {
             self.accepted += 1;
             return Ok(Acquired::Granted);
         }
+        self.wait_for(key, resource, owner)
+    }
+
+    /// `acquire` of a resource that somebody owns. It stands apart so that the rest is inlined.
+    #[inline(never)]
+    fn wait_for(&mut self, key: Key, resource: u32, owner: u32) -> Result<Acquired, Refusal> {
         if owner == key.process {
             return Err(Refusal::AlreadyOwns);
         }

@@ -52,8 +52,32 @@ pub extern "C" fn mm_bench_crosswise(alloc: Global, count: u64) -> u64 {
 }
 
 /// `count` tables in each of which `size` transactions wait for one another in a row; where `is_closed`, the last one waits for
-/// the first, and the deadlock is found.
+/// the first, its label goes round by transmits, and it detects the deadlock.
 #[unsafe(no_mangle)]
-pub extern "C" fn mm_bench_rings(alloc: Global, size: u32, is_closed: bool, count: u64) -> u64 {
-    waits::rings(alloc, size, is_closed, count).unwrap_or(0)
+pub extern "C" fn mm_bench_probed_rings(
+    alloc: Global,
+    size: u32,
+    is_closed: bool,
+    count: u64,
+) -> u64 {
+    waits::probed_rings(alloc, size, is_closed, count).unwrap_or(0)
+}
+
+/// The same, with settling in place of transmits and the detect, and settled before the closing too. Where `is_rising`, each waits
+/// for the process after it, and else for the one before it.
+#[unsafe(no_mangle)]
+pub extern "C" fn mm_bench_settled_rings(
+    alloc: Global,
+    size: u32,
+    is_rising: bool,
+    is_closed: bool,
+    count: u64,
+) -> u64 {
+    waits::settled_rings(alloc, size, is_rising, is_closed, count).unwrap_or(0)
+}
+
+/// `count` settlings that find nothing, while `size - 1` transactions wait in a row.
+#[unsafe(no_mangle)]
+pub extern "C" fn mm_bench_idle_settles(alloc: Global, size: u32, count: u64) -> u64 {
+    waits::idle_settles(alloc, size, count).unwrap_or(0)
 }
