@@ -1,8 +1,1 @@
-pub mod WordsLemmas
-pub mod NumberLemmas
-pub mod SessionLemmas
-pub mod LinesLemmas
-pub mod LeadsLemmas
-pub mod InputLemmas
-pub mod TextLemmas
-pub mod RunLemmas
+pub mod CommandLineLemmas

@@ -1,10 +1,2 @@
-pub mod Cut
-pub mod Input
-pub mod Line
-pub mod Lines
-pub mod Reply
-pub mod Script
-pub mod Session
-pub mod Text
-pub mod Words
-pub mod WordsLeft
+pub mod CommandLine
+pub mod Status

@@ -18,11 +18,11 @@ pub mod HandingOver
 -- hand-overs in any order, and all that a process owns
 pub mod HandOverOrder
 pub mod HandingAll
--- settle: the turn of one process, one round of turns, all sweeps, and the whole
-pub mod Turns
+-- settle: live keys, one round of turns, those that wait, all sweeps, and the whole
+pub mod LiveKeys
 pub mod Rounds
 pub mod Waiters
 pub mod Sweeping
 pub mod Settling
--- tables
+-- tables, by any event
 pub mod Tables

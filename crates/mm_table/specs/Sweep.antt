@@ -5,12 +5,13 @@ use Rattle.mm_table.specs.TableState.{TableState, holder_of}
 use Rattle.mm_table.specs.Change.{swept, total_raises}
 use Rattle.mm_table.specs.Event.{Settles}
 
--- both are processes of the table, and the one waits for the other
+-- both are processes of the table, and the second is the holder of the first
 pub record IsWaiter (s : TableState) (w : Waiter) : Type 0 where
   pub process : w.process < s.config.processes
   pub holder : w.holder < s.config.processes
   pub held : holder_of s w.process ≡ Some w.holder
 
+-- the processes of these, in their order
 abbrev pub processes_of : List Waiter → List ℕ
 processes_of ws = map (λ w. w.process) ws
 

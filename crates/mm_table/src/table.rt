@@ -17,7 +17,7 @@ use std::marker::Model;
 #[derive(Drop)]
 pub struct Table {
     records: Records,
-    /// Room for those that wait, for `settle`.
+    /// What `settle` writes down for itself. There is room for each process; between calls what it holds means nothing.
     waiters: Vec<Waiter>,
 }
 
@@ -123,10 +123,10 @@ impl Table {
     /// raises nothing. Then each of them detects where it can. One accepted event; the answer counts the raises and the verdicts.
     /// The table is then at rest: one verdict stands on each cycle of waits, and nothing is left to transmit or to detect.
     ///
-    /// Refused as `CountsExhausted`. Time by one pass over the processes, and by how many transactions wait for each sweep; there is
-    /// one sweep more than those that raise something, and a settle raises at most waiting transactions times processes: the first
-    /// settle of a long chain of waits that was built from its head owes the most. The two rules are Mitchell and Merritt's; to call
-    /// them in sweeps is this project's way.
+    /// Refused as `CountsExhausted`. Time by one pass over the processes, and one over those that wait for each sweep and for the
+    /// detects. Each sweep but the last raises a label, and a settle raises no more than waiting transactions times processes: the
+    /// first settle of a long chain of waits that was built from its head comes near half of that. The two rules are Mitchell and
+    /// Merritt's; to call them in sweeps is this project's way.
     pub fn settle(&mut self) -> Result<Settled, Refusal>
         ensures { Step Settle self.old result self.new }
     {
@@ -176,8 +176,8 @@ impl Table {
         let _ = &self.records;
     }
 
-    /// Does nothing. Its contract is that all laws hold of every table that is lent, whatever was called; what the functions of
-    /// `laws` tell of a lawful table, they tell of it.
+    /// Does nothing. Its contract is that all laws hold of every table that is lent, whatever was called; so each fact of `laws`
+    /// about lawful tables is one about it.
     pub fn keeps_laws(&self)
         ensures { Laws self.now }
     {

@@ -1,14 +1,14 @@
 -- The waiting processes one after the other; a sweep of them, and their detects: what is left to do leads to the same state and to the same count.
-use Rattle.std.proofs.Common.{◌≡◌, ◌≢◌, ◌+◌, ◌<◌, ◌≤◌, ◌&&◌, ℕ, zero, suc, Bool, true, false, not, cond, if◌then◌else◌, List, [], ◌∷◌, ◌++◌, filter, length, drop, fold, get_or, count_by, IsTrue, refl, sym, ap, subst, ◌∙◌, arith, inl, inr, add-one, drop-cons, get_or-set_other}
+use Rattle.std.proofs.Common.{◌≡◌, ◌≢◌, ◌+◌, ◌<◌, ◌≤◌, ◌&&◌, ℕ, Bool, true, false, not, cond, if◌then◌else◌, List, [], ◌∷◌, ◌++◌, filter, length, drop, fold, get_or, count_by, refl, sym, ap, subst, ◌∙◌, arith, inl, inr, add-one, drop-cons, get_or-set_other}
 use Rattle.std.specs.Option.{option_map_or}
 use Rattle.std.proofs.lemmas.Bool.{cases_Bool}
-use Rattle.std.proofs.lemmas.List.{drop_all, map-id, append-nil}
+use Rattle.std.proofs.lemmas.List.{map-id, append-nil}
 use Rattle.std.proofs.lemmas.List.FromFn.{filter_of_map_range_with_len_more}
 use Rattle.std.specs.List.{range_with_len}
 use Rattle.std.proofs.lemmas.List.Sums.{sum_by-cons}
 use Rattle.mm_label.specs.Label.{label_eq}
 use Rattle.mm_owned.specs.Members.{Among, NoRepeat}
-use Rattle.mm_table.specs.TableState.{TableState, private_of, public_of, holder_of, has_verdict}
+use Rattle.mm_table.specs.TableState.{TableState, private_of, public_of, holder_of}
 use Rattle.mm_table.specs.Change.{can_transmit, transmit, raises_along, can_detect, detect}
 use Rattle.mm_table.proofs.States.Detect.{convicted, detect_still, detect_convicts}
 
@@ -38,9 +38,6 @@ pub record IsMidSweep (s : TableState) (ns : List ℕ) (i raises : ℕ) (now : T
   pub state : fold transmit now (drop i ns) ≡ fold transmit s ns
   pub few : raises ≤ i
 
-pub sweep_begins : (s : TableState) (ns : List ℕ) → IsMidSweep s ns 0 0 s
-sweep_begins s ns = record { raised = omega arith; state = refl; few = omega arith }
-
 pub transmit_next : (s : TableState) (ns : List ℕ) (i d raises more : ℕ) (now next : TableState) → IsMidSweep s ns i raises now → i < length ns
     → more ≡ raises + (if can_transmit now (get_or ns i d) then 1 else 0) → next ≡ transmit now (get_or ns i d) → IsMidSweep s ns (i + 1) more next
 transmit_next s ns i d raises more now next way within counted changed =
@@ -56,13 +53,6 @@ transmit_next s ns i d raises more now next way within counted changed =
       few = omega (arith, way.few, one, counted);
     }
 
-pub sweep_ends : (s : TableState) (ns : List ℕ) (i raises : ℕ) (now : TableState) → IsMidSweep s ns i raises now → length ns ≤ i
-    → (raises ≡ raises_along s ns) × (now ≡ fold transmit s ns)
-sweep_ends s ns i raises now way past =
-    let none : drop i ns ≡ [] = drop_all i ns past in
-    let no_raises : raises_along now (drop i ns) ≡ 0 = ap (raises_along now) none in
-    (omega (arith, way.raised, no_raises), ap (fold transmit now) (sym none) ∙ way.state)
-
 -- ---- detects
 
 -- the first i of these processes had their turn to detect from s, and got so many verdicts
@@ -72,9 +62,6 @@ pub record IsMidDetects (s : TableState) (ns : List ℕ) (i verdicts : ℕ) (now
   pub once : NoRepeat (drop i ns)
   pub total : now.totals.verdicts ≡ s.totals.verdicts + verdicts
   pub few : verdicts ≤ i
-
-pub detects_begin : (s : TableState) (ns : List ℕ) → NoRepeat ns → IsMidDetects s ns 0 0 s
-detects_begin s ns once = record { counted = omega arith; state = refl; once = once; total = omega arith; few = omega arith }
 
 count_first : (p : ℕ → Bool) (n : ℕ) (ns : List ℕ) → count_by p (n ∷ ns) ≡ (if p n then 1 else 0) + count_by p ns
 count_first p n ns = sum_by-cons (λ m. cond (p m) 1 0) n ns
@@ -122,10 +109,3 @@ detect_next s ns i d verdicts more now next way within counted changed =
       total = omega (arith, way.total, verdicts_now, counted);
       few = omega (arith, way.few, one, counted);
     }
-
-pub detects_end : (s : TableState) (ns : List ℕ) (i verdicts : ℕ) (now : TableState) → IsMidDetects s ns i verdicts now → length ns ≤ i
-    → (verdicts ≡ count_by (can_detect s) ns) × (now ≡ fold detect s ns)
-detects_end s ns i verdicts now way past =
-    let none : drop i ns ≡ [] = drop_all i ns past in
-    let no_verdicts : count_by (can_detect now) (drop i ns) ≡ 0 = ap (count_by (can_detect now)) none in
-    (omega (arith, way.counted, no_verdicts), ap (fold detect now) (sym none) ∙ way.state)

@@ -1,14 +1,13 @@
 -- A settle is its sweeps, its detects and a count.
-use Rattle.std.proofs.Common.{◌≡◌, nat_le, ◌+◌, ◌*◌, ◌<◌, ◌≤◌, ◌^◌, ℕ, zero, suc, Bool, true, false, List, [], ◌∷◌, length, fold, count_by, Option, Some, None, Ok, MatchBool, refl, sym, ap, subst, ◌∙◌, arith, inl, inr}
+use Rattle.std.proofs.Common.{◌≡◌, nat_le, ◌+◌, ◌<◌, ◌^◌, ℕ, zero, suc, Bool, true, false, List, [], ◌∷◌, fold, count_by, Option, Some, None, Ok, MatchBool, refl, sym, ap, ◌∙◌, inl, inr}
 use Rattle.std.specs.Option.{option_map_or}
 use Rattle.std.proofs.lemmas.Bool.{cases_Bool, or_parts, leb-false}
 use Rattle.mm_label.specs.Label.{Label}
 use Rattle.mm_table.specs.declared.reply.Settled.{Settled}
-use Rattle.mm_table.specs.declared.reply.Totals.{Totals}
 use Rattle.mm_owned.specs.Members.{NoRepeat}
 use Rattle.mm_table.specs.TableState.{TableState, is_waiting, waiting_processes}
 use Rattle.mm_table.specs.Change.{greater_label, transmit, can_detect, detect, swept}
-use Rattle.mm_table.specs.Event.{counts_exhausted, settled, Settle, Settles, Step, Gives, outcome}
+use Rattle.mm_table.specs.Event.{counts_exhausted, Settle, Step, Gives, outcome}
 use Rattle.mm_table.specs.declared.refusal.Refusal.TheVariants.{CountsExhausted}
 use Rattle.mm_table.specs.Sweep.{IsSwept}
 use Rattle.mm_table.proofs.States.Lists.{some_of_range_once}

@@ -1,6 +1,6 @@
 -- The loop of sweeps: where it stands, that it ends, and what it leads to.
-use Rattle.std.proofs.Common.{◌≡◌, ◌+◌, ◌-◌, ◌*◌, ◌<◌, ◌≤◌, ℕ, zero, suc, List, fold, refl, sym, ap, subst, ◌∙◌, arith, inl, inr}
-use Rattle.std.proofs.lemmas.Bool.{cases_lt, cases_eq}
+use Rattle.std.proofs.Common.{◌≡◌, ◌+◌, ◌-◌, ◌*◌, ◌<◌, ◌≤◌, ℕ, suc, List, fold, sym, ap, ◌∙◌, arith, inl, inr}
+use Rattle.std.proofs.lemmas.Bool.{cases_eq}
 use Rattle.mm_table.specs.TableState.{TableState, waiting_processes}
 use Rattle.mm_table.specs.Change.{transmit, raises_along, sweep_raises, swept, total_raises}
 use Rattle.mm_table.specs.Laws.{Laws, most_raises}
@@ -15,9 +15,6 @@ pub record IsSweeping (old : TableState) (raises : ℕ) (s : TableState) : Type 
   pub raised : raises ≡ total_raises old sweeps
   pub state : s ≡ swept old sweeps
 
-pub begins : (s : TableState) → IsSweeping s 0 s
-begins s = record { sweeps = 0; before = λ m below. absurd (omega arith); raised = refl; state = refl }
-
 module _ (old : TableState) (raises : ℕ) (s : TableState) (waiting : List ℕ) (more : ℕ) (new : TableState)
     (laws : Laws old) (all : waiting ≡ waiting_processes old) (way : IsSweeping old raises s)
     (raised : more ≡ raises_along s waiting) (state : new ≡ fold transmit s waiting) where
@@ -27,16 +24,16 @@ module _ (old : TableState) (raises : ℕ) (s : TableState) (waiting : List ℕ)
   waiting_now : waiting ≡ waiting_processes (swept old way.sweeps)
   waiting_now = all ∙ sym (same_waiting old (swept old way.sweeps) (swept_same_waits old way.sweeps))
 
-  pub raised_now : more ≡ sweep_raises (swept old way.sweeps)
+  raised_now : more ≡ sweep_raises (swept old way.sweeps)
   raised_now = raised ∙ ap (λ t. raises_along t waiting) way.state ∙ ap (raises_along (swept old way.sweeps)) waiting_now
 
-  pub swept_now : new ≡ swept old (suc way.sweeps)
+  swept_now : new ≡ swept old (suc way.sweeps)
   swept_now = state ∙ ap (λ t. fold transmit t waiting) way.state ∙ ap (fold transmit (swept old way.sweeps)) waiting_now
 
   total_now : raises + more ≡ total_raises old (suc way.sweeps)
   total_now = omega (arith, way.raised, raised_now)
 
-  pub in_bound : raises + more ≤ most_raises old
+  in_bound : raises + more ≤ most_raises old
   in_bound = omega (arith, total_now, sweeps_raise_few old (suc way.sweeps) laws)
 
   pub falls : 0 < more → most_raises old - (raises + more) < most_raises old - raises

@@ -1,5 +1,5 @@
 -- Each event keeps what holds of every table.
-use Rattle.std.proofs.Common.{◌≤◌, ap, arith, vec_capacity, Result, Vec, Global, ℕ}
+use Rattle.std.proofs.Common.{ap, arith, Result}
 use Rattle.mm_table.specs.declared.refusal.Refusal.{Refusal}
 use Rattle.mm_table.specs.declared.table.Table.TheInside.{Inside}
 use Rattle.mm_table.specs.TableState.{TableState}

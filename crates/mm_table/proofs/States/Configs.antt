@@ -1,13 +1,13 @@
 -- No event changes the configuration.
-use Rattle.std.proofs.Common.{◌≡◌, ◌+◌, ◌++◌, ◌∷◌, [], ℕ, List, Bool, true, false, Option, Some, None, Result, Ok, Err, MatchBool, drop, fold, slice_index, slice_set, cond, count_by, nat_lt, if◌then◌else◌, refl, ap, ◌∙◌}
+use Rattle.std.proofs.Common.{◌≡◌, ◌+◌, ◌∷◌, [], ℕ, List, Bool, true, false, Option, Some, None, Result, Ok, Err, MatchBool, fold, slice_index, slice_set, nat_lt, if◌then◌else◌, refl, ap, ◌∙◌}
 use Rattle.std.specs.Option.{option_map_or}
 use Rattle.mm_label.specs.Label.{Label}
 use Rattle.mm_arena.specs.declared.key.Key.{Key}
 use Rattle.mm_table.specs.declared.refusal.Refusal.{Refusal}
 use Rattle.mm_table.specs.declared.reply.Settled.{Settled}
-use Rattle.mm_table.specs.TableState.{TableState, Wait, key_of, owner_of, waiters_of, resources_of, waiting_processes}
-use Rattle.mm_table.specs.Change.{block, activate, give_to, hand_over, free_slot, vacate, withdraw, abort, greater_label, transmit, can_detect, detect, swept}
-use Rattle.mm_table.specs.Event.{Event, Begin, Acquire, Release, Finish, Transmit, Detect, Abort, Settle, GiveUp, Answer, Step, Gives, Tests, allowed, decided, outcome, acquire_change, Settles, settled, counts_exhausted}
+use Rattle.mm_table.specs.TableState.{TableState, Wait, owner_of, waiters_of, resources_of, waiting_processes}
+use Rattle.mm_table.specs.Change.{block, activate, give_to, hand_over, free_slot, vacate, withdraw, greater_label, transmit, can_detect, detect, swept}
+use Rattle.mm_table.specs.Event.{Event, Begin, Acquire, Release, Finish, Transmit, Detect, Abort, Settle, GiveUp, Answer, Step, Gives, decided, acquire_change, Settles, settled, counts_exhausted}
 use Rattle.mm_table.proofs.States.Transmit.{shown}
 use Rattle.mm_table.proofs.States.Sweeps.{swept_same_waits}
 

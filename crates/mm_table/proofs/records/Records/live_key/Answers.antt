@@ -1,12 +1,9 @@
 use Rattle.std.proofs.Common.{◌≡◌, length, None, ap, sym, ◌∙◌, arith}
 use Rattle.std.proofs.lemmas.List.{length-map}
-use Rattle.mm_arena.specs.declared.key.Key.{Key}
-use Rattle.mm_arena.specs.Slots.{Place}
-use Rattle.mm_table.specs.declared.records.Transaction.{Transaction}
 use Rattle.mm_table.specs.TableState.{wait_of}
 use Rattle.mm_table.specs.Event.{tenant_of}
 use Rattle.mm_table.proofs.Kept.Tenants.{tenant}
-use Rattle.mm_table.proofs.Kept.Turns.{key_told, none_told, idle_by}
+use Rattle.mm_table.proofs.Kept.LiveKeys.{key_told, none_told, idle_by}
 use Rattle.mm_table.proofs.records.Records.live_key.Goals as goal
 
 pub returns-clause-key : goal.returns-clause-key

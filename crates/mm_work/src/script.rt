@@ -1,0 +1,67 @@
+//! Scripts: lines that call a table, and the replies to them.
+//!
+//! - `line`: what a line is, and the call that it makes. Below it, `words` cuts words and reads numbers and keys.
+//! - `calls`: makes a call of the table that stands, if one does.
+//! - `reply`: replies, and how they are printed.
+//! - `input`: the bytes that are read and not yet answered.
+//! - `engine`: a script as far as it is answered.
+//! - `output`: writes the replies that wait.
+//! - `cut`: where bytes are cut.
+ghost use Rattle.std.specs.Prelude.{◌≤◌, ℕ, List, length, OnOk};
+ghost use Rattle.std.specs.Io.KnownBytes.{Appends, Consumes, IsAtEnd};
+ghost use Rattle.mm_work.specs.Script.{Ends};
+
+mod calls;
+mod cut;
+mod engine;
+mod input;
+mod line;
+mod output;
+mod reply;
+#[cfg(test)]
+mod tests;
+mod words;
+
+use engine::Session;
+use input::Input;
+use std::alloc::Global;
+use std::io::{Read, Write};
+use thiserror::Error;
+
+/// Why a script was not answered to its end.
+#[derive(Clone, Copy, Debug, PartialEq, Eq, Error)]
+pub enum ScriptFault {
+    #[error("read fault")]
+    Read,
+    #[error("write fault")]
+    Write,
+    #[error("input too long")]
+    TooLong,
+}
+
+/// Answers the lines of a script, and returns how many of them are malformed.
+///
+/// The replies to the lines of a piece are written before the next read, so at a `Read` or `TooLong` fault all whole lines
+/// are answered; at a `Write` fault replies are lost. After a fault nothing is read or written. Of a script that is too long
+/// one byte past the limit is read. Only `table` takes memory.
+pub fn run_script<R: Read, W: Write>(
+    alloc: Global,
+    reader: &mut R,
+    writer: &mut W,
+) -> Result<u64, ScriptFault>
+    ensures ends { (read : List ℕ) × (written : List ℕ) × Consumes (R.remaining reader.old) (R.remaining reader.new) read
+        × Appends (W.contents writer.old) (W.contents writer.new) written × Ends result read written }
+    ensures end { OnOk result (IsAtEnd (R.remaining reader.new)) }
+    ensures limit { (read : List ℕ) × Consumes (R.remaining reader.old) (R.remaining reader.new) read × (length read ≤ 16777217) }
+{
+    let mut input = Input::new();
+    let mut session = Session::new(alloc);
+    while input.read(reader)? {
+        let count = session.answer_piece(input.within_limit(), writer)?;
+        if input.is_past_limit() {
+            return Err(ScriptFault::TooLong);
+        }
+        input.drop_front(count);
+    }
+    session.finish(input.within_limit(), writer)
+}

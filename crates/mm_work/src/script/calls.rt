@@ -1,0 +1,68 @@
+//! Calls of the table that stands, if one does.
+ghost use Rattle.std.specs.Prelude.{◌≡◌, None, Some};
+ghost use Rattle.mm_work.specs.Text.{Replies, RepliesWithNone, RepliesWithTable};
+
+use super::line::Call;
+use super::reply::Reply;
+use mm_table::Table;
+use std::alloc::Global;
+
+/// Makes a call, and answers its reply. Only `table` takes memory.
+pub fn make(table: &mut Option<Table>, alloc: Global, call: Call) -> Reply
+    ensures { Replies call table.old result table.new }
+{
+    match table {
+        Some(table) => make_with_table(table, call),
+        None => make_with_none(table, alloc, call),
+    }
+}
+
+fn make_with_table(table: &mut Table, call: Call) -> Reply
+    ensures { RepliesWithTable call table.old result (Some table.new) }
+{
+    match call {
+        Call::Table(_) => Reply::TableStands,
+        Call::Begin => table.begin().map_or_else(Reply::Refused, Reply::Begun),
+        Call::Acquire { key, resource } => table
+            .acquire(key, resource)
+            .map_or_else(Reply::Refused, Reply::Acquired),
+        Call::Release { key, resource } => table
+            .release(key, resource)
+            .map_or_else(Reply::Refused, Reply::Released),
+        Call::Finish(key) => table
+            .finish(key)
+            .map_or_else(Reply::Refused, |()| Reply::Finished),
+        Call::Transmit(key) => table
+            .transmit(key)
+            .map_or_else(Reply::Refused, Reply::Transmitted),
+        Call::Detect(key) => table
+            .detect(key)
+            .map_or_else(Reply::Refused, Reply::Detected),
+        Call::Abort(key) => table
+            .abort(key)
+            .map_or_else(Reply::Refused, |()| Reply::Aborted),
+        Call::Settle => table.settle().map_or_else(Reply::Refused, Reply::Settled),
+        Call::State(key) => table.state(key).map_or_else(Reply::Refused, Reply::Read),
+        Call::Owner(resource) => table
+            .owner(resource)
+            .map_or_else(Reply::Refused, Reply::Owned),
+        Call::Totals => Reply::Counted(table.totals()),
+    }
+}
+
+/// A refused `table` leaves none.
+fn make_with_none(table: &mut Option<Table>, alloc: Global, call: Call) -> Reply
+    requires { table.old ≡ None }
+    ensures { RepliesWithNone call result table.new }
+{
+    let Call::Table(config) = call else {
+        return Reply::NoTable;
+    };
+    match Table::open(alloc, config) {
+        Ok(opened) => {
+            *table = Some(opened);
+            Reply::Opened
+        }
+        Err(refusal) => Reply::Refused(refusal),
+    }
+}

@@ -1,0 +1,88 @@
+//! The bytes that are read and not yet answered.
+ghost use Rattle.std.specs.Prelude.{◌≡◌, ℕ, ◌+◌, ◌-◌, ◌≤◌, ◌<◌, List, [], ◌++◌, length, take, drop, IfOk, IsOkUnless, OnErr, IsTrue, ◌↔◌};
+ghost use Rattle.std.specs.Io.KnownBytes.{Keeps};
+
+use super::ScriptFault;
+use super::line::LONGEST_LINE;
+use std::io::Read;
+
+/// A read gives at most so many bytes.
+const INPUT_LEN: usize = 32768;
+
+/// A script has at most so many bytes: 16 MiB.
+pub const INPUT_LIMIT: usize = 16_777_216;
+
+/// More bytes than the longest line has. Of an open line no more are held.
+const MOST_HELD: usize = LONGEST_LINE + 1;
+
+/// The bytes behind the lines that are answered.
+#[derive(Drop)]
+pub struct Input {
+    bytes: [u8; INPUT_LEN],
+    len: usize,
+    /// How many bytes were read in all.
+    taken: usize,
+}
+
+impl Input {
+    ghost use Rattle.mm_work.specs.Input.{held, within_limit, IsReady, Reads};
+
+    pub fn new() -> Self
+        ensures held { held result ≡ [] }
+        ensures taken { result.taken ≡ 0 }
+        ensures ready { IsReady result }
+    {
+        Input {
+            bytes: [0; INPUT_LEN],
+            len: 0,
+            taken: 0,
+        }
+    }
+
+    /// The bytes that are held, but none past the limit.
+    pub fn within_limit(&self) -> &[u8]
+        requires { self.now.len ≤ INPUT_LEN }
+        ensures { result.now ≡ within_limit self.now }
+    {
+        let past = self.taken.saturating_sub(INPUT_LIMIT);
+        self.bytes.split_at(self.len.saturating_sub(past)).0
+    }
+
+    /// Whether a byte past the limit was read.
+    pub fn is_past_limit(&self) -> bool
+        ensures { IsTrue result ↔ (INPUT_LIMIT < self.now.taken) }
+    {
+        self.taken > INPUT_LIMIT
+    }
+
+    /// Reads once, at most one byte past the limit, and returns whether a byte came.
+    pub fn read<R: Read>(&mut self, reader: &mut R) -> Result<bool, ScriptFault>
+        requires { IsReady self.old }
+        ensures ok { IfOk result (Reads (R.remaining reader.old) (R.remaining reader.new) self.old self.new) }
+        ensures fault { IsOkUnless result ScriptFault.Read }
+        ensures err { OnErr result (Keeps (R.remaining reader.old) (R.remaining reader.new)) }
+    {
+        let end = INPUT_LEN.min(self.len + (INPUT_LIMIT + 1 - self.taken));
+        match reader.read(&mut self.bytes[self.len..end]) {
+            Ok(count) => {
+                self.len += count;
+                self.taken += count;
+                Ok(count > 0)
+            }
+            Err(_) => Err(ScriptFault::Read),
+        }
+    }
+
+    /// Lets bytes at the front go, and all of an open line but so many that it is too long.
+    pub fn drop_front(&mut self, count: usize)
+        requires in_range { count ≤ self.old.len }
+        requires fits { self.old.len ≤ INPUT_LEN }
+        ensures held { held self.new ≡ take MOST_HELD (drop count (held self.old)) }
+        ensures taken { self.new.taken ≡ self.old.taken }
+        ensures len { self.new.len ≤ MOST_HELD }
+    {
+        let len = MOST_HELD.min(self.len - count);
+        self.bytes.copy_within(count..count + len, 0);
+        self.len = len;
+    }
+}

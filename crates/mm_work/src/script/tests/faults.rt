@@ -1,0 +1,90 @@
+//! A reader and a writer that fail at a chosen call, and a reader of newlines.
+
+use std::io;
+use std::io::{ErrorKind, Read, Write};
+
+/// Gives its bytes in pieces, and fails once, after some calls.
+#[derive(Drop)]
+pub struct FailingReader<'a> {
+    pub bytes: &'a [u8],
+    /// How many bytes a call gives.
+    pub piece: usize,
+    /// How many calls come before the one that fails.
+    pub calls: u32,
+    pub kind: ErrorKind,
+}
+
+impl Read for FailingReader<'_> {
+    fn read(&mut self, buf: &mut [u8]) -> io::Result<usize> {
+        if self.calls == 0 {
+            self.calls = u32::MAX;
+            return Err(io::Error::from(self.kind));
+        }
+        self.calls -= 1;
+        let count = self.piece.min(self.bytes.len()).min(buf.len());
+        let (front, rest) = self.bytes.split_at(count);
+        buf[..count].copy_from_slice(front);
+        self.bytes = rest;
+        Ok(count)
+    }
+}
+
+/// What a writer does that has no room left.
+#[derive(Clone, Copy)]
+pub enum WhenFull {
+    Fails,
+    TakesNone,
+}
+
+/// Takes some bytes, a few at each call; then one call takes none, and those after it would take more.
+#[derive(Drop)]
+pub struct FailingWriter {
+    pub taken: Vec<u8>,
+    /// How many bytes a call takes.
+    pub piece: usize,
+    /// How many bytes may still be taken.
+    pub room: usize,
+    pub when_full: WhenFull,
+    /// How many flushes came. Each fails where `flush_fails`.
+    pub flushes: u32,
+    pub flush_fails: bool,
+}
+
+impl Write for FailingWriter {
+    fn write(&mut self, buf: &[u8]) -> io::Result<usize> {
+        let count = self.piece.min(self.room).min(buf.len());
+        if count == 0 {
+            self.room = usize::MAX;
+            return match self.when_full {
+                WhenFull::Fails => Err(io::Error::from(ErrorKind::Other)),
+                WhenFull::TakesNone => Ok(0),
+            };
+        }
+        self.taken.extend_from_slice(buf.split_at(count).0)?;
+        self.room -= count;
+        Ok(count)
+    }
+
+    fn flush(&mut self) -> io::Result<()> {
+        self.flushes = self.flushes.saturating_add(1);
+        if self.flush_fails {
+            return Err(io::Error::from(ErrorKind::Other));
+        }
+        Ok(())
+    }
+}
+
+/// Gives newlines alone, so many.
+#[derive(Drop)]
+pub struct Newlines {
+    pub left: usize,
+}
+
+impl Read for Newlines {
+    fn read(&mut self, buf: &mut [u8]) -> io::Result<usize> {
+        let count = self.left.min(buf.len());
+        buf[..count].fill(b'\n');
+        self.left -= count;
+        Ok(count)
+    }
+}
