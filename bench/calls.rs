@@ -4,6 +4,7 @@
 //! the table, as the plain one is a loop beside its table, so that both compilers can inline. Each number is the least of many short
 //! rounds, in which the two tables take turns, less what the same loop costs that only opens and prepares its tables.
 
+#[allow(dead_code)] // no workload makes all of its calls
 mod plain;
 mod workloads;
 
@@ -17,12 +18,9 @@ const SECONDS: f64 = 2.0;
 
 unsafe extern "C" {
     safe fn mm_bench_nothing(number: u64) -> u64;
-    safe fn mm_bench_rounds(mask: u32, count: u64) -> u64;
-    safe fn mm_bench_rounds_beside(waiters: u32, count: u64) -> u64;
+    safe fn mm_bench_rounds(resources: u32, mask: u32, others: u32, count: u64) -> u64;
     safe fn mm_bench_crosswise(count: u64) -> u64;
-    safe fn mm_bench_probed_rings(size: u32, is_closed: bool, count: u64) -> u64;
-    safe fn mm_bench_settled_rings(size: u32, is_rising: bool, is_closed: bool, count: u64) -> u64;
-    safe fn mm_bench_idle_settles(size: u32, count: u64) -> u64;
+    safe fn mm_bench_rings(size: u32, is_rising: bool, settles: u32, is_closed: bool, count: u64) -> u64;
 }
 
 /// A workload over both tables; its argument tells whether what is timed is done, or only what prepares it.
@@ -65,7 +63,7 @@ impl Workload<'_> {
         }
         let proved = (least[0] - least[1]) / self.units as f64;
         let plain = (least[2] - least[3]) / self.units as f64;
-        println!("{:<44} {:>6} {:>11.2} {:>11.2} {:>6.2}  ns a {}", self.name, self.size, proved, plain, proved / plain, self.unit);
+        println!("{:<46} {:>6} {:>11.2} {:>11.2} {:>6.2}  ns a {}", self.name, self.size, proved, plain, proved / plain, self.unit);
     }
 }
 
@@ -77,21 +75,22 @@ fn measure_rounds(resources: u32) {
         size: resources,
         units: 18 * count,
         unit: "call",
-        proved: &|is_whole| mm_bench_rounds(mask, if is_whole { count } else { 0 }),
-        plain: &|is_whole| workloads::rounds(mask, if is_whole { count } else { 0 }).unwrap(),
+        proved: &|is_whole| mm_bench_rounds(resources, mask, 0, if is_whole { count } else { 0 }),
+        plain: &|is_whole| workloads::rounds(resources, mask, 0, if is_whole { count } else { 0 }).unwrap(),
     }
     .measure();
 }
 
-fn measure_rounds_beside(waiters: u32) {
+fn measure_rounds_beside(others: u32) {
     let count = 50;
+    let (resources, mask) = (1_025, 1_023);
     Workload {
-        name: "the same, while so many others wait",
-        size: waiters,
+        name: "the same, while so many hold or await another",
+        size: others,
         units: 18 * count,
         unit: "call",
-        proved: &|is_whole| mm_bench_rounds_beside(waiters, if is_whole { count } else { 0 }),
-        plain: &|is_whole| workloads::rounds_beside(waiters, if is_whole { count } else { 0 }).unwrap(),
+        proved: &|is_whole| mm_bench_rounds(resources, mask, others, if is_whole { count } else { 0 }),
+        plain: &|is_whole| workloads::rounds(resources, mask, others, if is_whole { count } else { 0 }).unwrap(),
     }
     .measure();
 }
@@ -109,28 +108,15 @@ fn measure_crosswise() {
     .measure();
 }
 
-fn measure_probed_rings(size: u32) {
-    let count = (8_192 / u64::from(size)).max(2);
-    Workload {
-        name: "ring closed, transmits all round, detect",
-        size,
-        units: count,
-        unit: "ring",
-        proved: &|is_whole| mm_bench_probed_rings(size, is_whole, count),
-        plain: &|is_whole| workloads::probed_rings(size, is_whole, count).unwrap(),
-    }
-    .measure();
-}
-
-fn measure_settled_rings(size: u32, is_rising: bool) {
+fn measure_rings(size: u32, is_rising: bool) {
     let count = (8_192 / u64::from(size)).max(2);
     Workload {
         name: if is_rising { "ring closed and settled, against the numbers" } else { "ring closed and settled, along the numbers" },
         size,
         units: count,
         unit: "ring",
-        proved: &|is_whole| mm_bench_settled_rings(size, is_rising, is_whole, count),
-        plain: &|is_whole| workloads::settled_rings(size, is_rising, is_whole, count).unwrap(),
+        proved: &|is_whole| mm_bench_rings(size, is_rising, 1, is_whole, count),
+        plain: &|is_whole| workloads::rings(size, is_rising, 1, is_whole, count).unwrap(),
     }
     .measure();
 }
@@ -140,10 +126,10 @@ fn measure_idle_settles(size: u32) {
     Workload {
         name: "settle while all but one wait, and none rises",
         size,
-        units: count,
+        units: u64::from(count),
         unit: "settle",
-        proved: &|is_whole| mm_bench_idle_settles(size, if is_whole { count } else { 0 }),
-        plain: &|is_whole| workloads::idle_settles(size, if is_whole { count } else { 0 }).unwrap(),
+        proved: &|is_whole| mm_bench_rings(size, true, if is_whole { count + 1 } else { 1 }, false, 1),
+        plain: &|is_whole| workloads::rings(size, true, if is_whole { count + 1 } else { 1 }, false, 1).unwrap(),
     }
     .measure();
 }
@@ -156,22 +142,21 @@ fn measure_nothing() {
             time(&|_| (0..count).fold(0, |sum, _| mm_bench_nothing(sum)), true)
         })
         .fold(f64::INFINITY, f64::min);
-    println!("{:<44} {:>6} {:>11.2} {:>11} {:>6}  ns a call", "a call through C that does nothing", "", least / count as f64, "", "");
+    println!("{:<46} {:>6} {:>11.2} {:>11} {:>6}  ns a call", "a call through C that does nothing", "", least / count as f64, "", "");
 }
 
 fn main() {
-    println!("{:<44} {:>6} {:>11} {:>11} {:>6}", "workload", "size", "proved", "plain", "ratio");
+    println!("{:<46} {:>6} {:>11} {:>11} {:>6}", "workload", "size", "proved", "plain", "ratio");
     for resources in [16, 1_024, 65_536] {
         measure_rounds(resources);
     }
-    for waiters in [64, 4_000] {
-        measure_rounds_beside(waiters);
+    for others in [64, 4_000] {
+        measure_rounds_beside(others);
     }
     measure_crosswise();
     for size in [2, 64, 4_096] {
-        measure_probed_rings(size);
-        measure_settled_rings(size, false);
-        measure_settled_rings(size, true);
+        measure_rings(size, false);
+        measure_rings(size, true);
     }
     measure_idle_settles(4_096);
     measure_nothing();

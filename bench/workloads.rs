@@ -3,42 +3,34 @@
 use crate::plain::{Config, Key, Refusal, Table};
 
 const STRIDE: u32 = 40_503;
-const PROCESSES: u32 = 1_024;
-const RESOURCES_BESIDE: u32 = 1_024;
+const MOST_PROCESSES: u32 = 4_096;
 
 fn open(processes: u32, resources: u32) -> Result<Table, Refusal> {
     Table::open(Config { processes, resources, label_limit: 17_592_186_044_415, generation_limit: u32::MAX })
 }
 
-fn key_of(process: u32) -> Key {
-    Key { process, generation: 1 }
+fn take_sixteen(table: &mut Table, first: u32, mask: u32) -> Result<u32, Refusal> {
+    let key = table.begin()?;
+    let mut resource = first;
+    for _ in 0..16 {
+        table.acquire(key, resource & mask)?;
+        resource = resource.wrapping_add(STRIDE);
+    }
+    table.finish(key)?;
+    Ok(resource)
 }
 
-fn make_rounds(table: &mut Table, mask: u32, count: u64) -> Result<u64, Refusal> {
-    let mut resource = 0u32;
-    for _ in 0..count {
+pub fn rounds(resources: u32, mask: u32, others: u32, count: u64) -> Result<u64, Refusal> {
+    let mut table = open(MOST_PROCESSES, resources)?;
+    for _ in 0..others {
         let key = table.begin()?;
-        for _ in 0..16 {
-            table.acquire(key, resource & mask)?;
-            resource = resource.wrapping_add(STRIDE);
-        }
-        table.finish(key)?;
+        table.acquire(key, resources - 1)?;
+    }
+    let mut resource = 0;
+    for _ in 0..count {
+        resource = take_sixteen(&mut table, resource, mask)?;
     }
     Ok(table.accepted())
-}
-
-pub fn rounds(mask: u32, count: u64) -> Result<u64, Refusal> {
-    let mut table = open(PROCESSES, mask + 1)?;
-    make_rounds(&mut table, mask, count)
-}
-
-pub fn rounds_beside(waiters: u32, count: u64) -> Result<u64, Refusal> {
-    let mut table = open(4_096, RESOURCES_BESIDE + 1)?;
-    for _ in 0..=waiters {
-        let key = table.begin()?;
-        table.acquire(key, RESOURCES_BESIDE)?;
-    }
-    make_rounds(&mut table, RESOURCES_BESIDE - 1, count)
 }
 
 fn wait_crosswise(table: &mut Table) -> Result<(), Refusal> {
@@ -66,6 +58,12 @@ fn process_at(place: u32, size: u32, is_rising: bool) -> u32 {
     if is_rising { place } else { size - 1 - place }
 }
 
+fn wait(table: &mut Table, size: u32, is_rising: bool, from: u32, to: u32) -> Result<(), Refusal> {
+    let key = Key { process: process_at(from, size, is_rising), generation: 1 };
+    table.acquire(key, process_at(to, size, is_rising))?;
+    Ok(())
+}
+
 fn row(size: u32, is_rising: bool) -> Result<Table, Refusal> {
     let mut table = open(size, size)?;
     for process in 0..size {
@@ -73,57 +71,27 @@ fn row(size: u32, is_rising: bool) -> Result<Table, Refusal> {
         table.acquire(key, process)?;
     }
     for place in (1..size).rev() {
-        let waiter = key_of(process_at(place - 1, size, is_rising));
-        table.acquire(waiter, process_at(place, size, is_rising))?;
+        wait(&mut table, size, is_rising, place - 1, place)?;
     }
     Ok(table)
 }
 
-fn close(table: &mut Table, size: u32, is_rising: bool) -> Result<Key, Refusal> {
-    let last = key_of(process_at(size - 1, size, is_rising));
-    table.acquire(last, process_at(0, size, is_rising))?;
-    Ok(last)
-}
-
-fn probe(table: &mut Table, size: u32) -> Result<(), Refusal> {
-    let last = close(table, size, true)?;
-    for process in (1..size).rev() {
-        table.transmit(key_of(process - 1))?;
-    }
-    table.detect(last)?;
-    Ok(())
-}
-
-pub fn probed_rings(size: u32, is_closed: bool, count: u64) -> Result<u64, Refusal> {
-    let mut accepted = 0;
-    for _ in 0..count {
-        let mut table = row(size, true)?;
-        if is_closed {
-            probe(&mut table, size)?;
-        }
-        accepted += table.accepted();
-    }
-    Ok(accepted)
-}
-
-pub fn settled_rings(size: u32, is_rising: bool, is_closed: bool, count: u64) -> Result<u64, Refusal> {
-    let mut accepted = 0;
-    for _ in 0..count {
-        let mut table = row(size, is_rising)?;
-        table.settle()?;
-        if is_closed {
-            close(&mut table, size, is_rising)?;
-            table.settle()?;
-        }
-        accepted += table.accepted() + table.verdicts();
-    }
-    Ok(accepted)
-}
-
-pub fn idle_settles(size: u32, count: u64) -> Result<u64, Refusal> {
-    let mut table = row(size, true)?;
-    for _ in 0..count {
+fn ring(size: u32, is_rising: bool, settles: u32, is_closed: bool) -> Result<u64, Refusal> {
+    let mut table = row(size, is_rising)?;
+    for _ in 0..settles {
         table.settle()?;
     }
-    Ok(table.accepted())
+    if is_closed {
+        wait(&mut table, size, is_rising, size - 1, 0)?;
+        table.settle()?;
+    }
+    Ok(table.accepted() + table.verdicts())
+}
+
+pub fn rings(size: u32, is_rising: bool, settles: u32, is_closed: bool, count: u64) -> Result<u64, Refusal> {
+    let mut accepted = 0;
+    for _ in 0..count {
+        accepted += ring(size, is_rising, settles, is_closed)?;
+    }
+    Ok(accepted)
 }

@@ -1,49 +1,79 @@
-//! Transactions of sixteen resources that nobody waits for.
+//! Transactions that begin and end in one table, over and over.
 use crate::open;
-use mm_table::{Config, Key, Refusal, Table};
+use mm_table::{Config, Refusal, Table};
 use std::alloc::Global;
 
-/// From one resource to the next. It is odd, so a table whose size is a power of two is gone through whole.
+/// From one resource to the next. It is odd, so resources whose number is a power of two are gone through whole.
 const STRIDE: u32 = 40_503;
 
-const PROCESSES: u32 = 1_024;
-
-/// How many resources the rounds take from that are made while others wait.
-const RESOURCES_BESIDE: u32 = 1_024;
-
-/// Acquires sixteen resources from `first` on.
-fn acquire_sixteen(table: &mut Table, key: Key, first: u32, mask: u32) -> Result<u32, Refusal> {
+/// Acquires sixteen resources from `first` on, and answers the next one.
+fn take_sixteen(table: &mut Table, first: u32, mask: u32) -> Result<u32, Refusal> {
+    let key = table.begin()?;
     let mut resource = first;
     for _ in 0..16 {
         table.acquire(key, resource & mask)?;
         resource = resource.wrapping_add(STRIDE);
     }
+    table.finish(key)?;
     Ok(resource)
 }
 
-/// Makes `count` rounds.
-fn make_rounds(table: &mut Table, mask: u32, count: u64) -> Result<u64, Refusal> {
+fn rounds(
+    alloc: Global,
+    resources: u32,
+    mask: u32,
+    others: u32,
+    count: u64,
+) -> Result<u64, Refusal> {
+    let mut table = open(alloc, Config::MOST_PROCESSES, resources)?;
+    for _ in 0..others {
+        let key = table.begin()?;
+        table.acquire(key, resources.wrapping_sub(1))?;
+    }
     let mut resource = 0;
     for _ in 0..count {
-        let key = table.begin()?;
-        resource = acquire_sixteen(table, key, resource, mask)?;
-        table.finish(key)?;
+        resource = take_sixteen(&mut table, resource, mask)?;
     }
     Ok(table.totals().accepted)
 }
 
-/// See `mm_bench_rounds`.
-pub fn rounds(alloc: Global, mask: u32, count: u64) -> Result<u64, Refusal> {
-    let mut table = open(alloc, PROCESSES, mask.wrapping_add(1))?;
-    make_rounds(&mut table, mask, count)
+/// `count` transactions, one after another, take sixteen resources each, of the numbers up to `mask`, and finish. Meanwhile `others`
+/// hold and await the last resource.
+#[unsafe(no_mangle)]
+pub extern "C" fn mm_bench_rounds(
+    alloc: Global,
+    resources: u32,
+    mask: u32,
+    others: u32,
+    count: u64,
+) -> u64 {
+    rounds(alloc, resources, mask, others, count).unwrap_or(0)
 }
 
-/// See `mm_bench_rounds_beside`.
-pub fn rounds_beside(alloc: Global, waiters: u32, count: u64) -> Result<u64, Refusal> {
-    let mut table = open(alloc, Config::MOST_PROCESSES, RESOURCES_BESIDE + 1)?;
-    for _ in 0..=waiters {
-        let key = table.begin()?;
-        table.acquire(key, RESOURCES_BESIDE)?;
+/// Two transactions wait for each other; the one that gets the verdict is aborted, and the other one finishes.
+fn wait_crosswise(table: &mut Table) -> Result<(), Refusal> {
+    let first = table.begin()?;
+    let second = table.begin()?;
+    table.acquire(first, 0)?;
+    table.acquire(second, 1)?;
+    table.acquire(first, 1)?;
+    table.acquire(second, 0)?;
+    table.transmit(first)?;
+    table.detect(second)?;
+    table.abort(second)?;
+    table.finish(first)
+}
+
+fn crosswise(alloc: Global, count: u64) -> Result<u64, Refusal> {
+    let mut table = open(alloc, 1_024, 1_024)?;
+    for _ in 0..count {
+        wait_crosswise(&mut table)?;
     }
-    make_rounds(&mut table, RESOURCES_BESIDE - 1, count)
+    Ok(table.totals().accepted)
+}
+
+/// `count` deadlocks of two transactions, from begin to finish.
+#[unsafe(no_mangle)]
+pub extern "C" fn mm_bench_crosswise(alloc: Global, count: u64) -> u64 {
+    crosswise(alloc, count).unwrap_or(0)
 }
