@@ -133,3 +133,42 @@ fn a_ring_of_four_settles(rt: HostRuntime) -> Result<(), Fail> {
     assert_eq!(rt; table.settle()?, answer);
     Ok(())
 }
+
+/// Two wait for each other; the one whose label comes round gives way to the other.
+#[test]
+fn the_convicted_one_gives_way(rt: HostRuntime) -> Result<(), Fail> {
+    let mut table = Table::open(rt.alloc(), config(4, 4))?;
+    make_ring(&mut table, 2)?;
+    let first = table.tenant(0).ok_or("live")?;
+    let second = table.tenant(1).ok_or("live")?;
+    let label = Label::new(2, 1).ok_or("in range")?;
+    assert_eq!(rt; table.detect(second)?, Detected::Clear);
+    assert_eq!(rt; table.abort(second), Err(Refusal::NoVerdict));
+    assert_eq!(rt; table.transmit(first)?, Transmitted::Raised(label));
+    assert_eq!(rt; table.detect(second)?, Detected::Deadlock(label));
+    assert_eq!(rt; table.finish(second), Err(Refusal::Waiting));
+    table.abort(second)?;
+    assert_eq!(rt; table.owner(1)?, Some(first));
+    assert_eq!(rt; told(&table, 0), Some((Mode::Active, 1, 0, 2, 1)));
+    assert_eq!(rt; table.state(second), Err(Refusal::Stale));
+    Ok(())
+}
+
+/// One that finishes hands over each of its resources to the longest waiter.
+#[test]
+fn a_finish_hands_over(rt: HostRuntime) -> Result<(), Fail> {
+    let mut table = Table::open(rt.alloc(), config(4, 2))?;
+    let first = table.begin()?;
+    let others = [table.begin()?, table.begin()?, table.begin()?];
+    table.acquire(first, 0)?;
+    table.acquire(first, 1)?;
+    for (key, resource) in [(others[0], 1), (others[1], 0), (others[2], 0)] {
+        table.acquire(key, resource)?;
+    }
+    table.finish(first)?;
+    assert_eq!(rt; table.owner(0)?, Some(others[1]));
+    assert_eq!(rt; table.owner(1)?, Some(others[0]));
+    assert_eq!(rt; told(&table, 3), Some((Mode::Waiting(0), 2, 3, 2, 3)));
+    assert_eq!(rt; table.finish(first), Err(Refusal::Stale));
+    Ok(())
+}

@@ -1,0 +1,34 @@
+//! Workloads over a table, to be timed from outside.
+//!
+//! Each opens tables of its own, works on them in a loop, and answers how many events were accepted, or 0 where a call was
+//! refused. A table cannot be handed to C and back, so no export makes one call alone.
+#![tactic(auto)]
+
+ghost use Rattle.std.specs.Prelude.{◌≡◌};
+
+use mm_table::{Config, Refusal, Table};
+use std::alloc::Global;
+
+mod rings;
+mod rounds;
+
+/// A table with the widest limits.
+fn open(alloc: Global, processes: u32, resources: u32) -> Result<Table, Refusal> {
+    Table::open(
+        alloc,
+        Config {
+            processes,
+            resources,
+            label_limit: Config::GREATEST_LABEL_LIMIT,
+            generation_limit: u32::MAX,
+        },
+    )
+}
+
+/// Does nothing: what a call from C costs by itself.
+#[unsafe(no_mangle)]
+pub extern "C" fn mm_bench_nothing(number: u64) -> u64
+    ensures { result ≡ number }
+{
+    number
+}

@@ -1,0 +1,75 @@
+//! Transactions that wait for one another in a row, which is closed to a ring.
+use crate::open;
+use mm_table::{Key, Refusal, Table};
+use std::alloc::Global;
+
+/// The process at a place of a row of `size`, in which each waits for the next place.
+fn process_at(place: u32, size: u32, is_rising: bool) -> u32 {
+    if is_rising {
+        place
+    } else {
+        size.wrapping_sub(1).wrapping_sub(place)
+    }
+}
+
+/// The transaction at one place waits for the one at another.
+fn wait(table: &mut Table, size: u32, is_rising: bool, from: u32, to: u32) -> Result<(), Refusal> {
+    let key = Key {
+        process: process_at(from, size, is_rising),
+        generation: 1,
+    };
+    table.acquire(key, process_at(to, size, is_rising))?;
+    Ok(())
+}
+
+/// A row of `size` transactions. The waits come from the end on, so that no label is below its holder's.
+fn row(alloc: Global, size: u32, is_rising: bool) -> Result<Table, Refusal> {
+    let mut table = open(alloc, size, size)?;
+    for process in 0..size {
+        let key = table.begin()?;
+        table.acquire(key, process)?;
+    }
+    for place in (1..size).rev() {
+        wait(&mut table, size, is_rising, place - 1, place)?;
+    }
+    Ok(table)
+}
+
+/// A row that is settled so many times and then, where `is_closed`, closed to a ring and settled again. Counts the verdict too.
+fn ring(
+    alloc: Global,
+    size: u32,
+    is_rising: bool,
+    settles: u32,
+    is_closed: bool,
+) -> Result<u64, Refusal> {
+    let mut table = row(alloc, size, is_rising)?;
+    for _ in 0..settles {
+        table.settle()?;
+    }
+    if is_closed {
+        wait(&mut table, size, is_rising, size.wrapping_sub(1), 0)?;
+        table.settle()?;
+    }
+    let totals = table.totals();
+    Ok(totals.accepted.wrapping_add(totals.verdicts))
+}
+
+/// `count` rows of `size` transactions, each in a table of its own, in which a process waits for the one after it where `is_rising`,
+/// and else for the one before it. Each is settled `settles` times and then, where `is_closed`, closed to a ring and settled again.
+#[unsafe(no_mangle)]
+pub extern "C" fn mm_bench_rings(
+    alloc: Global,
+    size: u32,
+    is_rising: bool,
+    settles: u32,
+    is_closed: bool,
+    count: u64,
+) -> u64 {
+    let mut accepted: u64 = 0;
+    for _ in 0..count {
+        let more = ring(alloc, size, is_rising, settles, is_closed).unwrap_or(0);
+        accepted = accepted.wrapping_add(more);
+    }
+    accepted
+}

@@ -1,0 +1,79 @@
+//! Transactions that begin and end in one table, over and over.
+use crate::open;
+use mm_table::{Config, Refusal, Table};
+use std::alloc::Global;
+
+/// From one resource to the next. It is odd, so resources whose number is a power of two are gone through whole.
+const STRIDE: u32 = 40_503;
+
+/// Acquires sixteen resources from `first` on, and answers the next one.
+fn take_sixteen(table: &mut Table, first: u32, mask: u32) -> Result<u32, Refusal> {
+    let key = table.begin()?;
+    let mut resource = first;
+    for _ in 0..16 {
+        table.acquire(key, resource & mask)?;
+        resource = resource.wrapping_add(STRIDE);
+    }
+    table.finish(key)?;
+    Ok(resource)
+}
+
+fn rounds(
+    alloc: Global,
+    resources: u32,
+    mask: u32,
+    others: u32,
+    count: u64,
+) -> Result<u64, Refusal> {
+    let mut table = open(alloc, Config::MOST_PROCESSES, resources)?;
+    for _ in 0..others {
+        let key = table.begin()?;
+        table.acquire(key, resources.wrapping_sub(1))?;
+    }
+    let mut resource = 0;
+    for _ in 0..count {
+        resource = take_sixteen(&mut table, resource, mask)?;
+    }
+    Ok(table.totals().accepted)
+}
+
+/// `count` transactions, one after another, take sixteen resources each, of the numbers up to `mask`, and finish. Meanwhile `others`
+/// hold and await the last resource.
+#[unsafe(no_mangle)]
+pub extern "C" fn mm_bench_rounds(
+    alloc: Global,
+    resources: u32,
+    mask: u32,
+    others: u32,
+    count: u64,
+) -> u64 {
+    rounds(alloc, resources, mask, others, count).unwrap_or(0)
+}
+
+/// Two transactions wait for each other; the one that gets the verdict is aborted, and the other one finishes.
+fn wait_crosswise(table: &mut Table) -> Result<(), Refusal> {
+    let first = table.begin()?;
+    let second = table.begin()?;
+    table.acquire(first, 0)?;
+    table.acquire(second, 1)?;
+    table.acquire(first, 1)?;
+    table.acquire(second, 0)?;
+    table.transmit(first)?;
+    table.detect(second)?;
+    table.abort(second)?;
+    table.finish(first)
+}
+
+fn crosswise(alloc: Global, count: u64) -> Result<u64, Refusal> {
+    let mut table = open(alloc, 1_024, 1_024)?;
+    for _ in 0..count {
+        wait_crosswise(&mut table)?;
+    }
+    Ok(table.totals().accepted)
+}
+
+/// `count` deadlocks of two transactions, from begin to finish.
+#[unsafe(no_mangle)]
+pub extern "C" fn mm_bench_crosswise(alloc: Global, count: u64) -> u64 {
+    crosswise(alloc, count).unwrap_or(0)
+}
