@@ -1,8 +1,10 @@
--- The queue of a resource from a place among the waits on, as the contracts of private functions see it.
-use Rattle.std.specs.Prelude.{ℕ, ◌≢◌, Bool, List, filter, fold, drop, nat_eq}
+-- Waiting and queues, as the contracts of private functions see them.
+use Rattle.std.specs.Prelude.{ℕ, ◌≢◌, Bool, not, List, [], ◌∷◌, filter, fold, drop, nat_eq}
 use Rattle.std.specs.List.{list_all, AllByRecursion}
 use Rattle.mm_table.specs.TableState.{TableState, Wait}
 use Rattle.mm_table.specs.Change.{block, block_fits}
+use Rattle.mm_table.specs.declared.refusal.Refusal.TheVariants.{AlreadyOwns, LabelsExhausted}
+use Rattle.mm_table.specs.Event.{Tests}
 
 -- those that wait for r, from this place among the waits on
 abbrev pub queue_from : TableState → ℕ → ℕ → List Wait
@@ -19,3 +21,7 @@ blocked_on s h ws = fold (λ t w. block t w.key.process h) s ws
 -- none of these is process h
 abbrev pub NoneIs : ℕ → List Wait → Type 0
 NoneIs h ws = AllByRecursion (λ w. w.key.process ≢ h) ws
+
+-- the last tests of an acquire of what process h owns
+abbrev pub wait_tests : TableState → ℕ → ℕ → Tests
+wait_tests s n h = (nat_eq h n, AlreadyOwns) ∷ (not (block_fits s n h), LabelsExhausted) ∷ []

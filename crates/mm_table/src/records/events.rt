@@ -30,8 +30,7 @@ impl Records {
                 Acquired::Granted
             }
             Some(holder) => {
-                self.queue(key, resource);
-                let label = self.block(key.process, holder.process);
+                let label = self.wait_for(key, resource, holder.process);
                 Acquired::Waits { holder, label }
             }
         };

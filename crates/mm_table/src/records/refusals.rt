@@ -2,6 +2,7 @@
 ghost use Rattle.std.specs.Prelude.{◌≡◌, ◌<◌, IsTrue, None, OnOk, SomeIff};
 ghost use Rattle.mm_table.specs.TableState.{is_live, is_waiting, has_verdict, owns, wait_of};
 ghost use Rattle.mm_table.specs.Change.{label_against, block_fits, hand_over_fits, vacate_fits};
+ghost use Rattle.mm_table.specs.Queue.{wait_tests};
 ghost use Rattle.mm_table.specs.Event.{counts_exhausted, allowed, key_tests, waiting_tests, acquire_tests, release_tests, finish_tests, abort_tests};
 
 use super::Records;
@@ -86,10 +87,20 @@ impl Records {
         let Some(holder) = self.owners[resource as usize] else {
             return Ok(());
         };
-        if holder.process == key.process {
+        self.may_wait(key.process, holder.process)
+    }
+
+    /// The last tests of `acquire`, of a resource that has an owner.
+    #[inline(never)]
+    fn may_wait(&self, process: u32, holder: u32) -> Result<(), Refusal>
+        requires process { process < self.now.config.processes }
+        requires holder { holder < self.now.config.processes }
+        ensures { result ≡ allowed (wait_tests self.now process holder) }
+    {
+        if holder == process {
             return Err(Refusal::AlreadyOwns);
         }
-        if self.label_against(key.process, holder.process).is_none() {
+        if self.label_against(process, holder).is_none() {
             return Err(Refusal::LabelsExhausted);
         }
         Ok(())
