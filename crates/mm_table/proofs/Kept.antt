@@ -10,6 +10,8 @@ pub mod FreeingSlot
 pub mod Withdrawing
 -- what each process owns
 pub mod Owning
+-- tests of a call
+pub mod Tests
 -- queues, found in the one list of waits
 pub mod Queues
 pub mod EndingWait

@@ -39,7 +39,7 @@ impl Records {
     }
 
     /// Appends the wait of a live transaction that does not wait.
-    fn queue(&mut self, key: Key, resource: u32)
+    pub(super) fn queue(&mut self, key: Key, resource: u32)
         requires live { IsTrue (is_live self.old key) }
         requires resource { resource < self.old.config.resources }
         requires idle { wait_of self.old key.process ≡ None }
@@ -48,23 +48,6 @@ impl Records {
         let transaction = self.transactions.get_mut(key).unwrap();
         transaction.waits_for = Some(resource);
         self.waits.push_reserved(WaitRecord { key, resource });
-    }
-
-    /// A live transaction that does not wait does so from now on, last in the queue of `resource`, and is blocked on `holder`.
-    /// Answers its new label. It stands apart from `acquire`, so that a grant is short.
-    #[inline(never)]
-    pub(super) fn wait_for(&mut self, key: Key, resource: u32, holder: u32) -> Label
-        requires live { IsTrue (is_live self.old key) }
-        requires resource { resource < self.old.config.resources }
-        requires idle { wait_of self.old key.process ≡ None }
-        requires process { key.process < self.old.config.processes }
-        requires holder { holder < self.old.config.processes }
-        requires fits { IsTrue (block_fits self.old key.process holder) }
-        ensures label { result ≡ label_against self.old key.process holder }
-        ensures state { self.new ≡ block (record self.old { waits = self.old.waits ++ record { key = key; resource = resource } ∷ [] }) key.process holder }
-    {
-        self.queue(key, resource);
-        self.block(key.process, holder)
     }
 
     /// Takes away the wait at this place among the waits. Answers who waited.

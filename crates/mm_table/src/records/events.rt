@@ -1,6 +1,7 @@
 //! The events: each makes its tests first, and then its changes.
-ghost use Rattle.std.specs.Prelude.{◌≡◌};
-ghost use Rattle.mm_table.specs.Event.{Gives, begun, acquired, released, finished, transmitted, detected, aborted};
+ghost use Rattle.std.specs.Prelude.{◌≡◌, IsTrue, Ok, is_some};
+ghost use Rattle.mm_table.specs.TableState.{owner_of};
+ghost use Rattle.mm_table.specs.Event.{Gives, allowed, resource_tests, begun, acquired, released, finished, transmitted, detected, aborted};
 ghost use Rattle.mm_table.specs.Laws.{Laws};
 
 use super::Records;
@@ -23,19 +24,28 @@ impl Records {
     pub fn acquire(&mut self, key: Key, resource: u32) -> Result<Acquired, Refusal>
         ensures { Gives (acquired self.old key resource) result self.new }
     {
-        self.may_acquire(key, resource)?;
-        let answer = match self.owners[resource as usize] {
-            None => {
-                self.grant(key, resource);
-                Acquired::Granted
-            }
-            Some(holder) => {
-                let label = self.wait_for(key, resource, holder.process);
-                Acquired::Waits { holder, label }
-            }
-        };
+        self.may_use(key, resource)?;
+        if self.owners[resource as usize].is_some() {
+            return self.acquire_owned(key, resource);
+        }
+        self.grant(key, resource);
         self.count();
-        Ok(answer)
+        Ok(Acquired::Granted)
+    }
+
+    /// `acquire` of an owned resource by a transaction that may use it. It stands apart, so that a grant is short.
+    #[inline(never)]
+    fn acquire_owned(&mut self, key: Key, resource: u32) -> Result<Acquired, Refusal>
+        requires tests { allowed (resource_tests self.old key resource) ≡ Ok tt }
+        requires owned { IsTrue (is_some (owner_of self.old resource)) }
+        ensures { Gives (acquired self.old key resource) result self.new }
+    {
+        let holder = self.owners[resource as usize].unwrap();
+        self.may_wait(key.process, holder.process)?;
+        self.queue(key, resource);
+        let label = self.block(key.process, holder.process);
+        self.count();
+        Ok(Acquired::Waits { holder, label })
     }
 
     /// The waiting transaction takes over its holder's public label where that is greater. Constant time.

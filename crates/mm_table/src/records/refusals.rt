@@ -3,7 +3,7 @@ ghost use Rattle.std.specs.Prelude.{◌≡◌, ◌<◌, IsTrue, None, OnOk, Some
 ghost use Rattle.mm_table.specs.TableState.{is_live, is_waiting, has_verdict, owns, wait_of};
 ghost use Rattle.mm_table.specs.Change.{label_against, block_fits, hand_over_fits, vacate_fits};
 ghost use Rattle.mm_table.specs.Queue.{wait_tests};
-ghost use Rattle.mm_table.specs.Event.{counts_exhausted, allowed, key_tests, waiting_tests, acquire_tests, release_tests, finish_tests, abort_tests};
+ghost use Rattle.mm_table.specs.Event.{counts_exhausted, allowed, key_tests, waiting_tests, resource_tests, release_tests, finish_tests, abort_tests};
 
 use super::Records;
 use crate::{Key, Refusal};
@@ -73,9 +73,13 @@ impl Records {
         Ok(())
     }
 
-    /// The tests of `acquire`, in their order.
-    pub(super) fn may_acquire(&self, key: Key, resource: u32) -> Result<(), Refusal>
-        ensures { result ≡ allowed (acquire_tests self.now key resource) }
+    /// The tests of every call that only an active transaction may make of a resource, in their order.
+    pub(super) fn may_use(&self, key: Key, resource: u32) -> Result<(), Refusal>
+        ensures tests { result ≡ allowed (resource_tests self.now key resource) }
+        ensures live { OnOk result (IsTrue (is_live self.now key)) }
+        ensures in_range { OnOk result (key.process < self.now.config.processes) }
+        ensures resource { OnOk result (resource < self.now.config.resources) }
+        ensures active { OnOk result (wait_of self.now key.process ≡ None) }
     {
         self.may_call(key)?;
         if resource >= self.config.resources {
@@ -84,18 +88,15 @@ impl Records {
         if self.is_waiting(key) {
             return Err(Refusal::Waiting);
         }
-        let Some(holder) = self.owners[resource as usize] else {
-            return Ok(());
-        };
-        self.may_wait(key.process, holder.process)
+        Ok(())
     }
 
-    /// The last tests of `acquire`, of a resource that has an owner.
-    #[inline(never)]
-    fn may_wait(&self, process: u32, holder: u32) -> Result<(), Refusal>
+    /// The last tests of `acquire`, of a resource that `holder` owns.
+    pub(super) fn may_wait(&self, process: u32, holder: u32) -> Result<(), Refusal>
         requires process { process < self.now.config.processes }
         requires holder { holder < self.now.config.processes }
-        ensures { result ≡ allowed (wait_tests self.now process holder) }
+        ensures tests { result ≡ allowed (wait_tests self.now process holder) }
+        ensures fits { OnOk result (IsTrue (block_fits self.now process holder)) }
     {
         if holder == process {
             return Err(Refusal::AlreadyOwns);
@@ -120,13 +121,7 @@ impl Records {
         ensures resource { OnOk result (resource < self.now.config.resources) }
         ensures fits { OnOk result (IsTrue (hand_over_fits self.now resource)) }
     {
-        self.may_call(key)?;
-        if resource >= self.config.resources {
-            return Err(Refusal::NoResource);
-        }
-        if self.is_waiting(key) {
-            return Err(Refusal::Waiting);
-        }
+        self.may_use(key, resource)?;
         if !self.owns(key.process, resource) {
             return Err(Refusal::NotOwner);
         }
