@@ -5,6 +5,7 @@ use Rattle.std.proofs.lemmas.Bool.{cases_eq}
 use Rattle.std.proofs.lemmas.List.{take_at, get_or_default, get_or-map, length-map, length-replicate, map-set}
 use Rattle.std.proofs.lemmas.Option.{slice_get-get_or, slice_get_within, same_Some}
 use Rattle.mm_owned.specs.declared.owned.Links.{Links}
+use Rattle.mm_owned.specs.Link.{none_number}
 use Rattle.mm_owned.specs.Members.{Among, NoRepeat}
 use Rattle.mm_owned.specs.Owned.{Lists, empty_lists, list_at, pushed, removed, without, IsLoose, IsNext}
 use Rattle.mm_owned.specs.Linked.{next_of, with_before, with_next, walk, seen, head_or, last_or, first_with_next, IsChain, AreLinked, IsLinked}
@@ -141,6 +142,7 @@ module _ (s : Lists) (n r : ℕ) (below : n < length s.lists) (known : r < s.res
     chains = λ m. at_set (λ rs. IsChain pushed_links None rs None) s.lists n (r ∷ list_at s n) m below (λ _. chain_from_r) (chain_of_other m);
     loose = pushed_links-loose;
     size = length-with_before (set links r _) old_first (Some r) ∙ length-set links r _ ∙ linked.size;
+    few = linked.few;
     exclusive = IsExclusive-pushed s n r below known loose linked.exclusive;
   }
 
@@ -248,6 +250,7 @@ module _ (s : Lists) (n r : ℕ) (firsts : List (Option ℕ)) (links : List Link
     size =
         length-with_before (with_next (set links r no_link) before next) next before
         ∙ length-with_next (set links r no_link) before next ∙ length-set links r no_link ∙ linked.size;
+    few = linked.few;
     exclusive = IsExclusive-removed s n r below linked.exclusive;
   }
 
@@ -301,14 +304,15 @@ no_heads : (n : ℕ) → replicate n None ≡ heads_of (replicate n [])
 no_heads zero = refl
 no_heads (suc n) = ap (λ firsts. None ∷ firsts) (no_heads n)
 
-pub AreLinked-empty : (lists resources : ℕ) (firsts : List (Option ℕ)) (links : List Links) → firsts ≡ replicate lists None → links ≡ replicate resources no_link → AreLinked (empty_lists lists resources) firsts links
-AreLinked-empty lists resources firsts links firsts_are links_are =
+pub AreLinked-empty : (lists resources : ℕ) (firsts : List (Option ℕ)) (links : List Links) → firsts ≡ replicate lists None → links ≡ replicate resources no_link → resources ≤ none_number → AreLinked (empty_lists lists resources) firsts links
+AreLinked-empty lists resources firsts links firsts_are links_are few =
     let none = λ (n r : ℕ) (among : Among r (list_at (empty_lists lists resources) n)). subst (Among r) (list_of_none lists n) among in
     rw (firsts_are, links_are) (record {
       heads = no_heads lists;
       chains = λ n. subst (λ rs. IsChain (replicate resources no_link) None rs None) (sym (list_of_none lists n)) tt;
       loose = λ r _. no_next resources r;
       size = length-replicate resources no_link;
+      few = few;
       exclusive = record {
         in_range = λ n r among. absurd (none n r among);
         once = λ n. subst NoRepeat (sym (list_of_none lists n)) tt;

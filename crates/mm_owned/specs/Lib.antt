@@ -1,3 +1,4 @@
 pub mod Members
 pub mod Owned
+pub mod Link
 pub mod Linked

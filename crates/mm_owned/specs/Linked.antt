@@ -1,7 +1,8 @@
 -- How an `Owned` links its lists. No public clause cites this module.
-use Rattle.std.specs.Prelude.{◌≡◌, ⊤, ℕ, zero, suc, List, [], ◌∷◌, length, map, Option, None, Some, slice_get, slice_set}
+use Rattle.std.specs.Prelude.{◌≡◌, ◌≤◌, ⊤, ℕ, zero, suc, List, [], ◌∷◌, length, map, Option, None, Some, slice_get, slice_set}
 use Rattle.std.specs.Option.{option_and_then}
 use Rattle.mm_owned.specs.declared.owned.Links.{Links}
+use Rattle.mm_owned.specs.Link.{none_number}
 use Rattle.mm_owned.specs.Owned.{Lists, IsExclusive, IsLoose, list_at}
 
 -- what comes before a resource in its list
@@ -65,6 +66,7 @@ pub record AreLinked (s : Lists) (firsts : List (Option ℕ)) (links : List Link
   pub chains : (n : ℕ) → IsChain links None (list_at s n) None
   pub loose : (r : ℕ) → IsLoose s r → next_of links r ≡ None
   pub size : length links ≡ s.resources
+  pub few : s.resources ≤ none_number
   pub exclusive : IsExclusive s
 
 -- the fields link what a contract sees of them
