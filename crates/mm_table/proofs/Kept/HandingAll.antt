@@ -1,13 +1,13 @@
 -- All that a process owns is handed over, in whatever order its resources come.
-use Rattle.std.proofs.Common.{◌≡◌, ◌≢◌, ℕ, ◌<◌, ◌≤◌, Bool, true, false, List, [], ◌∷◌, length, filter, fold, slice_index, nat_lt, is_some, IsTrue, IsFalse, Some, None, inl, inr, refl, sym, ap, ◌∙◌, arith, subst}
+use Rattle.std.proofs.Common.{◌≡◌, ◌≢◌, ℕ, ◌<◌, ◌≤◌, Bool, true, false, List, [], ◌∷◌, length, filter, fold, slice_index, nat_lt, nat_eq, is_some, IsTrue, IsFalse, Some, None, inl, inr, refl, sym, ap, ◌∙◌, arith, subst}
 use Rattle.std.specs.List.{range_with_len}
 use Rattle.std.proofs.lemmas.Bool.{cases_eq, cases_Bool, eq-eqb}
 use Rattle.mm_arena.specs.declared.key.Key.{Key}
 use Rattle.mm_owned.specs.Members.{NoRepeat}
 use Rattle.mm_table.specs.TableState.{TableState, is_live, has_verdict, owner_of, owns, wait_of, resources_of}
-use Rattle.mm_table.specs.Change.{hand_over, free_slot, vacate, vacate_fits}
+use Rattle.mm_table.specs.Change.{hand_over, hand_over_fits, give_to_fits, free_slot, vacate, vacate_fits}
 use Rattle.mm_table.specs.Laws.{Laws}
-use Rattle.mm_table.proofs.States.Lists.{In, to_among, from_among, filter_gives, filter_keeps, some_of_range_once}
+use Rattle.mm_table.proofs.States.Lists.{In, to_among, from_among, filter_gives, filter_keeps, list_all_from, some_of_range_once}
 use Rattle.mm_table.proofs.States.Handed.{MayHand}
 use Rattle.mm_table.proofs.States.HandOver.{HandedOver, hand_over_keeps}
 use Rattle.mm_table.proofs.States.Release.{owns_gives, may_hand}
@@ -149,3 +149,7 @@ module _ (s : TableState) (k : Key) (laws : Laws s) (active : wait_of s k.proces
     | inl verdict ↦ let never : false ≡ true = sym (ap is_some done.active) ∙ done.keeps.laws.lawful.well_formed.verdicts k.process verdict in cc
     | inr none ↦ none
   ]
+
+-- where nobody waits, each hand-over fits
+pub none_waits_fits : (s : TableState) (n : ℕ) → s.waits ≡ [] → vacate_fits s n ≡ true
+none_waits_fits s n none = list_all_from (hand_over_fits s) (resources_of s n) (λ r among. ap (λ ws. give_to_fits s (filter (λ w. nat_eq w.resource r) ws)) none)

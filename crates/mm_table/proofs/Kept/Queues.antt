@@ -76,3 +76,8 @@ queue_first ws r i w found is =
     let first = position-Some (λ (v : WaitRecord). nat_eq v.resource r) ws i w found in
     let mine : nat_eq w.resource r ≡ true = ap (λ (v : WaitRecord). nat_eq v.resource r) is ∙ first.1 in
     skip ws i r w (omega (arith, first.0)) first.2 ∙ queue_here ws i w r first.0 is (eqb-true w.resource r mine)
+
+-- no wait is kept where there is none
+pub none_kept : (ws : List WaitRecord) → length ws ≡ 0 → map wait_kept ws ≡ []
+none_kept [] none = refl
+none_kept (w ∷ ws) none = absurd (omega arith)

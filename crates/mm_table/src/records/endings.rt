@@ -20,6 +20,9 @@ impl Records {
         requires { process < self.now.config.processes }
         ensures { result ≡ vacate_fits self.now process }
     {
+        if self.waits.is_empty() {
+            return true;
+        }
         let mut next = self.owned.first(process);
         while let Some(resource) = next {
             if !self.hand_over_fits(resource) {

@@ -4,6 +4,10 @@ use Rattle.mm_owned.specs.Owned.{list_at}
 use Rattle.mm_owned.proofs.OwnedWalks.{rest_from, Among-head, Among-next, rest_from-head, rest_from-next}
 use Rattle.mm_table.specs.Change.{hand_over_fits}
 use Rattle.mm_table.proofs.Kept.Owning.{listed, some_past, all_fit}
+use Rattle.std.specs.Vec.{vec_len}
+use Rattle.std.proofs.lemmas.Bool.{eqb-true}
+use Rattle.mm_table.proofs.Kept.Queues.{none_kept}
+use Rattle.mm_table.proofs.Kept.HandingAll.{none_waits_fits}
 use Rattle.mm_table.proofs.records.Records.vacate_fits.Goals as goal
 
 pub loop-next-init : goal.loop-next-init
@@ -57,3 +61,10 @@ returns c =
       | inl fits ↦ fits
       | inr left ↦ absurd (subst (Among q) (ap (rest_from list) c.in_default.is) left)
     ]))
+
+pub returns-then-is_empty : goal.returns-then-is_empty
+returns-then-is_empty c =
+    let waits = c.self.inside.waits in
+    let empty : vec_len waits ≡ 0 = eqb-true (vec_len waits) 0 (sym c.is_empty.ensures ∙ c.if-is_empty.true) in
+    let none : length waits.items ≡ 0 = omega (arith, waits.ok.0) in
+    sym (none_waits_fits c.args.self.now c.args.process (sym (ap (λ s. s.waits) c.self.view_is) ∙ none_kept waits.items none))
