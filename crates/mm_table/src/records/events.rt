@@ -26,11 +26,12 @@ impl Records {
     {
         self.may_use(key, resource)?;
         if self.owners[resource as usize].is_some() {
-            return self.acquire_owned(key, resource);
+            self.acquire_owned(key, resource)
+        } else {
+            self.grant(key, resource);
+            self.count();
+            Ok(Acquired::Granted)
         }
-        self.grant(key, resource);
-        self.count();
-        Ok(Acquired::Granted)
     }
 
     /// `acquire` of an owned resource by a transaction that may use it. It stands apart, so that a grant is short.
