@@ -1,4 +1,4 @@
-use Rattle.std.proofs.Common.{List, ℕ, [], ◌++◌, ap, subst, ◌∙◌}
+use Rattle.std.proofs.Common.{List, ℕ, ◌++◌, ap, subst, ◌∙◌}
 use Rattle.mm_work.specs.Session.{Writes}
 use Rattle.mm_work.proofs.SessionLemmas.{writes_flushed}
 use Rattle.mm_work.proofs.script.engine.Session.finish.Goals as goal
