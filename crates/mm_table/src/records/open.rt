@@ -4,8 +4,8 @@ ghost use Rattle.std.specs.List.{range_with_len};
 ghost use Rattle.mm_table.specs.Event.{Opens};
 ghost use Rattle.mm_table.specs.Kept.{opening_labels};
 
-use super::{Labels, Records};
-use crate::{Config, Key, Refusal, Totals};
+use super::{Labels, Owner, Records};
+use crate::{Config, Refusal, Totals};
 use mm_arena::Arena;
 use mm_label::Label;
 use mm_owned::Owned;
@@ -36,10 +36,10 @@ fn labels_at_opening(alloc: Global, count: u32) -> Result<Vec<Labels>, AllocErro
 }
 
 /// The owners of a table that was just opened: none.
-fn no_owners(alloc: Global, count: u32) -> Result<Vec<Option<Key>>, AllocError>
+fn no_owners(alloc: Global, count: u32) -> Result<Vec<Owner>, AllocError>
     ensures { IfOk result (λ v. v.items ≡ map (λ _. None) (range_with_len 0 count)) }
 {
-    (0..count).map(|_| None).collect(alloc)
+    (0..count).map(|_| Owner::NONE).collect(alloc)
 }
 
 impl Records {

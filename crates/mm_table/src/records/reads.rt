@@ -33,7 +33,7 @@ impl Records {
         if resource >= self.config.resources {
             return Err(Refusal::NoResource);
         }
-        Ok(self.owners[resource as usize])
+        Ok(self.owners[resource as usize].get())
     }
 
     /// The live key of the process. Constant time.

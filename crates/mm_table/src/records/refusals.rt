@@ -112,7 +112,8 @@ impl Records {
         requires { resource < self.now.config.resources }
         ensures { result ≡ owns self.now process resource }
     {
-        self.owners[resource as usize].is_some_and(|owner| owner.process == process)
+        let owner = self.owners[resource as usize].get();
+        owner.is_some_and(|owner| owner.process == process)
     }
 
     /// The tests of `release`, in their order.

@@ -9,10 +9,10 @@ invariant_of-self c =
     let inside = c.self.inside in
     let r = c.args.resource in
     let resource : r < inside.config.resources = rw (ap (λ s. s.config.resources) c.self.view_is) c.requires in
-    let is = owner_read c.self.invariant.parts r c.index_mut.result.now resource c.index_mut.ensures.value ∙ sym c.take.ensures.value ∙ c.in-Some.is in
+    let is = owner_read c.self.invariant.parts r c.index_mut.result.now resource c.index_mut.ensures.value ∙ sym c.replace-was.ensures.value ∙ sym c.get.ensures ∙ c.in-Some.is in
     let none : (k : Key) → None ≡ Some k → k.process < inside.config.processes = λ k never. cc in
     record {
-      parts = rw c.take.ensures.after (owner_set inside.config inside.transactions inside.labels.items inside.owners.items inside.waits.items r None resource none c.self.invariant.parts);
-      owned = rw (c.take.ensures.after, c.remove.ensures.lists) (freed_fit inside.config inside.owners.items inside.owned r c.in-Some.owner c.self.invariant.owned (omega (arith, c.self.invariant.parts.owners_sized)) is);
+      parts = rw c.replace-was.ensures.after (owner_set inside.config inside.transactions inside.labels.items inside.owners.items inside.waits.items r None resource none c.self.invariant.parts);
+      owned = rw (c.replace-was.ensures.after, c.remove.ensures.lists) (freed_fit inside.config inside.owners.items inside.owned r c.in-Some.owner c.self.invariant.owned (omega (arith, c.self.invariant.parts.owners_sized)) is);
       capacity = c.self.invariant.capacity;
     }
