@@ -1,4 +1,5 @@
 pub mod Members
 pub mod Owned
+pub mod Owner
 pub mod Link
 pub mod Linked

@@ -1,9 +1,18 @@
 -- How an `Owned` links its lists. No public clause cites this module.
 use Rattle.std.specs.Prelude.{◌≡◌, ◌≤◌, ⊤, ℕ, zero, suc, List, [], ◌∷◌, length, map, Option, None, Some, slice_get, slice_set}
 use Rattle.std.specs.Option.{option_and_then}
+use Rattle.mm_arena.specs.declared.key.Key.{Key}
 use Rattle.mm_owned.specs.declared.owned.Links.{Links}
+use Rattle.mm_owned.specs.declared.owned.Resource.{Resource}
+use Rattle.mm_owned.specs.Owner.{no_process}
 use Rattle.mm_owned.specs.Link.{none_number}
 use Rattle.mm_owned.specs.Owned.{Lists, IsExclusive, IsLoose, list_at}
+
+abbrev pub links_of : List Resource → List Links
+links_of resources = map (λ r. r.links) resources
+
+abbrev pub owners_of : List Resource → List (Option Key)
+owners_of resources = map (λ r. r.owner) resources
 
 -- what comes before a resource in its list
 abbrev pub before_of : List Links → ℕ → Option ℕ
@@ -72,3 +81,8 @@ pub record AreLinked (s : Lists) (firsts : List (Option ℕ)) (links : List Link
 -- the fields link what a contract sees of them
 abbrev pub IsLinked : List (Option ℕ) → List Links → Type 0
 IsLinked firsts links = AreLinked (seen firsts links) firsts links
+
+-- and each process has a number that is not the one of no owner
+pub record IsOwned (firsts : List (Option ℕ)) (resources : List Resource) : Type 0 where
+  pub linked : IsLinked firsts (links_of resources)
+  pub few : length firsts ≤ no_process

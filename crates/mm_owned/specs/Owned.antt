@@ -1,4 +1,5 @@
 -- What a contract sees of an `Owned`.
+use Rattle.mm_arena.specs.declared.key.Key.{Key}
 use Rattle.std.specs.Prelude.{◌≡◌, ◌<◌, ◌==◌, ℕ, List, [], ◌∷◌, ◌++◌, Option, None, Some, not, filter, replicate, slice_index_or, slice_set}
 use Rattle.mm_owned.specs.Members.{Among, NoRepeat}
 
@@ -31,6 +32,23 @@ pushed s n r = record s { lists = slice_set s.lists n (r ∷ list_at s n) }
 -- with r taken from a list
 abbrev pub removed : Lists → ℕ → ℕ → Lists
 removed s n r = record s { lists = slice_set s.lists n (without r (list_at s n)) }
+
+-- the owner of each resource, and the resources of each process
+pub record Ownership : Type 0 where
+  pub owners : List (Option Key)
+  pub listed : Lists
+
+-- nobody owns any of so many resources
+abbrev pub unowned : ℕ → ℕ → Ownership
+unowned lists resources = record { owners = replicate resources None; listed = empty_lists lists resources }
+
+-- with r owned by a key, and first in the list of its process
+abbrev pub given : Ownership → Key → ℕ → Ownership
+given s key r = record { owners = slice_set s.owners r (Some key); listed = pushed s.listed key.process r }
+
+-- with r owned by nobody, and taken from a list
+abbrev pub taken : Ownership → ℕ → ℕ → Ownership
+taken s n r = record { owners = slice_set s.owners r None; listed = removed s.listed n r }
 
 -- r is in no list
 abbrev pub IsLoose : Lists → ℕ → Type 0

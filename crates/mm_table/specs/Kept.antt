@@ -49,7 +49,7 @@ state_of_parts config slots labels owners waits totals = record {
 }
 
 abbrev pub state_kept : Inside → TableState
-state_kept t = state_of_parts t.config t.transactions t.labels.items t.owners.items t.waits.items t.totals
+state_kept t = state_of_parts t.config t.transactions t.labels.items t.owned.owners t.waits.items t.totals
 
 -- Each transaction knows what it waits for. The waits and the slots without a waiting transaction are as many as the processes.
 pub record PartsFit (config : Config) (slots : Slots Transaction) (labels : List Labels) (owners : List (Option Key)) (waits : List WaitRecord) : Type 0 where
@@ -79,6 +79,6 @@ pub record OwnedFit (config : Config) (owners : List (Option Key)) (owned : List
 
 -- and there is room for the wait of each process
 pub record IsKept (t : Inside) : Type 0 where
-  pub parts : PartsFit t.config t.transactions t.labels.items t.owners.items t.waits.items
-  pub owned : OwnedFit t.config t.owners.items t.owned
+  pub parts : PartsFit t.config t.transactions t.labels.items t.owned.owners t.waits.items
+  pub owned : OwnedFit t.config t.owned.owners t.owned.listed
   pub capacity : t.config.processes ≤ vec_capacity t.waits

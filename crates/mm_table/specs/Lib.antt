@@ -6,6 +6,5 @@ pub mod Event
 pub mod Laws
 pub mod Queue
 pub mod Sweep
-pub mod Owner
 pub mod Kept
 pub mod TableKept

@@ -1,7 +1,6 @@
 //! How a table is kept.
 //!
 //! - `open`: the opening.
-//! - `owner`: how the owner of a resource is kept.
 //! - `events`: one function for each event: its refusals, then its changes.
 //! - `refusals`: the tests of each call, in their order.
 //! - `changes`: the small changes that events are made of.
@@ -13,14 +12,12 @@ use crate::{Config, Key, Totals};
 use mm_arena::Arena;
 use mm_label::Label;
 use mm_owned::Owned;
-use owner::Owner;
 use std::marker::Model;
 
 mod changes;
 mod endings;
 mod events;
 mod open;
-mod owner;
 mod queues;
 mod reads;
 mod refusals;
@@ -55,8 +52,7 @@ pub struct Records {
     config: Config,
     transactions: Arena<Transaction>,
     labels: Vec<Labels>,
-    owners: Vec<Owner>,
-    /// The resources of each process.
+    /// The owner of each resource, and the resources of each process.
     owned: Owned,
     /// In order of arrival. There is room for each process.
     waits: Vec<WaitRecord>,

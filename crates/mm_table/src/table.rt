@@ -36,8 +36,8 @@ impl Table {
     /// A table of this configuration, in which no process is live and no resource has an owner.
     ///
     /// Refused as `BadConfig` exactly where a number is out of its range, and as `Memory` only where a request for memory was
-    /// refused. This is the one call that takes memory: for the transactions, for the labels, for the owners,
-    /// twice for the lists of what each process owns, for the waits, and for the list that `settle` goes over.
+    /// refused. This is the one call that takes memory: for the transactions, for the labels, for what is kept of each resource,
+    /// for the first resource of each process, for the waits, and for the list that `settle` goes over.
     pub fn open(alloc: Global, config: Config) -> Result<Table, Refusal>
         ensures { Opens config result }
     {

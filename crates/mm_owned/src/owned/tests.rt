@@ -7,8 +7,8 @@ use std::test::Fail;
 
 // A walk through a list.
 fn is_in_list(owned: &Owned, list: u32, resource: u32) -> bool
-    requires { list < length owned.now.lists }
-    ensures { IsTrue result ↔ Among resource (list_at owned.now list) }
+    requires { list < length owned.now.listed.lists }
+    ensures { IsTrue result ↔ Among resource (list_at owned.now.listed list) }
 {
     let mut next = owned.first(list);
     while let Some(other) = next {
@@ -23,21 +23,38 @@ fn is_in_list(owned: &Owned, list: u32, resource: u32) -> bool
 #[test]
 fn keeps_each_list_in_order(rt: HostRuntime) -> Result<(), Fail> {
     let mut owned = Owned::new(rt.alloc(), 2, 3)?;
-    owned.push(1, 0);
-    owned.push(1, 2);
-    owned.push(1, 1);
+    let earlier = Key {
+        process: 1,
+        generation: 7,
+    };
+    let later = Key {
+        process: 0,
+        generation: 2,
+    };
+    owned.push(earlier, 0);
+    owned.push(earlier, 2);
+    owned.push(earlier, 1);
     assert_eq!(rt; owned.first(1), Some(1));
     assert_eq!(rt; owned.next(1), Some(2));
     assert_eq!(rt; owned.next(2), Some(0));
     assert_eq!(rt; owned.next(0), None);
     assert!(rt; is_in_list(&owned, 1, 0));
+    assert_eq!(rt; owned.owner(2), Some(earlier));
     owned.remove(1, 2);
     assert!(rt; !is_in_list(&owned, 1, 2));
+    assert_eq!(rt; owned.owner(2), None);
     assert_eq!(rt; owned.next(1), Some(0));
     assert_eq!(rt; owned.next(2), None);
-    owned.push(0, 2);
+    owned.push(later, 2);
     owned.remove(1, 1);
     assert_eq!(rt; owned.first(1), Some(0));
     assert_eq!(rt; owned.first(0), Some(2));
+    assert_eq!(rt; owned.owner(2), Some(later));
+    assert_eq!(rt; owned.owner(0), Some(earlier));
     Ok(())
+}
+
+#[test]
+fn keeps_a_resource_in_sixteen_bytes(rt: HostRuntime) {
+    assert_eq!(rt; std::mem::size_of::<Resource>(), 16);
 }

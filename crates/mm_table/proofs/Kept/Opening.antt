@@ -24,13 +24,6 @@ each_its_own : {X : Type 0} (f : Labels → X) (g : ℕ → X) → ((i : ℕ) �
 each_its_own f g h a zero = refl
 each_its_own f g h a (suc n) = cc (h a, each_its_own f g h (a + 1) n)
 
-abbrev no_owner : ℕ → Option Key
-no_owner _ = None
-
-no_owners : (a n : ℕ) → map no_owner (range_with_len a n) ≡ replicate n None
-no_owners a zero = refl
-no_owners a (suc n) = cc (no_owners (a + 1) n)
-
 pub all_idle : (n : ℕ) → sum_by idle (unused_places n) ≡ n
 all_idle zero = refl
 all_idle (suc n) = simp sum_by-cons (omega (arith, all_idle n))
@@ -40,16 +33,16 @@ none_waits zero k = refl
 none_waits (suc n) zero = refl
 none_waits (suc n) (suc k) = none_waits n k
 
-pub none_owned : (a n r : ℕ) → slice_index_or (map no_owner (range_with_len a n)) r None ≡ None
-none_owned a zero r = refl
-none_owned a (suc n) zero = refl
-none_owned a (suc n) (suc r) = none_owned (a + 1) n r
+pub none_owned : (n r : ℕ) → slice_index_or (replicate {A = Option Key} n None) r None ≡ None
+none_owned zero r = refl
+none_owned (suc n) zero = refl
+none_owned (suc n) (suc r) = none_owned n r
 
 -- the parts of a table that was just opened stand for the opening of its configuration
 pub opened : (c : Config) (slots : Slots Transaction) (labels : List Labels) (owners : List (Option Key)) (waits : List WaitRecord)
-    → slots ≡ opening_slots c.processes c.generation_limit → labels ≡ map opening_labels (range_with_len 0 c.processes) → owners ≡ map no_owner (range_with_len 0 c.resources) → waits ≡ []
+    → slots ≡ opening_slots c.processes c.generation_limit → labels ≡ map opening_labels (range_with_len 0 c.processes) → owners ≡ replicate c.resources None → waits ≡ []
     → state_of_parts c slots labels owners waits (record { accepted = 0; verdicts = 0; aborts = 0 }) ≡ opening c
 opened c slots labels owners waits s l o w =
     let private = each_its_own (λ l. l.private) opening_label (λ i. refl) 0 c.processes in
     let public = each_its_own (λ l. l.public) opening_label (λ i. refl) 0 c.processes in
-    rw (s, l, o, w, same_for_each (λ p. p.generation) c.processes, same_for_each (λ p. is_some p.value) c.processes, same_for_each verdict_in c.processes, private, public, no_owners 0 c.resources) refl
+    rw (s, l, o, w, same_for_each (λ p. p.generation) c.processes, same_for_each (λ p. is_some p.value) c.processes, same_for_each verdict_in c.processes, private, public) refl

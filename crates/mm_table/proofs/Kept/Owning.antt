@@ -146,12 +146,12 @@ by_owner : (o : Option Key) (n : ℕ) → option_map_or (λ k. nat_eq k.process 
 by_owner None n e = let never : false ≡ true = e in cc
 by_owner (Some k) n e = ap Some (eqb-true k.process n e)
 
-pub listed : (t : Inside) (s : TableState) → IsKept t → state_kept t ≡ s → Listed s t.owned
-listed t s kept is = subst (λ (u : TableState). Listed u t.owned) is (record {
+pub listed : (t : Inside) (s : TableState) → IsKept t → state_kept t ≡ s → Listed s t.owned.listed
+listed t s kept is = subst (λ (u : TableState). Listed u t.owned.listed) is (record {
   exclusive = kept.owned.exclusive;
   within = λ n r among. omega (arith, kept.owned.exclusive.in_range n r among, kept.owned.resources);
-  mine = λ n r among. owned_by (slice_index_or t.owners.items r None) n (kept.owned.listed n r among);
-  all = λ n r own. kept.owned.all n r (by_owner (slice_index_or t.owners.items r None) n own);
+  mine = λ n r among. owned_by (slice_index_or t.owned.owners r None) n (kept.owned.listed n r among);
+  all = λ n r own. kept.owned.all n r (by_owner (slice_index_or t.owned.owners r None) n own);
 })
 
 module _ (s : TableState) (owned : Lists) (lists : Listed s owned) (n : ℕ) where

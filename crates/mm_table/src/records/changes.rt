@@ -3,7 +3,7 @@ ghost use Rattle.std.specs.Prelude.{◌≡◌, ◌≢◌, ◌<◌, ◌+◌, ◌^
 ghost use Rattle.mm_table.specs.TableState.{key_of, wait_of, holder_of, owner_of, is_live, has_verdict, public_of};
 ghost use Rattle.mm_table.specs.Change.{activate, block, block_fits, label_against, greater_label, can_detect, detect};
 
-use super::{Owner, Records, Transaction, WaitRecord};
+use super::{Records, Transaction, WaitRecord};
 use crate::{Key, Refusal};
 use mm_label::Label;
 
@@ -34,8 +34,7 @@ impl Records {
         requires free { owner_of self.old resource ≡ None }
         ensures { self.new ≡ record self.old { owners = slice_set self.old.owners resource (Some key) } }
     {
-        self.owned.push(key.process, resource);
-        self.owners[resource as usize] = Owner::of(key);
+        self.owned.push(key, resource);
     }
 
     /// Appends the wait of a live transaction that does not wait.
@@ -84,7 +83,7 @@ impl Records {
         ensures in_range { IfSome result (λ holder. holder < self.now.config.processes) }
     {
         let resource = self.transactions.get(key)?.waits_for?;
-        let holder = self.owners[resource as usize].get()?;
+        let holder = self.owned.owner(resource)?;
         Some(holder.process)
     }
 

@@ -25,7 +25,7 @@ impl Records {
         ensures { Gives (acquired self.old key resource) result self.new }
     {
         self.may_use(key, resource)?;
-        if self.owners[resource as usize].get().is_some() {
+        if self.owned.owner(resource).is_some() {
             self.acquire_owned(key, resource)
         } else {
             self.grant(key, resource);
@@ -41,7 +41,7 @@ impl Records {
         requires owned { IsTrue (is_some (owner_of self.old resource)) }
         ensures { Gives (acquired self.old key resource) result self.new }
     {
-        let holder = self.owners[resource as usize].get().unwrap();
+        let holder = self.owned.owner(resource).unwrap();
         self.may_wait(key.process, holder.process)?;
         self.queue(key, resource);
         let label = self.block(key.process, holder.process);

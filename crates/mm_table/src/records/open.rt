@@ -1,10 +1,10 @@
 //! The opening.
-ghost use Rattle.std.specs.Prelude.{◌≡◌, ◌≤◌, ◌<◌, IfOk, map, None};
+ghost use Rattle.std.specs.Prelude.{◌≡◌, ◌≤◌, ◌<◌, IfOk, map};
 ghost use Rattle.std.specs.List.{range_with_len};
 ghost use Rattle.mm_table.specs.Event.{Opens};
 ghost use Rattle.mm_table.specs.Kept.{opening_labels};
 
-use super::{Labels, Owner, Records};
+use super::{Labels, Records};
 use crate::{Config, Refusal, Totals};
 use mm_arena::Arena;
 use mm_label::Label;
@@ -35,13 +35,6 @@ fn labels_at_opening(alloc: Global, count: u32) -> Result<Vec<Labels>, AllocErro
         .collect(alloc)
 }
 
-/// The owners of a table that was just opened: none.
-fn no_owners(alloc: Global, count: u32) -> Result<Vec<Owner>, AllocError>
-    ensures { IfOk result (λ v. v.items ≡ map (λ _. None) (range_with_len 0 count)) }
-{
-    (0..count).map(|_| Owner::NONE).collect(alloc)
-}
-
 impl Records {
     /// The opening of this configuration. Takes memory once for each part.
     pub fn open(alloc: Global, config: Config) -> Result<Records, Refusal>
@@ -56,9 +49,6 @@ impl Records {
         let Ok(labels) = labels_at_opening(alloc, config.processes) else {
             return Err(Refusal::Memory);
         };
-        let Ok(owners) = no_owners(alloc, config.resources) else {
-            return Err(Refusal::Memory);
-        };
         let Ok(owned) = Owned::new(alloc, config.processes, config.resources) else {
             return Err(Refusal::Memory);
         };
@@ -69,7 +59,6 @@ impl Records {
             config,
             transactions,
             labels,
-            owners,
             owned,
             waits,
             totals: Totals {

@@ -6,9 +6,8 @@ ghost use Rattle.mm_table.specs.Event.{release_answer};
 ghost use Rattle.mm_table.specs.Queue.{queue_from, fits_from, blocked_on, NoneIs};
 ghost use Rattle.mm_table.specs.Change.{activate, block, block_fits, hand_over, hand_over_fits};
 
-use super::{Owner, Records, WaitRecord};
+use super::{Records, WaitRecord};
 use crate::{Key, Released};
-use std::mem;
 
 /// The place of the longest waiter for a resource.
 fn first_place(waits: &[WaitRecord], resource: u32) -> Option<usize>
@@ -67,8 +66,7 @@ impl Records {
         requires { resource < self.old.config.resources }
         ensures { self.new ≡ record self.old { owners = slice_set self.old.owners resource None } }
     {
-        let was = mem::replace(&mut self.owners[resource as usize], Owner::NONE);
-        if let Some(owner) = was.get() {
+        if let Some(owner) = self.owned.owner(resource) {
             self.owned.remove(owner.process, resource);
         }
     }

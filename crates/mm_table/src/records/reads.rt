@@ -33,7 +33,7 @@ impl Records {
         if resource >= self.config.resources {
             return Err(Refusal::NoResource);
         }
-        Ok(self.owners[resource as usize].get())
+        Ok(self.owned.owner(resource))
     }
 
     /// The live key of the process. Constant time.

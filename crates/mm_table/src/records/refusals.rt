@@ -112,7 +112,7 @@ impl Records {
         requires { resource < self.now.config.resources }
         ensures { result ≡ owns self.now process resource }
     {
-        let owner = self.owners[resource as usize].get();
+        let owner = self.owned.owner(resource);
         owner.is_some_and(|owner| owner.process == process)
     }
 

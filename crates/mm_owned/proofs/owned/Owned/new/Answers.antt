@@ -1,15 +1,21 @@
-use Rattle.std.proofs.Common.{None, replicate, arith, ap, ◌∙◌}
-use Rattle.mm_owned.proofs.OwnedLinked.{no_link, AreLinked-empty, Shows-linked}
+use Rattle.std.proofs.Common.{◌≤◌, None, replicate, arith, ap, ◌∙◌}
+use Rattle.mm_owned.specs.Link.{none_number}
+use Rattle.mm_owned.specs.Owner.{no_process}
+use Rattle.mm_owned.proofs.OwnedKept.{no_owner, shown_empty}
 use Rattle.mm_owned.proofs.owned.Owned.new.Goals as goal
 
 pub invariant_of-result : goal.invariant_of-result
 invariant_of-result c =
     let firsts = c.firsts.invariant.0 ∙ ap (λ n. replicate n None) (omega arith) in
-    let links = c.links.invariant.0 ∙ ap (λ n. replicate n no_link) (omega arith) in
-    (Shows-linked _ _ _ (AreLinked-empty c.args.lists c.args.resources _ _ firsts links (omega arith))).linked
+    let kept = c.kept.invariant.0 ∙ ap (λ n. replicate n no_owner) (omega arith) in
+    let few : c.args.resources ≤ none_number = omega arith in
+    let few_lists : c.args.lists ≤ no_process = omega arith in
+    (shown_empty c.args.lists c.args.resources _ _ firsts kept few few_lists).kept
 
 pub returns : goal.returns
 returns c =
     let firsts = c.firsts.invariant.0 ∙ ap (λ n. replicate n None) (omega arith) in
-    let links = c.links.invariant.0 ∙ ap (λ n. replicate n no_link) (omega arith) in
-    (Shows-linked _ _ _ (AreLinked-empty c.args.lists c.args.resources _ _ firsts links (omega arith))).seen
+    let kept = c.kept.invariant.0 ∙ ap (λ n. replicate n no_owner) (omega arith) in
+    let few : c.args.resources ≤ none_number = omega arith in
+    let few_lists : c.args.lists ≤ no_process = omega arith in
+    (shown_empty c.args.lists c.args.resources _ _ firsts kept few few_lists).is

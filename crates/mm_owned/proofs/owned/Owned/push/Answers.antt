@@ -1,33 +1,41 @@
-use Rattle.std.proofs.Common.{Some, sym, arith, ap, ◌∙◌}
-use Rattle.mm_owned.specs.Linked.{with_before}
-use Rattle.mm_owned.proofs.OwnedLinked.{linked_now, first_is, first_in_range, AreLinked-pushed, Shows-written}
+use Rattle.std.proofs.Common.{Some, sym, arith, ap, ◌∙◌, length, length-set}
+use Rattle.mm_owned.specs.Owned.{given}
+use Rattle.mm_owned.proofs.OwnedLinked.{first_is, first_in_range, AreLinked-pushed}
+use Rattle.mm_owned.proofs.OwnedKept.{links_now, length-links_of, put_links, put_owners, shown_written}
 use Rattle.mm_owned.proofs.owned.Owned.push.Goals as goal
 
 pub to-link-requires : goal.to-link-requires
 to-link-requires c =
-    let linked = linked_now _ _ _ c.self.view_is c.self.invariant in
+    let linked = links_now _ _ c.self.inside.resources.items c.self.view_is c.self.invariant in
     omega (arith, linked.few, c.requires.resource_in_range)
 
 pub set_before-requires : goal.set_before-requires
 set_before-requires c =
-    let linked = linked_now _ _ _ c.self.view_is c.self.invariant in
-    let next = first_is _ _ _ linked c.args.list _ _ c.requires.list_in_range (c.replace-next.ensures.value ∙ c.index_mut-first.ensures.value) in
-    λ q is. omega (arith, first_in_range _ _ _ linked c.args.list q (sym next ∙ is))
+    let inside = c.self.inside in
+    let linked = links_now _ _ inside.resources.items c.self.view_is c.self.invariant in
+    let next = first_is _ _ _ linked c.args.key.process _ _ c.requires.list_in_range (c.replace-next.ensures.value ∙ c.index_mut-first.ensures.value) in
+    let many = length-links_of inside.resources.items in
+    let same = ap length c.deref_mut.ensures.value ∙ length-set inside.resources.items c.args.resource _ in
+    λ q is. omega (arith, first_in_range _ _ _ linked c.args.key.process q (sym next ∙ is))
 
 pub invariant_of-self : goal.invariant_of-self
 invariant_of-self c =
-    let linked = linked_now _ _ _ c.self.view_is c.self.invariant in
-    let next = first_is _ _ _ linked c.args.list _ _ c.requires.list_in_range (c.replace-next.ensures.value ∙ c.index_mut-first.ensures.value) in
-    let links = c.set_before.ensures ∙ ap (with_before c.deref_mut.result.now c.replace-next.result) c.to-link.ensures
-    ∙ ap (λ l. with_before l c.replace-next.result (Some c.args.resource)) c.deref_mut.ensures.value in
+    let inside = c.self.inside in
+    let linked = links_now _ _ inside.resources.items c.self.view_is c.self.invariant in
+    let next = first_is _ _ _ linked c.args.key.process _ _ c.requires.list_in_range (c.replace-next.ensures.value ∙ c.index_mut-first.ensures.value) in
+    let put = c.deref_mut.ensures.value in
+    let links = put_links inside.resources.items c.args.resource _ c.replace-next.result c.to-link.result c.deref_mut.result.now c.set_before.new.resources put c.to-link.ensures c.set_before.ensures.links in
+    let owners = put_owners c.args.self.now inside.firsts.items inside.resources.items c.args.resource _ (Some c.args.key) c.deref_mut.result.now c.set_before.new.resources c.self.view_is put c.of.ensures c.set_before.ensures.owners in
     let after = AreLinked-pushed _ _ _ c.requires.list_in_range c.requires.resource_in_range c.requires.loose _ _ linked _ _ _ next (c.replace-next.ensures.after ∙ c.to-link.ensures) links in
-    (Shows-written _ _ _ _ _ (omega (arith, linked.size)) after).linked
+    (shown_written (given c.args.self.now c.args.key c.args.resource) _ _ c.set_before.new.resources _ (omega (arith, linked.size, length-links_of inside.resources.items)) after owners (omega (arith, length-set inside.firsts.items c.args.key.process c.replace-next.new.dest, c.self.invariant.few))).kept
 
 pub returns : goal.returns
 returns c =
-    let linked = linked_now _ _ _ c.self.view_is c.self.invariant in
-    let next = first_is _ _ _ linked c.args.list _ _ c.requires.list_in_range (c.replace-next.ensures.value ∙ c.index_mut-first.ensures.value) in
-    let links = c.set_before.ensures ∙ ap (with_before c.deref_mut.result.now c.replace-next.result) c.to-link.ensures
-    ∙ ap (λ l. with_before l c.replace-next.result (Some c.args.resource)) c.deref_mut.ensures.value in
+    let inside = c.self.inside in
+    let linked = links_now _ _ inside.resources.items c.self.view_is c.self.invariant in
+    let next = first_is _ _ _ linked c.args.key.process _ _ c.requires.list_in_range (c.replace-next.ensures.value ∙ c.index_mut-first.ensures.value) in
+    let put = c.deref_mut.ensures.value in
+    let links = put_links inside.resources.items c.args.resource _ c.replace-next.result c.to-link.result c.deref_mut.result.now c.set_before.new.resources put c.to-link.ensures c.set_before.ensures.links in
+    let owners = put_owners c.args.self.now inside.firsts.items inside.resources.items c.args.resource _ (Some c.args.key) c.deref_mut.result.now c.set_before.new.resources c.self.view_is put c.of.ensures c.set_before.ensures.owners in
     let after = AreLinked-pushed _ _ _ c.requires.list_in_range c.requires.resource_in_range c.requires.loose _ _ linked _ _ _ next (c.replace-next.ensures.after ∙ c.to-link.ensures) links in
-    (Shows-written _ _ _ _ _ (omega (arith, linked.size)) after).seen
+    (shown_written (given c.args.self.now c.args.key c.args.resource) _ _ c.set_before.new.resources _ (omega (arith, linked.size, length-links_of inside.resources.items)) after owners (omega (arith, length-set inside.firsts.items c.args.key.process c.replace-next.new.dest, c.self.invariant.few))).is

@@ -6,7 +6,7 @@ use Rattle.mm_owned.proofs.owned.tests.is_in_list.Goals as goal
 
 pub loop-next-init : goal.loop-next-init
 loop-next-init c =
-    let list = list_at c.args.owned.now c.args.list in
+    let list = list_at c.args.owned.now.listed c.args.list in
     let first = c.first-next.ensures.first in (
       λ q is. Among-head list q (sym first ∙ is),
       subst (Among c.args.resource) (sym (ap (rest_from list) first ∙ rest_from-head list)),
@@ -14,7 +14,7 @@ loop-next-init c =
 
 pub returns-then-other-resource : goal.returns-then-other-resource
 returns-then-other-resource c =
-    let list = list_at c.args.owned.now c.args.list in
+    let list = list_at c.args.owned.now.listed c.args.list in
     let among = subst (λ q. Among q list) c.if-other-resource.true (c.loop-next.invariant.0 c.in-Some.other c.in-Some.is) in
     (λ _. among, λ _. refl)
 
@@ -24,19 +24,19 @@ next-next-requires c =
 
 pub loop-next-smaller : goal.loop-next-smaller
 loop-next-smaller c =
-    let list = list_at c.args.owned.now c.args.list in
+    let list = list_at c.args.owned.now.listed c.args.list in
     let among = c.loop-next.invariant.0 c.in-Some.other c.in-Some.is in
     let rest : rest_from list c.loop-next.next ≡ c.in-Some.other ∷ rest_from list c.next-next.result =
-    ap (rest_from list) c.in-Some.is ∙ rest_from-next c.args.owned.now c.args.list _ _ among c.next-next.ensures.listed (c.first-next.ensures.exclusive.once c.args.list) in
+    ap (rest_from list) c.in-Some.is ∙ rest_from-next c.args.owned.now.listed c.args.list _ _ among c.next-next.ensures.listed (c.first-next.ensures.exclusive.once c.args.list) in
     omega (arith, ap length rest)
 
 pub loop-next-preserved : goal.loop-next-preserved
 loop-next-preserved c =
-    let list = list_at c.args.owned.now c.args.list in
+    let list = list_at c.args.owned.now.listed c.args.list in
     let among = c.loop-next.invariant.0 c.in-Some.other c.in-Some.is in
     let rest : rest_from list c.loop-next.next ≡ c.in-Some.other ∷ rest_from list c.next-next.result =
-    ap (rest_from list) c.in-Some.is ∙ rest_from-next c.args.owned.now c.args.list _ _ among c.next-next.ensures.listed (c.first-next.ensures.exclusive.once c.args.list) in (
-      Among-next c.args.owned.now c.args.list _ _ among c.next-next.ensures.listed,
+    ap (rest_from list) c.in-Some.is ∙ rest_from-next c.args.owned.now.listed c.args.list _ _ among c.next-next.ensures.listed (c.first-next.ensures.exclusive.once c.args.list) in (
+      Among-next c.args.owned.now.listed c.args.list _ _ among c.next-next.ensures.listed,
       λ there. elim (subst (Among c.args.resource) rest (c.loop-next.invariant.1 there)) [
         | inl same ↦ absurd (c.if-other-resource.false (sym same))
         | inr later ↦ later
@@ -45,5 +45,5 @@ loop-next-preserved c =
 
 pub returns : goal.returns
 returns c =
-    let list = list_at c.args.owned.now c.args.list in
+    let list = list_at c.args.owned.now.listed c.args.list in
     (λ never. absurd (search rules), λ among. absurd (subst (Among c.args.resource) (ap (rest_from list) c.in_default.is) (c.loop-next.invariant.1 among)))

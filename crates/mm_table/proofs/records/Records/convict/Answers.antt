@@ -10,7 +10,7 @@ invariant_of-self c =
     let inside = c.self.inside in
     let found : lookup inside.transactions c.args.key ≡ Some c.unwrap-transaction.result.now = sym c.get_mut.ensures.value ∙ ap option_copied_mut c.unwrap-transaction.ensures in
     record {
-      parts = marked_fits inside.config inside.transactions inside.labels.items inside.owners.items inside.waits.items c.args.key c.unwrap-transaction.result.now true found c.self.invariant.parts;
+      parts = marked_fits inside.config inside.transactions inside.labels.items inside.owned.owners inside.waits.items c.args.key c.unwrap-transaction.result.now true found c.self.invariant.parts;
       owned = c.self.invariant.owned;
       capacity = c.self.invariant.capacity;
     }
@@ -21,6 +21,6 @@ returns c =
     let found : lookup inside.transactions c.args.key ≡ Some c.unwrap-transaction.result.now = sym c.get_mut.ensures.value ∙ ap option_copied_mut c.unwrap-transaction.ensures in
     let counted = record inside.totals { verdicts = inside.totals.verdicts + 1 } in
     let n = c.args.key.process in
-    marked inside.config inside.transactions inside.labels.items inside.owners.items inside.waits.items counted c.args.key c.unwrap-transaction.result.now true found
+    marked inside.config inside.transactions inside.labels.items inside.owned.owners inside.waits.items counted c.args.key c.unwrap-transaction.result.now true found
     ∙ ap (λ (s : TableState). record s { verdicts = slice_set s.verdicts n true; totals = record s.totals { verdicts = s.totals.verdicts + 1 } }) c.self.view_is
     ∙ sym (rw c.requires.can refl)

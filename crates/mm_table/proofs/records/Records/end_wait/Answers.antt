@@ -20,7 +20,7 @@ at_place c =
 
 pub invariant_of-self : goal.invariant_of-self
 invariant_of-self c = let inside = c.self.inside in record {
-  parts = rw c.remove.ensures.items (ended_fits inside.config inside.transactions inside.labels.items inside.owners.items inside.waits.items c.args.place c.remove.result c.unwrap.result.now
+  parts = rw c.remove.ensures.items (ended_fits inside.config inside.transactions inside.labels.items inside.owned.owners inside.waits.items c.args.place c.remove.result c.unwrap.result.now
       (at_place c) (found c) c.self.invariant.parts);
   owned = c.self.invariant.owned;
   capacity = rw c.remove.ensures.capacity c.self.invariant.capacity;
@@ -36,8 +36,8 @@ pub returns-clause-state : goal.returns-clause-state
 returns-clause-state c =
     let inside = c.self.inside in
     let key = c.remove.result.key in
-    ap (λ (ws : List WaitRecord). state_of_parts inside.config (with_value inside.transactions key (record c.unwrap.result.now { waits_for = None })) inside.labels.items inside.owners.items ws inside.totals) c.remove.ensures.items
-    ∙ ended inside.config inside.transactions inside.labels.items inside.owners.items inside.waits.items inside.totals c.args.place c.remove.result c.unwrap.result.now (at_place c) (found c) c.self.invariant.parts
+    ap (λ (ws : List WaitRecord). state_of_parts inside.config (with_value inside.transactions key (record c.unwrap.result.now { waits_for = None })) inside.labels.items inside.owned.owners ws inside.totals) c.remove.ensures.items
+    ∙ ended inside.config inside.transactions inside.labels.items inside.owned.owners inside.waits.items inside.totals c.args.place c.remove.result c.unwrap.result.now (at_place c) (found c) c.self.invariant.parts
     ∙ ap (λ (s : TableState). activate s key.process) c.self.view_is
 
 pub returns-clause-in_range : goal.returns-clause-in_range

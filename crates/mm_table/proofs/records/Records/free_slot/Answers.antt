@@ -10,7 +10,7 @@ use Rattle.mm_table.proofs.records.Records.free_slot.Goals as goal
 value : (c : goal.After-remove) → (o : Transaction) × (lookup c.self.inside.transactions c.args.key ≡ Some o)
 value c =
     let inside = c.self.inside in
-    live_value inside.config inside.transactions inside.labels.items inside.owners.items inside.waits.items inside.totals c.args.key (ap (λ s. is_live s c.args.key) c.self.view_is ∙ c.requires.live)
+    live_value inside.config inside.transactions inside.labels.items inside.owned.owners inside.waits.items inside.totals c.args.key (ap (λ s. is_live s c.args.key) c.self.view_is ∙ c.requires.live)
 
 pub invariant_of-self : goal.invariant_of-self
 invariant_of-self c =
@@ -18,7 +18,7 @@ invariant_of-self c =
     let o = value c in
     let dropped = subst (λ r. OnSome r (DropsKey inside.transactions c.remove.new.self c.args.key)) (c.remove.ensures.value ∙ o.1) c.remove.ensures.dropped in
     record {
-      parts = left_fits inside.config inside.transactions inside.labels.items inside.owners.items inside.waits.items c.args.key o.0 o.1 c.self.invariant.parts
+      parts = left_fits inside.config inside.transactions inside.labels.items inside.owned.owners inside.waits.items c.args.key o.0 o.1 c.self.invariant.parts
           (ap (λ s. wait_of s c.args.key.process) c.self.view_is ∙ c.requires.active) c.remove.new.self c.remove.ensures.slots dropped.updates.others;
       owned = c.self.invariant.owned;
       capacity = c.self.invariant.capacity;
@@ -29,6 +29,6 @@ returns c =
     let inside = c.self.inside in
     let o = value c in
     let no_verdict : o.0.has_verdict ≡ false = sym (its_verdict inside.transactions c.args.key o.0 o.1) ∙ ap (λ s. has_verdict s c.args.key.process) c.self.view_is ∙ c.requires.no_verdict in
-    ap (λ slots. state_of_parts inside.config slots inside.labels.items inside.owners.items inside.waits.items inside.totals) c.remove.ensures.slots
-    ∙ left inside.config inside.transactions inside.labels.items inside.owners.items inside.waits.items c.args.key o.0 o.1 c.self.invariant.parts inside.totals no_verdict
+    ap (λ slots. state_of_parts inside.config slots inside.labels.items inside.owned.owners inside.waits.items inside.totals) c.remove.ensures.slots
+    ∙ left inside.config inside.transactions inside.labels.items inside.owned.owners inside.waits.items c.args.key o.0 o.1 c.self.invariant.parts inside.totals no_verdict
     ∙ ap (λ s. free_slot s c.args.key.process) c.self.view_is

@@ -12,7 +12,7 @@ key_at n g = record { process = n; generation = g }
 
 pub invariant_of-self-2 : goal.invariant_of-self-2
 invariant_of-self-2 c = let inside = c.self.inside in record {
-  parts = seated_fits inside.config inside.transactions c.insert.new.self inside.labels.items inside.owners.items inside.waits.items c.in-Ok.key
+  parts = seated_fits inside.config inside.transactions c.insert.new.self inside.labels.items inside.owned.owners inside.waits.items c.in-Ok.key
       c.insert.ensures.slots (taken inside.transactions _ c.in-Ok.key c.in-Ok.ensures.key) c.in-Ok.ensures.added c.self.invariant.parts;
   owned = c.self.invariant.owned;
   capacity = c.self.invariant.capacity;
@@ -27,7 +27,7 @@ returns c =
     let generation = get_or-map (λ q. q.generation) inside.transactions.places process never_used 0 c.in-Ok.ensures.added.within in (
       λ none. let never : [] ≡ process ∷ free.rest = sym none ∙ ap (λ s. s.free) (sym c.self.view_is) ∙ free.free in cc,
       free.key_is ∙ ap (key_at process) (sym generation) ∙ ap (λ (l : List ℕ). key_of old (slice_index l 0)) (sym free.free) ∙ ap (λ s. key_of s (slice_index s.free 0)) c.self.view_is,
-      ap (λ s. state_of_parts inside.config s inside.labels.items inside.owners.items inside.waits.items inside.totals) c.insert.ensures.slots
-          ∙ seated inside.config inside.transactions inside.labels.items inside.owners.items inside.waits.items inside.totals c.in-Ok.key free (empty_slot inside.transactions c.insert.new.self c.in-Ok.key c.in-Ok.ensures.added)
+      ap (λ s. state_of_parts inside.config s inside.labels.items inside.owned.owners inside.waits.items inside.totals) c.insert.ensures.slots
+          ∙ seated inside.config inside.transactions inside.labels.items inside.owned.owners inside.waits.items inside.totals c.in-Ok.key free (empty_slot inside.transactions c.insert.new.self c.in-Ok.key c.in-Ok.ensures.added)
           ∙ ap (λ (s : TableState). record s { free = drop 1 s.free; live = slice_set s.live (slice_index s.free 0) true }) c.self.view_is,
     )

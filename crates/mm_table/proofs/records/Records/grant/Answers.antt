@@ -1,4 +1,4 @@
-use Rattle.std.proofs.Common.{◌≡◌, ◌<◌, Some, None, ap, subst, ◌∙◌, slice_index_or, arith}
+use Rattle.std.proofs.Common.{◌≡◌, ◌<◌, Some, None, ap, subst, ◌∙◌, slice_index_or}
 use Rattle.mm_arena.specs.declared.key.Key.{Key}
 use Rattle.mm_table.specs.TableState.{owner_of}
 use Rattle.mm_table.proofs.Kept.Owning.{loose, granted_fit, owner_set}
@@ -7,21 +7,16 @@ use Rattle.mm_table.proofs.records.Records.grant.Goals as goal
 pub push-requires-clause-loose : goal.push-requires-clause-loose
 push-requires-clause-loose c = loose c.self.invariant.owned c.args.resource (ap (λ s. owner_of s c.args.resource) c.self.view_is ∙ c.requires.free)
 
-pub of-requires : goal.of-requires
-of-requires c =
-    let process : c.args.key.process < c.self.inside.config.processes = rw (ap (λ s. s.config.processes) c.self.view_is) c.requires.key in
-    omega (arith, c.self.invariant.parts.config_in_range.processes.1)
-
 pub invariant_of-self : goal.invariant_of-self
 invariant_of-self c =
     let inside = c.self.inside in
     let r = c.args.resource in
     let resource : r < inside.config.resources = rw (ap (λ s. s.config.resources) c.self.view_is) c.requires.resource in
     let process : c.args.key.process < inside.config.processes = rw (ap (λ s. s.config.processes) c.self.view_is) c.requires.key in
-    let free : slice_index_or inside.owners.items r None ≡ None = ap (λ s. owner_of s r) c.self.view_is ∙ c.requires.free in
+    let free : slice_index_or inside.owned.owners r None ≡ None = ap (λ s. owner_of s r) c.self.view_is ∙ c.requires.free in
     let its = λ (k : Key) (is : Some c.args.key ≡ Some k). (let one : c.args.key ≡ k = cc in subst (λ (x : Key). x.process < inside.config.processes) one process) in
     record {
-      parts = rw c.of.ensures (owner_set inside.config inside.transactions inside.labels.items inside.owners.items inside.waits.items r (Some c.args.key) resource its c.self.invariant.parts);
-      owned = rw (c.of.ensures, c.push.ensures) (granted_fit inside.config inside.owners.items inside.owned r c.args.key c.self.invariant.owned c.self.invariant.parts.owners_sized resource process free);
+      parts = rw c.push.ensures (owner_set inside.config inside.transactions inside.labels.items inside.owned.owners inside.waits.items r (Some c.args.key) resource its c.self.invariant.parts);
+      owned = rw c.push.ensures (granted_fit inside.config inside.owned.owners inside.owned.listed r c.args.key c.self.invariant.owned c.self.invariant.parts.owners_sized resource process free);
       capacity = c.self.invariant.capacity;
     }

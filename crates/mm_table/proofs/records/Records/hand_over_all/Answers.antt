@@ -17,13 +17,13 @@ first-requires c =
 
 found : (c : goal.After-hand_over-arg-1) → In c.in-Some.resource (resources_of c.loop-resource.self c.args.process)
 found c =
-    let owned = c.self.inside.owned in
+    let owned = c.self.inside.owned.listed in
     let lists = listed c.self.inside c.loop-resource.self c.self.invariant c.self.view_is in
     in_resources c.loop-resource.self owned lists c.args.process c.in-Some.resource (Among-head (list_at owned c.args.process) c.in-Some.resource (sym c.first.ensures.first ∙ c.in-Some.is))
 
 pub hand_over-requires-clause-resource : goal.hand_over-requires-clause-resource
 hand_over-requires-clause-resource c =
-    let owned = c.self.inside.owned in
+    let owned = c.self.inside.owned.listed in
     let lists = listed c.self.inside c.loop-resource.self c.self.invariant c.self.view_is in
     lists.within c.args.process c.in-Some.resource (Among-head (list_at owned c.args.process) c.in-Some.resource (sym c.first.ensures.first ∙ c.in-Some.is))
 
@@ -49,4 +49,4 @@ returns c =
     let s = c.loop-resource.self in
     let n = c.args.process in
     let lists = listed c.self.inside s c.self.invariant c.self.view_is in
-    ap (fold hand_over s) (sym (none_left s c.self.inside.owned lists n (sym c.first.ensures.first ∙ c.in_default.is))) ∙ c.loop-resource.invariant.rest
+    ap (fold hand_over s) (sym (none_left s c.self.inside.owned.listed lists n (sym c.first.ensures.first ∙ c.in_default.is))) ∙ c.loop-resource.invariant.rest

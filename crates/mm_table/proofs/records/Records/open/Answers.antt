@@ -3,6 +3,7 @@ use Rattle.std.proofs.lemmas.List.{length-replicate}
 use Rattle.std.proofs.lemmas.List.FromFn.{length-map-range_with_len}
 use Rattle.std.specs.List.{sum_by}
 use Rattle.mm_arena.specs.Slots.{never_used}
+use Rattle.mm_owned.specs.Owned.{Ownership}
 use Rattle.mm_table.specs.TableState.{waited_for}
 use Rattle.mm_table.specs.Kept.{idle, wait_in, wait_kept, opening_labels}
 use Rattle.mm_table.proofs.Kept.Opening.{all_idle, none_waits, none_owned, opened}
@@ -18,10 +19,10 @@ invariant_of-result c =
         config_in_range = search rules;
         slots_sized = ap length places ∙ length-replicate c.args.config.processes never_used;
         labels_sized = ap length c.in-Ok-labels_at_opening.ensures ∙ length-map-range_with_len opening_labels 0 c.args.config.processes;
-        owners_sized = ap length c.in-Ok-no_owners.ensures ∙ length-map-range_with_len (λ _. None) 0 c.args.config.resources;
+        owners_sized = ap (λ (o : Ownership). length o.owners) c.in-Ok-new.ensures ∙ length-replicate c.args.config.resources None;
         last_generation = ap (λ s. s.limit) c.in-Ok.ensures;
         owner_in_range = λ r k owned.
-            let never : None ≡ Some k = sym (none_owned 0 c.args.config.resources r) ∙ sym (ap (λ owners. slice_index_or owners r None) c.in-Ok-no_owners.ensures) ∙ owned in
+            let never : None ≡ Some k = sym (none_owned c.args.config.resources r) ∙ sym (ap (λ (o : Ownership). slice_index_or o.owners r None) c.in-Ok-new.ensures) ∙ owned in
             cc;
         wait_in_range = λ n r waits.
             let never : None ≡ Some r = sym (none_waits c.args.config.processes n) ∙ ap (λ places. slice_index_or (map wait_in places) n None) (sym places) ∙ waits in
@@ -34,14 +35,14 @@ invariant_of-result c =
             let waits : length c.in-Ok-with_capacity.waits.items ≡ 0 = ap length no_waits in
             omega arith;
       };
-      owned = nothing_owned c.args.config c.in-Ok-no_owners.owners.items c.in-Ok-new.owned c.in-Ok-new.ensures
-          (λ r. ap (λ owners. slice_index_or owners r None) c.in-Ok-no_owners.ensures ∙ none_owned 0 c.args.config.resources r);
+      owned = nothing_owned c.args.config c.in-Ok-new.owned.owners c.in-Ok-new.owned.listed (ap (λ (o : Ownership). o.listed) c.in-Ok-new.ensures)
+          (λ r. ap (λ (o : Ownership). slice_index_or o.owners r None) c.in-Ok-new.ensures ∙ none_owned c.args.config.resources r);
       capacity = omega (arith, c.in-Ok-with_capacity.ensures.exact);
     }
 
 pub returns : goal.returns
 returns c = (
   search rules,
-  opened c.args.config c.in-Ok.transactions c.in-Ok-labels_at_opening.labels.items c.in-Ok-no_owners.owners.items c.in-Ok-with_capacity.waits.items
-      c.in-Ok.ensures c.in-Ok-labels_at_opening.ensures c.in-Ok-no_owners.ensures c.in-Ok-with_capacity.ensures.items,
+  opened c.args.config c.in-Ok.transactions c.in-Ok-labels_at_opening.labels.items c.in-Ok-new.owned.owners c.in-Ok-with_capacity.waits.items
+      c.in-Ok.ensures c.in-Ok-labels_at_opening.ensures (ap (λ (o : Ownership). o.owners) c.in-Ok-new.ensures) c.in-Ok-with_capacity.ensures.items,
 )

@@ -12,7 +12,7 @@ use Rattle.mm_table.proofs.records.Records.vacate_fits.Goals as goal
 
 pub loop-next-init : goal.loop-next-init
 loop-next-init c =
-    let list = list_at c.self.inside.owned c.args.process in
+    let list = list_at c.self.inside.owned.listed c.args.process in
     let first = c.first-next.ensures.first in (
       λ q is. Among-head list q (sym first ∙ is),
       λ q among. inr (subst (Among q) (sym (ap (rest_from list) first ∙ rest_from-head list)) among),
@@ -21,7 +21,7 @@ loop-next-init c =
 pub returns-then-not-hand_over_fits : goal.returns-then-not-hand_over_fits
 returns-then-not-hand_over_fits c =
     let lists = listed c.self.inside c.args.self.now c.self.invariant c.self.view_is in
-    sym (some_past c.args.self.now c.self.inside.owned lists c.args.process c.in-Some.resource (c.loop-next.invariant.0 c.in-Some.resource c.in-Some.is) (sym c.hand_over_fits.ensures ∙ c.if-not-hand_over_fits.true))
+    sym (some_past c.args.self.now c.self.inside.owned.listed lists c.args.process c.in-Some.resource (c.loop-next.invariant.0 c.in-Some.resource c.in-Some.is) (sym c.hand_over_fits.ensures ∙ c.if-not-hand_over_fits.true))
 
 pub next-next-requires : goal.next-next-requires
 next-next-requires c =
@@ -29,7 +29,7 @@ next-next-requires c =
 
 pub loop-next-smaller : goal.loop-next-smaller
 loop-next-smaller c =
-    let owned = c.self.inside.owned in
+    let owned = c.self.inside.owned.listed in
     let list = list_at owned c.args.process in
     let among = c.loop-next.invariant.0 c.in-Some.resource c.in-Some.is in
     let rest : rest_from list c.loop-next.next ≡ c.in-Some.resource ∷ rest_from list c.next-next.result =
@@ -38,7 +38,7 @@ loop-next-smaller c =
 
 pub loop-next-preserved : goal.loop-next-preserved
 loop-next-preserved c =
-    let owned = c.self.inside.owned in
+    let owned = c.self.inside.owned.listed in
     let list = list_at owned c.args.process in
     let among = c.loop-next.invariant.0 c.in-Some.resource c.in-Some.is in
     let rest : rest_from list c.loop-next.next ≡ c.in-Some.resource ∷ rest_from list c.next-next.result =
@@ -55,9 +55,9 @@ loop-next-preserved c =
 
 pub returns : goal.returns
 returns c =
-    let list = list_at c.self.inside.owned c.args.process in
+    let list = list_at c.self.inside.owned.listed c.args.process in
     let lists = listed c.self.inside c.args.self.now c.self.invariant c.self.view_is in
-    sym (all_fit c.args.self.now c.self.inside.owned lists c.args.process (λ q among. elim (c.loop-next.invariant.1 q among) [
+    sym (all_fit c.args.self.now c.self.inside.owned.listed lists c.args.process (λ q among. elim (c.loop-next.invariant.1 q among) [
       | inl fits ↦ fits
       | inr left ↦ absurd (subst (Among q) (ap (rest_from list) c.in_default.is) left)
     ]))

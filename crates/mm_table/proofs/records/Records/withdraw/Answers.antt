@@ -23,7 +23,7 @@ pub invariant_of-self : goal.invariant_of-self
 invariant_of-self c =
     let inside = c.self-2.inside in
     record {
-      parts = marked_fits inside.config inside.transactions inside.labels.items inside.owners.items inside.waits.items c.args.key c.unwrap.result.now false (found c) c.self-2.invariant.parts;
+      parts = marked_fits inside.config inside.transactions inside.labels.items inside.owned.owners inside.waits.items c.args.key c.unwrap.result.now false (found c) c.self-2.invariant.parts;
       owned = c.self-2.invariant.owned;
       capacity = c.self-2.invariant.capacity;
     }
@@ -34,6 +34,6 @@ returns c =
     let n = c.args.key.process in
     let place = ap (position (λ (w : WaitRecord). nat_eq w.key.process n)) (sym c.deref.ensures.value) ∙ sym c.place_of.ensures ∙ c.unwrap-place.ensures in
     let same = its_process c.self.inside.waits.items n c.unwrap-place.result c.end_wait.result place (ap (λ s. option_map (λ w. w.key) (slice_get s.waits c.unwrap-place.result)) c.self.view_is ∙ c.end_wait.ensures.key) in
-    marked inside.config inside.transactions inside.labels.items inside.owners.items inside.waits.items (record inside.totals { aborts = inside.totals.aborts + 1 }) c.args.key c.unwrap.result.now false (found c)
+    marked inside.config inside.transactions inside.labels.items inside.owned.owners inside.waits.items (record inside.totals { aborts = inside.totals.aborts + 1 }) c.args.key c.unwrap.result.now false (found c)
     ∙ ap (λ (s : TableState). record s { verdicts = slice_set s.verdicts n false; totals = record s.totals { aborts = s.totals.aborts + 1 } })
     (c.self-2.view_is ∙ c.end_wait.ensures.state ∙ ap (activate c.args.self.now) same)

@@ -1,13 +1,13 @@
 //! The owner of a resource, or none, in eight bytes.
 ghost use Rattle.std.specs.Prelude.{◌≡◌, ◌<◌, None, Some};
-ghost use Rattle.mm_table.specs.Owner.{none_number};
+ghost use Rattle.mm_owned.specs.Owner.{no_process};
 
-use crate::Key;
+use mm_arena::Key;
 use std::marker::Model;
 
 /// A key, or none, in eight bytes. The process `u32::MAX` stands for none.
 #[derive(Drop)]
-pub(super) struct Owner {
+pub struct Owner {
     process: u32,
     generation: u32,
 }
@@ -15,7 +15,7 @@ pub(super) struct Owner {
 impl Model for Owner {
     ghost use Rattle.std.specs.Prelude.{Option};
     ghost use Rattle.mm_arena.specs.declared.key.Key.{Key};
-    ghost use Rattle.mm_table.specs.Owner.{meant};
+    ghost use Rattle.mm_owned.specs.Owner.{meant};
 
     ghost Value = { Option Key };
 
@@ -24,14 +24,14 @@ impl Model for Owner {
 
 impl Owner {
     /// No owner.
-    pub(super) const NONE: Owner = Owner {
+    pub const NONE: Owner = Owner {
         process: u32::MAX,
         generation: 0,
     };
 
     /// This key, whose process is below `u32::MAX`, in constant time.
-    pub(super) fn of(key: Key) -> Owner
-        requires { key.process < none_number }
+    pub fn of(key: Key) -> Owner
+        requires { key.process < no_process }
         ensures { result ≡ Some key }
     {
         Owner {
@@ -41,7 +41,7 @@ impl Owner {
     }
 
     /// The key, in constant time.
-    pub(super) fn get(&self) -> Option<Key>
+    pub fn get(&self) -> Option<Key>
         ensures { result ≡ self.now }
     {
         if self.process == u32::MAX {
@@ -53,3 +53,6 @@ impl Owner {
         })
     }
 }
+
+#[cfg(test)]
+mod tests;
