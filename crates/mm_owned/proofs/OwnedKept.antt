@@ -29,15 +29,9 @@ links_now s firsts rs is kept = linked_now s.listed firsts (links_of rs) (ap (λ
 pub length-links_of : (rs : List Resource) → length (links_of rs) ≡ length rs
 length-links_of rs = length-map rs (λ r. r.links)
 
-pub length-owners_of : (rs : List Resource) → length (owners_of rs) ≡ length rs
-length-owners_of rs = length-map rs (λ r. r.owner)
-
 -- what a read gives
 pub read_links : (rs : List Resource) (r : ℕ) (read other : Resource) → read ≡ get_or rs r other → read.links ≡ get_or (links_of rs) r other.links
 read_links rs r read other is = ap (λ x. x.links) is ∙ sym (get_or-map (λ x. x.links) rs r other)
-
-pub read_owner : (rs : List Resource) (r : ℕ) (read other : Resource) → read ≡ get_or rs r other → read.owner ≡ get_or (owners_of rs) r other.owner
-read_owner rs r read other is = ap (λ x. x.owner) is ∙ sym (get_or-map (λ x. x.owner) rs r other)
 
 -- what is written
 pub set_links : (rs : List Resource) (r : ℕ) (new : Resource) → links_of (set rs r new) ≡ set (links_of rs) r new.links

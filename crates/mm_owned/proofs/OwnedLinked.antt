@@ -1,8 +1,8 @@
 -- How each call keeps the lists linked, and what a contract sees of it.
-use Rattle.std.proofs.Common.{◌≡◌, ◌≢◌, ℕ, zero, suc, replicate, ◌<◌, ◌≤◌, List, [], ◌∷◌, ◌++◌, Option, Some, None, map, length, get_or, set, take, slice_get, refl, sym, ap, subst, ◌∙◌, inl, inr, arith, length-set}
+use Rattle.std.proofs.Common.{◌≡◌, ◌≢◌, ℕ, zero, suc, replicate, ◌<◌, ◌≤◌, List, [], ◌∷◌, ◌++◌, Option, Some, None, map, length, get_or, set, slice_get, refl, sym, ap, subst, ◌∙◌, inl, inr, arith, length-set}
 use Rattle.std.specs.Option.{option_and_then}
 use Rattle.std.proofs.lemmas.Bool.{cases_eq}
-use Rattle.std.proofs.lemmas.List.{take_at, get_or_default, get_or-map, length-map, length-replicate, map-set}
+use Rattle.std.proofs.lemmas.List.{get_or_default, get_or-map, length-map, length-replicate, map-set}
 use Rattle.std.proofs.lemmas.Option.{slice_get-get_or, slice_get_within, same_Some}
 use Rattle.mm_owned.specs.declared.owned.Links.{Links}
 use Rattle.mm_owned.specs.Link.{none_number}
@@ -84,11 +84,6 @@ pub Shows-linked : (s : Lists) (firsts : List (Option ℕ)) (links : List Links)
 Shows-linked s firsts links linked =
     let shown = seen-linked s firsts links linked in
     record { linked = subst (λ t. AreLinked t firsts links) (sym shown) linked; seen = shown }
-
--- the same, where the links were written over others of a vector of this length
-pub Shows-written : (s : Lists) (firsts : List (Option ℕ)) (len : ℕ) (links old : List Links) → len ≡ s.resources → AreLinked s firsts links → Shows s firsts (take len (links ++ old))
-Shows-written s firsts len links old whole linked =
-    rw (take_at links old len (omega (arith, linked.size))) (Shows-linked s firsts links linked)
 
 -- ---- a write of one list
 

@@ -6,16 +6,16 @@ use Rattle.mm_owned.proofs.owned.Owned.new.Goals as goal
 
 pub invariant_of-result : goal.invariant_of-result
 invariant_of-result c =
-    let firsts = c.firsts.invariant.0 ∙ ap (λ n. replicate n None) (omega arith) in
-    let kept = c.kept.invariant.0 ∙ ap (λ n. replicate n no_owner) (omega arith) in
     let few : c.args.resources ≤ none_number = omega arith in
     let few_lists : c.args.lists ≤ no_process = omega arith in
+    let firsts = c.firsts.invariant.0 ∙ ap (λ n. replicate n None) (omega arith) in
+    let kept = c.kept.invariant.0 ∙ ap (λ n. replicate n no_owner) (omega arith) in
     (shown_empty c.args.lists c.args.resources _ _ firsts kept few few_lists).kept
 
 pub returns : goal.returns
 returns c =
-    let firsts = c.firsts.invariant.0 ∙ ap (λ n. replicate n None) (omega arith) in
-    let kept = c.kept.invariant.0 ∙ ap (λ n. replicate n no_owner) (omega arith) in
     let few : c.args.resources ≤ none_number = omega arith in
     let few_lists : c.args.lists ≤ no_process = omega arith in
+    let firsts = c.firsts.invariant.0 ∙ ap (λ n. replicate n None) (omega arith) in
+    let kept = c.kept.invariant.0 ∙ ap (λ n. replicate n no_owner) (omega arith) in
     (shown_empty c.args.lists c.args.resources _ _ firsts kept few few_lists).is
