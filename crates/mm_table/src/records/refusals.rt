@@ -131,6 +131,7 @@ impl Records {
         }
         Ok(())
     }
+
     /// The tests of `finish`, in their order.
     pub(super) fn may_finish(&self, key: Key) -> Result<(), Refusal>
         ensures tests { result ≡ allowed (finish_tests self.now key) }
