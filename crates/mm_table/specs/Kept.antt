@@ -5,15 +5,15 @@ use Rattle.std.specs.Option.{option_map_or}
 use Rattle.mm_arena.specs.declared.key.Key.{Key}
 use Rattle.mm_arena.specs.Slots.{Slots, Place, IsLive}
 use Rattle.mm_label.specs.Label.{opening_label}
-use Rattle.mm_table.specs.declared.config.Config.{Config}
-use Rattle.mm_table.specs.declared.reply.Totals.{Totals}
+use Rattle.mm_rules.specs.declared.config.Config.{Config}
+use Rattle.mm_rules.specs.declared.reply.Totals.{Totals}
 use Rattle.mm_table.specs.declared.records.Records.TheInside.{Inside}
 use Rattle.mm_table.specs.declared.records.Transaction.{Transaction}
 use Rattle.mm_table.specs.declared.records.Labels.{Labels}
 use Rattle.mm_table.specs.declared.records.WaitRecord.{WaitRecord}
 use Rattle.mm_owned.specs.Members.{Among, NoRepeat}
 use Rattle.mm_owned.specs.Owned.{Lists, IsExclusive, list_at}
-use Rattle.mm_table.specs.TableState.{TableState, Wait, IsInRange, waited_for}
+use Rattle.mm_rules.specs.TableState.{TableState, Wait, IsInRange, waited_for}
 
 abbrev pub wait_kept : WaitRecord → Wait
 wait_kept w = record { key = w.key; resource = w.resource }

@@ -1,9 +1,3 @@
-pub mod Graph
-pub mod Refusal
-pub mod TableState
-pub mod Change
-pub mod Event
-pub mod Laws
 pub mod Queue
 pub mod Sweep
 pub mod Kept

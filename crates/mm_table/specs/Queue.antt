@@ -1,10 +1,10 @@
 -- Waiting and queues, as the contracts of private functions see them.
 use Rattle.std.specs.Prelude.{ℕ, ◌≢◌, Bool, not, List, [], ◌∷◌, filter, fold, drop, nat_eq}
 use Rattle.std.specs.List.{list_all, AllByRecursion}
-use Rattle.mm_table.specs.TableState.{TableState, Wait}
-use Rattle.mm_table.specs.Change.{block, block_fits}
-use Rattle.mm_table.specs.declared.refusal.Refusal.TheVariants.{AlreadyOwns, LabelsExhausted}
-use Rattle.mm_table.specs.Event.{Tests}
+use Rattle.mm_rules.specs.TableState.{TableState, Wait}
+use Rattle.mm_rules.specs.Change.{block, block_fits}
+use Rattle.mm_rules.specs.declared.refusal.Refusal.TheVariants.{AlreadyOwns, LabelsExhausted}
+use Rattle.mm_rules.specs.Event.{Tests}
 
 -- those that wait for r, from this place among the waits on
 abbrev pub queue_from : TableState → ℕ → ℕ → List Wait

@@ -1,9 +1,9 @@
 -- The sweeps of a settle, as the contracts of private functions see them.
 use Rattle.std.specs.Prelude.{◌≡◌, ◌<◌, ℕ, List, Some, map}
 use Rattle.mm_table.specs.declared.records.settle.Waiter.{Waiter}
-use Rattle.mm_table.specs.TableState.{TableState, holder_of}
-use Rattle.mm_table.specs.Change.{swept, total_raises}
-use Rattle.mm_table.specs.Event.{Settles}
+use Rattle.mm_rules.specs.TableState.{TableState, holder_of}
+use Rattle.mm_rules.specs.Change.{swept, total_raises}
+use Rattle.mm_rules.specs.Event.{Settles}
 
 -- both are processes of the table, and the second is the holder of the first
 pub record IsWaiter (s : TableState) (w : Waiter) : Type 0 where

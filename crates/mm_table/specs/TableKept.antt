@@ -1,7 +1,7 @@
 -- What holds of every `Table`.
 use Rattle.std.specs.Prelude.{◌≤◌, vec_capacity}
 use Rattle.mm_table.specs.declared.table.Table.TheInside.{Inside}
-use Rattle.mm_table.specs.Laws.{Laws}
+use Rattle.mm_rules.specs.Laws.{Laws}
 
 -- all laws, and room for each process that may wait
 pub record IsTableKept (t : Inside) : Type 0 where

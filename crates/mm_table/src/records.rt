@@ -60,7 +60,7 @@ pub struct Records {
 }
 
 impl Model for Records {
-    ghost use Rattle.mm_table.specs.TableState.{TableState};
+    ghost use Rattle.mm_rules.specs.TableState.{TableState};
     ghost use Rattle.mm_table.specs.Kept.{state_kept, IsKept};
 
     ghost Value = { TableState };

@@ -1,6 +1,6 @@
 ghost use Rattle.std.specs.Prelude.{◌≡◌};
-ghost use Rattle.mm_table.specs.Event.{Opens, Step, Begin, Acquire, Release, Finish, Transmit, Detect, Abort, Settle, state_of, owner_told, tenant_of};
-ghost use Rattle.mm_table.specs.Laws.{Laws, HasSoundVerdicts};
+ghost use Rattle.mm_rules.specs.Event.{Opens, Step, Begin, Acquire, Release, Finish, Transmit, Detect, Abort, Settle, state_of, owner_told, tenant_of};
+ghost use Rattle.mm_rules.specs.Laws.{Laws, HasSoundVerdicts};
 
 use crate::records::{Records, Waiter};
 use crate::{
@@ -22,7 +22,7 @@ pub struct Table {
 }
 
 impl Model for Table {
-    ghost use Rattle.mm_table.specs.TableState.{TableState};
+    ghost use Rattle.mm_rules.specs.TableState.{TableState};
     ghost use Rattle.mm_table.specs.TableKept.{IsTableKept};
 
     ghost Value = { TableState };

@@ -5,8 +5,8 @@ use Rattle.std.specs.List.{list_all}
 use Rattle.mm_label.specs.Label.{opening_label}
 use Rattle.mm_table.specs.declared.records.WaitRecord.{WaitRecord}
 use Rattle.mm_owned.specs.Members.{Among, NoRepeat}
-use Rattle.mm_table.specs.TableState.{TableState, Wait}
-use Rattle.mm_table.specs.Change.{block, block_fits, label_against}
+use Rattle.mm_rules.specs.TableState.{TableState, Wait}
+use Rattle.mm_rules.specs.Change.{block, block_fits, label_against}
 use Rattle.mm_table.specs.Queue.{queue_from, fits_from, blocked_on, NoneIs}
 use Rattle.mm_table.specs.Kept.{wait_kept}
 use Rattle.mm_table.proofs.Kept.Queues.{queue_here, queue_past, next_at}

@@ -7,14 +7,14 @@ use Rattle.std.specs.List.{slice_get, AllByRecursion}
 use Rattle.std.specs.Option.{option_map}
 use Rattle.mm_arena.specs.declared.key.Key.{Key}
 use Rattle.mm_arena.specs.Slots.{Slots, Place, never_used, place_at, lookup, IsLive, with_value}
-use Rattle.mm_table.specs.declared.config.Config.{Config}
-use Rattle.mm_table.specs.declared.reply.Totals.{Totals}
+use Rattle.mm_rules.specs.declared.config.Config.{Config}
+use Rattle.mm_rules.specs.declared.reply.Totals.{Totals}
 use Rattle.mm_table.specs.declared.records.Transaction.{Transaction}
 use Rattle.mm_table.specs.declared.records.Labels.{Labels}
 use Rattle.mm_table.specs.declared.records.WaitRecord.{WaitRecord}
 use Rattle.mm_owned.specs.Members.{Among, NoRepeat}
-use Rattle.mm_table.specs.TableState.{is_of, waited_for}
-use Rattle.mm_table.specs.Change.{activate}
+use Rattle.mm_rules.specs.TableState.{is_of, waited_for}
+use Rattle.mm_rules.specs.Change.{activate}
 use Rattle.mm_table.specs.Kept.{idle, wait_in, wait_kept, state_of_parts, PartsFit}
 use Rattle.mm_table.proofs.Kept.Slots.{holds, with_value_live, all_map}
 use Rattle.mm_table.proofs.Kept.Parts.{noted, waited_past}

@@ -7,13 +7,13 @@ use Rattle.std.specs.List.{AllByRecursion, sum_by}
 use Rattle.mm_arena.specs.declared.key.Key.{Key}
 use Rattle.mm_arena.specs.Slots.{Slots, Place, never_used, place_at, value_under, lookup, IsLive, freed, retired, vacated, removed}
 use Rattle.mm_owned.specs.Members.{Among}
-use Rattle.mm_table.specs.declared.config.Config.{Config}
-use Rattle.mm_table.specs.declared.reply.Totals.{Totals}
+use Rattle.mm_rules.specs.declared.config.Config.{Config}
+use Rattle.mm_rules.specs.declared.reply.Totals.{Totals}
 use Rattle.mm_table.specs.declared.records.Transaction.{Transaction}
 use Rattle.mm_table.specs.declared.records.Labels.{Labels}
 use Rattle.mm_table.specs.declared.records.WaitRecord.{WaitRecord}
-use Rattle.mm_table.specs.TableState.{is_live, waited_for}
-use Rattle.mm_table.specs.Change.{free_slot}
+use Rattle.mm_rules.specs.TableState.{is_live, waited_for}
+use Rattle.mm_rules.specs.Change.{free_slot}
 use Rattle.mm_table.specs.Kept.{idle, wait_in, verdict_in, wait_kept, state_of_parts, PartsFit}
 use Rattle.mm_table.proofs.Kept.Slots.{holds, same_slot}
 use Rattle.mm_table.proofs.Kept.Parts.{wait_read, among_waits}

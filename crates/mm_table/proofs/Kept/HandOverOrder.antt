@@ -6,8 +6,8 @@ use Rattle.std.specs.List.{AllByRecursion}
 use Rattle.mm_label.specs.Label.{Label, opening_label}
 use Rattle.mm_arena.specs.declared.key.Key.{Key}
 use Rattle.mm_owned.specs.Members.{Among, NoRepeat}
-use Rattle.mm_table.specs.TableState.{TableState, Wait, is_of, waiters_of}
-use Rattle.mm_table.specs.Change.{label_against, block, activate, give_to, hand_over}
+use Rattle.mm_rules.specs.TableState.{TableState, Wait, is_of, waiters_of}
+use Rattle.mm_rules.specs.Change.{label_against, block, activate, give_to, hand_over}
 
 -- ---- blocks
 

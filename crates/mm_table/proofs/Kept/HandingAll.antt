@@ -4,14 +4,14 @@ use Rattle.std.specs.List.{range_with_len}
 use Rattle.std.proofs.lemmas.Bool.{cases_eq, cases_Bool, eq-eqb}
 use Rattle.mm_arena.specs.declared.key.Key.{Key}
 use Rattle.mm_owned.specs.Members.{NoRepeat}
-use Rattle.mm_table.specs.TableState.{TableState, is_live, has_verdict, owner_of, owns, wait_of, resources_of}
-use Rattle.mm_table.specs.Change.{hand_over, hand_over_fits, give_to_fits, free_slot, vacate, vacate_fits}
-use Rattle.mm_table.specs.Laws.{Laws}
-use Rattle.mm_table.proofs.States.Lists.{In, to_among, from_among, filter_gives, filter_keeps, list_all_from, some_of_range_once}
-use Rattle.mm_table.proofs.States.Handed.{MayHand}
-use Rattle.mm_table.proofs.States.HandOver.{HandedOver, hand_over_keeps}
-use Rattle.mm_table.proofs.States.Release.{owns_gives, may_hand}
-use Rattle.mm_table.proofs.States.Vacate.{Vacating, begins, vacates, vacates_one}
+use Rattle.mm_rules.specs.TableState.{TableState, is_live, has_verdict, owner_of, owns, wait_of, resources_of}
+use Rattle.mm_rules.specs.Change.{hand_over, hand_over_fits, give_to_fits, free_slot, vacate, vacate_fits}
+use Rattle.mm_rules.specs.Laws.{Laws}
+use Rattle.mm_rules.proofs.States.Lists.{In, to_among, from_among, filter_gives, filter_keeps, list_all_from, some_of_range_once}
+use Rattle.mm_rules.proofs.States.Handed.{MayHand}
+use Rattle.mm_rules.proofs.States.HandOver.{HandedOver, hand_over_keeps}
+use Rattle.mm_rules.proofs.States.Release.{owns_gives, may_hand}
+use Rattle.mm_rules.proofs.States.Vacate.{Vacating, begins, vacates, vacates_one}
 use Rattle.mm_table.proofs.Kept.HandOverOrder.{any_order}
 use Rattle.mm_table.proofs.Kept.HandingOver.{hand_over_totals}
 

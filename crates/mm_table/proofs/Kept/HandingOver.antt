@@ -6,10 +6,10 @@ use Rattle.std.specs.List.{position, slice_get, list_all}
 use Rattle.mm_arena.specs.declared.key.Key.{Key}
 use Rattle.mm_table.specs.declared.records.WaitRecord.{WaitRecord}
 use Rattle.mm_owned.specs.Members.{Among, NoRepeat}
-use Rattle.mm_table.specs.TableState.{TableState, Wait, is_of, waiters_of}
-use Rattle.mm_table.specs.Change.{activate, block, block_fits, give_to, give_to_fits, hand_over, hand_over_fits}
-use Rattle.mm_table.specs.Event.{release_answer}
-use Rattle.mm_table.specs.declared.reply.Released.TheVariants.{To}
+use Rattle.mm_rules.specs.TableState.{TableState, Wait, is_of, waiters_of}
+use Rattle.mm_rules.specs.Change.{activate, block, block_fits, give_to, give_to_fits, hand_over, hand_over_fits}
+use Rattle.mm_rules.specs.Event.{release_answer}
+use Rattle.mm_rules.specs.declared.reply.Released.TheVariants.{To}
 use Rattle.mm_table.specs.Queue.{queue_from, fits_from, blocked_on, NoneIs}
 use Rattle.mm_table.specs.Kept.{wait_kept}
 use Rattle.mm_table.proofs.Kept.Queues.{queue, queue_first, next_at}

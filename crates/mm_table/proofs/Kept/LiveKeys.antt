@@ -4,14 +4,14 @@ use Rattle.std.proofs.lemmas.Bool.{cases_Bool, and_parts, and_from, eq-eqb}
 use Rattle.mm_arena.specs.declared.key.Key.{Key}
 use Rattle.mm_arena.specs.Slots.{Slots, Place, never_used, place_at, live_key}
 use Rattle.mm_arena.specs.Slots as slots
-use Rattle.mm_table.specs.declared.config.Config.{Config}
+use Rattle.mm_rules.specs.declared.config.Config.{Config}
 use Rattle.mm_table.specs.declared.records.Transaction.{Transaction}
 use Rattle.mm_table.specs.declared.records.Labels.{Labels}
 use Rattle.mm_table.specs.declared.records.WaitRecord.{WaitRecord}
-use Rattle.mm_table.specs.TableState.{TableState, key_of, is_live, waited_for}
-use Rattle.mm_table.specs.Event.{tenant_of}
+use Rattle.mm_rules.specs.TableState.{TableState, key_of, is_live, waited_for}
+use Rattle.mm_rules.specs.Event.{tenant_of}
 use Rattle.mm_table.specs.Kept.{wait_in, wait_kept, PartsFit}
-use Rattle.mm_table.proofs.States.Read.{map_none, true_within}
+use Rattle.mm_rules.proofs.States.Read.{map_none, true_within}
 
 -- the live key of a process is live
 tenant_lives : (s : TableState) (n : ℕ) (k : Key) → Some k ≡ tenant_of s n → IsTrue (is_live s k) × (k.process ≡ n)

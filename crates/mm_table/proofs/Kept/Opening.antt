@@ -5,11 +5,11 @@ use Rattle.std.proofs.lemmas.List.Sums.{sum_by-cons}
 use Rattle.mm_arena.specs.declared.key.Key.{Key}
 use Rattle.mm_arena.specs.Slots.{Slots, Place, never_used, opening_slots}
 use Rattle.mm_label.specs.Label.{opening_label}
-use Rattle.mm_table.specs.declared.config.Config.{Config}
+use Rattle.mm_rules.specs.declared.config.Config.{Config}
 use Rattle.mm_table.specs.declared.records.Transaction.{Transaction}
 use Rattle.mm_table.specs.declared.records.Labels.{Labels}
 use Rattle.mm_table.specs.declared.records.WaitRecord.{WaitRecord}
-use Rattle.mm_table.specs.TableState.{opening}
+use Rattle.mm_rules.specs.TableState.{opening}
 use Rattle.mm_table.specs.Kept.{opening_labels, verdict_in, wait_in, idle, state_of_parts}
 
 -- slots that were never used

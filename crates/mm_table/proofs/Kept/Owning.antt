@@ -9,15 +9,15 @@ use Rattle.mm_arena.specs.Slots.{Slots}
 use Rattle.mm_owned.specs.Members.{Among, NoRepeat}
 use Rattle.mm_owned.specs.Owned.{Lists, list_at, head, empty_lists, pushed, removed, IsLoose, IsExclusive}
 use Rattle.mm_owned.proofs.OwnedChanges.{Among-below, Among-pushed, Among-pushed_old, Among-pushed_new, IsExclusive-pushed, Among-removed, Among-removed_other, IsExclusive-removed, IsLoose-removed}
-use Rattle.mm_table.specs.declared.config.Config.{Config}
+use Rattle.mm_rules.specs.declared.config.Config.{Config}
 use Rattle.mm_table.specs.declared.records.Records.TheInside.{Inside}
 use Rattle.mm_table.specs.declared.records.Transaction.{Transaction}
 use Rattle.mm_table.specs.declared.records.Labels.{Labels}
 use Rattle.mm_table.specs.declared.records.WaitRecord.{WaitRecord}
-use Rattle.mm_table.specs.TableState.{TableState, owns, resources_of}
-use Rattle.mm_table.specs.Change.{hand_over_fits, vacate_fits}
+use Rattle.mm_rules.specs.TableState.{TableState, owns, resources_of}
+use Rattle.mm_rules.specs.Change.{hand_over_fits, vacate_fits}
 use Rattle.mm_table.specs.Kept.{owning, OwnedFit, PartsFit, IsKept, state_kept}
-use Rattle.mm_table.proofs.States.Lists.{In, filter_gives, filter_keeps, list_all_at, list_all_from, range_holds}
+use Rattle.mm_rules.proofs.States.Lists.{In, filter_gives, filter_keeps, list_all_at, list_all_from, range_holds}
 
 -- the owner of one resource changes
 owning_here : (os : List (Option Key)) (r : ℕ) (o : Option Key) → r < length os → owning (slice_set os r o) r ≡ option_map (λ k. k.process) o

@@ -7,7 +7,7 @@ use Rattle.std.proofs.lemmas.List.Sums.{fails_before_first}
 use Rattle.std.specs.List.{position, position_or_len}
 use Rattle.mm_table.specs.declared.records.WaitRecord.{WaitRecord}
 use Rattle.mm_label.specs.Label.{Label}
-use Rattle.mm_table.specs.TableState.{Wait}
+use Rattle.mm_rules.specs.TableState.{Wait}
 use Rattle.mm_table.specs.Kept.{wait_kept}
 
 -- those that wait for r

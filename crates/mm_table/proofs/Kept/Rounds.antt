@@ -8,9 +8,9 @@ use Rattle.std.specs.List.{range_with_len}
 use Rattle.std.proofs.lemmas.List.Sums.{sum_by-cons}
 use Rattle.mm_label.specs.Label.{label_eq}
 use Rattle.mm_owned.specs.Members.{Among, NoRepeat}
-use Rattle.mm_table.specs.TableState.{TableState, private_of, public_of, holder_of}
-use Rattle.mm_table.specs.Change.{can_transmit, transmit, raises_along, can_detect, detect}
-use Rattle.mm_table.proofs.States.Detect.{convicted, detect_still, detect_convicts}
+use Rattle.mm_rules.specs.TableState.{TableState, private_of, public_of, holder_of}
+use Rattle.mm_rules.specs.Change.{can_transmit, transmit, raises_along, can_detect, detect}
+use Rattle.mm_rules.proofs.States.Detect.{convicted, detect_still, detect_convicts}
 
 next_of : (ns : List ℕ) (i d : ℕ) → i < length ns → drop i ns ≡ get_or ns i d ∷ drop (i + 1) ns
 next_of ns i d within = rw add-one (drop-cons ns i d within)

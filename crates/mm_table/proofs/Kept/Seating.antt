@@ -7,8 +7,8 @@ use Rattle.std.specs.List.{sum_by}
 use Rattle.std.specs.Option.{ok_or, option_map, option_map_or}
 use Rattle.mm_arena.specs.declared.key.Key.{Key}
 use Rattle.mm_arena.specs.Slots.{Slots, Place, never_used, place_at, value_under, lookup, next_key, key_of, filled, inserted, IsLive, AddsKey}
-use Rattle.mm_table.specs.declared.config.Config.{Config}
-use Rattle.mm_table.specs.declared.reply.Totals.{Totals}
+use Rattle.mm_rules.specs.declared.config.Config.{Config}
+use Rattle.mm_rules.specs.declared.reply.Totals.{Totals}
 use Rattle.mm_table.specs.declared.records.Transaction.{Transaction}
 use Rattle.mm_table.specs.declared.records.Labels.{Labels}
 use Rattle.mm_table.specs.declared.records.WaitRecord.{WaitRecord}

@@ -3,18 +3,18 @@ use Rattle.std.proofs.Common.{◌≡◌, nat_le, ◌+◌, ◌<◌, ◌^◌, ℕ,
 use Rattle.std.specs.Option.{option_map_or}
 use Rattle.std.proofs.lemmas.Bool.{cases_Bool, or_parts, leb-false}
 use Rattle.mm_label.specs.Label.{Label}
-use Rattle.mm_table.specs.declared.reply.Settled.{Settled}
+use Rattle.mm_rules.specs.declared.reply.Settled.{Settled}
 use Rattle.mm_owned.specs.Members.{NoRepeat}
-use Rattle.mm_table.specs.TableState.{TableState, is_waiting, waiting_processes}
-use Rattle.mm_table.specs.Change.{greater_label, transmit, can_detect, detect, swept}
-use Rattle.mm_table.specs.Event.{counts_exhausted, Settle, Step, Gives, outcome}
-use Rattle.mm_table.specs.declared.refusal.Refusal.TheVariants.{CountsExhausted}
+use Rattle.mm_rules.specs.TableState.{TableState, is_waiting, waiting_processes}
+use Rattle.mm_rules.specs.Change.{greater_label, transmit, can_detect, detect, swept}
+use Rattle.mm_rules.specs.Event.{counts_exhausted, Settle, Step, Gives, outcome}
+use Rattle.mm_rules.specs.declared.refusal.Refusal.TheVariants.{CountsExhausted}
 use Rattle.mm_table.specs.Sweep.{IsSwept}
-use Rattle.mm_table.proofs.States.Lists.{some_of_range_once}
-use Rattle.mm_table.proofs.States.Outcomes.{counting}
-use Rattle.mm_table.proofs.States.Transmit.{shown}
-use Rattle.mm_table.proofs.States.Detect.{detect_still, detect_convicts}
-use Rattle.mm_table.proofs.States.Sweeps.{same_waiting, swept_same_waits}
+use Rattle.mm_rules.proofs.States.Lists.{some_of_range_once}
+use Rattle.mm_rules.proofs.States.Outcomes.{counting}
+use Rattle.mm_rules.proofs.States.Transmit.{shown}
+use Rattle.mm_rules.proofs.States.Detect.{detect_still, detect_convicts}
+use Rattle.mm_rules.proofs.States.Sweeps.{same_waiting, swept_same_waits}
 
 pub waiting_once : (s : TableState) → NoRepeat (waiting_processes s)
 waiting_once s = some_of_range_once (is_waiting s) 0 s.config.processes

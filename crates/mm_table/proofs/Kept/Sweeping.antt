@@ -1,12 +1,12 @@
 -- The loop of sweeps: where it stands, that it ends, and what it leads to.
 use Rattle.std.proofs.Common.{◌≡◌, ◌+◌, ◌-◌, ◌*◌, ◌<◌, ◌≤◌, ℕ, suc, List, fold, sym, ap, ◌∙◌, arith, inl, inr}
 use Rattle.std.proofs.lemmas.Bool.{cases_eq}
-use Rattle.mm_table.specs.TableState.{TableState, waiting_processes}
-use Rattle.mm_table.specs.Change.{transmit, raises_along, sweep_raises, swept, total_raises}
-use Rattle.mm_table.specs.Laws.{Laws, most_raises}
+use Rattle.mm_rules.specs.TableState.{TableState, waiting_processes}
+use Rattle.mm_rules.specs.Change.{transmit, raises_along, sweep_raises, swept, total_raises}
+use Rattle.mm_rules.specs.Laws.{Laws, most_raises}
 use Rattle.mm_table.specs.Sweep.{IsSwept}
-use Rattle.mm_table.proofs.States.Sweeps.{same_waiting, swept_same_waits, raised_nothing}
-use Rattle.mm_table.proofs.States.SweepRaises.{sweeps_raise_few, most_raises_bound}
+use Rattle.mm_rules.proofs.States.Sweeps.{same_waiting, swept_same_waits, raised_nothing}
+use Rattle.mm_rules.proofs.States.SweepRaises.{sweeps_raise_few, most_raises_bound}
 
 -- s came from old by some sweeps, each of which raised something, and which raised so many labels
 pub record IsSweeping (old : TableState) (raises : ℕ) (s : TableState) : Type 0 where

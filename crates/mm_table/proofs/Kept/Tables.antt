@@ -1,12 +1,12 @@
 -- Each event keeps what holds of every table.
 use Rattle.std.proofs.Common.{ap, arith, Result}
-use Rattle.mm_table.specs.declared.refusal.Refusal.{Refusal}
+use Rattle.mm_rules.specs.declared.refusal.Refusal.{Refusal}
 use Rattle.mm_table.specs.declared.table.Table.TheInside.{Inside}
-use Rattle.mm_table.specs.TableState.{TableState}
-use Rattle.mm_table.specs.Event.{Event, Answer, Step}
+use Rattle.mm_rules.specs.TableState.{TableState}
+use Rattle.mm_rules.specs.Event.{Event, Answer, Step}
 use Rattle.mm_table.specs.TableKept.{IsTableKept}
-use Rattle.mm_table.proofs.States.Events.{event_keeps}
-use Rattle.mm_table.proofs.States.Configs.{event_config}
+use Rattle.mm_rules.proofs.States.Events.{event_keeps}
+use Rattle.mm_rules.proofs.States.Configs.{event_config}
 
 pub table_kept : (e : Event) (old : Inside) (new : TableState) (reply : Result (Answer e) Refusal) → Step e old.records reply new → IsTableKept old → IsTableKept (record old { records = new })
 table_kept e old new reply step kept = record {

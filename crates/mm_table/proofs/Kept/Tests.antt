@@ -1,7 +1,7 @@
 -- The tests of a call, some of which are made apart from the others.
 use Rattle.std.proofs.Common.{◌≡◌, true, false, [], ◌∷◌, ◌++◌, Err, Ok}
-use Rattle.mm_table.specs.declared.refusal.Refusal.{Refusal}
-use Rattle.mm_table.specs.Event.{Tests, allowed}
+use Rattle.mm_rules.specs.declared.refusal.Refusal.{Refusal}
+use Rattle.mm_rules.specs.Event.{Tests, allowed}
 
 -- what the first of them refuse, all of them refuse
 pub refused_first : (first later : Tests) (refusal : Refusal) → allowed first ≡ Err refusal → allowed (first ++ later) ≡ Err refusal

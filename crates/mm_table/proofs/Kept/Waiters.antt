@@ -6,12 +6,12 @@ use Rattle.std.proofs.lemmas.List.{map-append}
 use Rattle.mm_arena.specs.declared.key.Key.{Key}
 use Rattle.mm_label.specs.Label.{Label}
 use Rattle.mm_table.specs.declared.records.settle.Waiter.{Waiter}
-use Rattle.mm_table.specs.TableState.{TableState, owner_of, wait_of, is_waiting, holder_of}
-use Rattle.mm_table.specs.Change.{greater_label, transmit}
-use Rattle.mm_table.specs.Laws.{WellFormed}
+use Rattle.mm_rules.specs.TableState.{TableState, owner_of, wait_of, is_waiting, holder_of}
+use Rattle.mm_rules.specs.Change.{greater_label, transmit}
+use Rattle.mm_rules.specs.Laws.{WellFormed}
 use Rattle.mm_table.specs.Sweep.{IsWaiter, processes_of}
-use Rattle.mm_table.proofs.States.Read.{WaitsHere, waits_here, held, waiting_is_some}
-use Rattle.mm_table.proofs.States.Transmit.{shown}
+use Rattle.mm_rules.proofs.States.Read.{WaitsHere, waits_here, held, waiting_is_some}
+use Rattle.mm_rules.proofs.States.Transmit.{shown}
 use Rattle.mm_table.proofs.Kept.Slots.{all_append, all_map}
 use Rattle.mm_table.proofs.Kept.Rounds.{passes_next, fails_next}
 

@@ -6,7 +6,7 @@ use Rattle.std.proofs.lemmas.Bool.{cases_Bool, eqb-true, ltb-false}
 use Rattle.std.proofs.lemmas.List.Quantifiers.{position-Some}
 use Rattle.mm_arena.specs.declared.key.Key.{Key}
 use Rattle.mm_table.specs.declared.records.WaitRecord.{WaitRecord}
-use Rattle.mm_table.specs.TableState.{Wait, waited_for}
+use Rattle.mm_rules.specs.TableState.{Wait, waited_for}
 use Rattle.mm_table.specs.Kept.{wait_kept}
 use Rattle.mm_table.proofs.Kept.Parts.{waited_past}
 

@@ -1,7 +1,7 @@
 //! The small changes that events are made of.
 ghost use Rattle.std.specs.Prelude.{◌≡◌, ◌≢◌, ◌<◌, ◌+◌, ◌^◌, ◌∷◌, ◌++◌, [], IsTrue, IfSome, None, Some, true, drop, length, slice_get, slice_set, slice_index, option_map, MatchResult};
-ghost use Rattle.mm_table.specs.TableState.{key_of, wait_of, holder_of, owner_of, is_live, has_verdict, public_of};
-ghost use Rattle.mm_table.specs.Change.{activate, block, block_fits, label_against, greater_label, can_detect, detect};
+ghost use Rattle.mm_rules.specs.TableState.{key_of, wait_of, holder_of, owner_of, is_live, has_verdict, public_of};
+ghost use Rattle.mm_rules.specs.Change.{activate, block, block_fits, label_against, greater_label, can_detect, detect};
 
 use super::{Records, Transaction, WaitRecord};
 use crate::{Key, Refusal};

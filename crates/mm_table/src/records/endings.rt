@@ -1,8 +1,8 @@
 //! What happens when a transaction ends.
 ghost use Rattle.std.specs.Prelude.{◌≡◌, ◌<◌, ◌^◌, IsTrue, IsFalse, None, fold, position, nat_eq};
-ghost use Rattle.mm_table.specs.TableState.{is_live, wait_of, is_waiting, has_verdict, resources_of};
-ghost use Rattle.mm_table.specs.Change.{hand_over, free_slot, vacate, vacate_fits, withdraw};
-ghost use Rattle.mm_table.specs.Laws.{Laws};
+ghost use Rattle.mm_rules.specs.TableState.{is_live, wait_of, is_waiting, has_verdict, resources_of};
+ghost use Rattle.mm_rules.specs.Change.{hand_over, free_slot, vacate, vacate_fits, withdraw};
+ghost use Rattle.mm_rules.specs.Laws.{Laws};
 
 use super::{Records, WaitRecord};
 use crate::Key;

@@ -1,8 +1,8 @@
 //! The events: each makes its tests first, and then its changes.
 ghost use Rattle.std.specs.Prelude.{◌≡◌, IsTrue, Ok, is_some};
-ghost use Rattle.mm_table.specs.TableState.{owner_of};
-ghost use Rattle.mm_table.specs.Event.{Gives, allowed, resource_tests, begun, acquired, released, finished, transmitted, detected, aborted};
-ghost use Rattle.mm_table.specs.Laws.{Laws};
+ghost use Rattle.mm_rules.specs.TableState.{owner_of};
+ghost use Rattle.mm_rules.specs.Event.{Gives, allowed, resource_tests, begun, acquired, released, finished, transmitted, detected, aborted};
+ghost use Rattle.mm_rules.specs.Laws.{Laws};
 
 use super::Records;
 use crate::{Acquired, Detected, Key, Refusal, Released, Transmitted};

@@ -1,7 +1,7 @@
 //! The opening.
 ghost use Rattle.std.specs.Prelude.{◌≡◌, ◌≤◌, ◌<◌, IfOk, map};
 ghost use Rattle.std.specs.List.{range_with_len};
-ghost use Rattle.mm_table.specs.Event.{Opens};
+ghost use Rattle.mm_rules.specs.Event.{Opens};
 ghost use Rattle.mm_table.specs.Kept.{opening_labels};
 
 use super::{Labels, Records};

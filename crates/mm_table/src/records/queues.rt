@@ -1,10 +1,10 @@
 //! The queues of resources, found in the one list of waits.
 ghost use Rattle.std.specs.Prelude.{◌≡◌, ◌≢◌, ◌<◌, ◌≤◌, ◌+◌, IsTrue, IfSome, IfNone, None, Some, [], ◌∷◌, drop, filter, fold, length, slice_set, slice_get, position, remove, nat_eq, MatchOption, option_map, vec_capacity};
 ghost use Rattle.std.specs.List.{list_all};
-ghost use Rattle.mm_table.specs.TableState.{waiters_of};
-ghost use Rattle.mm_table.specs.Event.{release_answer};
+ghost use Rattle.mm_rules.specs.TableState.{waiters_of};
+ghost use Rattle.mm_rules.specs.Event.{release_answer};
 ghost use Rattle.mm_table.specs.Queue.{queue_from, fits_from, blocked_on, NoneIs};
-ghost use Rattle.mm_table.specs.Change.{activate, block, block_fits, hand_over, hand_over_fits};
+ghost use Rattle.mm_rules.specs.Change.{activate, block, block_fits, hand_over, hand_over_fits};
 
 use super::{Records, WaitRecord};
 use crate::{Key, Released};

@@ -1,6 +1,6 @@
 //! Reads, which change nothing.
 ghost use Rattle.std.specs.Prelude.{◌≡◌};
-ghost use Rattle.mm_table.specs.Event.{state_of, owner_told, tenant_of};
+ghost use Rattle.mm_rules.specs.Event.{state_of, owner_told, tenant_of};
 
 use super::Records;
 use crate::{Key, Mode, Refusal, State, Totals};

@@ -1,9 +1,9 @@
 //! The tests of each call, in the order in which their refusals are answered.
 ghost use Rattle.std.specs.Prelude.{◌≡◌, ◌<◌, IsTrue, None, OnOk, SomeIff};
-ghost use Rattle.mm_table.specs.TableState.{is_live, is_waiting, has_verdict, owns, wait_of};
-ghost use Rattle.mm_table.specs.Change.{label_against, block_fits, hand_over_fits, vacate_fits};
+ghost use Rattle.mm_rules.specs.TableState.{is_live, is_waiting, has_verdict, owns, wait_of};
+ghost use Rattle.mm_rules.specs.Change.{label_against, block_fits, hand_over_fits, vacate_fits};
 ghost use Rattle.mm_table.specs.Queue.{wait_tests};
-ghost use Rattle.mm_table.specs.Event.{counts_exhausted, allowed, key_tests, waiting_tests, resource_tests, release_tests, finish_tests, abort_tests};
+ghost use Rattle.mm_rules.specs.Event.{counts_exhausted, allowed, key_tests, waiting_tests, resource_tests, release_tests, finish_tests, abort_tests};
 
 use super::Records;
 use crate::{Key, Refusal};

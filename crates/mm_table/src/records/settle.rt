@@ -1,11 +1,11 @@
 //! What all waiting transactions do in turn: sweeps of transmits, and then detects.
 ghost use Rattle.std.specs.Prelude.{◌≡◌, ◌+◌, ◌<◌, ◌≤◌, IsTrue, IfSome, IfNone, None, fold, length, count_by, vec_capacity};
 ghost use Rattle.std.specs.List.{AllByRecursion};
-ghost use Rattle.mm_table.specs.TableState.{is_live, wait_of, holder_of, waiting_processes};
-ghost use Rattle.mm_table.specs.Change.{can_transmit, transmit, raises_along, can_detect, detect};
-ghost use Rattle.mm_table.specs.Event.{Step, Settle};
+ghost use Rattle.mm_rules.specs.TableState.{is_live, wait_of, holder_of, waiting_processes};
+ghost use Rattle.mm_rules.specs.Change.{can_transmit, transmit, raises_along, can_detect, detect};
+ghost use Rattle.mm_rules.specs.Event.{Step, Settle};
 ghost use Rattle.mm_owned.specs.Members.{NoRepeat};
-ghost use Rattle.mm_table.specs.Laws.{Laws};
+ghost use Rattle.mm_rules.specs.Laws.{Laws};
 ghost use Rattle.mm_table.specs.Sweep.{IsWaiter, processes_of, IsSwept};
 
 use super::Records;

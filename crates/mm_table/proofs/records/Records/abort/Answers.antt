@@ -1,10 +1,10 @@
 use Rattle.std.proofs.Common.{ap, sym, subst, ◌∙◌, IsTrue}
-use Rattle.mm_table.specs.TableState.{TableState, wait_of}
-use Rattle.mm_table.specs.Change.{vacate_fits}
-use Rattle.mm_table.specs.Laws.{Laws}
-use Rattle.mm_table.proofs.States.Activate.{waits_no_longer}
-use Rattle.mm_table.proofs.States.GiveUp.{withdraw_keeps}
-use Rattle.mm_table.proofs.States.Abort.{fits_still}
+use Rattle.mm_rules.specs.TableState.{TableState, wait_of}
+use Rattle.mm_rules.specs.Change.{vacate_fits}
+use Rattle.mm_rules.specs.Laws.{Laws}
+use Rattle.mm_rules.proofs.States.Activate.{waits_no_longer}
+use Rattle.mm_rules.proofs.States.GiveUp.{withdraw_keeps}
+use Rattle.mm_rules.proofs.States.Abort.{fits_still}
 use Rattle.mm_table.proofs.records.Records.abort.Goals as goal
 
 pub vacate-requires-clause-laws : goal.vacate-requires-clause-laws

@@ -1,6 +1,6 @@
 use Rattle.std.proofs.Common.{ap, sym, ◌∙◌, slice_set}
-use Rattle.mm_table.specs.TableState.{TableState}
-use Rattle.mm_table.specs.Change.{block, label_against}
+use Rattle.mm_rules.specs.TableState.{TableState}
+use Rattle.mm_rules.specs.Change.{block, label_against}
 use Rattle.mm_table.specs.Kept.{state_kept}
 use Rattle.mm_table.proofs.Kept.Parts.{relabelled}
 use Rattle.mm_table.proofs.records.Records.block.Goals as goal

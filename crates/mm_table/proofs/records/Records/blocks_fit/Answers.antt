@@ -1,7 +1,7 @@
 use Rattle.std.proofs.Common.{◌≡◌, ◌<◌, ◌+◌, false, length, drop, ap, sym, ◌∙◌, refl, arith}
 use Rattle.std.specs.List.{list_all}
-use Rattle.mm_table.specs.TableState.{Wait}
-use Rattle.mm_table.specs.Change.{block_fits, label_against}
+use Rattle.mm_rules.specs.TableState.{Wait}
+use Rattle.mm_rules.specs.Change.{block_fits, label_against}
 use Rattle.mm_table.proofs.Kept.Queues.{queue, queue_here, queue_past, fits_by, fits_not_by}
 use Rattle.mm_table.specs.Queue.{fits_from}
 use Rattle.mm_table.proofs.records.Records.blocks_fit.Goals as goal

@@ -1,7 +1,7 @@
 use Rattle.std.proofs.Common.{◌≡◌, ◌+◌, Some, true, refl, ap, sym, ◌∙◌, slice_set}
 use Rattle.std.specs.Option.{option_copied_mut}
 use Rattle.mm_arena.specs.Slots.{lookup}
-use Rattle.mm_table.specs.TableState.{TableState}
+use Rattle.mm_rules.specs.TableState.{TableState}
 use Rattle.mm_table.proofs.Kept.Parts.{marked, marked_fits}
 use Rattle.mm_table.proofs.records.Records.convict.Goals as goal
 

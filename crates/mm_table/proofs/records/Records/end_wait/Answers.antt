@@ -3,8 +3,8 @@ use Rattle.std.proofs.lemmas.List.{length-map}
 use Rattle.std.specs.Option.{option_map, option_copied_mut}
 use Rattle.mm_arena.specs.Slots.{lookup, with_value}
 use Rattle.mm_table.specs.declared.records.WaitRecord.{WaitRecord}
-use Rattle.mm_table.specs.TableState.{TableState}
-use Rattle.mm_table.specs.Change.{activate}
+use Rattle.mm_rules.specs.TableState.{TableState}
+use Rattle.mm_rules.specs.Change.{activate}
 use Rattle.mm_table.specs.Kept.{state_of_parts, wait_kept}
 use Rattle.mm_table.proofs.Kept.Parts.{key_within}
 use Rattle.mm_table.proofs.Kept.EndingWait.{ended, ended_fits, got, slice_get-map}

@@ -1,8 +1,8 @@
 use Rattle.std.proofs.Common.{◌≡◌, ◌∙◌, Some, OnSome, ap, sym, subst, false}
 use Rattle.mm_arena.specs.Slots.{lookup, DropsKey}
 use Rattle.mm_table.specs.declared.records.Transaction.{Transaction}
-use Rattle.mm_table.specs.TableState.{is_live, wait_of, has_verdict}
-use Rattle.mm_table.specs.Change.{free_slot}
+use Rattle.mm_rules.specs.TableState.{is_live, wait_of, has_verdict}
+use Rattle.mm_rules.specs.Change.{free_slot}
 use Rattle.mm_table.specs.Kept.{state_of_parts}
 use Rattle.mm_table.proofs.Kept.FreeingSlot.{live_value, its_verdict, left, left_fits}
 use Rattle.mm_table.proofs.records.Records.free_slot.Goals as goal

@@ -2,7 +2,7 @@ use Rattle.std.proofs.Common.{◌≡◌, ℕ, [], ◌∷◌, List, ap, sym, ◌�
 use Rattle.std.proofs.lemmas.List.{get_or-map}
 use Rattle.mm_arena.specs.declared.key.Key.{Key}
 use Rattle.mm_arena.specs.Slots.{never_used}
-use Rattle.mm_table.specs.TableState.{TableState, key_of}
+use Rattle.mm_rules.specs.TableState.{TableState, key_of}
 use Rattle.mm_table.specs.Kept.{state_kept, state_of_parts}
 use Rattle.mm_table.proofs.Kept.Seating.{taken, seated, seated_fits, empty_slot}
 use Rattle.mm_table.proofs.records.Records.give_process.Goals as goal

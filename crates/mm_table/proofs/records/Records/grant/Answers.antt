@@ -1,6 +1,6 @@
 use Rattle.std.proofs.Common.{◌≡◌, ◌<◌, Some, None, ap, subst, ◌∙◌, slice_index_or}
 use Rattle.mm_arena.specs.declared.key.Key.{Key}
-use Rattle.mm_table.specs.TableState.{owner_of}
+use Rattle.mm_rules.specs.TableState.{owner_of}
 use Rattle.mm_table.proofs.Kept.Owning.{loose, granted_fit, owner_set}
 use Rattle.mm_table.proofs.records.Records.grant.Goals as goal
 

@@ -2,9 +2,9 @@ use Rattle.std.proofs.Common.{◌≡◌, [], ap, sym, ◌∙◌, nat_eq, slice_g
 use Rattle.std.specs.List.{position}
 use Rattle.std.specs.Option.{option_map}
 use Rattle.mm_table.specs.declared.records.WaitRecord.{WaitRecord}
-use Rattle.mm_table.specs.TableState.{TableState}
-use Rattle.mm_table.specs.Change.{give_to}
-use Rattle.mm_table.specs.Event.{release_answer}
+use Rattle.mm_rules.specs.TableState.{TableState}
+use Rattle.mm_rules.specs.Change.{give_to}
+use Rattle.mm_rules.specs.Event.{release_answer}
 use Rattle.mm_table.proofs.Kept.Queues.{queue, queue_empty}
 use Rattle.mm_table.proofs.Kept.HandingOver.{First, first, IsHandedOver, handed_over, freed_then_owned, hand_over_totals}
 use Rattle.mm_table.proofs.records.Records.hand_over.Goals as goal

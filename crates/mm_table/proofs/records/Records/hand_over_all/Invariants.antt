@@ -1,5 +1,5 @@
 use Rattle.std.proofs.Common.{length}
-use Rattle.mm_table.specs.TableState.{resources_of}
+use Rattle.mm_rules.specs.TableState.{resources_of}
 use Rattle.mm_table.proofs.Kept.HandingAll.{IsUnderWay}
 use Rattle.mm_table.proofs.records.Records.hand_over_all.Given as goal
 

@@ -2,7 +2,7 @@ use Rattle.std.proofs.Common.{◌+◌, ap, sym, ◌∙◌, nat_eq}
 use Rattle.std.proofs.lemmas.List.{get_or_default}
 use Rattle.std.specs.List.{position}
 use Rattle.mm_table.specs.declared.records.WaitRecord.{WaitRecord}
-use Rattle.mm_table.specs.Change.{give_to_fits}
+use Rattle.mm_rules.specs.Change.{give_to_fits}
 use Rattle.mm_table.specs.Queue.{fits_from}
 use Rattle.mm_table.proofs.Kept.Queues.{queue, queue_empty}
 use Rattle.mm_table.proofs.Kept.HandingOver.{first}

@@ -1,5 +1,5 @@
 use Rattle.std.proofs.Common.{◌≡◌, ap, sym, refl, ◌∙◌, arith, Some}
-use Rattle.mm_table.specs.TableState.{holder_of}
+use Rattle.mm_rules.specs.TableState.{holder_of}
 use Rattle.mm_table.specs.Kept.{state_kept}
 use Rattle.mm_table.proofs.Kept.Parts.{wait_read, resource_within}
 use Rattle.mm_table.proofs.records.Records.holder.Goals as goal

@@ -1,7 +1,7 @@
 use Rattle.std.proofs.Common.{◌≡◌, length, None, ap, sym, ◌∙◌, arith}
 use Rattle.std.proofs.lemmas.List.{length-map}
-use Rattle.mm_table.specs.TableState.{wait_of}
-use Rattle.mm_table.specs.Event.{tenant_of}
+use Rattle.mm_rules.specs.TableState.{wait_of}
+use Rattle.mm_rules.specs.Event.{tenant_of}
 use Rattle.mm_table.proofs.Kept.Tenants.{tenant}
 use Rattle.mm_table.proofs.Kept.LiveKeys.{key_told, none_told, idle_by}
 use Rattle.mm_table.proofs.records.Records.live_key.Goals as goal

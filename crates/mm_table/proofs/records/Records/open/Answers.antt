@@ -4,7 +4,7 @@ use Rattle.std.proofs.lemmas.List.FromFn.{length-map-range_with_len}
 use Rattle.std.specs.List.{sum_by}
 use Rattle.mm_arena.specs.Slots.{never_used}
 use Rattle.mm_owned.specs.Owned.{Ownership}
-use Rattle.mm_table.specs.TableState.{waited_for}
+use Rattle.mm_rules.specs.TableState.{waited_for}
 use Rattle.mm_table.specs.Kept.{idle, wait_in, wait_kept, opening_labels}
 use Rattle.mm_table.proofs.Kept.Opening.{all_idle, none_waits, none_owned, opened}
 use Rattle.mm_table.proofs.Kept.Owning.{nothing_owned}

@@ -3,7 +3,7 @@ use Rattle.std.proofs.lemmas.List.{map-append}
 use Rattle.std.specs.Option.{option_copied_mut}
 use Rattle.mm_arena.specs.Slots.{lookup, with_value}
 use Rattle.mm_table.specs.declared.records.WaitRecord.{WaitRecord}
-use Rattle.mm_table.specs.TableState.{TableState, wait_of}
+use Rattle.mm_rules.specs.TableState.{TableState, wait_of}
 use Rattle.mm_table.specs.Kept.{state_kept, state_of_parts, wait_kept}
 use Rattle.mm_table.proofs.Kept.Parts.{noted, queued_fits}
 use Rattle.mm_table.proofs.records.Records.queue.Goals as goal

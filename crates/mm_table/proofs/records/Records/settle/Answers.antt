@@ -1,8 +1,8 @@
 use Rattle.std.proofs.Common.{◌+◌, length, ap, sym, ◌∙◌, subst, arith}
 use Rattle.mm_owned.specs.Members.{NoRepeat}
 use Rattle.mm_table.specs.Sweep.{processes_of}
-use Rattle.mm_table.proofs.States.SweepRaises.{few_wait}
-use Rattle.mm_table.proofs.States.Outcomes.{counting}
+use Rattle.mm_rules.proofs.States.SweepRaises.{few_wait}
+use Rattle.mm_rules.proofs.States.Outcomes.{counting}
 use Rattle.mm_table.proofs.Kept.Settling.{waiting_once, below_limit, sweeps_totals, detects_accepted, settle_gives}
 use Rattle.mm_table.proofs.records.Records.settle.Goals as goal
 

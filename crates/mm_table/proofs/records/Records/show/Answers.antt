@@ -1,5 +1,5 @@
 use Rattle.std.proofs.Common.{ap, ◌∙◌, slice_set}
-use Rattle.mm_table.specs.TableState.{TableState}
+use Rattle.mm_rules.specs.TableState.{TableState}
 use Rattle.mm_table.proofs.Kept.Parts.{shown}
 use Rattle.mm_table.proofs.records.Records.show.Goals as goal
 

@@ -1,7 +1,7 @@
 use Rattle.std.proofs.Common.{◌-◌}
 use Rattle.std.specs.List.{AllByRecursion}
 use Rattle.mm_table.specs.Sweep.{IsWaiter}
-use Rattle.mm_table.specs.Laws.{most_raises}
+use Rattle.mm_rules.specs.Laws.{most_raises}
 use Rattle.mm_table.proofs.Kept.Sweeping.{IsSweeping}
 use Rattle.mm_table.proofs.records.Records.sweep_all.Given as goal
 

@@ -1,5 +1,5 @@
 use Rattle.std.proofs.Common.{ap, ◌∙◌}
-use Rattle.mm_table.specs.Event.{tenant_of}
+use Rattle.mm_rules.specs.Event.{tenant_of}
 use Rattle.mm_table.proofs.Kept.Tenants.{tenant}
 use Rattle.mm_table.proofs.records.Records.tenant.Goals as goal
 

@@ -1,6 +1,6 @@
 use Rattle.std.proofs.Common.{ap, sym, subst, ◌∙◌, IsTrue, IsFalse}
-use Rattle.mm_table.specs.TableState.{TableState, is_live, wait_of, has_verdict}
-use Rattle.mm_table.specs.Change.{free_slot}
+use Rattle.mm_rules.specs.TableState.{TableState, is_live, wait_of, has_verdict}
+use Rattle.mm_rules.specs.Change.{free_slot}
 use Rattle.mm_table.proofs.Kept.HandingAll.{live_still, active_still, no_verdict_then, vacate_totals}
 use Rattle.mm_table.proofs.records.Records.vacate.Goals as goal
 

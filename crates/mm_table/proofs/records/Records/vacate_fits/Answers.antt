@@ -2,7 +2,7 @@ use Rattle.std.proofs.Common.{◌≡◌, ◌∷◌, length, IsTrue, sym, ap, sub
 use Rattle.mm_owned.specs.Members.{Among}
 use Rattle.mm_owned.specs.Owned.{list_at}
 use Rattle.mm_owned.proofs.OwnedWalks.{rest_from, Among-head, Among-next, rest_from-head, rest_from-next}
-use Rattle.mm_table.specs.Change.{hand_over_fits}
+use Rattle.mm_rules.specs.Change.{hand_over_fits}
 use Rattle.mm_table.proofs.Kept.Owning.{listed, some_past, all_fit}
 use Rattle.std.specs.Vec.{vec_len}
 use Rattle.std.proofs.lemmas.Bool.{eqb-true}

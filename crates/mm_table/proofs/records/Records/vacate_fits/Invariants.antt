@@ -2,7 +2,7 @@ use Rattle.std.proofs.Common.{◌≡◌, ◌⊎◌, ℕ, Some, length, IsTrue}
 use Rattle.mm_owned.specs.Members.{Among}
 use Rattle.mm_owned.specs.Owned.{list_at}
 use Rattle.mm_owned.proofs.OwnedWalks.{rest_from}
-use Rattle.mm_table.specs.Change.{hand_over_fits}
+use Rattle.mm_rules.specs.Change.{hand_over_fits}
 use Rattle.mm_table.proofs.records.Records.vacate_fits.Given as goal
 
 -- `next` is in the list, and each resource of the list fits or is still to come

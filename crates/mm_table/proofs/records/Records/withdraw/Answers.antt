@@ -3,8 +3,8 @@ use Rattle.std.specs.Option.{option_copied_mut, IsSome}
 use Rattle.std.specs.List.{position}
 use Rattle.mm_arena.specs.Slots.{lookup}
 use Rattle.mm_table.specs.declared.records.WaitRecord.{WaitRecord}
-use Rattle.mm_table.specs.TableState.{TableState, is_waiting}
-use Rattle.mm_table.specs.Change.{activate}
+use Rattle.mm_rules.specs.TableState.{TableState, is_waiting}
+use Rattle.mm_rules.specs.Change.{activate}
 use Rattle.mm_table.proofs.Kept.Parts.{marked, marked_fits}
 use Rattle.mm_table.proofs.Kept.Withdrawing.{is_found, its_process}
 use Rattle.mm_table.proofs.records.Records.withdraw.Goals as goal

@@ -1,4 +1,4 @@
-use Rattle.mm_table.specs.Event.{Begin}
+use Rattle.mm_rules.specs.Event.{Begin}
 use Rattle.mm_table.proofs.Kept.Tables.{table_kept}
 use Rattle.mm_table.proofs.table.Table.begin.Goals as goal
 

@@ -1,4 +1,4 @@
-use Rattle.mm_table.specs.Event.{Finish}
+use Rattle.mm_rules.specs.Event.{Finish}
 use Rattle.mm_table.proofs.Kept.Tables.{table_kept}
 use Rattle.mm_table.proofs.table.Table.finish.Goals as goal
 

@@ -1,5 +1,5 @@
 use Rattle.std.proofs.Common.{subst}
-use Rattle.mm_table.specs.Laws.{Laws}
+use Rattle.mm_rules.specs.Laws.{Laws}
 use Rattle.mm_table.proofs.table.Table.keeps_laws.Goals as goal
 
 pub returns : goal.returns

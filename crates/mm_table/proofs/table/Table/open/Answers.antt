@@ -1,6 +1,6 @@
 use Rattle.std.proofs.Common.{sym, subst, ap, arith}
-use Rattle.mm_table.specs.Laws.{Laws}
-use Rattle.mm_table.proofs.States.Opening.{opening_lawful}
+use Rattle.mm_rules.specs.Laws.{Laws}
+use Rattle.mm_rules.proofs.States.Opening.{opening_lawful}
 use Rattle.mm_table.proofs.table.Table.open.Goals as goal
 
 pub invariant_of-result : goal.invariant_of-result

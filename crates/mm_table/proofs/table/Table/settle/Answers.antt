@@ -1,5 +1,5 @@
 use Rattle.std.proofs.Common.{arith}
-use Rattle.mm_table.specs.Event.{Settle}
+use Rattle.mm_rules.specs.Event.{Settle}
 use Rattle.mm_table.proofs.Kept.Tables.{table_kept}
 use Rattle.mm_table.proofs.table.Table.settle.Goals as goal
 

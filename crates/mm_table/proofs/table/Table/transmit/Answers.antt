@@ -1,4 +1,4 @@
-use Rattle.mm_table.specs.Event.{Transmit}
+use Rattle.mm_rules.specs.Event.{Transmit}
 use Rattle.mm_table.proofs.Kept.Tables.{table_kept}
 use Rattle.mm_table.proofs.table.Table.transmit.Goals as goal
 

@@ -1,0 +1,115 @@
+-- An activation keeps the laws: the process that becomes active stands before the end of no walk that carries a label, and tops what it ended.
+use Rattle.std.specs.Prelude.{ℕ, ◌≡◌, ◌≢◌, ◌≤◌, List, [], ◌∷◌}
+use Rattle.std.proofs.Common.{inl, inr, arith, sym, ◌∙◌, refl}
+use Rattle.std.proofs.Math.Decide.{ℕ_discrete}
+use Rattle.mm_rules.specs.Graph.{Graph, WaitsFor, IsWaiting, Walk, Path, Carries, Carried, Tops, Topped, RisingLaw, CarriedLaw, ToppedLaw}
+use Rattle.mm_rules.proofs.Graph.Laws.{OrderedLaw, OwnLaw, WithinLaw, ApartLaw, IsLawful}
+use Rattle.mm_rules.proofs.Graph.Change.{Activates}
+use Rattle.mm_rules.proofs.Graph.Walks.{one_holder, active_waits_not, begins_waiting, OnTheWay}
+
+-- along the waits from k, k included, stands a process that tops M
+record ToppedBy (g : Graph) (M k : ℕ) : Type 0 where
+  top : ℕ
+  places : List ℕ
+  along : Path g k places top
+  tops : Tops g M top
+
+module _ (g new : Graph) (n h : ℕ) (a : Activates g n h new) where
+  -- who waits now is another than n, and waited before
+  waits_before : (k j : ℕ) → WaitsFor new k j → (k ≢ n) × WaitsFor g k j
+  waits_before k j waits =
+      let apart : k ≢ n = λ e. active_waits_not new k (rw e a.now_active) (j, waits) in
+      (apart, sym (a.holders k apart) ∙ waits)
+
+  activate_keeps_ordered : OrderedLaw g → OrderedLaw new
+  activate_keeps_ordered law k k_in = omega (arith, law k, a.publics k, a.privates k)
+
+  activate_keeps_own : OwnLaw g → OwnLaw new
+  activate_keeps_own law i j i_in j_in same = law i j (omega arith) (omega arith) (sym (a.privates i) ∙ same ∙ a.privates j)
+
+  activate_keeps_within : WithinLaw g → WithinLaw new
+  activate_keeps_within law k j waits = omega (arith, law k j (waits_before k j waits).1)
+
+  activate_keeps_apart : ApartLaw g → ApartLaw new
+  activate_keeps_apart law k j waits = law k j (waits_before k j waits).1
+
+  activate_keeps_rising : RisingLaw g → RisingLaw new
+  activate_keeps_rising law k j waits = elim (law k j (waits_before k j waits).1) [
+    | inl own ↦ inl (a.publics k ∙ own ∙ sym (a.privates k))
+    | inr up ↦ inr (omega (arith, a.publics k, a.publics j))
+  ]
+
+  -- n leaves no walk to a process that waits: its holder is active, or it shows its own label and so carries none
+  leaves_no_walk : (M m j : ℕ) (places : List ℕ) → IsWaiting g m → WaitsFor g n j → Carries g M n → Walk g (OnTheWay g M m) j places m → ⊥
+  leaves_no_walk M m j places waiting waits carries rest = elim a.may [
+    | inl active ↦
+        let begins : IsWaiting g j = begins_waiting g (OnTheWay g M m) j places m rest waiting in
+        active_waits_not g j (rw (one_holder g n j h waits a.waited) active) begins
+    | inr own ↦ omega arith
+  ]
+
+  activate_keeps_walk : (M m : ℕ) → IsWaiting g m → (k : ℕ) (places : List ℕ)
+      → Walk g (OnTheWay g M m) k places m → Walk new (OnTheWay new M m) k places m
+  activate_keeps_walk M m waiting k [] end = end
+  activate_keeps_walk M m waiting k (j ∷ places) ((apart, carries), waits, rest) =
+      let here : k ≢ n = λ e. leaves_no_walk M m j places waiting (rw e at waits) (rw e at carries) rest in
+      let still : Carries new M k = record { older = omega (arith, a.privates k); shown = omega (arith, a.publics k) } in
+      ((apart, still), a.holders k here ∙ waits, activate_keeps_walk M m waiting j places rest)
+
+  activate_keeps_carried : CarriedLaw g → CarriedLaw new
+  activate_keeps_carried law m j k waits k_in apart meets =
+      let before : WaitsFor g m j = (waits_before m j waits).1 in
+      let was : Carried g (g.private m) k m = law m j k before (omega arith) apart (sym (a.publics k) ∙ meets ∙ a.privates m) in
+      rw (a.privates m) record {
+        apart = apart;
+        places = was.places;
+        along = activate_keeps_walk (g.private m) m (j, before) k was.places was.along;
+      }
+
+  -- who is not n tops a label still, and n tops what it shows
+  activate_keeps_tops : (M k : ℕ) → k ≢ n → Tops g M k → Tops new M k
+  activate_keeps_tops M k apart (inl active) = inl (a.holders k apart ∙ active.0, omega (arith, a.publics k))
+  activate_keeps_tops M k apart (inr waiting) = inr ((waiting.0.0, a.holders k apart ∙ waiting.0.1), omega (arith, a.privates k))
+
+  activated_tops : (M k : ℕ) → k ≡ n → M ≤ g.public k → Tops new M k
+  activated_tops M k e below = inl (rw e a.now_active, omega (arith, a.publics k))
+
+  -- where the way to the top led through n, n itself tops the label now, unless one before it does
+  topped_still : RisingLaw g → (M k : ℕ) (places : List ℕ) (m : ℕ) → M ≤ g.public k → Path g k places m → Tops g M m → ToppedBy new M k
+  topped_still rising M k [] m below end tops = record {
+    top = k;
+    places = [];
+    along = refl;
+    tops = elim (ℕ_discrete k n) [
+      | yes e ↦ activated_tops M k e below
+      | no apart ↦ activate_keeps_tops M k apart (rw end tops)
+    ];
+  }
+  topped_still rising M k (j ∷ places) m below (t, waits, rest) tops = elim (ℕ_discrete k n) [
+    | yes e ↦ record { top = k; places = []; along = refl; tops = activated_tops M k e below }
+    | no apart ↦
+        let still : WaitsFor new k j = a.holders k apart ∙ waits in
+        elim (rising k j waits) [
+          | inl own ↦ record { top = k; places = []; along = refl; tops = inr ((j, still), omega (arith, a.privates k)) }
+          | inr up ↦
+              let later : ToppedBy new M j = topped_still rising M j places m (omega arith) rest tops in
+              record { top = later.top; places = j ∷ later.places; along = (tt, still, later.along); tops = later.tops }
+        ]
+  ]
+
+  activate_keeps_topped : RisingLaw g → ToppedLaw g → ToppedLaw new
+  activate_keeps_topped rising law k j waits =
+      let was : Topped g k = law k j (waits_before k j waits).1 in
+      let now : ToppedBy new (g.public k) k = topped_still rising (g.public k) k was.places was.top (omega arith) was.along was.tops in
+      record { top = now.top; places = now.places; along = now.along; tops = rw (a.publics k) now.tops }
+
+  pub activate_keeps_laws : IsLawful g → IsLawful new
+  activate_keeps_laws laws = record {
+    ordered = activate_keeps_ordered laws.ordered;
+    own = activate_keeps_own laws.own;
+    within = activate_keeps_within laws.within;
+    apart = activate_keeps_apart laws.apart;
+    rising = activate_keeps_rising laws.rising;
+    carried = activate_keeps_carried laws.carried;
+    topped = activate_keeps_topped laws.rising laws.topped;
+  }

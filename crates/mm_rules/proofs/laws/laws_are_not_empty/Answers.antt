@@ -1,0 +1,5 @@
+use Rattle.mm_rules.proofs.States.Reached.{laws_are_not_empty}
+use Rattle.mm_rules.proofs.laws.laws_are_not_empty.Goals as goal
+
+pub returns : goal.returns
+returns c = laws_are_not_empty

@@ -1,0 +1,5 @@
+use Rattle.mm_rules.proofs.States.Events.{reached_is_lawful}
+use Rattle.mm_rules.proofs.laws.reached_is_lawful.Goals as goal
+
+pub returns : goal.returns
+returns c = reached_is_lawful

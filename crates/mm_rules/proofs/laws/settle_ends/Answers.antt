@@ -1,0 +1,5 @@
+use Rattle.mm_rules.proofs.States.Sweeps.{settles_after}
+use Rattle.mm_rules.proofs.laws.settle_ends.Goals as goal
+
+pub returns : goal.returns
+returns c = settles_after

@@ -1,0 +1,34 @@
+ghost use Rattle.std.specs.Prelude.{◌↔◌, IsTrue};
+
+/// The numbers that a table is opened with. They never change.
+#[derive(Clone, Copy, Debug, PartialEq, Eq)]
+pub struct Config {
+    /// How many transactions there can be at once: 1 to 4,096.
+    pub processes: u32,
+    /// How many resources there are: 1 to 65,536.
+    pub resources: u32,
+    /// The greatest counter that a label may have: 1 to 17,592,186,044,415.
+    pub label_limit: u64,
+    /// The last generation of a process: 1 to 4,294,967,295. A slot that is freed at it is never given again.
+    pub generation_limit: u32,
+}
+
+impl Config {
+    ghost use Rattle.mm_rules.specs.TableState.{IsInRange};
+
+    pub const MOST_PROCESSES: u32 = 4096;
+
+    pub const MOST_RESOURCES: u32 = 65536;
+
+    pub const GREATEST_LABEL_LIMIT: u64 = 17_592_186_044_415;
+
+    /// Whether each number is in its range.
+    pub fn is_in_range(&self) -> bool
+        ensures { IsTrue result ↔ IsInRange self.now }
+    {
+        (1..=Self::MOST_PROCESSES).contains(&self.processes)
+            && (1..=Self::MOST_RESOURCES).contains(&self.resources)
+            && (1..=Self::GREATEST_LABEL_LIMIT).contains(&self.label_limit)
+            && self.generation_limit >= 1
+    }
+}

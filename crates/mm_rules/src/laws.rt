@@ -1,0 +1,62 @@
+//! Facts about all tables. Each function does nothing; its contract is the fact, over the definitions of `specs/`.
+ghost use Rattle.mm_rules.specs.Laws.{EventsKeepLaws, KeysAreFresh, KeysNeverReturn, LawsAreNotEmpty, OpeningIsLawful, PublicLabelsNeverFall, QuietHasNoCycle, RaisesAreFew, ReachedIsLawful, SettleEnds, SettleGivesRest, VerdictsAreSound};
+
+/// The state of a table that was just opened is lawful, convicted lawfully and topped, whatever its configuration.
+pub fn opening_is_lawful()
+    ensures { OpeningIsLawful }
+{}
+
+/// Every event keeps all laws, whether it is refused or accepted.
+pub fn events_keep_laws()
+    ensures { EventsKeepLaws }
+{}
+
+/// So every state that is reached from an opening has them.
+pub fn reached_is_lawful()
+    ensures { ReachedIsLawful }
+{}
+
+/// The laws are not empty: from an opening a state is reached in which a verdict stands.
+pub fn laws_are_not_empty()
+    ensures { LawsAreNotEmpty }
+{}
+
+/// Each verdict is of a transaction on a cycle of waits, the private label of which is the greatest there, and no cycle has two verdicts.
+pub fn verdicts_are_sound()
+    ensures { VerdictsAreSound }
+{}
+
+/// A table with nothing to transmit, nothing to detect and no verdict has no cycle of waits.
+pub fn quiet_has_no_cycle()
+    ensures { QuietHasNoCycle }
+{}
+
+/// No event lowers a public label.
+pub fn public_labels_never_fall()
+    ensures { PublicLabelsNeverFall }
+{}
+
+/// Begin gives a key that was not live.
+pub fn keys_are_fresh()
+    ensures { KeysAreFresh }
+{}
+
+/// A key that is live no more never is again.
+pub fn keys_never_return()
+    ensures { KeysNeverReturn }
+{}
+
+/// Transmits and detects alone raise no more labels than there are waiting processes, times processes.
+pub fn raises_are_few()
+    ensures { RaisesAreFew }
+{}
+
+/// A settle always ends.
+pub fn settle_ends()
+    ensures { SettleEnds }
+{}
+
+/// After an accepted settle the table is at rest: one verdict stands on each cycle, and each process shows the greatest label that stood along its waits.
+pub fn settle_gives_rest()
+    ensures { SettleGivesRest }
+{}

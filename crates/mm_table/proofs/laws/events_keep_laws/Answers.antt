@@ -1,5 +1,0 @@
-use Rattle.mm_table.proofs.States.Events.{event_keeps}
-use Rattle.mm_table.proofs.laws.events_keep_laws.Goals as goal
-
-pub returns : goal.returns
-returns c = λ e old new reply step laws. (event_keeps e old new reply step laws).laws

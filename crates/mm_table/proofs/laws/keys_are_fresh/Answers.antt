@@ -1,5 +1,0 @@
-use Rattle.mm_table.proofs.States.Keys.{keys_are_fresh}
-use Rattle.mm_table.proofs.laws.keys_are_fresh.Goals as goal
-
-pub returns : goal.returns
-returns c = keys_are_fresh

@@ -1,5 +1,0 @@
-use Rattle.mm_table.proofs.States.Keys.{keys_never_return}
-use Rattle.mm_table.proofs.laws.keys_never_return.Goals as goal
-
-pub returns : goal.returns
-returns c = keys_never_return

@@ -1,5 +1,0 @@
-use Rattle.mm_table.proofs.States.Opening.{opening_lawful}
-use Rattle.mm_table.proofs.laws.opening_is_lawful.Goals as goal
-
-pub returns : goal.returns
-returns c = opening_lawful

@@ -1,5 +1,0 @@
-use Rattle.mm_table.proofs.States.Events.{reached_is_lawful}
-use Rattle.mm_table.proofs.laws.reached_is_lawful.Goals as goal
-
-pub returns : goal.returns
-returns c = reached_is_lawful

@@ -1,5 +1,0 @@
-use Rattle.mm_table.proofs.States.Sweeps.{settles_after}
-use Rattle.mm_table.proofs.laws.settle_ends.Goals as goal
-
-pub returns : goal.returns
-returns c = settles_after

@@ -1,5 +1,0 @@
-use Rattle.mm_table.proofs.States.Settling.{settle_gives_rest}
-use Rattle.mm_table.proofs.laws.settle_gives_rest.Goals as goal
-
-pub returns : goal.returns
-returns c = settle_gives_rest

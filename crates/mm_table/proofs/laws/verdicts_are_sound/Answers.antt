@@ -1,5 +1,0 @@
-use Rattle.mm_table.proofs.States.Sound.{verdicts_are_sound}
-use Rattle.mm_table.proofs.laws.verdicts_are_sound.Goals as goal
-
-pub returns : goal.returns
-returns c = verdicts_are_sound
