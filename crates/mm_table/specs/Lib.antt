@@ -2,3 +2,12 @@ pub mod Queue
 pub mod Sweep
 pub mod Kept
 pub mod TableKept
+pub use Rattle.mm_rules.specs.Graph
+pub use Rattle.mm_rules.specs.Refusal
+pub use Rattle.mm_rules.specs.TableState
+pub use Rattle.mm_rules.specs.Change
+pub use Rattle.mm_rules.specs.Event
+pub use Rattle.mm_rules.specs.Laws
+pub use Rattle.mm_rules.specs.declared.config
+pub use Rattle.mm_rules.specs.declared.refusal
+pub use Rattle.mm_rules.specs.declared.reply

@@ -1,7 +1,7 @@
 -- How far the lines are answered.
 use Rattle.std.proofs.Common.{◌≡◌, sym, refl, subst, ℕ, ◌+◌, ◌<◌, List, [], ◌++◌, length, Option, append_assoc, take, drop, take-append-drop, length-take, inl, inr, arith}
 use Rattle.std.specs.List.{position_or_len, before_first, after_first}
-use Rattle.mm_rules.specs.TableState.{TableState}
+use Rattle.mm_table.specs.TableState.{TableState}
 use Rattle.mm_work.specs.Cut.{is}
 use Rattle.mm_work.specs.Line.{line_of}
 use Rattle.mm_work.specs.Text.{Answers, Text}

@@ -2,17 +2,17 @@
 use Rattle.std.proofs.Common.{refl, sym, subst, Bool, true, false, MatchBool, ℕ, ◌+◌, ◌≤◌, ◌^◌, ◌⊎◌, inl, inr, List, [], ◌∷◌, ◌++◌, Option, Some, None, Result, Ok, Err, arith}
 use Rattle.std.proofs.lemmas.Bool.{cases_lt}
 use Rattle.std.specs.Result.{result_ok}
-use Rattle.mm_rules.specs.declared.config.Config.{Config}
-use Rattle.mm_rules.specs.declared.refusal.Refusal.{Refusal}
-use Rattle.mm_rules.specs.declared.refusal.Refusal.TheVariants.{BadConfig}
-use Rattle.mm_rules.specs.TableState.{TableState, IsInRange, opening}
-use Rattle.mm_rules.specs.Laws.{Laws}
-use Rattle.mm_rules.proofs.States.Opening.{opening_lawful}
-use Rattle.mm_rules.proofs.States.Events.{event_keeps}
-use Rattle.mm_rules.proofs.States.Sweeps.{settles_after}
-use Rattle.mm_rules.specs.declared.reply.Settled.{Settled}
-use Rattle.mm_rules.specs.Event as events
-use Rattle.mm_rules.specs.Event.{Event, Answer, Opens, Gives, Step, Settles, counts_exhausted, begun, acquired, released, finished, transmitted, detected, aborted, settled, state_of, owner_told}
+use Rattle.mm_table.specs.config.Config.{Config}
+use Rattle.mm_table.specs.refusal.Refusal.{Refusal}
+use Rattle.mm_table.specs.refusal.Refusal.TheVariants.{BadConfig}
+use Rattle.mm_table.specs.TableState.{TableState, IsInRange, opening}
+use Rattle.mm_table.specs.Laws.{Laws}
+use Rattle.mm_table.proofs.States.Opening.{opening_lawful}
+use Rattle.mm_table.proofs.States.Events.{event_keeps}
+use Rattle.mm_table.proofs.States.Sweeps.{settles_after}
+use Rattle.mm_table.specs.reply.Settled.{Settled}
+use Rattle.mm_table.specs.Event as events
+use Rattle.mm_table.specs.Event.{Event, Answer, Opens, Gives, Step, Settles, counts_exhausted, begun, acquired, released, finished, transmitted, detected, aborted, settled, state_of, owner_told}
 use Rattle.mm_work.specs.declared.script.line.Line.{Line}
 use Rattle.mm_work.specs.declared.script.line.Line.TheVariants as kind
 use Rattle.mm_work.specs.declared.script.line.Call.{Call}

@@ -3,21 +3,21 @@ use Rattle.std.specs.Prelude.{Option, Some, None, ◌≡◌, ℕ, ◌≤◌, Lis
 use Rattle.mm_arena.specs.declared.key.Key.{Key}
 use Rattle.mm_arena.specs.Key.{key_text}
 use Rattle.mm_label.specs.Label.{label_text}
-use Rattle.mm_rules.specs.declared.refusal.Refusal.{Refusal}
-use Rattle.mm_rules.specs.declared.reply.Acquired.{Acquired}
-use Rattle.mm_rules.specs.declared.reply.Acquired.TheVariants.{Granted, Waits}
-use Rattle.mm_rules.specs.declared.reply.Released.{Released}
-use Rattle.mm_rules.specs.declared.reply.Released.TheVariants.{Free, To}
-use Rattle.mm_rules.specs.declared.reply.Transmitted.{Transmitted}
-use Rattle.mm_rules.specs.declared.reply.Transmitted.TheVariants.{Raised, Still}
-use Rattle.mm_rules.specs.declared.reply.Detected.{Detected}
-use Rattle.mm_rules.specs.declared.reply.Detected.TheVariants.{Deadlock, Standing, Clear}
-use Rattle.mm_rules.specs.declared.reply.Settled.{Settled}
-use Rattle.mm_rules.specs.declared.reply.Mode.{Mode}
-use Rattle.mm_rules.specs.declared.reply.Mode.TheVariants.{Active, Waiting, Convicted}
-use Rattle.mm_rules.specs.declared.reply.State.{State}
-use Rattle.mm_rules.specs.declared.reply.Totals.{Totals}
-use Rattle.mm_rules.specs.Refusal.{number_of, name_of}
+use Rattle.mm_table.specs.refusal.Refusal.{Refusal}
+use Rattle.mm_table.specs.reply.Acquired.{Acquired}
+use Rattle.mm_table.specs.reply.Acquired.TheVariants.{Granted, Waits}
+use Rattle.mm_table.specs.reply.Released.{Released}
+use Rattle.mm_table.specs.reply.Released.TheVariants.{Free, To}
+use Rattle.mm_table.specs.reply.Transmitted.{Transmitted}
+use Rattle.mm_table.specs.reply.Transmitted.TheVariants.{Raised, Still}
+use Rattle.mm_table.specs.reply.Detected.{Detected}
+use Rattle.mm_table.specs.reply.Detected.TheVariants.{Deadlock, Standing, Clear}
+use Rattle.mm_table.specs.reply.Settled.{Settled}
+use Rattle.mm_table.specs.reply.Mode.{Mode}
+use Rattle.mm_table.specs.reply.Mode.TheVariants.{Active, Waiting, Convicted}
+use Rattle.mm_table.specs.reply.State.{State}
+use Rattle.mm_table.specs.reply.Totals.{Totals}
+use Rattle.mm_table.specs.Refusal.{number_of, name_of}
 use Rattle.mm_work.specs.declared.script.reply.Reply.{Reply}
 use Rattle.mm_work.specs.declared.script.reply.Reply.TheVariants.{Malformed, NoTable, TableStands, Opened, Begun, Acquired as Acquired_, Released as Released_, Finished, Transmitted as Transmitted_, Detected as Detected_, Aborted, Settled as Settled_, Read, Owned, Counted, Refused}
 

@@ -3,8 +3,8 @@ use Rattle.std.specs.Prelude.{◌≡◌, ℕ, ◌+◌, ◌≤◌, Bool, true, fa
 use Rattle.std.specs.List.{position_or_len}
 use Rattle.mm_work.specs.Cut.{is}
 use Rattle.std.specs.Io.KnownBytes.{Appends}
-use Rattle.mm_rules.specs.TableState.{TableState}
-use Rattle.mm_rules.specs.Laws.{Laws}
+use Rattle.mm_table.specs.TableState.{TableState}
+use Rattle.mm_table.specs.Laws.{Laws}
 use Rattle.mm_work.specs.declared.script.engine.Session.{Session}
 use Rattle.mm_work.specs.Line.{line_of}
 use Rattle.mm_work.specs.Lines.{lines_of, whole_lines}

@@ -1,10 +1,10 @@
 -- What a script is answered.
 use Rattle.std.specs.Prelude.{◌≡◌, ℕ, ◌+◌, List, [], ◌∷◌, ◌++◌, Option, Some, None, Result, Ok, Err}
 use Rattle.std.specs.Result.{result_ok}
-use Rattle.mm_rules.specs.declared.refusal.Refusal.{Refusal}
-use Rattle.mm_rules.specs.TableState.{TableState}
-use Rattle.mm_rules.specs.Event.{Event, Answer, Step, Opens, state_of, owner_told}
-use Rattle.mm_rules.specs.Event as events
+use Rattle.mm_table.specs.refusal.Refusal.{Refusal}
+use Rattle.mm_table.specs.TableState.{TableState}
+use Rattle.mm_table.specs.Event.{Event, Answer, Step, Opens, state_of, owner_told}
+use Rattle.mm_table.specs.Event as events
 use Rattle.mm_work.specs.declared.script.line.Line.{Line}
 use Rattle.mm_work.specs.declared.script.line.Line.TheVariants as kind
 use Rattle.mm_work.specs.declared.script.line.Call.{Call}
