@@ -4,7 +4,7 @@ use Rattle.std.specs.Option.{option_and_then}
 use Rattle.std.proofs.lemmas.List.{get_or-set_same}
 use Rattle.std.proofs.lemmas.Option.{slice_get-get_or, slice_get_within, same_Some}
 use Rattle.mm_owned.specs.declared.owned.Links.{Links}
-use Rattle.mm_owned.specs.Members.{Among, NoRepeat}
+use Rattle.mm_lists.specs.Members.{Among, NoRepeat}
 use Rattle.mm_owned.specs.Owned.{head}
 use Rattle.mm_owned.specs.Linked.{with_before, with_next, walk, head_or, last_or, first_with_next, IsChain}
 

@@ -6,7 +6,7 @@ use Rattle.std.proofs.lemmas.List.{get_or_default, get_or-map, length-map, lengt
 use Rattle.std.proofs.lemmas.Option.{slice_get-get_or, slice_get_within, same_Some}
 use Rattle.mm_owned.specs.declared.owned.Links.{Links}
 use Rattle.mm_owned.specs.Link.{none_number}
-use Rattle.mm_owned.specs.Members.{Among, NoRepeat}
+use Rattle.mm_lists.specs.Members.{Among, NoRepeat}
 use Rattle.mm_owned.specs.Owned.{Lists, empty_lists, list_at, pushed, removed, without, IsLoose, IsNext}
 use Rattle.mm_owned.specs.Linked.{next_of, with_before, with_next, walk, seen, head_or, last_or, first_with_next, IsChain, AreLinked, IsLinked}
 use Rattle.mm_owned.proofs.OwnedLists.{Cut, cut_at, AreApart, AreApart-cut, Among-left, Among-right, without-cut, length-NoRepeat}

@@ -2,7 +2,7 @@
 use Rattle.std.specs.Prelude.{◌==◌, if◌then◌else◌}
 use Rattle.std.proofs.Common.{◌≡◌, ℕ, List, [], ◌∷◌, ◌++◌, Option, Some, None, refl, sym, ap, subst, ◌∙◌, inl, inr}
 use Rattle.std.proofs.lemmas.Bool.{eq-eqb, ne_eqb}
-use Rattle.mm_owned.specs.Members.{Among, NoRepeat}
+use Rattle.mm_lists.specs.Members.{Among, NoRepeat}
 use Rattle.mm_owned.specs.Owned.{Lists, list_at, head, IsNext}
 use Rattle.mm_owned.proofs.OwnedLists.{cut_at, AreApart, AreApart-cut, Among-right}
 use Rattle.mm_owned.proofs.OwnedChains.{head_or-None, Among-head_or}

@@ -1,7 +1,7 @@
 -- What a contract sees of an `Owned`.
 use Rattle.mm_arena.specs.declared.key.Key.{Key}
 use Rattle.std.specs.Prelude.{◌≡◌, ◌<◌, ◌==◌, ℕ, List, [], ◌∷◌, ◌++◌, Option, None, Some, not, filter, replicate, slice_index_or, slice_set}
-use Rattle.mm_owned.specs.Members.{Among, NoRepeat}
+use Rattle.mm_lists.specs.Members.{Among, NoRepeat}
 
 -- the list of each process, and how many resources there are
 pub record Lists : Type 0 where

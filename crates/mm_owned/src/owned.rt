@@ -1,7 +1,7 @@
 //! The owner of each resource, and lists of resources by process, each resource in at most one list, linked in both directions.
 ghost use Rattle.std.specs.Prelude.{◌≡◌, ◌<◌, length, IfOk, IsNone, None, slice_index_or};
 ghost use Rattle.std.specs.Option.{ForSome};
-ghost use Rattle.mm_owned.specs.Members.{Among};
+ghost use Rattle.mm_lists.specs.Members.{Among};
 ghost use Rattle.mm_owned.specs.Owned.{unowned, list_at, head, given, taken, IsExclusive, IsLoose, IsNext};
 ghost use Rattle.mm_owned.specs.Linked.{first_with_next, with_before, with_next, links_of, owners_of};
 

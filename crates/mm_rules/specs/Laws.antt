@@ -9,7 +9,7 @@ use Rattle.mm_rules.specs.declared.reply.Settled.{Settled}
 use Rattle.mm_rules.specs.declared.reply.Transmitted.TheVariants.{Raised}
 use Rattle.mm_rules.specs.TableState.{TableState, Wait, IsInRange, IsSized, opening, is_live, private_of, public_of, has_verdict, owner_of, is_waiting, waiting_processes, graph_of}
 use Rattle.mm_rules.specs.Event.{Event, Begin, Transmit, Detect, Settle, Answer, Step, Run, IsReached, Settles}
-use Rattle.mm_owned.specs.Members.{Among, NoRepeat}
+use Rattle.mm_lists.specs.Members.{Among, NoRepeat}
 use Rattle.mm_rules.specs.Graph.{Cycle, LabelReturned, Deadlocked, IsGreatest, CarriedLaw, RisingLaw, ToppedLaw, IsSettled}
 
 -- ---- lawful

@@ -11,7 +11,7 @@ use Rattle.mm_table.specs.declared.records.Records.TheInside.{Inside}
 use Rattle.mm_table.specs.declared.records.Transaction.{Transaction}
 use Rattle.mm_table.specs.declared.records.Labels.{Labels}
 use Rattle.mm_table.specs.declared.records.WaitRecord.{WaitRecord}
-use Rattle.mm_owned.specs.Members.{Among, NoRepeat}
+use Rattle.mm_lists.specs.Members.{Among, NoRepeat}
 use Rattle.mm_owned.specs.Owned.{Lists, IsExclusive, list_at}
 use Rattle.mm_rules.specs.TableState.{TableState, Wait, IsInRange, waited_for}
 

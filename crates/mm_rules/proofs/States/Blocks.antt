@@ -2,7 +2,7 @@
 use Rattle.std.proofs.Common.{◌≡◌, ◌≢◌, ◌⊎◌, ℕ, ◌<◌, List, [], ◌∷◌, length, map, fold, inl, inr, refl, ◌∙◌, arith, length-set}
 use Rattle.std.proofs.lemmas.Bool.{cases_eq}
 use Rattle.mm_label.specs.Label.{fresh_label}
-use Rattle.mm_owned.specs.Members.{Among, NoRepeat}
+use Rattle.mm_lists.specs.Members.{Among, NoRepeat}
 use Rattle.mm_rules.specs.TableState.{TableState, Wait, private_of, public_of}
 use Rattle.mm_rules.specs.Change.{label_against, block}
 use Rattle.mm_rules.proofs.States.Lists.{In}

@@ -3,7 +3,7 @@ use Rattle.std.proofs.Common.{◌≡◌, ◌&&◌, ℕ, ◌<◌, List, [], ◌�
 use Rattle.std.specs.Option.{option_map_or}
 use Rattle.std.proofs.lemmas.Bool.{cases_Bool, eq-eqb, and_from, not_from_false}
 use Rattle.mm_label.specs.Label.{Label, label_eq}
-use Rattle.mm_owned.specs.Members.{Among}
+use Rattle.mm_lists.specs.Members.{Among}
 use Rattle.mm_rules.specs.Graph.{LabelReturned}
 use Rattle.mm_rules.specs.TableState.{TableState, holder_of, private_of, public_of, has_verdict, graph_of}
 use Rattle.mm_rules.specs.Change.{can_detect, detect}

@@ -5,7 +5,7 @@ use Rattle.std.proofs.lemmas.Bool.{cases_eq, cases_lt, eq-eqb, eqb-true, leb-tru
 use Rattle.std.proofs.lemmas.List.{get_or_past}
 use Rattle.mm_label.specs.Label.{Label, word_of}
 use Rattle.mm_arena.specs.declared.key.Key.{Key}
-use Rattle.mm_owned.specs.Members.{Among, NoRepeat}
+use Rattle.mm_lists.specs.Members.{Among, NoRepeat}
 use Rattle.mm_rules.specs.Graph.{WaitsFor, LabelReturned}
 use Rattle.mm_rules.specs.TableState.{TableState, Wait, is_of, is_live, owner_of, wait_of, has_verdict, waiters_of, public_of, graph_of}
 use Rattle.mm_rules.specs.Change.{label_against, activate, block_fits}

@@ -6,7 +6,7 @@ use Rattle.std.proofs.lemmas.List.FromFn.{length-map-range_with_len}
 use Rattle.std.specs.List.{range_with_len, AllByRecursion, count_by}
 use Rattle.mm_label.specs.Label.{Label, opening_label, label_le}
 use Rattle.mm_rules.specs.declared.config.Config.{Config}
-use Rattle.mm_owned.specs.Members.{Among, NoRepeat}
+use Rattle.mm_lists.specs.Members.{Among, NoRepeat}
 use Rattle.mm_rules.specs.TableState.{IsInRange, opening, public_of}
 use Rattle.mm_rules.specs.Laws.{Laws}
 

@@ -3,7 +3,7 @@ use Rattle.std.proofs.Common.{◌≡◌, ◌≢◌, ℕ, ◌<◌, Bool, true, fa
 use Rattle.std.proofs.lemmas.Bool.{cases_lt, eqb-true, eqb-false, and_parts}
 use Rattle.std.proofs.lemmas.List.{get_or_past}
 use Rattle.mm_arena.specs.declared.key.Key.{Key}
-use Rattle.mm_owned.specs.Members.{NoRepeat}
+use Rattle.mm_lists.specs.Members.{NoRepeat}
 use Rattle.mm_rules.specs.Graph.{WaitsFor, IsWaiting}
 use Rattle.mm_rules.specs.TableState.{TableState, Wait, IsSized, is_live, owner_of, is_of, wait_of, is_waiting, holder_of, graph_of}
 use Rattle.mm_rules.specs.Laws.{IsHeld, WellFormed}

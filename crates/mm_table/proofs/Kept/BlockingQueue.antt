@@ -4,7 +4,7 @@ use Rattle.std.proofs.lemmas.Bool.{cases_Bool, and_parts}
 use Rattle.std.specs.List.{list_all}
 use Rattle.mm_label.specs.Label.{opening_label}
 use Rattle.mm_table.specs.declared.records.WaitRecord.{WaitRecord}
-use Rattle.mm_owned.specs.Members.{Among, NoRepeat}
+use Rattle.mm_lists.specs.Members.{Among, NoRepeat}
 use Rattle.mm_rules.specs.TableState.{TableState, Wait}
 use Rattle.mm_rules.specs.Change.{block, block_fits, label_against}
 use Rattle.mm_table.specs.Queue.{queue_from, fits_from, blocked_on, NoneIs}

@@ -12,7 +12,7 @@ use Rattle.mm_rules.specs.declared.reply.Totals.{Totals}
 use Rattle.mm_table.specs.declared.records.Transaction.{Transaction}
 use Rattle.mm_table.specs.declared.records.Labels.{Labels}
 use Rattle.mm_table.specs.declared.records.WaitRecord.{WaitRecord}
-use Rattle.mm_owned.specs.Members.{Among, NoRepeat}
+use Rattle.mm_lists.specs.Members.{Among, NoRepeat}
 use Rattle.mm_rules.specs.TableState.{is_of, waited_for}
 use Rattle.mm_rules.specs.Change.{activate}
 use Rattle.mm_table.specs.Kept.{idle, wait_in, wait_kept, state_of_parts, PartsFit}

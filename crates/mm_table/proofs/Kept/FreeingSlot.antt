@@ -6,7 +6,7 @@ use Rattle.std.proofs.lemmas.Bool.{cases_Bool, and_parts}
 use Rattle.std.specs.List.{AllByRecursion, sum_by}
 use Rattle.mm_arena.specs.declared.key.Key.{Key}
 use Rattle.mm_arena.specs.Slots.{Slots, Place, never_used, place_at, value_under, lookup, IsLive, freed, retired, vacated, removed}
-use Rattle.mm_owned.specs.Members.{Among}
+use Rattle.mm_lists.specs.Members.{Among}
 use Rattle.mm_rules.specs.declared.config.Config.{Config}
 use Rattle.mm_rules.specs.declared.reply.Totals.{Totals}
 use Rattle.mm_table.specs.declared.records.Transaction.{Transaction}

@@ -5,7 +5,7 @@ use Rattle.std.proofs.lemmas.Bool.{cases_Bool, ne_eqb, eqb-true}
 use Rattle.std.specs.List.{AllByRecursion}
 use Rattle.mm_label.specs.Label.{Label, opening_label}
 use Rattle.mm_arena.specs.declared.key.Key.{Key}
-use Rattle.mm_owned.specs.Members.{Among, NoRepeat}
+use Rattle.mm_lists.specs.Members.{Among, NoRepeat}
 use Rattle.mm_rules.specs.TableState.{TableState, Wait, is_of, waiters_of}
 use Rattle.mm_rules.specs.Change.{label_against, block, activate, give_to, hand_over}
 

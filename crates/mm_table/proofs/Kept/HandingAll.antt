@@ -3,7 +3,7 @@ use Rattle.std.proofs.Common.{◌≡◌, ◌≢◌, ℕ, ◌<◌, ◌≤◌, Boo
 use Rattle.std.specs.List.{range_with_len}
 use Rattle.std.proofs.lemmas.Bool.{cases_eq, cases_Bool, eq-eqb}
 use Rattle.mm_arena.specs.declared.key.Key.{Key}
-use Rattle.mm_owned.specs.Members.{NoRepeat}
+use Rattle.mm_lists.specs.Members.{NoRepeat}
 use Rattle.mm_rules.specs.TableState.{TableState, is_live, has_verdict, owner_of, owns, wait_of, resources_of}
 use Rattle.mm_rules.specs.Change.{hand_over, hand_over_fits, give_to_fits, free_slot, vacate, vacate_fits}
 use Rattle.mm_rules.specs.Laws.{Laws}

@@ -6,7 +6,7 @@ use Rattle.std.specs.List.{range_with_len}
 use Rattle.std.specs.Option.{option_map_or}
 use Rattle.mm_arena.specs.declared.key.Key.{Key}
 use Rattle.mm_arena.specs.Slots.{Slots}
-use Rattle.mm_owned.specs.Members.{Among, NoRepeat}
+use Rattle.mm_lists.specs.Members.{Among, NoRepeat}
 use Rattle.mm_owned.specs.Owned.{Lists, list_at, head, empty_lists, pushed, removed, IsLoose, IsExclusive}
 use Rattle.mm_owned.proofs.OwnedChanges.{Among-below, Among-pushed, Among-pushed_old, Among-pushed_new, IsExclusive-pushed, Among-removed, Among-removed_other, IsExclusive-removed, IsLoose-removed}
 use Rattle.mm_rules.specs.declared.config.Config.{Config}

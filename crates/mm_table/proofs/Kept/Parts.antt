@@ -14,7 +14,7 @@ use Rattle.mm_rules.specs.declared.reply.Totals.{Totals}
 use Rattle.mm_table.specs.declared.records.Transaction.{Transaction}
 use Rattle.mm_table.specs.declared.records.Labels.{Labels}
 use Rattle.mm_table.specs.declared.records.WaitRecord.{WaitRecord}
-use Rattle.mm_owned.specs.Members.{Among, NoRepeat}
+use Rattle.mm_lists.specs.Members.{Among, NoRepeat}
 use Rattle.mm_rules.specs.TableState.{Wait, is_of, waited_for}
 use Rattle.mm_table.specs.Kept.{idle, wait_in, verdict_in, wait_kept, state_of_parts, PartsFit}
 use Rattle.mm_table.proofs.Kept.Slots.{holds, same_slot, with_value_live, all_append, all_map}

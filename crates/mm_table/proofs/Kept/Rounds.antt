@@ -7,7 +7,7 @@ use Rattle.std.proofs.lemmas.List.FromFn.{filter_of_map_range_with_len_more}
 use Rattle.std.specs.List.{range_with_len}
 use Rattle.std.proofs.lemmas.List.Sums.{sum_by-cons}
 use Rattle.mm_label.specs.Label.{label_eq}
-use Rattle.mm_owned.specs.Members.{Among, NoRepeat}
+use Rattle.mm_lists.specs.Members.{Among, NoRepeat}
 use Rattle.mm_rules.specs.TableState.{TableState, private_of, public_of, holder_of}
 use Rattle.mm_rules.specs.Change.{can_transmit, transmit, raises_along, can_detect, detect}
 use Rattle.mm_rules.proofs.States.Detect.{convicted, detect_still, detect_convicts}

@@ -4,7 +4,7 @@ use Rattle.std.specs.Option.{option_map_or}
 use Rattle.std.proofs.lemmas.Bool.{cases_Bool, or_parts, leb-false}
 use Rattle.mm_label.specs.Label.{Label}
 use Rattle.mm_rules.specs.declared.reply.Settled.{Settled}
-use Rattle.mm_owned.specs.Members.{NoRepeat}
+use Rattle.mm_lists.specs.Members.{NoRepeat}
 use Rattle.mm_rules.specs.TableState.{TableState, is_waiting, waiting_processes}
 use Rattle.mm_rules.specs.Change.{greater_label, transmit, can_detect, detect, swept}
 use Rattle.mm_rules.specs.Event.{counts_exhausted, Settle, Step, Gives, outcome}

@@ -4,7 +4,7 @@ ghost use Rattle.std.specs.List.{AllByRecursion};
 ghost use Rattle.mm_rules.specs.TableState.{is_live, wait_of, holder_of, waiting_processes};
 ghost use Rattle.mm_rules.specs.Change.{can_transmit, transmit, raises_along, can_detect, detect};
 ghost use Rattle.mm_rules.specs.Event.{Step, Settle};
-ghost use Rattle.mm_owned.specs.Members.{NoRepeat};
+ghost use Rattle.mm_lists.specs.Members.{NoRepeat};
 ghost use Rattle.mm_rules.specs.Laws.{Laws};
 ghost use Rattle.mm_table.specs.Sweep.{IsWaiter, processes_of, IsSwept};
 

@@ -2,7 +2,7 @@ use Rattle.std.proofs.Common.{◌≡◌, ◌<◌, ◌+◌, ap, sym, ◌∙◌, r
 use Rattle.std.proofs.lemmas.List.{length-map}
 use Rattle.mm_arena.specs.Slots.{IsLive}
 use Rattle.mm_table.specs.declared.records.WaitRecord.{WaitRecord}
-use Rattle.mm_owned.specs.Members.{NoRepeat}
+use Rattle.mm_lists.specs.Members.{NoRepeat}
 use Rattle.mm_rules.specs.TableState.{TableState, Wait}
 use Rattle.mm_table.specs.Kept.{wait_kept}
 use Rattle.mm_table.proofs.Kept.BlockingQueue.{IsUnderWay, fits_here, blocked_here, skipped_here, processes_kept}

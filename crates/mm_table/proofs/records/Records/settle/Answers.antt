@@ -1,5 +1,5 @@
 use Rattle.std.proofs.Common.{◌+◌, length, ap, sym, ◌∙◌, subst, arith}
-use Rattle.mm_owned.specs.Members.{NoRepeat}
+use Rattle.mm_lists.specs.Members.{NoRepeat}
 use Rattle.mm_table.specs.Sweep.{processes_of}
 use Rattle.mm_rules.proofs.States.SweepRaises.{few_wait}
 use Rattle.mm_rules.proofs.States.Outcomes.{counting}

@@ -1,5 +1,5 @@
 use Rattle.std.proofs.Common.{◌≡◌, ◌∷◌, length, IsTrue, sym, ap, subst, ◌∙◌, inl, inr, arith}
-use Rattle.mm_owned.specs.Members.{Among}
+use Rattle.mm_lists.specs.Members.{Among}
 use Rattle.mm_owned.specs.Owned.{list_at}
 use Rattle.mm_owned.proofs.OwnedWalks.{rest_from, Among-head, Among-next, rest_from-head, rest_from-next}
 use Rattle.mm_rules.specs.Change.{hand_over_fits}
