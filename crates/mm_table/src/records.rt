@@ -1,27 +1,28 @@
 //! How a table is kept.
 //!
-//! - `open`: the opening.
-//! - `events`: one function for each event: its refusals, then its changes.
-//! - `refusals`: the tests of each call, in their order.
-//! - `changes`: the small changes that events are made of.
-//! - `queues`: hand-overs.
-//! - `endings`: what happens when a transaction ends.
-//! - `settle`: what all waiting transactions do in turn.
-//! - `reads`: what changes nothing.
+//! By what a caller does: `open`, `begin`, `acquire`, `release`, `finish`, `abort`, `transmit`, `detect`, `settle`, `read`. Each of
+//! these files has the event with its tests and the changes that it is made of. Two serve several of them:
+//!
+//! - `call`: what every event tests first, and how an accepted one is counted.
+//! - `hand_over`: how a resource goes to the longest waiter.
 use crate::{Config, Key, Totals};
 use mm_arena::Arena;
 use mm_label::Label;
 use mm_owned::Owned;
 use std::marker::Model;
 
-mod changes;
-mod endings;
-mod events;
+mod abort;
+mod acquire;
+mod begin;
+mod call;
+mod detect;
+mod finish;
+mod hand_over;
 mod open;
-mod queues;
-mod reads;
-mod refusals;
+mod read;
+mod release;
 mod settle;
+mod transmit;
 
 pub use settle::Waiter;
 

@@ -19,20 +19,12 @@ pub struct Waiter {
 }
 
 impl Records {
-    /// The live key of `process`. A process that has none waits for nothing.
-    fn live_key(&self, process: u32) -> Option<Key>
-        ensures key { IfSome result (λ key. IsTrue (is_live self.now key) × (key.process ≡ process) × (process < self.now.config.processes)) }
-        ensures idle { IfNone result (wait_of self.now process ≡ None) }
-    {
-        self.transactions.key_at(process)
-    }
-
     /// `process` with its holder; `None` where it has none.
     fn waiter(&self, process: u32) -> Option<Waiter>
         ensures waits { IfSome result (λ waiter. (waiter.process ≡ process) × IsWaiter self.now waiter) }
         ensures idle { IfNone result (holder_of self.now process ≡ None) }
     {
-        let key = self.live_key(process)?;
+        let key = self.tenant(process)?;
         let holder = self.holder(key)?;
         Some(Waiter { process, holder })
     }
@@ -106,7 +98,7 @@ impl Records {
         ensures convicted { result ≡ can_detect self.old process }
         ensures state { self.new ≡ detect self.old process }
     {
-        let Some(key) = self.live_key(process) else {
+        let Some(key) = self.tenant(process) else {
             return false;
         };
         let can = self.can_detect(key);

@@ -1,10 +1,9 @@
-//! The queues of resources, found in the one list of waits.
-ghost use Rattle.std.specs.Prelude.{◌≡◌, ◌≢◌, ◌<◌, ◌≤◌, ◌+◌, IsTrue, IfSome, IfNone, None, Some, [], ◌∷◌, drop, filter, fold, length, slice_set, slice_get, position, remove, nat_eq, MatchOption, option_map, vec_capacity};
-ghost use Rattle.std.specs.List.{list_all};
+//! A resource goes from its owner to the longest waiter, found in the one list of waits.
+ghost use Rattle.std.specs.Prelude.{◌≡◌, ◌<◌, IsTrue, None, Some, length, slice_get, slice_set, option_map, position, nat_eq, ◌≤◌};
 ghost use Rattle.mm_rules.specs.TableState.{waiters_of};
+ghost use Rattle.mm_rules.specs.Change.{activate, hand_over, hand_over_fits};
 ghost use Rattle.mm_rules.specs.Event.{release_answer};
 ghost use Rattle.mm_table.specs.Queue.{queue_from, fits_from, blocked_on, NoneIs};
-ghost use Rattle.mm_rules.specs.Change.{activate, block, block_fits, hand_over, hand_over_fits};
 
 use super::{Records, WaitRecord};
 use crate::{Key, Released};
@@ -17,6 +16,37 @@ fn first_place(waits: &[WaitRecord], resource: u32) -> Option<usize>
 }
 
 impl Records {
+    /// Hands a resource over, and answers what becomes of it.
+    pub(super) fn hand_over(&mut self, resource: u32) -> Released
+        requires resource { resource < self.old.config.resources }
+        requires fits { IsTrue (hand_over_fits self.old resource) }
+        ensures answer { result ≡ release_answer (waiters_of self.old resource) }
+        ensures state { self.new ≡ hand_over self.old resource }
+        ensures totals { self.new.totals ≡ self.old.totals }
+    {
+        self.free(resource);
+        let Some(place) = first_place(&self.waits, resource) else {
+            return Released::Free;
+        };
+        let first = self.end_wait(place);
+        self.grant(first, resource);
+        self.block_queue(resource, place, first.process);
+        Released::To(first)
+    }
+
+    /// Whether the limit allows each label that the hand-over of `resource` makes.
+    pub(super) fn hand_over_fits(&self, resource: u32) -> bool
+        ensures { result ≡ hand_over_fits self.now resource }
+    {
+        match first_place(&self.waits, resource) {
+            None => true,
+            Some(place) => {
+                let first = self.waits[place].key;
+                self.blocks_fit(resource, place + 1, first.process)
+            }
+        }
+    }
+
     /// Whether the limit allows the labels of all that wait for `resource`, from this place among the waits on, against `holder`.
     fn blocks_fit(&self, resource: u32, from: usize, holder: u32) -> bool
         requires holder { holder < self.now.config.processes }
@@ -48,19 +78,6 @@ impl Records {
         }
     }
 
-    /// Whether the limit allows each label that the hand-over of `resource` makes.
-    pub(super) fn hand_over_fits(&self, resource: u32) -> bool
-        ensures { result ≡ hand_over_fits self.now resource }
-    {
-        match first_place(&self.waits, resource) {
-            None => true,
-            Some(place) => {
-                let first = self.waits[place].key;
-                self.blocks_fit(resource, place + 1, first.process)
-            }
-        }
-    }
-
     /// Takes a resource from its owner, if it has one.
     fn free(&mut self, resource: u32)
         requires { resource < self.old.config.resources }
@@ -71,21 +88,15 @@ impl Records {
         }
     }
 
-    /// Hands a resource over, and answers what becomes of it.
-    pub(super) fn hand_over(&mut self, resource: u32) -> Released
-        requires resource { resource < self.old.config.resources }
-        requires fits { IsTrue (hand_over_fits self.old resource) }
-        ensures answer { result ≡ release_answer (waiters_of self.old resource) }
-        ensures state { self.new ≡ hand_over self.old resource }
-        ensures totals { self.new.totals ≡ self.old.totals }
+    /// Takes away the wait at this place among the waits. Answers who waited.
+    pub(super) fn end_wait(&mut self, place: usize) -> Key
+        requires { place < length self.old.waits }
+        ensures key { option_map (λ w. w.key) (slice_get self.old.waits place) ≡ Some result }
+        ensures in_range { result.process < self.new.config.processes }
+        ensures state { self.new ≡ activate self.old result.process }
     {
-        self.free(resource);
-        let Some(place) = first_place(&self.waits, resource) else {
-            return Released::Free;
-        };
-        let first = self.end_wait(place);
-        self.grant(first, resource);
-        self.block_queue(resource, place, first.process);
-        Released::To(first)
+        let key = self.waits.remove(place).key;
+        self.transactions.get_mut(key).unwrap().waits_for = None;
+        key
     }
 }

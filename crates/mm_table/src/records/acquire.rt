@@ -1,0 +1,105 @@
+//! A resource is granted, or its owner is waited for with a new label.
+ghost use Rattle.std.specs.Prelude.{◌≡◌, ◌<◌, ◌+◌, ◌∷◌, ◌++◌, [], IsTrue, None, Some, slice_set, Ok, is_some, OnOk, SomeIff};
+ghost use Rattle.mm_rules.specs.TableState.{wait_of, owner_of, is_live};
+ghost use Rattle.mm_rules.specs.Change.{block, block_fits, label_against};
+ghost use Rattle.mm_rules.specs.Event.{Gives, allowed, resource_tests, acquired};
+ghost use Rattle.mm_table.specs.Queue.{wait_tests};
+
+use super::{Records, WaitRecord};
+use crate::{Acquired, Key, Refusal};
+use mm_label::{Label, fresh};
+
+impl Records {
+    /// The key takes a free resource, or waits for its owner. Constant time.
+    pub fn acquire(&mut self, key: Key, resource: u32) -> Result<Acquired, Refusal>
+        ensures { Gives (acquired self.old key resource) result self.new }
+    {
+        self.may_use(key, resource)?;
+        if self.owned.owner(resource).is_some() {
+            self.acquire_owned(key, resource)
+        } else {
+            self.grant(key, resource);
+            self.count();
+            Ok(Acquired::Granted)
+        }
+    }
+
+    /// `acquire` of an owned resource by a transaction that may use it. It stands apart, so that a grant is short.
+    #[inline(never)]
+    fn acquire_owned(&mut self, key: Key, resource: u32) -> Result<Acquired, Refusal>
+        requires tests { allowed (resource_tests self.old key resource) ≡ Ok tt }
+        requires owned { IsTrue (is_some (owner_of self.old resource)) }
+        ensures { Gives (acquired self.old key resource) result self.new }
+    {
+        let holder = self.owned.owner(resource).unwrap();
+        self.may_wait(key.process, holder.process)?;
+        self.queue(key, resource);
+        let label = self.block(key.process, holder.process);
+        self.count();
+        Ok(Acquired::Waits { holder, label })
+    }
+
+    /// The last tests of `acquire`, of a resource that `holder` owns.
+    fn may_wait(&self, process: u32, holder: u32) -> Result<(), Refusal>
+        requires process { process < self.now.config.processes }
+        requires holder { holder < self.now.config.processes }
+        ensures tests { result ≡ allowed (wait_tests self.now process holder) }
+        ensures fits { OnOk result (IsTrue (block_fits self.now process holder)) }
+    {
+        if holder == process {
+            return Err(Refusal::AlreadyOwns);
+        }
+        if self.label_against(process, holder).is_none() {
+            return Err(Refusal::LabelsExhausted);
+        }
+        Ok(())
+    }
+
+    /// Makes the key the owner of a free resource.
+    pub(super) fn grant(&mut self, key: Key, resource: u32)
+        requires resource { resource < self.old.config.resources }
+        requires key { key.process < self.old.config.processes }
+        requires free { owner_of self.old resource ≡ None }
+        ensures { self.new ≡ record self.old { owners = slice_set self.old.owners resource (Some key) } }
+    {
+        self.owned.push(key, resource);
+    }
+
+    /// Appends the wait of a live transaction that does not wait.
+    fn queue(&mut self, key: Key, resource: u32)
+        requires live { IsTrue (is_live self.old key) }
+        requires resource { resource < self.old.config.resources }
+        requires idle { wait_of self.old key.process ≡ None }
+        ensures { self.new ≡ record self.old { waits = self.old.waits ++ record { key = key; resource = resource } ∷ [] } }
+    {
+        let transaction = self.transactions.get_mut(key).unwrap();
+        transaction.waits_for = Some(resource);
+        self.waits.push_reserved(WaitRecord { key, resource });
+    }
+
+    /// The label that `process` gets by waiting for `holder`; `None` past the label limit.
+    pub(super) fn label_against(&self, process: u32, holder: u32) -> Option<Label>
+        requires process { process < self.now.config.processes }
+        requires holder { holder < self.now.config.processes }
+        ensures { SomeIff result (IsTrue (block_fits self.now process holder)) (label_against self.now process holder) }
+    {
+        let own = self.labels[process as usize].public;
+        let shown = self.labels[holder as usize].public;
+        fresh(own, shown, process, self.config.label_limit)
+    }
+
+    /// Gives `process` both its new labels, by which it waits for `holder`.
+    pub(super) fn block(&mut self, process: u32, holder: u32) -> Label
+        requires process { process < self.old.config.processes }
+        requires holder { holder < self.old.config.processes }
+        requires fits { IsTrue (block_fits self.old process holder) }
+        ensures label { result ≡ label_against self.old process holder }
+        ensures state { self.new ≡ block self.old process holder }
+    {
+        let label = self.label_against(process, holder).unwrap();
+        let blocked = &mut self.labels[process as usize];
+        blocked.private = label;
+        blocked.public = label;
+        label
+    }
+}

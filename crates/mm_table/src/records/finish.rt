@@ -1,0 +1,94 @@
+//! A transaction ends: all that it owns is handed over, and its slot is freed.
+ghost use Rattle.std.specs.Prelude.{◌≡◌, ◌<◌, IsTrue, None, IsFalse, fold, OnOk};
+ghost use Rattle.mm_rules.specs.TableState.{wait_of, is_live, has_verdict, resources_of};
+ghost use Rattle.mm_rules.specs.Change.{hand_over, free_slot, vacate, vacate_fits};
+ghost use Rattle.mm_rules.specs.Event.{Gives, allowed, finished, finish_tests};
+ghost use Rattle.mm_rules.specs.Laws.{Laws};
+
+use super::Records;
+use crate::{Key, Refusal};
+
+impl Records {
+    /// Hands over all that the transaction owns, and frees its slot.
+    /// Time by how many resources it owns, and by how many transactions wait in the table, for each of them.
+    pub fn finish(&mut self, key: Key) -> Result<(), Refusal>
+        requires { Laws self.old }
+        ensures { Gives (finished self.old key) result self.new }
+    {
+        self.may_finish(key)?;
+        self.vacate(key);
+        self.count();
+        Ok(())
+    }
+
+    /// The tests of `finish`, in their order.
+    fn may_finish(&self, key: Key) -> Result<(), Refusal>
+        ensures tests { result ≡ allowed (finish_tests self.now key) }
+        ensures live { OnOk result (IsTrue (is_live self.now key)) }
+        ensures active { OnOk result (wait_of self.now key.process ≡ None) }
+        ensures fits { OnOk result (IsTrue (vacate_fits self.now key.process)) }
+    {
+        self.may_call(key)?;
+        if self.is_waiting(key) {
+            return Err(Refusal::Waiting);
+        }
+        if !self.vacate_fits(key.process) {
+            return Err(Refusal::LabelsExhausted);
+        }
+        Ok(())
+    }
+
+    /// Hands over all that a live transaction owns, and frees its slot. The order in which it hands over makes no difference.
+    pub(super) fn vacate(&mut self, key: Key)
+        requires laws { Laws self.old }
+        requires live { IsTrue (is_live self.old key) }
+        requires active { wait_of self.old key.process ≡ None }
+        requires fits { IsTrue (vacate_fits self.old key.process) }
+        ensures state { self.new ≡ vacate self.old key.process }
+        ensures totals { self.new.totals ≡ self.old.totals }
+    {
+        self.hand_over_all(key.process);
+        self.free_slot(key);
+    }
+
+    /// Whether the limit allows each label that is made when `process` hands over all that it owns.
+    pub(super) fn vacate_fits(&self, process: u32) -> bool
+        requires { process < self.now.config.processes }
+        ensures { result ≡ vacate_fits self.now process }
+    {
+        if self.waits.is_empty() {
+            return true;
+        }
+        let mut next = self.owned.first(process);
+        while let Some(resource) = next {
+            if !self.hand_over_fits(resource) {
+                return false;
+            }
+            next = self.owned.next(resource);
+        }
+        true
+    }
+
+    /// Hands over all that `process` owns.
+    fn hand_over_all(&mut self, process: u32)
+        requires laws { Laws self.old }
+        requires process { process < self.old.config.processes }
+        requires active { wait_of self.old process ≡ None }
+        requires fits { IsTrue (vacate_fits self.old process) }
+        ensures { self.new ≡ fold hand_over self.old (resources_of self.old process) }
+    {
+        while let Some(resource) = self.owned.first(process) {
+            self.hand_over(resource);
+        }
+    }
+
+    /// Frees the slot of a live transaction that neither waits nor has a verdict.
+    fn free_slot(&mut self, key: Key)
+        requires live { IsTrue (is_live self.old key) }
+        requires active { wait_of self.old key.process ≡ None }
+        requires no_verdict { IsFalse (has_verdict self.old key.process) }
+        ensures { self.new ≡ free_slot self.old key.process }
+    {
+        self.transactions.remove(key);
+    }
+}

@@ -1,0 +1,107 @@
+//! Reads, which change nothing: those that a caller makes, and those that events are made of.
+ghost use Rattle.std.specs.Prelude.{◌≡◌, ◌<◌, IsTrue, IfSome, IfNone, None, option_map};
+ghost use Rattle.mm_rules.specs.TableState.{wait_of, holder_of, is_live, has_verdict, public_of, is_waiting, owns};
+ghost use Rattle.mm_rules.specs.Event.{state_of, owner_told, tenant_of};
+
+use super::Records;
+use crate::{Key, Mode, Refusal, State, Totals};
+use mm_label::Label;
+
+impl Records {
+    /// What the transaction does, and its labels. Constant time.
+    pub fn state(&self, key: Key) -> Result<State, Refusal>
+        ensures { result ≡ state_of self.now key }
+    {
+        let Some(transaction) = self.transactions.get(key) else {
+            return Err(Refusal::Stale);
+        };
+        let mode = match transaction.waits_for {
+            None => Mode::Active,
+            Some(resource) if transaction.has_verdict => Mode::Convicted(resource),
+            Some(resource) => Mode::Waiting(resource),
+        };
+        let labels = self.labels[key.process as usize];
+        Ok(State {
+            mode,
+            private: labels.private,
+            public: labels.public,
+        })
+    }
+
+    /// Who owns the resource. Constant time.
+    pub fn owner(&self, resource: u32) -> Result<Option<Key>, Refusal>
+        ensures { result ≡ owner_told self.now resource }
+    {
+        if resource >= self.config.resources {
+            return Err(Refusal::NoResource);
+        }
+        Ok(self.owned.owner(resource))
+    }
+
+    /// The live key of the process; a process that has none waits for nothing. Constant time.
+    pub fn tenant(&self, process: u32) -> Option<Key>
+        ensures tenant { result ≡ tenant_of self.now process }
+        ensures key { IfSome result (λ key. IsTrue (is_live self.now key) × (key.process ≡ process) × (process < self.now.config.processes)) }
+        ensures idle { IfNone result (wait_of self.now process ≡ None) }
+    {
+        self.transactions.key_at(process)
+    }
+
+    /// What was counted. Constant time.
+    pub fn totals(&self) -> Totals
+        ensures { result ≡ self.now.totals }
+    {
+        self.totals
+    }
+
+    pub(super) fn is_live(&self, key: Key) -> bool
+        ensures live { result ≡ is_live self.now key }
+        ensures in_range { IsTrue result → key.process < self.now.config.processes }
+    {
+        self.transactions.contains(key)
+    }
+
+    /// Whether a live transaction waits.
+    pub(super) fn is_waiting(&self, key: Key) -> bool
+        requires { IsTrue (is_live self.now key) }
+        ensures { result ≡ is_waiting self.now key.process }
+    {
+        self.transactions.get(key).unwrap().waits_for.is_some()
+    }
+
+    pub(super) fn has_verdict(&self, key: Key) -> bool
+        requires { IsTrue (is_live self.now key) }
+        ensures { result ≡ has_verdict self.now key.process }
+    {
+        self.transactions.get(key).unwrap().has_verdict
+    }
+
+    /// Whether `process` owns a resource.
+    pub(super) fn owns(&self, process: u32, resource: u32) -> bool
+        requires { resource < self.now.config.resources }
+        ensures { result ≡ owns self.now process resource }
+    {
+        let owner = self.owned.owner(resource);
+        owner.is_some_and(|owner| owner.process == process)
+    }
+
+    /// The holder of a live transaction; `None` where it does not wait.
+    pub(super) fn holder(&self, key: Key) -> Option<u32>
+        requires { IsTrue (is_live self.now key) }
+        ensures holder { result ≡ holder_of self.now key.process }
+        ensures in_range { IfSome result (λ holder. holder < self.now.config.processes) }
+    {
+        let resource = self.transactions.get(key)?.waits_for?;
+        let holder = self.owned.owner(resource)?;
+        Some(holder.process)
+    }
+
+    /// The public label of the holder of a live transaction; `None` where it does not wait.
+    pub(super) fn holder_label(&self, key: Key) -> Option<Label>
+        requires { IsTrue (is_live self.now key) }
+        ensures { result ≡ option_map (public_of self.now) (holder_of self.now key.process) }
+    {
+        let holder = self.holder(key)?;
+        Some(self.labels[holder as usize].public)
+    }
+}

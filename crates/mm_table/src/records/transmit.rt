@@ -1,0 +1,45 @@
+//! A waiting transaction takes over its holder's greater label.
+ghost use Rattle.std.specs.Prelude.{◌≡◌, ◌<◌, IsTrue, slice_set};
+ghost use Rattle.mm_rules.specs.TableState.{is_live};
+ghost use Rattle.mm_rules.specs.Change.{greater_label};
+ghost use Rattle.mm_rules.specs.Event.{Gives, transmitted};
+
+use super::Records;
+use crate::{Key, Refusal, Transmitted};
+use mm_label::Label;
+
+impl Records {
+    /// The waiting transaction takes over its holder's public label where that is greater. Constant time.
+    pub fn transmit(&mut self, key: Key) -> Result<Transmitted, Refusal>
+        ensures { Gives (transmitted self.old key) result self.new }
+    {
+        self.may_call_waiting(key)?;
+        let answer = match self.greater_label(key) {
+            Some(label) => {
+                self.show(key.process, label);
+                Transmitted::Raised(label)
+            }
+            None => Transmitted::Still,
+        };
+        self.count();
+        Ok(answer)
+    }
+
+    /// The public label of the holder of a live transaction, where it is greater than its own.
+    fn greater_label(&self, key: Key) -> Option<Label>
+        requires { IsTrue (is_live self.now key) }
+        ensures { result ≡ greater_label self.now key.process }
+    {
+        let shown = self.holder_label(key)?;
+        let own = self.labels[key.process as usize].public;
+        (own < shown).then_some(shown)
+    }
+
+    /// Makes this the public label of `process`.
+    pub(super) fn show(&mut self, process: u32, label: Label)
+        requires { process < self.old.config.processes }
+        ensures { self.new ≡ record self.old { public = slice_set self.old.public process label } }
+    {
+        self.labels[process as usize].public = label;
+    }
+}
