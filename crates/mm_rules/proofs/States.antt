@@ -25,15 +25,25 @@ pub mod Blocks
 pub mod Handed
 pub mod HandOver
 pub mod Release
+-- queues as lists, and hand-overs in any order
+pub mod Queues
+pub mod HandOverOrder
 -- finish and abort
 pub mod FreeSlot
 pub mod Vacate
 pub mod Abort
+pub mod HandOverAll
 -- settle
 pub mod Sweeps
 pub mod SweepRaises
 pub mod Convictions
 pub mod Settling
+pub mod Turns
+pub mod SweepLoop
+pub mod SettleStep
+-- what the counts become, and the live key of a process
+pub mod Totals
+pub mod Tenants
 -- all events, and what follows
 pub mod Configs
 pub mod Events

@@ -4,3 +4,5 @@ pub mod TableState
 pub mod Change
 pub mod Event
 pub mod Laws
+-- private: what private functions' contracts cite; no public clause cites these
+pub mod private

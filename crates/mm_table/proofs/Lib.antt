@@ -1,3 +1,4 @@
--- how `Records` keeps a state
-pub mod Kept
+-- what each change of the fields of `Records` means
+pub mod Fields
+-- the laws of states, passed on
 pub use Rattle.mm_rules.proofs.States

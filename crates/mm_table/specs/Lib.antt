@@ -1,7 +1,4 @@
-pub mod Queue
-pub mod Sweep
-pub mod Kept
-pub mod TableKept
+-- the rules, passed on, so that callers name this crate alone
 pub use Rattle.mm_rules.specs.Graph
 pub use Rattle.mm_rules.specs.Refusal
 pub use Rattle.mm_rules.specs.TableState
@@ -11,3 +8,5 @@ pub use Rattle.mm_rules.specs.Laws
 pub use Rattle.mm_rules.specs.declared.config
 pub use Rattle.mm_rules.specs.declared.refusal
 pub use Rattle.mm_rules.specs.declared.reply
+-- private: how a table is kept; no public clause cites these
+pub mod private

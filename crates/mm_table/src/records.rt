@@ -62,11 +62,11 @@ pub struct Records {
 
 impl Model for Records {
     ghost use Rattle.mm_rules.specs.TableState.{TableState};
-    ghost use Rattle.mm_table.specs.Kept.{state_kept, IsKept};
+    ghost use Rattle.mm_table.specs.private.Records.{state_of_records, IsConsistent};
 
     ghost Value = { TableState };
 
-    ghost view = { state_kept };
+    ghost view = { state_of_records };
 
-    ghost invariant = { IsKept };
+    ghost invariant = { IsConsistent };
 }

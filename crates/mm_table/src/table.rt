@@ -23,13 +23,13 @@ pub struct Table {
 
 impl Model for Table {
     ghost use Rattle.mm_rules.specs.TableState.{TableState};
-    ghost use Rattle.mm_table.specs.TableKept.{IsTableKept};
+    ghost use Rattle.mm_table.specs.private.Table.{KeepsLaws};
 
     ghost Value = { TableState };
 
     ghost view = { λ t. t.records };
 
-    ghost invariant = { IsTableKept };
+    ghost invariant = { KeepsLaws };
 }
 
 impl Table {

@@ -1,5 +1,5 @@
 -- What an event has to keep, and that refusals and counting touch none of it.
-use Rattle.std.proofs.Common.{◌≡◌, ◌+◌, ℕ, true, false, [], ◌∷◌, Result, Ok, Err, IsTrue, refl}
+use Rattle.std.proofs.Common.{◌++◌, ◌≡◌, ◌+◌, ℕ, true, false, [], ◌∷◌, Result, Ok, Err, IsTrue, refl}
 use Rattle.std.specs.List.{AllByRecursion}
 use Rattle.mm_label.specs.Label.{label_le}
 use Rattle.mm_rules.specs.declared.refusal.Refusal.{Refusal}
@@ -81,3 +81,11 @@ pub outcome_keeps_laws : {A : Type 0} (old : TableState) (answer : A) (new : Tab
     → (AllByRecursion (λ t. t.0 ≡ false) tests → Keeps old new) → Keeps old (outcome tests old answer new).state
 outcome_keeps_laws old answer new tests laws after =
     outcome_keeps (λ s. Keeps old s) (λ s n. counting_keeps old s n) old answer new tests (keeps_same old laws) after
+
+-- ---- tests, some of which are made apart from the others
+
+-- what the first of them refuse, all of them refuse
+pub refused_first : (first later : Tests) (refusal : Refusal) → allowed first ≡ Err refusal → allowed (first ++ later) ≡ Err refusal
+refused_first [] later refusal is = let never : Ok tt ≡ Err refusal = is in cc
+refused_first ((true, other) ∷ first) later refusal is = is
+refused_first ((false, other) ∷ first) later refusal is = refused_first first later refusal is

@@ -3,7 +3,7 @@ ghost use Rattle.std.specs.Prelude.{◌≡◌, ◌<◌, ◌+◌, ◌∷◌, ◌+
 ghost use Rattle.mm_rules.specs.TableState.{wait_of, owner_of, is_live};
 ghost use Rattle.mm_rules.specs.Change.{block, block_fits, label_against};
 ghost use Rattle.mm_rules.specs.Event.{Gives, allowed, resource_tests, acquired};
-ghost use Rattle.mm_table.specs.Queue.{wait_tests};
+ghost use Rattle.mm_rules.specs.private.Stages.{wait_tests};
 
 use super::{Records, WaitRecord};
 use crate::{Acquired, Key, Refusal};

@@ -3,7 +3,8 @@ ghost use Rattle.std.specs.Prelude.{◌≡◌, ◌<◌, IsTrue, None, Some, leng
 ghost use Rattle.mm_rules.specs.TableState.{waiters_of};
 ghost use Rattle.mm_rules.specs.Change.{activate, hand_over, hand_over_fits};
 ghost use Rattle.mm_rules.specs.Event.{release_answer};
-ghost use Rattle.mm_table.specs.Queue.{queue_from, fits_from, blocked_on, NoneIs};
+ghost use Rattle.mm_table.specs.private.Queues.{queue_from, fits_from};
+ghost use Rattle.mm_rules.specs.private.Stages.{blocked_on, NoneIs};
 
 use super::{Records, WaitRecord};
 use crate::{Key, Released};

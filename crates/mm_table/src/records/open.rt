@@ -2,7 +2,7 @@
 ghost use Rattle.std.specs.Prelude.{◌≡◌, ◌≤◌, ◌<◌, IfOk, map};
 ghost use Rattle.std.specs.List.{range_with_len};
 ghost use Rattle.mm_rules.specs.Event.{Opens};
-ghost use Rattle.mm_table.specs.Kept.{opening_labels};
+ghost use Rattle.mm_table.specs.private.Records.{opening_labels};
 
 use super::{Labels, Records};
 use crate::{Config, Refusal, Totals};

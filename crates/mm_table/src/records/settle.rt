@@ -6,7 +6,8 @@ ghost use Rattle.mm_rules.specs.Change.{can_transmit, transmit, raises_along, ca
 ghost use Rattle.mm_rules.specs.Event.{Step, Settle};
 ghost use Rattle.mm_lists.specs.Members.{NoRepeat};
 ghost use Rattle.mm_rules.specs.Laws.{Laws};
-ghost use Rattle.mm_table.specs.Sweep.{IsWaiter, processes_of, IsSwept};
+ghost use Rattle.mm_table.specs.private.Waiters.{IsWaiter, processes_of};
+ghost use Rattle.mm_rules.specs.private.Stages.{IsSwept};
 
 use super::Records;
 use crate::{Key, Refusal, Settled};

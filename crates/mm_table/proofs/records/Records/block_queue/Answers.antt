@@ -4,15 +4,15 @@ use Rattle.mm_arena.specs.Slots.{IsLive}
 use Rattle.mm_table.specs.declared.records.WaitRecord.{WaitRecord}
 use Rattle.mm_lists.specs.Members.{NoRepeat}
 use Rattle.mm_rules.specs.TableState.{TableState, Wait}
-use Rattle.mm_table.specs.Kept.{wait_kept}
-use Rattle.mm_table.proofs.Kept.BlockingQueue.{IsUnderWay, fits_here, blocked_here, skipped_here, processes_kept}
-use Rattle.mm_table.proofs.Kept.Slots.{all_at, live_within}
+use Rattle.mm_table.specs.private.Records.{wait_of_record}
+use Rattle.mm_table.proofs.Fields.BlockQueue.{IsUnderWay, fits_here, blocked_here, skipped_here, processes_kept}
+use Rattle.mm_table.proofs.Fields.Slots.{all_at, live_within}
 use Rattle.mm_table.proofs.records.Records.block_queue.Goals as goal
 use Rattle.mm_table.proofs.records.Records.block_queue.Goals.{then-wait-resource, else-wait-resource}
 
 -- the lists of waits of the start and of now are as long
-as_long : (first now : List WaitRecord) (old s : TableState) → map wait_kept first ≡ old.waits → s.waits ≡ old.waits → map wait_kept now ≡ s.waits → length now ≡ length first
-as_long first now old s begun same here = sym (length-map now wait_kept) ∙ ap length (here ∙ same ∙ sym begun) ∙ length-map first wait_kept
+as_long : (first now : List WaitRecord) (old s : TableState) → map wait_of_record first ≡ old.waits → s.waits ≡ old.waits → map wait_of_record now ≡ s.waits → length now ≡ length first
+as_long first now old s begun same here = sym (length-map now wait_of_record) ∙ ap length (here ∙ same ∙ sym begun) ∙ length-map first wait_of_record
 
 pub loop-place-init : goal.loop-place-init
 loop-place-init c = record {
@@ -21,7 +21,7 @@ loop-place-init c = record {
   waits = refl;
   once =
       let waits = ap (λ s. s.waits) c.self.view_is in
-      subst (λ (l : List Wait). NoRepeat (map (λ w. w.key.process) l)) waits (subst NoRepeat (sym (processes_kept c.self.inside.waits.items)) c.self.invariant.parts.waits_once);
+      subst (λ (l : List Wait). NoRepeat (map (λ w. w.key.process) l)) waits (subst NoRepeat (sym (processes_kept c.self.inside.waits.items)) c.self.invariant.waits.once);
   fits = c.requires.fits;
   apart = c.requires.apart;
 }
@@ -29,12 +29,11 @@ loop-place-init c = record {
 pub block-requires-clause-process : goal.block-requires-clause-process
 block-requires-clause-process c =
     let inside = c.self-in-loop-place.inside in
-    let parts = c.self-in-loop-place.invariant.parts in
     let long = as_long c.self.inside.waits.items inside.waits.items c.args.self.now c.loop-place.self (ap (λ s. s.waits) c.self.view_is) c.loop-place.invariant.waits (ap (λ s. s.waits) c.self-in-loop-place.view_is) in
     let within : c.loop-place.place < length inside.waits.items = omega (arith, c.self.inside.waits.ok.0) in
-    let live = all_at (λ (w : WaitRecord). IsLive inside.transactions w.key) inside.waits.items c.loop-place.place c.index-wait.result.now parts.waits_live within c.index-wait.ensures in
+    let live = all_at (λ (w : WaitRecord). IsLive inside.transactions w.key) inside.waits.items c.loop-place.place c.index-wait.result.now c.self-in-loop-place.invariant.waits.live within c.index-wait.ensures in
     let in_places = live_within inside.transactions c.index-wait.result.now.key live in
-    let sized = parts.slots_sized in
+    let sized = c.self-in-loop-place.invariant.sizes.slots in
     let processes = ap (λ s. s.config.processes) c.self-in-loop-place.view_is in
     omega arith
 

@@ -1,4 +1,4 @@
-use Rattle.mm_table.proofs.Kept.BlockingQueue.{IsUnderWay}
+use Rattle.mm_table.proofs.Fields.BlockQueue.{IsUnderWay}
 use Rattle.mm_table.proofs.records.Records.block_queue.Given as goal
 
 abbrev pub invariant-loop-place : goal.invariant-loop-place

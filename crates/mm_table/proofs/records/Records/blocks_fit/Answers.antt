@@ -2,8 +2,8 @@ use Rattle.std.proofs.Common.{◌≡◌, ◌<◌, ◌+◌, false, length, drop, 
 use Rattle.std.specs.List.{list_all}
 use Rattle.mm_rules.specs.TableState.{Wait}
 use Rattle.mm_rules.specs.Change.{block_fits, label_against}
-use Rattle.mm_table.proofs.Kept.Queues.{queue, queue_here, queue_past, fits_by, fits_not_by}
-use Rattle.mm_table.specs.Queue.{fits_from}
+use Rattle.mm_table.proofs.Fields.Queues.{queue, queue_here, queue_past, fits_by, fits_not_by}
+use Rattle.mm_table.specs.private.Queues.{fits_from}
 use Rattle.mm_table.proofs.records.Records.blocks_fit.Goals as goal
 use Rattle.mm_table.proofs.records.Records.blocks_fit.Goals.{else-wait-resource-via-then-wait-resource+else-is_none, else-wait-resource-via-else-wait-resource}
 

@@ -1,5 +1,5 @@
 use Rattle.std.proofs.Common.{◌≡◌}
-use Rattle.mm_table.specs.Queue.{fits_from}
+use Rattle.mm_table.specs.private.Queues.{fits_from}
 use Rattle.mm_table.proofs.records.Records.blocks_fit.Given as goal
 
 -- those before this place fit

@@ -2,8 +2,8 @@ use Rattle.std.proofs.Common.{◌≡◌, ◌+◌, ◌<◌, ℕ, Bool, length, ge
 use Rattle.std.proofs.lemmas.List.{get_or-map, length-map}
 use Rattle.mm_table.specs.declared.records.settle.Waiter.{Waiter}
 use Rattle.mm_rules.specs.Change.{can_detect, detect}
-use Rattle.mm_table.specs.Sweep.{processes_of}
-use Rattle.mm_table.proofs.Kept.Rounds.{detect_next}
+use Rattle.mm_table.specs.private.Waiters.{processes_of}
+use Rattle.mm_rules.proofs.States.Turns.{detect_next}
 use Rattle.mm_table.proofs.records.Records.detect_all.Goals as goal
 use Rattle.mm_table.proofs.records.Records.detect_all.Goals.{then-detect_at, else-detect_at}
 

@@ -1,5 +1,5 @@
-use Rattle.mm_table.specs.Sweep.{processes_of}
-use Rattle.mm_table.proofs.Kept.Rounds.{IsMidDetects}
+use Rattle.mm_table.specs.private.Waiters.{processes_of}
+use Rattle.mm_rules.proofs.States.Turns.{IsMidDetects}
 use Rattle.mm_table.proofs.records.Records.detect_all.Given as goal
 
 abbrev pub invariant-loop-waiter : goal.invariant-loop-waiter

@@ -5,9 +5,9 @@ use Rattle.mm_arena.specs.Slots.{lookup, with_value}
 use Rattle.mm_table.specs.declared.records.WaitRecord.{WaitRecord}
 use Rattle.mm_rules.specs.TableState.{TableState}
 use Rattle.mm_rules.specs.Change.{activate}
-use Rattle.mm_table.specs.Kept.{state_of_parts, wait_kept}
-use Rattle.mm_table.proofs.Kept.Parts.{key_within}
-use Rattle.mm_table.proofs.Kept.EndingWait.{ended, ended_fits, got, slice_get-map}
+use Rattle.mm_table.specs.private.Records.{state_of_fields, wait_of_record}
+use Rattle.mm_table.proofs.Fields.Slots.{key_within, sized_value}
+use Rattle.mm_table.proofs.Fields.EndWait.{wait_ended, wait_ended_agrees, got, slice_get-map}
 use Rattle.mm_table.proofs.records.Records.end_wait.Goals as goal
 
 found : (c : goal.After-self-1) → lookup c.self.inside.transactions c.remove.result.key ≡ Some c.unwrap.result.now
@@ -15,13 +15,14 @@ found c = sym c.get_mut.ensures.value ∙ ap option_copied_mut c.unwrap.ensures
 
 at_place : (c : goal.After-self-1) → slice_get c.self.inside.waits.items c.args.place ≡ Some c.remove.result
 at_place c =
-    let within : c.args.place < length c.self.inside.waits.items = omega (arith, length-map c.self.inside.waits.items wait_kept, ap (λ s. length s.waits) c.self.view_is, c.requires) in
+    let within : c.args.place < length c.self.inside.waits.items = omega (arith, length-map c.self.inside.waits.items wait_of_record, ap (λ s. length s.waits) c.self.view_is, c.requires) in
     got c.self.inside.waits.items c.args.place c.remove.result within c.remove.ensures.value
 
 pub invariant_of-self : goal.invariant_of-self
 invariant_of-self c = let inside = c.self.inside in record {
-  parts = rw c.remove.ensures.items (ended_fits inside.config inside.transactions inside.labels.items inside.owned.owners inside.waits.items c.args.place c.remove.result c.unwrap.result.now
-      (at_place c) (found c) c.self.invariant.parts);
+  sizes = sized_value c.remove.result.key _ c.self.invariant.sizes;
+  waits = rw c.remove.ensures.items (wait_ended_agrees inside.config inside.transactions inside.waits.items c.args.place c.remove.result c.unwrap.result.now
+      (at_place c) (found c) c.self.invariant.waits);
   owned = c.self.invariant.owned;
   capacity = rw c.remove.ensures.capacity c.self.invariant.capacity;
 }
@@ -29,16 +30,16 @@ invariant_of-self c = let inside = c.self.inside in record {
 pub returns-clause-key : goal.returns-clause-key
 returns-clause-key c =
     ap (λ s. option_map (λ w. w.key) (slice_get s.waits c.args.place)) (sym c.self.view_is)
-    ∙ ap (option_map (λ w. w.key)) (slice_get-map wait_kept c.self.inside.waits.items c.args.place)
-    ∙ ap (λ o. option_map (λ w. w.key) (option_map wait_kept o)) (at_place c)
+    ∙ ap (option_map (λ w. w.key)) (slice_get-map wait_of_record c.self.inside.waits.items c.args.place)
+    ∙ ap (λ o. option_map (λ w. w.key) (option_map wait_of_record o)) (at_place c)
 
 pub returns-clause-state : goal.returns-clause-state
 returns-clause-state c =
     let inside = c.self.inside in
     let key = c.remove.result.key in
-    ap (λ (ws : List WaitRecord). state_of_parts inside.config (with_value inside.transactions key (record c.unwrap.result.now { waits_for = None })) inside.labels.items inside.owned.owners ws inside.totals) c.remove.ensures.items
-    ∙ ended inside.config inside.transactions inside.labels.items inside.owned.owners inside.waits.items inside.totals c.args.place c.remove.result c.unwrap.result.now (at_place c) (found c) c.self.invariant.parts
+    ap (λ (ws : List WaitRecord). state_of_fields inside.config (with_value inside.transactions key (record c.unwrap.result.now { waits_for = None })) inside.labels.items inside.owned.owners ws inside.totals) c.remove.ensures.items
+    ∙ wait_ended inside.config inside.transactions inside.labels.items inside.owned.owners inside.waits.items inside.totals c.args.place c.remove.result c.unwrap.result.now (at_place c) (found c) c.self.invariant.waits
     ∙ ap (λ (s : TableState). activate s key.process) c.self.view_is
 
 pub returns-clause-in_range : goal.returns-clause-in_range
-returns-clause-in_range c = key_within c.self.invariant.parts c.remove.result.key c.unwrap.result.now (found c)
+returns-clause-in_range c = key_within c.self.invariant.sizes c.remove.result.key c.unwrap.result.now (found c)

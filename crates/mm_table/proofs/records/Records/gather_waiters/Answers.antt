@@ -4,7 +4,7 @@ use Rattle.std.proofs.lemmas.List.{length-map}
 use Rattle.mm_table.specs.declared.records.settle.Waiter.{Waiter}
 use Rattle.mm_rules.specs.TableState.{is_waiting}
 use Rattle.mm_rules.proofs.States.SweepRaises.{few_pass}
-use Rattle.mm_table.proofs.Kept.Waiters.{AreBelow, one_waits, none_waits}
+use Rattle.mm_table.proofs.Fields.Waiters.{AreBelow, one_waits, none_waits}
 use Rattle.mm_table.proofs.records.Records.gather_waiters.Goals as goal
 use Rattle.mm_table.proofs.records.Records.gather_waiters.Goals.{in-Some, in_default}
 

@@ -1,5 +1,5 @@
 use Rattle.std.proofs.Common.{◌≡◌, vec_capacity}
-use Rattle.mm_table.proofs.Kept.Waiters.{AreBelow}
+use Rattle.mm_table.proofs.Fields.Waiters.{AreBelow}
 use Rattle.mm_table.proofs.records.Records.gather_waiters.Given as goal
 
 abbrev pub invariant-loop-process : goal.invariant-loop-process

@@ -1,7 +1,7 @@
 use Rattle.std.proofs.Common.{◌≡◌, ◌<◌, Some, None, ap, subst, ◌∙◌, slice_index_or}
 use Rattle.mm_arena.specs.declared.key.Key.{Key}
 use Rattle.mm_rules.specs.TableState.{owner_of}
-use Rattle.mm_table.proofs.Kept.Owning.{loose, granted_fit, owner_set}
+use Rattle.mm_table.proofs.Fields.Ownership.{loose, granted_fit, owner_sized}
 use Rattle.mm_table.proofs.records.Records.grant.Goals as goal
 
 pub push-requires-clause-loose : goal.push-requires-clause-loose
@@ -16,7 +16,8 @@ invariant_of-self c =
     let free : slice_index_or inside.owned.owners r None ≡ None = ap (λ s. owner_of s r) c.self.view_is ∙ c.requires.free in
     let its = λ (k : Key) (is : Some c.args.key ≡ Some k). (let one : c.args.key ≡ k = cc in subst (λ (x : Key). x.process < inside.config.processes) one process) in
     record {
-      parts = rw c.push.ensures (owner_set inside.config inside.transactions inside.labels.items inside.owned.owners inside.waits.items r (Some c.args.key) resource its c.self.invariant.parts);
-      owned = rw c.push.ensures (granted_fit inside.config inside.owned.owners inside.owned.listed r c.args.key c.self.invariant.owned c.self.invariant.parts.owners_sized resource process free);
+      sizes = rw c.push.ensures (owner_sized r (Some c.args.key) resource its c.self.invariant.sizes);
+      waits = c.self.invariant.waits;
+      owned = rw c.push.ensures (granted_fit inside.config inside.owned.owners inside.owned.listed r c.args.key c.self.invariant.owned c.self.invariant.sizes.owners resource process free);
       capacity = c.self.invariant.capacity;
     }

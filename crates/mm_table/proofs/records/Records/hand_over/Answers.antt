@@ -5,8 +5,9 @@ use Rattle.mm_table.specs.declared.records.WaitRecord.{WaitRecord}
 use Rattle.mm_rules.specs.TableState.{TableState}
 use Rattle.mm_rules.specs.Change.{give_to}
 use Rattle.mm_rules.specs.Event.{release_answer}
-use Rattle.mm_table.proofs.Kept.Queues.{queue, queue_empty}
-use Rattle.mm_table.proofs.Kept.HandingOver.{First, first, IsHandedOver, handed_over, freed_then_owned, hand_over_totals}
+use Rattle.mm_table.proofs.Fields.Queues.{queue, queue_empty}
+use Rattle.mm_table.proofs.Fields.HandOver.{First, first, IsHandedOver, handed_over, freed_then_owned}
+use Rattle.mm_rules.proofs.States.Totals.{hand_over_totals}
 use Rattle.mm_table.proofs.records.Records.hand_over.Goals as goal
 use Rattle.mm_table.proofs.records.Records.hand_over.Goals.{In_default}
 
@@ -24,13 +25,13 @@ returns-in_default-clause-state c = c.free.ensures ∙ ap (give_to c.args.self.n
 the_first : (c : goal.After-block_queue-arg-1) → First c.args.self.now c.self.inside.waits.items c.args.resource c.in-Some.place
 the_first c =
     let found = ap (position (λ (w : WaitRecord). nat_eq w.resource c.args.resource)) (sym c.deref.ensures.value) ∙ sym c.in-Some.ensures in
-    first c.args.self.now c.self.inside.waits.items c.args.resource c.in-Some.place (ap (λ t. t.waits) (c.self.view_is ∙ c.free.ensures)) c.self.invariant.parts.waits_once found
+    first c.args.self.now c.self.inside.waits.items c.args.resource c.in-Some.place (ap (λ t. t.waits) (c.self.view_is ∙ c.free.ensures)) c.self.invariant.waits.once found
 
 taken : (c : goal.After-block_queue-arg-1) → IsHandedOver c.args.self.now c.grant.new.self c.args.resource c.in-Some.place c.end_wait-first.result
 taken c =
     let old = c.args.self.now in
     let key = c.end_wait-first.result in
-    handed_over old c.grant.new.self c.self.inside.waits.items c.args.resource c.in-Some.place key (ap (λ t. t.waits) (c.self.view_is ∙ c.free.ensures)) c.self.invariant.parts.waits_once (the_first c)
+    handed_over old c.grant.new.self c.self.inside.waits.items c.args.resource c.in-Some.place key (ap (λ t. t.waits) (c.self.view_is ∙ c.free.ensures)) c.self.invariant.waits.once (the_first c)
     (ap (λ (s : TableState). option_map (λ w. w.key) (slice_get s.waits c.in-Some.place)) (sym c.free.ensures) ∙ c.end_wait-first.ensures.key)
     (freed_then_owned old c.free.new.self c.end_wait-first.new.self c.grant.new.self c.args.resource key c.free.ensures c.end_wait-first.ensures.state c.grant.ensures)
 

@@ -4,8 +4,8 @@ use Rattle.mm_owned.specs.Owned.{list_at}
 use Rattle.mm_rules.specs.TableState.{TableState, resources_of}
 use Rattle.mm_rules.specs.Change.{hand_over}
 use Rattle.mm_rules.proofs.States.Lists.{In}
-use Rattle.mm_table.proofs.Kept.Owning.{listed, in_resources, none_left}
-use Rattle.mm_table.proofs.Kept.HandingAll.{IsUnderWay, starts, handed_one, fewer_left}
+use Rattle.mm_table.proofs.Fields.Ownership.{listed, in_resources, none_left}
+use Rattle.mm_rules.proofs.States.HandOverAll.{IsUnderWay, starts, handed_one, fewer_left}
 use Rattle.mm_table.proofs.records.Records.hand_over_all.Goals as goal
 
 pub loop-resource-init : goal.loop-resource-init

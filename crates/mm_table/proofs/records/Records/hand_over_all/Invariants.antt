@@ -1,6 +1,6 @@
 use Rattle.std.proofs.Common.{length}
 use Rattle.mm_rules.specs.TableState.{resources_of}
-use Rattle.mm_table.proofs.Kept.HandingAll.{IsUnderWay}
+use Rattle.mm_rules.proofs.States.HandOverAll.{IsUnderWay}
 use Rattle.mm_table.proofs.records.Records.hand_over_all.Given as goal
 
 abbrev pub invariant-loop-resource : goal.invariant-loop-resource

@@ -3,9 +3,9 @@ use Rattle.std.proofs.lemmas.List.{get_or_default}
 use Rattle.std.specs.List.{position}
 use Rattle.mm_table.specs.declared.records.WaitRecord.{WaitRecord}
 use Rattle.mm_rules.specs.Change.{give_to_fits}
-use Rattle.mm_table.specs.Queue.{fits_from}
-use Rattle.mm_table.proofs.Kept.Queues.{queue, queue_empty}
-use Rattle.mm_table.proofs.Kept.HandingOver.{first}
+use Rattle.mm_table.specs.private.Queues.{fits_from}
+use Rattle.mm_table.proofs.Fields.Queues.{queue, queue_empty}
+use Rattle.mm_table.proofs.Fields.HandOver.{first}
 use Rattle.mm_table.proofs.records.Records.hand_over_fits.Goals as goal
 
 pub returns-in-None : goal.returns-in-None
@@ -20,6 +20,6 @@ returns-in-Some c =
     let s = c.args.self.now in
     let r = c.args.resource in
     let found = ap (position (λ (w : WaitRecord). nat_eq w.resource r)) (sym c.deref.ensures.value) ∙ sym c.in-Some.ensures in
-    let f = first s c.self.inside.waits.items r c.in-Some.place (ap (λ t. t.waits) c.self.view_is) c.self.invariant.parts.waits_once found in
+    let f = first s c.self.inside.waits.items r c.in-Some.place (ap (λ t. t.waits) c.self.view_is) c.self.invariant.waits.once found in
     let same = c.index.ensures ∙ get_or_default c.self.inside.waits.items c.in-Some.place c.index.result.now f.wait f.within ∙ sym f.is in
     c.blocks_fit.ensures ∙ ap (λ (w : WaitRecord). fits_from s r w.key.process (c.in-Some.place + 1)) same ∙ ap (give_to_fits s) (sym f.queue_is)

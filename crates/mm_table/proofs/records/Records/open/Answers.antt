@@ -5,9 +5,9 @@ use Rattle.std.specs.List.{sum_by}
 use Rattle.mm_arena.specs.Slots.{never_used}
 use Rattle.mm_owned.specs.Owned.{Ownership}
 use Rattle.mm_rules.specs.TableState.{waited_for}
-use Rattle.mm_table.specs.Kept.{idle, wait_in, wait_kept, opening_labels}
-use Rattle.mm_table.proofs.Kept.Opening.{all_idle, none_waits, none_owned, opened}
-use Rattle.mm_table.proofs.Kept.Owning.{nothing_owned}
+use Rattle.mm_table.specs.private.Records.{idle, wait_in, wait_of_record, opening_labels}
+use Rattle.mm_table.proofs.Fields.Opening.{all_idle, none_waits, none_owned, opened}
+use Rattle.mm_table.proofs.Fields.Ownership.{nothing_owned}
 use Rattle.mm_table.proofs.records.Records.open.Goals as goal
 
 pub invariant_of-result : goal.invariant_of-result
@@ -15,21 +15,23 @@ invariant_of-result c =
     let places = ap (λ s. s.places) c.in-Ok.ensures in
     let no_waits = c.in-Ok-with_capacity.ensures.items in
     record {
-      parts = record {
-        config_in_range = search rules;
-        slots_sized = ap length places ∙ length-replicate c.args.config.processes never_used;
-        labels_sized = ap length c.in-Ok-labels_at_opening.ensures ∙ length-map-range_with_len opening_labels 0 c.args.config.processes;
-        owners_sized = ap (λ (o : Ownership). length o.owners) c.in-Ok-new.ensures ∙ length-replicate c.args.config.resources None;
+      sizes = record {
+        config = search rules;
+        slots = ap length places ∙ length-replicate c.args.config.processes never_used;
+        labels = ap length c.in-Ok-labels_at_opening.ensures ∙ length-map-range_with_len opening_labels 0 c.args.config.processes;
+        owners = ap (λ (o : Ownership). length o.owners) c.in-Ok-new.ensures ∙ length-replicate c.args.config.resources None;
         last_generation = ap (λ s. s.limit) c.in-Ok.ensures;
         owner_in_range = λ r k owned.
             let never : None ≡ Some k = sym (none_owned c.args.config.resources r) ∙ sym (ap (λ (o : Ownership). slice_index_or o.owners r None) c.in-Ok-new.ensures) ∙ owned in
             cc;
-        wait_in_range = λ n r waits.
+      };
+      waits = record {
+        in_range = λ n r waits.
             let never : None ≡ Some r = sym (none_waits c.args.config.processes n) ∙ ap (λ places. slice_index_or (map wait_in places) n None) (sym places) ∙ waits in
             cc;
-        waiting = λ n. ap (λ places. slice_index_or (map wait_in places) n None) places ∙ none_waits c.args.config.processes n ∙ ap (λ waits. waited_for (map wait_kept waits) n) (sym no_waits);
-        waits_once = rw no_waits tt;
-        waits_live = rw no_waits tt;
+        waiting = λ n. ap (λ places. slice_index_or (map wait_in places) n None) places ∙ none_waits c.args.config.processes n ∙ ap (λ waits. waited_for (map wait_of_record waits) n) (sym no_waits);
+        once = rw no_waits tt;
+        live = rw no_waits tt;
         room =
             let idle_all : sum_by idle c.in-Ok.transactions.places ≡ c.args.config.processes = ap (sum_by idle) places ∙ all_idle c.args.config.processes in
             let waits : length c.in-Ok-with_capacity.waits.items ≡ 0 = ap length no_waits in

@@ -1,9 +1,10 @@
 use Rattle.std.proofs.Common.{◌+◌, length, ap, sym, ◌∙◌, subst, arith}
 use Rattle.mm_lists.specs.Members.{NoRepeat}
-use Rattle.mm_table.specs.Sweep.{processes_of}
+use Rattle.mm_table.specs.private.Waiters.{processes_of}
 use Rattle.mm_rules.proofs.States.SweepRaises.{few_wait}
 use Rattle.mm_rules.proofs.States.Outcomes.{counting}
-use Rattle.mm_table.proofs.Kept.Settling.{waiting_once, below_limit, sweeps_totals, detects_accepted, settle_gives}
+use Rattle.mm_rules.proofs.States.SettleStep.{waiting_once, below_limit, settle_gives}
+use Rattle.mm_rules.proofs.States.Totals.{sweeps_totals, detects_accepted}
 use Rattle.mm_table.proofs.records.Records.settle.Goals as goal
 
 pub detect_all-verdicts-requires-clause-once : goal.detect_all-verdicts-requires-clause-once

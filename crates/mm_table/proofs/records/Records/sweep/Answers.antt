@@ -2,9 +2,9 @@ use Rattle.std.proofs.Common.{◌≡◌, ◌+◌, ◌<◌, ℕ, Bool, length, ge
 use Rattle.std.proofs.lemmas.List.{get_or-map, length-map}
 use Rattle.mm_table.specs.declared.records.settle.Waiter.{Waiter}
 use Rattle.mm_rules.specs.Change.{can_transmit, transmit}
-use Rattle.mm_table.specs.Sweep.{processes_of}
-use Rattle.mm_table.proofs.Kept.Rounds.{transmit_next}
-use Rattle.mm_table.proofs.Kept.Waiters.{all_still_wait}
+use Rattle.mm_table.specs.private.Waiters.{processes_of}
+use Rattle.mm_rules.proofs.States.Turns.{transmit_next}
+use Rattle.mm_table.proofs.Fields.Waiters.{all_still_wait}
 use Rattle.mm_table.proofs.records.Records.sweep.Goals as goal
 use Rattle.mm_table.proofs.records.Records.sweep.Goals.{then-transmit_by, else-transmit_by}
 

@@ -1,6 +1,6 @@
 use Rattle.std.specs.List.{AllByRecursion}
-use Rattle.mm_table.specs.Sweep.{IsWaiter, processes_of}
-use Rattle.mm_table.proofs.Kept.Rounds.{IsMidSweep}
+use Rattle.mm_table.specs.private.Waiters.{IsWaiter, processes_of}
+use Rattle.mm_rules.proofs.States.Turns.{IsMidSweep}
 use Rattle.mm_table.proofs.records.Records.sweep.Given as goal
 
 abbrev pub invariant-loop-waiter : goal.invariant-loop-waiter

@@ -1,6 +1,6 @@
 use Rattle.std.proofs.Common.{arith}
-use Rattle.mm_table.specs.Sweep.{processes_of}
-use Rattle.mm_table.proofs.Kept.Sweeping.{ends, fits, falls, goes_on}
+use Rattle.mm_table.specs.private.Waiters.{processes_of}
+use Rattle.mm_rules.proofs.States.SweepLoop.{ends, fits, falls, goes_on}
 use Rattle.mm_table.proofs.records.Records.sweep_all.Goals as goal
 
 pub returns-then-more-eq0 : goal.returns-then-more-eq0

@@ -1,8 +1,8 @@
 use Rattle.std.proofs.Common.{◌-◌}
 use Rattle.std.specs.List.{AllByRecursion}
-use Rattle.mm_table.specs.Sweep.{IsWaiter}
+use Rattle.mm_table.specs.private.Waiters.{IsWaiter}
 use Rattle.mm_rules.specs.Laws.{most_raises}
-use Rattle.mm_table.proofs.Kept.Sweeping.{IsSweeping}
+use Rattle.mm_rules.proofs.States.SweepLoop.{IsSweeping}
 use Rattle.mm_table.proofs.records.Records.sweep_all.Given as goal
 
 abbrev pub invariant-loop-raises : goal.invariant-loop-raises

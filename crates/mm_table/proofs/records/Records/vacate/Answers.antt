@@ -1,7 +1,8 @@
 use Rattle.std.proofs.Common.{ap, sym, subst, ◌∙◌, IsTrue, IsFalse}
 use Rattle.mm_rules.specs.TableState.{TableState, is_live, wait_of, has_verdict}
 use Rattle.mm_rules.specs.Change.{free_slot}
-use Rattle.mm_table.proofs.Kept.HandingAll.{live_still, active_still, no_verdict_then, vacate_totals}
+use Rattle.mm_rules.proofs.States.HandOverAll.{live_still, active_still, no_verdict_then}
+use Rattle.mm_rules.proofs.States.Totals.{vacate_totals}
 use Rattle.mm_table.proofs.records.Records.vacate.Goals as goal
 
 pub free_slot-requires-clause-live : goal.free_slot-requires-clause-live

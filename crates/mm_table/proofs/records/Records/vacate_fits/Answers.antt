@@ -3,11 +3,11 @@ use Rattle.mm_lists.specs.Members.{Among}
 use Rattle.mm_owned.specs.Owned.{list_at}
 use Rattle.mm_owned.proofs.OwnedWalks.{rest_from, Among-head, Among-next, rest_from-head, rest_from-next}
 use Rattle.mm_rules.specs.Change.{hand_over_fits}
-use Rattle.mm_table.proofs.Kept.Owning.{listed, some_past, all_fit}
+use Rattle.mm_table.proofs.Fields.Ownership.{listed, some_past, all_fit}
 use Rattle.std.specs.Vec.{vec_len}
 use Rattle.std.proofs.lemmas.Bool.{eqb-true}
-use Rattle.mm_table.proofs.Kept.Queues.{none_kept}
-use Rattle.mm_table.proofs.Kept.HandingAll.{none_waits_fits}
+use Rattle.mm_table.proofs.Fields.Queues.{none_kept}
+use Rattle.mm_rules.proofs.States.HandOverAll.{none_waits_fits}
 use Rattle.mm_table.proofs.records.Records.vacate_fits.Goals as goal
 
 pub loop-next-init : goal.loop-next-init

@@ -5,8 +5,9 @@ use Rattle.mm_arena.specs.Slots.{lookup}
 use Rattle.mm_table.specs.declared.records.WaitRecord.{WaitRecord}
 use Rattle.mm_rules.specs.TableState.{TableState, is_waiting}
 use Rattle.mm_rules.specs.Change.{activate}
-use Rattle.mm_table.proofs.Kept.Parts.{marked, marked_fits}
-use Rattle.mm_table.proofs.Kept.Withdrawing.{is_found, its_process}
+use Rattle.mm_table.proofs.Fields.Slots.{sized_value}
+use Rattle.mm_table.proofs.Fields.Verdicts.{verdict_written, verdict_written_agrees}
+use Rattle.mm_table.proofs.Fields.Withdraw.{is_found, its_process}
 use Rattle.mm_table.proofs.records.Records.withdraw.Goals as goal
 
 pub unwrap-place-requires : goal.unwrap-place-requires
@@ -23,7 +24,8 @@ pub invariant_of-self : goal.invariant_of-self
 invariant_of-self c =
     let inside = c.self-2.inside in
     record {
-      parts = marked_fits inside.config inside.transactions inside.labels.items inside.owned.owners inside.waits.items c.args.key c.unwrap.result.now false (found c) c.self-2.invariant.parts;
+      sizes = sized_value c.args.key _ c.self-2.invariant.sizes;
+      waits = verdict_written_agrees inside.config inside.transactions inside.waits.items c.args.key c.unwrap.result.now false (found c) c.self-2.invariant.waits;
       owned = c.self-2.invariant.owned;
       capacity = c.self-2.invariant.capacity;
     }
@@ -34,6 +36,6 @@ returns c =
     let n = c.args.key.process in
     let place = ap (position (λ (w : WaitRecord). nat_eq w.key.process n)) (sym c.deref.ensures.value) ∙ sym c.place_of.ensures ∙ c.unwrap-place.ensures in
     let same = its_process c.self.inside.waits.items n c.unwrap-place.result c.end_wait.result place (ap (λ s. option_map (λ w. w.key) (slice_get s.waits c.unwrap-place.result)) c.self.view_is ∙ c.end_wait.ensures.key) in
-    marked inside.config inside.transactions inside.labels.items inside.owned.owners inside.waits.items (record inside.totals { aborts = inside.totals.aborts + 1 }) c.args.key c.unwrap.result.now false (found c)
+    verdict_written inside.config inside.transactions inside.labels.items inside.owned.owners inside.waits.items (record inside.totals { aborts = inside.totals.aborts + 1 }) c.args.key c.unwrap.result.now false (found c)
     ∙ ap (λ (s : TableState). record s { verdicts = slice_set s.verdicts n false; totals = record s.totals { aborts = s.totals.aborts + 1 } })
     (c.self-2.view_is ∙ c.end_wait.ensures.state ∙ ap (activate c.args.self.now) same)

@@ -1,5 +1,5 @@
 use Rattle.mm_rules.specs.Event.{Finish}
-use Rattle.mm_table.proofs.Kept.Tables.{table_kept}
+use Rattle.mm_table.proofs.Fields.Table.{table_kept}
 use Rattle.mm_table.proofs.table.Table.finish.Goals as goal
 
 pub invariant_of-self : goal.invariant_of-self

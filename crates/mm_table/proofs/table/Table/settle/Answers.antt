@@ -1,6 +1,6 @@
 use Rattle.std.proofs.Common.{arith}
 use Rattle.mm_rules.specs.Event.{Settle}
-use Rattle.mm_table.proofs.Kept.Tables.{table_kept}
+use Rattle.mm_table.proofs.Fields.Table.{table_kept}
 use Rattle.mm_table.proofs.table.Table.settle.Goals as goal
 
 pub invariant_of-self : goal.invariant_of-self

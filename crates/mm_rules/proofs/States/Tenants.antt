@@ -1,17 +1,10 @@
--- What the live key of a process tells; a process without one waits for nothing.
-use Rattle.std.proofs.Common.{◌≡◌, ◌<◌, ℕ, zero, suc, length, arith, IfSome, IfNone, false, List, [], ◌∷◌, map, slice_index, slice_index_or, Option, Some, None, nat_eq, IsTrue, option_and_then, refl, ap, sym, subst, ◌∙◌, inl, inr}
+-- The live key of a process.
+use Rattle.std.proofs.Common.{◌≡◌, ◌<◌, ℕ, length, arith, IfSome, IfNone, false, slice_index, slice_index_or, Option, Some, None, nat_eq, IsTrue, refl, ap, sym, subst, inl, inr}
 use Rattle.std.proofs.lemmas.Bool.{cases_Bool, and_parts, and_from, eq-eqb}
 use Rattle.mm_arena.specs.declared.key.Key.{Key}
-use Rattle.mm_arena.specs.Slots.{Slots, Place, never_used, place_at, live_key}
-use Rattle.mm_arena.specs.Slots as slots
-use Rattle.mm_rules.specs.declared.config.Config.{Config}
-use Rattle.mm_table.specs.declared.records.Transaction.{Transaction}
-use Rattle.mm_table.specs.declared.records.Labels.{Labels}
-use Rattle.mm_table.specs.declared.records.WaitRecord.{WaitRecord}
-use Rattle.mm_rules.specs.TableState.{TableState, key_of, is_live, waited_for}
+use Rattle.mm_rules.specs.TableState.{TableState, key_of, is_live}
 use Rattle.mm_rules.specs.Event.{tenant_of}
-use Rattle.mm_table.specs.Kept.{wait_in, wait_kept, PartsFit}
-use Rattle.mm_rules.proofs.States.Read.{map_none, true_within}
+use Rattle.mm_rules.proofs.States.Read.{true_within}
 
 -- the live key of a process is live
 tenant_lives : (s : TableState) (n : ℕ) (k : Key) → Some k ≡ tenant_of s n → IsTrue (is_live s k) × (k.process ≡ n)
@@ -37,15 +30,3 @@ key_told s n (Some key) sized is =
 pub none_told : (X : Type 0) (o : Option Key) → (o ≡ None → X) → IfNone o X
 none_told X None told = told refl
 none_told X (Some key) told = tt
-
-wait_in_place : (places : List (Place Transaction)) (n : ℕ) → slice_index_or (map wait_in places) n None ≡ wait_in (slice_index_or places n never_used)
-wait_in_place [] n = refl
-wait_in_place (p ∷ places) zero = refl
-wait_in_place (p ∷ places) (suc n) = wait_in_place places n
-
--- a process without a live key waits for nothing
-pub idle_by : {c : Config} {s : Slots Transaction} {ls : List Labels} {os : List (Option Key)} {ws : List WaitRecord} → PartsFit c s ls os ws
-    → (n : ℕ) → live_key s n ≡ None → waited_for (map wait_kept ws) n ≡ None
-idle_by {c} {s} fits n none =
-    let empty : (place_at s n).value ≡ None = map_none (λ _. slots.key_of s n) (place_at s n).value none in
-    sym (fits.waiting n) ∙ wait_in_place s.places n ∙ ap (option_and_then (λ (t : Transaction). t.waits_for)) empty

@@ -1,10 +1,17 @@
 -- Slots of transactions: what a live key tells of its slot, and what a write of one slot changes.
-use Rattle.std.proofs.Common.{◌≡◌, ℕ, zero, suc, subst, ◌<◌, true, false, List, [], ◌∷◌, ◌++◌, length, map, slice_index_or, slice_set, Option, Some, None, is_some, nat_eq, refl, ap, sym, ◌∙◌, arith, get_or-set_same, get_or-set_other, inl, inr}
+use Rattle.std.proofs.Common.{◌&&◌, slice_index, length-set, ◌≡◌, ℕ, zero, suc, subst, ◌<◌, true, false, List, [], ◌∷◌, ◌++◌, length, map, slice_index_or, slice_set, Option, Some, None, is_some, nat_eq, refl, ap, sym, ◌∙◌, arith, get_or-set_same, get_or-set_other, inl, inr}
 use Rattle.std.proofs.Math.Seq.{map-set_same}
 use Rattle.std.proofs.lemmas.List.{get_or_past}
-use Rattle.std.proofs.lemmas.Bool.{cases_eq, cases_lt, cases_Bool, eqb-true}
+use Rattle.std.proofs.lemmas.Bool.{and_parts, cases_eq, cases_lt, cases_Bool, eqb-true}
 use Rattle.std.specs.List.{AllByRecursion}
 use Rattle.mm_arena.specs.declared.key.Key.{Key}
+use Rattle.mm_rules.specs.declared.config.Config.{Config}
+use Rattle.mm_rules.specs.declared.reply.Totals.{Totals}
+use Rattle.mm_rules.specs.TableState.{is_live}
+use Rattle.mm_table.specs.declared.records.Transaction.{Transaction}
+use Rattle.mm_table.specs.declared.records.Labels.{Labels}
+use Rattle.mm_table.specs.declared.records.WaitRecord.{WaitRecord}
+use Rattle.mm_table.specs.private.Records.{state_of_fields, AreSized}
 use Rattle.mm_arena.specs.Slots.{Slots, Place, never_used, place_at, value_under, lookup, IsLive, with_value}
 
 module _ {T : Type 0} where
@@ -70,3 +77,39 @@ live_within {T} s k live = from (lookup s k) refl live
     from : (o : Option T) → lookup s k ≡ o → is_some o ≡ true → k.process < length s.places
     from None is none = let never : false ≡ true = none in cc
     from (Some value) is some = (holds s k value is).within
+
+-- ---- slots of transactions
+
+-- a live key, by the state, has a value in its slot
+live_found : (places : List (Place Transaction)) (n g : ℕ) → slice_index_or (map (λ p. is_some p.value) places) n false && nat_eq (slice_index (map (λ p. p.generation) places) n) g ≡ true
+    → is_some (value_under g (slice_index_or places n never_used)) ≡ true
+live_found [] n g live = let never : false ≡ true = live in cc
+live_found (p ∷ places) zero g live = let both = and_parts (is_some p.value) (nat_eq p.generation g) live in rw both.1 both.0
+live_found (p ∷ places) (suc n) g live = live_found places n g live
+
+its_value : (v : Option Transaction) → is_some v ≡ true → (o : Transaction) × (v ≡ Some o)
+its_value None some = let never : false ≡ true = some in cc
+its_value (Some o) some = (o, refl)
+
+pub live_value : (c : Config) (s : Slots Transaction) (ls : List Labels) (os : List (Option Key)) (ws : List WaitRecord) (t : Totals) (k : Key) → is_live (state_of_fields c s ls os ws t) k ≡ true → (o : Transaction) × (lookup s k ≡ Some o)
+live_value c s ls os ws t k live = its_value (lookup s k) (live_found s.places k.process k.generation live)
+
+-- as many slots with the same last generation are sized as before
+pub sized_slots : {c : Config} {s : Slots Transaction} {ls : List Labels} {os : List (Option Key)} (new : Slots Transaction)
+    → length new.places ≡ length s.places → new.limit ≡ s.limit → AreSized c s ls os → AreSized c new ls os
+sized_slots new long limit sizes = record {
+  config = sizes.config;
+  slots = long ∙ sizes.slots;
+  last_generation = limit ∙ sizes.last_generation;
+  labels = sizes.labels;
+  owners = sizes.owners;
+  owner_in_range = sizes.owner_in_range;
+}
+
+pub sized_value : {c : Config} {s : Slots Transaction} {ls : List Labels} {os : List (Option Key)} (k : Key) (o : Transaction) → AreSized c s ls os → AreSized c (with_value s k o) ls os
+sized_value {c} {s} k o sizes = sized_slots (with_value s k o) (length-set s.places k.process _) refl sizes
+
+-- the process of a live transaction is one of the table's
+pub key_within : {c : Config} {s : Slots Transaction} {ls : List Labels} {os : List (Option Key)} → AreSized c s ls os
+    → (k : Key) (o : Transaction) → lookup s k ≡ Some o → k.process < c.processes
+key_within {c} {s} sizes k o found = rw (← sizes.slots) (holds s k o found).within

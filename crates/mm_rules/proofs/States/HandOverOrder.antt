@@ -55,21 +55,16 @@ blocks_activate s h n (w ∷ ws) = blocks_activate (block s w.key.process h) h n
 
 -- ---- queues
 
--- w is one of the waits
-abbrev In : Wait → List Wait → Type 0
-In w [] = ⊥
-In w (v ∷ vs) = (w ≡ v) ⊎ In w vs
-
 abbrev Once : List Wait → Type 0
 Once ws = NoRepeat (map (λ w. w.key.process) ws)
 
-in_processes : (w : Wait) (ws : List Wait) → In w ws → Among w.key.process (map (λ v. v.key.process) ws)
+in_processes : (w : Wait) (ws : List Wait) → Among w ws → Among w.key.process (map (λ v. v.key.process) ws)
 in_processes w (v ∷ vs) (inl here) = inl (ap (λ o. o.key.process) here)
 in_processes w (v ∷ vs) (inr later) = inr (in_processes w vs later)
 in_processes w [] none = elim none [ ]
 
 -- a process waits once, so two waits of one process are one
-one_wait : (ws : List Wait) → Once ws → (v w : Wait) → In v ws → In w ws → v.key.process ≡ w.key.process → v ≡ w
+one_wait : (ws : List Wait) → Once ws → (v w : Wait) → Among v ws → Among w ws → v.key.process ≡ w.key.process → v ≡ w
 one_wait [] once v w none in_w same = elim none [ ]
 one_wait (u ∷ us) once v w (inl v_here) (inl w_here) same = v_here ∙ sym w_here
 one_wait (u ∷ us) once v w (inl v_here) (inr w_later) same =
@@ -81,7 +76,7 @@ one_wait (u ∷ us) once v w (inr v_later) (inr w_later) same = one_wait us once
 abbrev queue : ℕ → List Wait → List Wait
 queue r ws = filter (λ w. nat_eq w.resource r) ws
 
-filter_in : (p : Wait → Bool) (ws : List Wait) (w : Wait) → In w (filter p ws) → In w ws × (p w ≡ true)
+filter_in : (p : Wait → Bool) (ws : List Wait) (w : Wait) → Among w (filter p ws) → Among w ws × (p w ≡ true)
 filter_in p [] w none = elim none [ ]
 filter_in p (v ∷ vs) w found =
     elim (cases_Bool (p v)) [
@@ -93,7 +88,7 @@ filter_in p (v ∷ vs) w found =
     ]
 
 -- activating a process that does not wait for r leaves the queue of r
-queue_stays : (ws : List Wait) (n r : ℕ) → ((w : Wait) → In w ws → w.resource ≡ r → w.key.process ≢ n)
+queue_stays : (ws : List Wait) (n r : ℕ) → ((w : Wait) → Among w ws → w.resource ≡ r → w.key.process ≢ n)
     → queue r (filter (λ w. not (is_of n w)) ws) ≡ queue r ws
 queue_stays [] n r others = refl
 queue_stays (w ∷ ws) n r others =
@@ -106,7 +101,7 @@ queue_stays (w ∷ ws) n r others =
     ]
 
 -- who waits for one resource, waits for no other
-other_queue : (ws : List Wait) → Once ws → (r q : ℕ) → r ≢ q → (v w : Wait) → In v (queue r ws) → In w ws → w.resource ≡ q → w.key.process ≢ v.key.process
+other_queue : (ws : List Wait) → Once ws → (r q : ℕ) → r ≢ q → (v w : Wait) → Among v (queue r ws) → Among w ws → w.resource ≡ q → w.key.process ≢ v.key.process
 other_queue ws once r q apart v w in_queue w_in for_q same =
     let found = filter_in (λ o. nat_eq o.resource r) ws v in_queue in
     let one = one_wait ws once v w found.0 w_in (sym same) in
@@ -139,19 +134,19 @@ waiters_stay : (s : TableState) (r q : ℕ) (ws : List Wait) → Once s.waits �
 waiters_stay s r q [] once apart is = refl
 waiters_stay s r q (f ∷ others) once apart is =
     let n = f.key.process in
-    let in_queue : In f (queue r s.waits) = rw is (inl refl) in
+    let in_queue : Among f (queue r s.waits) = rw is (inl refl) in
     ap (queue q) (blocks_waits (activate (record s { owners = slice_set s.owners r (Some f.key) }) n) n others)
     ∙ queue_stays s.waits n q (λ w w_in for_q. other_queue s.waits once r q apart f w in_queue w_in for_q)
 
 -- no process is in both queues
 abbrev NotShared : List Wait → List Wait → Type 0
-NotShared ws vs = (w v : Wait) → In w ws → In v vs → w.key.process ≢ v.key.process
+NotShared ws vs = (w v : Wait) → Among w ws → Among v vs → w.key.process ≢ v.key.process
 
-apart_from : (ws : List Wait) (m g : ℕ) → ((w : Wait) → In w ws → (w.key.process ≢ m) × (w.key.process ≢ g)) → Apart m g ws
+apart_from : (ws : List Wait) (m g : ℕ) → ((w : Wait) → Among w ws → (w.key.process ≢ m) × (w.key.process ≢ g)) → Apart m g ws
 apart_from [] m g each = tt
 apart_from (w ∷ ws) m g each = (each w (inl refl), apart_from ws m g (λ v v_in. each v (inr v_in)))
 
-all_apart : (ws vs : List Wait) (h g : ℕ) → NotShared ws vs → ((v : Wait) → In v vs → v.key.process ≢ h) → ((w : Wait) → In w ws → w.key.process ≢ g) → AllApart h g ws vs
+all_apart : (ws vs : List Wait) (h g : ℕ) → NotShared ws vs → ((v : Wait) → Among v vs → v.key.process ≢ h) → ((w : Wait) → Among w ws → w.key.process ≢ g) → AllApart h g ws vs
 all_apart ws [] h g apart not_h not_g = tt
 all_apart ws (v ∷ vs) h g apart not_h not_g = (
   not_h v (inl refl),
@@ -210,7 +205,7 @@ pub hand_overs_comm : (s : TableState) (r q : ℕ) → Once s.waits → r ≢ q 
 hand_overs_comm s r q once apart =
     let ws = waiters_of s r in
     let vs = waiters_of s q in
-    let not_shared = λ (w v : Wait) (w_in : In w ws) (v_in : In v vs) (same : w.key.process ≡ v.key.process).
+    let not_shared = λ (w v : Wait) (w_in : Among w ws) (v_in : Among v vs) (same : w.key.process ≡ v.key.process).
     let found = filter_in (λ o. nat_eq o.resource q) s.waits v v_in in
     other_queue s.waits once r q apart w v w_in found.0 (eqb-true v.resource q found.1) (sym same) in
     ap (give_to (hand_over s r) q) (waiters_stay s r q ws once apart refl)

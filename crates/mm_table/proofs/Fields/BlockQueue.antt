@@ -7,9 +7,11 @@ use Rattle.mm_table.specs.declared.records.WaitRecord.{WaitRecord}
 use Rattle.mm_lists.specs.Members.{Among, NoRepeat}
 use Rattle.mm_rules.specs.TableState.{TableState, Wait}
 use Rattle.mm_rules.specs.Change.{block, block_fits, label_against}
-use Rattle.mm_table.specs.Queue.{queue_from, fits_from, blocked_on, NoneIs}
-use Rattle.mm_table.specs.Kept.{wait_kept}
-use Rattle.mm_table.proofs.Kept.Queues.{queue_here, queue_past, next_at}
+use Rattle.mm_table.specs.private.Queues.{queue_from, fits_from}
+use Rattle.mm_rules.specs.private.Stages.{blocked_on, NoneIs}
+use Rattle.mm_table.specs.private.Records.{wait_of_record}
+use Rattle.mm_rules.proofs.States.Queues.{once_drop, not_among_queue, fits_after}
+use Rattle.mm_table.proofs.Fields.Queues.{queue_here, queue_past, next_at}
 
 -- s came from old by blocks of those before this place: the rest of them leads to the same state, and can be done
 pub record IsUnderWay (old s : TableState) (r h from place : ℕ) : Type 0 where
@@ -20,43 +22,21 @@ pub record IsUnderWay (old s : TableState) (r h from place : ℕ) : Type 0 where
   pub fits : IsTrue (fits_from s r h place)
   pub apart : NoneIs h (queue_from s r place)
 
-pub once_drop : (xs : List Wait) (i : ℕ) → NoRepeat (map (λ w. w.key.process) xs) → NoRepeat (map (λ w. w.key.process) (drop i xs))
-once_drop xs zero once = once
-once_drop [] (suc i) once = tt
-once_drop (x ∷ xs) (suc i) once = once_drop xs i once.1
-
-pub not_among_queue : (r n : ℕ) (xs : List Wait) → (Among n (map (λ w. w.key.process) xs) → ⊥) → NoneIs n (filter (λ w. nat_eq w.resource r) xs)
-not_among_queue r n [] none = tt
-not_among_queue r n (x ∷ xs) none =
-    elim (cases_Bool (nat_eq x.resource r)) [
-      | inl mine ↦ rw mine ((λ e. none (inl (sym e))), not_among_queue r n xs (λ later. none (inr later)))
-      | inr other ↦ rw other (not_among_queue r n xs (λ later. none (inr later)))
-    ]
-
--- a block of n leaves whether others fit
-fits_after : (s : TableState) (n h : ℕ) → n ≢ h → (vs : List Wait) → NoneIs n vs → list_all (λ v. block_fits (block s n h) v.key.process h) vs ≡ list_all (λ v. block_fits s v.key.process h) vs
-fits_after s n h apart [] none = refl
-fits_after s n h apart (v ∷ vs) none =
-    let label = label_against s n h in
-    let own = get_or-set_other s.public n v.key.process label (opening_label v.key.process) none.0 in
-    let its = get_or-set_other s.public n h label (opening_label h) (λ e. apart (sym e)) in
-    rw (own, its) (ap (λ b. block_fits s v.key.process h && b) (fits_after s n h apart vs none.1))
-
 -- what is known at a place of the queue
-pub fits_here : (old s : TableState) (r h from i : ℕ) (ws : List WaitRecord) (w : WaitRecord) → IsUnderWay old s r h from i → s.waits ≡ map wait_kept ws
+pub fits_here : (old s : TableState) (r h from i : ℕ) (ws : List WaitRecord) (w : WaitRecord) → IsUnderWay old s r h from i → s.waits ≡ map wait_of_record ws
     → i < length ws → w ≡ slice_index_or ws i w → w.resource ≡ r → IsTrue (block_fits s w.key.process h)
 fits_here old s r h from i ws w way are within is for_r =
     let queue = ap (λ l. filter (λ w. nat_eq w.resource r) (drop i l)) are ∙ queue_here ws i w r within is for_r in
     (and_parts _ _ (subst (λ (l : List Wait). IsTrue (list_all (λ v. block_fits s v.key.process h) l)) queue way.fits)).0
 
-pub blocked_here : (old s : TableState) (r h from i : ℕ) (ws : List WaitRecord) (w : WaitRecord) → IsUnderWay old s r h from i → s.waits ≡ map wait_kept ws
+pub blocked_here : (old s : TableState) (r h from i : ℕ) (ws : List WaitRecord) (w : WaitRecord) → IsUnderWay old s r h from i → s.waits ≡ map wait_of_record ws
     → i < length ws → w ≡ slice_index_or ws i w → w.resource ≡ r → IsUnderWay old (block s w.key.process h) r h from (i + 1)
 blocked_here old s r h from i ws w way are within is for_r =
     let n = w.key.process in
     let rest = queue_from s r (i + 1) in
-    let queue : queue_from s r i ≡ wait_kept w ∷ rest =
-    ap (λ l. filter (λ w. nat_eq w.resource r) (drop i l)) are ∙ queue_here ws i w r within is for_r ∙ ap (λ l. wait_kept w ∷ filter (λ w. nat_eq w.resource r) (drop (i + 1) l)) (sym are) in
-    let here : drop i s.waits ≡ wait_kept w ∷ drop (i + 1) s.waits = ap (drop i) are ∙ next_at ws i w within is ∙ ap (λ l. wait_kept w ∷ drop (i + 1) l) (sym are) in
+    let queue : queue_from s r i ≡ wait_of_record w ∷ rest =
+    ap (λ l. filter (λ w. nat_eq w.resource r) (drop i l)) are ∙ queue_here ws i w r within is for_r ∙ ap (λ l. wait_of_record w ∷ filter (λ w. nat_eq w.resource r) (drop (i + 1) l)) (sym are) in
+    let here : drop i s.waits ≡ wait_of_record w ∷ drop (i + 1) s.waits = ap (drop i) are ∙ next_at ws i w within is ∙ ap (λ l. wait_of_record w ∷ drop (i + 1) l) (sym are) in
     let once = subst (λ (l : List Wait). NoRepeat (map (λ w. w.key.process) l)) here (once_drop s.waits i way.once) in
     let none = not_among_queue r n (drop (i + 1) s.waits) once.0 in
     let apart = subst (NoneIs h) queue way.apart in
@@ -70,7 +50,7 @@ blocked_here old s r h from i ws w way are within is for_r =
       apart = apart.1;
     }
 
-pub skipped_here : (old s : TableState) (r h from i : ℕ) (ws : List WaitRecord) (w : WaitRecord) → IsUnderWay old s r h from i → s.waits ≡ map wait_kept ws
+pub skipped_here : (old s : TableState) (r h from i : ℕ) (ws : List WaitRecord) (w : WaitRecord) → IsUnderWay old s r h from i → s.waits ≡ map wait_of_record ws
     → i < length ws → w ≡ slice_index_or ws i w → w.resource ≢ r → IsUnderWay old s r h from (i + 1)
 skipped_here old s r h from i ws w way are within is for_other =
     let queue : queue_from s r i ≡ queue_from s r (i + 1) =
@@ -84,6 +64,6 @@ skipped_here old s r h from i ws w way are within is for_other =
       apart = subst (NoneIs h) queue way.apart;
     }
 
-pub processes_kept : (ws : List WaitRecord) → map (λ w. w.key.process) (map wait_kept ws) ≡ map (λ w. w.key.process) ws
+pub processes_kept : (ws : List WaitRecord) → map (λ w. w.key.process) (map wait_of_record ws) ≡ map (λ w. w.key.process) ws
 processes_kept [] = refl
 processes_kept (w ∷ ws) = ap (λ ns. w.key.process ∷ ns) (processes_kept ws)

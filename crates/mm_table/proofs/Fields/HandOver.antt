@@ -10,11 +10,13 @@ use Rattle.mm_rules.specs.TableState.{TableState, Wait, is_of, waiters_of}
 use Rattle.mm_rules.specs.Change.{activate, block, block_fits, give_to, give_to_fits, hand_over, hand_over_fits}
 use Rattle.mm_rules.specs.Event.{release_answer}
 use Rattle.mm_rules.specs.declared.reply.Released.TheVariants.{To}
-use Rattle.mm_table.specs.Queue.{queue_from, fits_from, blocked_on, NoneIs}
-use Rattle.mm_table.specs.Kept.{wait_kept}
-use Rattle.mm_table.proofs.Kept.Queues.{queue, queue_first, next_at}
-use Rattle.mm_table.proofs.Kept.BlockingQueue.{once_drop, not_among_queue, processes_kept}
-use Rattle.mm_table.proofs.Kept.EndingWait.{all_kept, got, slice_get-map}
+use Rattle.mm_table.specs.private.Queues.{queue_from, fits_from}
+use Rattle.mm_rules.specs.private.Stages.{blocked_on, NoneIs}
+use Rattle.mm_table.specs.private.Records.{wait_of_record}
+use Rattle.mm_table.proofs.Fields.Queues.{queue, queue_first, next_at}
+use Rattle.mm_rules.proofs.States.Queues.{once_drop, not_among_queue}
+use Rattle.mm_table.proofs.Fields.BlockQueue.{processes_kept}
+use Rattle.mm_table.proofs.Fields.EndWait.{all_kept, got, slice_get-map}
 
 -- an element in range
 record Placed {X : Type 0} (xs : List X) (i : ℕ) : Type 0 where
@@ -33,7 +35,7 @@ among_at (v ∷ ws) (suc i) w found = inr (among_at ws i w found)
 
 -- behind the place of the one that goes, nothing changes
 without_at : (ws : List WaitRecord) (i : ℕ) (w : WaitRecord) → slice_get ws i ≡ Some w → NoRepeat (map (λ v. v.key.process) ws)
-    → drop i (filter (λ v. not (is_of w.key.process v)) (map wait_kept ws)) ≡ drop (suc i) (map wait_kept ws)
+    → drop i (filter (λ v. not (is_of w.key.process v)) (map wait_of_record ws)) ≡ drop (suc i) (map wait_of_record ws)
 without_at [] i w found once = let never : None ≡ Some w = found in cc
 without_at (v ∷ ws) zero w found once =
     let here : Some v ≡ Some w = found in
@@ -51,25 +53,25 @@ pub record First (s : TableState) (ws : List WaitRecord) (r i : ℕ) : Type 0 wh
   pub within : i < length ws
   pub is : wait ≡ slice_index_or ws i wait
   pub at_place : slice_get ws i ≡ Some wait
-  pub queue_is : waiters_of s r ≡ wait_kept wait ∷ queue r (drop (i + 1) s.waits)
+  pub queue_is : waiters_of s r ≡ wait_of_record wait ∷ queue r (drop (i + 1) s.waits)
   pub left : drop i (filter (λ v. not (is_of wait.key.process v)) s.waits) ≡ drop (i + 1) s.waits
   pub apart : NoneIs wait.key.process (queue r (drop (i + 1) s.waits))
 
-first_placed : (s : TableState) (ws : List WaitRecord) (r i : ℕ) → map wait_kept ws ≡ s.waits → NoRepeat (map (λ v. v.key.process) ws) → position (λ w. nat_eq w.resource r) ws ≡ Some i
+first_placed : (s : TableState) (ws : List WaitRecord) (r i : ℕ) → map wait_of_record ws ≡ s.waits → NoRepeat (map (λ v. v.key.process) ws) → position (λ w. nat_eq w.resource r) ws ≡ Some i
     → i < length ws → Placed ws i → First s ws r i
 first_placed s ws r i are once found within here =
     let w = here.element in
     let at_place = got ws i w within here.is in
-    let next : drop i s.waits ≡ wait_kept w ∷ drop (i + 1) s.waits = ap (drop i) (sym are) ∙ next_at ws i w within here.is ∙ ap (λ l. wait_kept w ∷ drop (i + 1) l) are in
+    let next : drop i s.waits ≡ wait_of_record w ∷ drop (i + 1) s.waits = ap (drop i) (sym are) ∙ next_at ws i w within here.is ∙ ap (λ l. wait_of_record w ∷ drop (i + 1) l) are in
     let once_all = subst (λ (l : List Wait). NoRepeat (map (λ v. v.key.process) l)) are (subst NoRepeat (sym (processes_kept ws)) once) in
     let once_here = subst (λ (l : List Wait). NoRepeat (map (λ v. v.key.process) l)) next (once_drop s.waits i once_all) in
-    let step : drop (suc i) (map wait_kept ws) ≡ drop (i + 1) s.waits = ap (drop (suc i)) are ∙ ap (λ n. drop n s.waits) (sym (add-one i)) in
+    let step : drop (suc i) (map wait_of_record ws) ≡ drop (i + 1) s.waits = ap (drop (suc i)) are ∙ ap (λ n. drop n s.waits) (sym (add-one i)) in
     record {
       wait = w;
       within = within;
       is = here.is;
       at_place = at_place;
-      queue_is = ap (queue r) (sym are) ∙ queue_first ws r i w found here.is ∙ ap (λ l. wait_kept w ∷ queue r (drop (i + 1) l)) are;
+      queue_is = ap (queue r) (sym are) ∙ queue_first ws r i w found here.is ∙ ap (λ l. wait_of_record w ∷ queue r (drop (i + 1) l)) are;
       left = ap (λ l. drop i (filter (λ v. not (is_of w.key.process v)) l)) (sym are) ∙ without_at ws i w at_place once ∙ step;
       apart = not_among_queue r w.key.process (drop (i + 1) s.waits) once_here.0;
     }
@@ -78,12 +80,12 @@ first_placed s ws r i are once found within here =
 abbrev no_wait : WaitRecord
 no_wait = record { key = record { process = 0; generation = 0 }; resource = 0 }
 
-pub first : (s : TableState) (ws : List WaitRecord) (r i : ℕ) → map wait_kept ws ≡ s.waits → NoRepeat (map (λ v. v.key.process) ws) → position (λ w. nat_eq w.resource r) ws ≡ Some i → First s ws r i
+pub first : (s : TableState) (ws : List WaitRecord) (r i : ℕ) → map wait_of_record ws ≡ s.waits → NoRepeat (map (λ v. v.key.process) ws) → position (λ w. nat_eq w.resource r) ws ≡ Some i → First s ws r i
 first s ws r i are once found =
     let within = (position-Some (λ (v : WaitRecord). nat_eq v.resource r) ws i no_wait found).0 in
     first_placed s ws r i are once found within (placed ws i within)
 
-long_enough : (ws : List WaitRecord) (i : ℕ) (w : WaitRecord) → slice_get ws i ≡ Some w → NoRepeat (map (λ v. v.key.process) ws) → i ≤ length (filter (λ v. not (is_of w.key.process v)) (map wait_kept ws))
+long_enough : (ws : List WaitRecord) (i : ℕ) (w : WaitRecord) → slice_get ws i ≡ Some w → NoRepeat (map (λ v. v.key.process) ws) → i ≤ length (filter (λ v. not (is_of w.key.process v)) (map wait_of_record ws))
 long_enough [] i w found once = let never : None ≡ Some w = found in cc
 long_enough (v ∷ ws) zero w found once = omega arith
 long_enough (v ∷ ws) (suc i) w found once =
@@ -103,7 +105,7 @@ pub record IsHandedOver (s t : TableState) (r i : ℕ) (key : Key) : Type 0 wher
 abbrev pub taken_over : TableState → ℕ → Key → TableState
 taken_over s r key = activate (record s { owners = slice_set s.owners r (Some key) }) key.process
 
-is_handed_over : (s : TableState) (ws : List WaitRecord) (r i : ℕ) → map wait_kept ws ≡ s.waits → NoRepeat (map (λ v. v.key.process) ws) → (f : First s ws r i) → IsHandedOver s (taken_over s r f.wait.key) r i f.wait.key
+is_handed_over : (s : TableState) (ws : List WaitRecord) (r i : ℕ) → map wait_of_record ws ≡ s.waits → NoRepeat (map (λ v. v.key.process) ws) → (f : First s ws r i) → IsHandedOver s (taken_over s r f.wait.key) r i f.wait.key
 is_handed_over s ws r i are once f =
     let key = f.wait.key in
     let rest = queue r (drop (i + 1) s.waits) in
@@ -117,11 +119,11 @@ is_handed_over s ws r i are once f =
     }
 
 -- the same of the key that was found at the place
-pub handed_over : (s t : TableState) (ws : List WaitRecord) (r i : ℕ) (key : Key) → map wait_kept ws ≡ s.waits → NoRepeat (map (λ v. v.key.process) ws) → (f : First s ws r i)
+pub handed_over : (s t : TableState) (ws : List WaitRecord) (r i : ℕ) (key : Key) → map wait_of_record ws ≡ s.waits → NoRepeat (map (λ v. v.key.process) ws) → (f : First s ws r i)
     → option_map (λ w. w.key) (slice_get s.waits i) ≡ Some key → t ≡ taken_over s r key → IsHandedOver s t r i key
 handed_over s t ws r i key are once f at_place is =
     let one : Some f.wait.key ≡ Some key =
-    ap (λ o. option_map (λ (w : Wait). w.key) (option_map wait_kept o)) (sym f.at_place) ∙ ap (option_map (λ (w : Wait). w.key)) (sym (slice_get-map wait_kept ws i)) ∙ ap (λ l. option_map (λ (w : Wait). w.key) (slice_get l i)) are ∙ at_place in
+    ap (λ o. option_map (λ (w : Wait). w.key) (option_map wait_of_record o)) (sym f.at_place) ∙ ap (option_map (λ (w : Wait). w.key)) (sym (slice_get-map wait_of_record ws i)) ∙ ap (λ l. option_map (λ (w : Wait). w.key) (slice_get l i)) are ∙ at_place in
     let same : f.wait.key ≡ key = cc in
     subst (λ (u : TableState). IsHandedOver s u r i key) (sym is) (subst (λ (k : Key). IsHandedOver s (taken_over s r k) r i k) same (is_handed_over s ws r i are once f))
 
@@ -142,16 +144,3 @@ pub freed_then_owned : (old free waited t : TableState) (r : ℕ) (key : Key) �
 freed_then_owned old free waited t r key was left is =
     is ∙ ap (λ (s : TableState). record s { owners = slice_set s.owners r (Some key) }) (left ∙ ap (λ s. activate s key.process) was)
     ∙ ap (λ os. record (activate old key.process) { owners = os }) (set_again old.owners r None (Some key))
-
--- ---- a hand-over counts nothing
-
-blocks_totals : (s : TableState) (h : ℕ) (ws : List Wait) → (blocked_on s h ws).totals ≡ s.totals
-blocks_totals s h [] = refl
-blocks_totals s h (w ∷ ws) = blocks_totals (block s w.key.process h) h ws
-
-give_totals : (s : TableState) (r : ℕ) (ws : List Wait) → (give_to s r ws).totals ≡ s.totals
-give_totals s r [] = refl
-give_totals s r (f ∷ others) = blocks_totals (taken_over s r f.key) f.key.process others
-
-pub hand_over_totals : (s : TableState) (r : ℕ) → (hand_over s r).totals ≡ s.totals
-hand_over_totals s r = give_totals s r (waiters_of s r)

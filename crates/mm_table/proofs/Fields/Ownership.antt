@@ -16,7 +16,7 @@ use Rattle.mm_table.specs.declared.records.Labels.{Labels}
 use Rattle.mm_table.specs.declared.records.WaitRecord.{WaitRecord}
 use Rattle.mm_rules.specs.TableState.{TableState, owns, resources_of}
 use Rattle.mm_rules.specs.Change.{hand_over_fits, vacate_fits}
-use Rattle.mm_table.specs.Kept.{owning, OwnedFit, PartsFit, IsKept, state_kept}
+use Rattle.mm_table.specs.private.Records.{owning, OwnersAgree, AreSized, IsConsistent, state_of_records}
 use Rattle.mm_rules.proofs.States.Lists.{In, filter_gives, filter_keeps, list_all_at, list_all_from, range_holds}
 
 -- the owner of one resource changes
@@ -27,37 +27,32 @@ owning_else : (os : List (Option Key)) (r : ℕ) (o : Option Key) (q : ℕ) → 
 owning_else os r o q apart = ap (option_map (λ (k : Key). k.process)) (get_or-set_other os r q o None apart)
 
 -- a resource without an owner is in no list
-pub loose : {c : Config} {os : List (Option Key)} {owned : Lists} → OwnedFit c os owned → (r : ℕ) → slice_index_or os r None ≡ None → IsLoose owned r
+pub loose : {c : Config} {os : List (Option Key)} {owned : Lists} → OwnersAgree c os owned → (r : ℕ) → slice_index_or os r None ≡ None → IsLoose owned r
 loose {c} {os} {owned} fit r free n among =
     let never : None ≡ Some n = sym (ap (option_map (λ (k : Key). k.process)) free) ∙ fit.listed n r among in
     cc
 
 -- an owned resource is in the list of its owner
-pub in_list : {c : Config} {os : List (Option Key)} {owned : Lists} → OwnedFit c os owned → (r : ℕ) (k : Key) → slice_index_or os r None ≡ Some k → Among r (list_at owned k.process)
+pub in_list : {c : Config} {os : List (Option Key)} {owned : Lists} → OwnersAgree c os owned → (r : ℕ) (k : Key) → slice_index_or os r None ≡ Some k → Among r (list_at owned k.process)
 in_list {c} {os} {owned} fit r k is = fit.all k.process r (ap (option_map (λ (k : Key). k.process)) is)
 
--- the owner of one resource changes, and the other parts stay
-pub owner_set : (c : Config) (s : Slots Transaction) (ls : List Labels) (os : List (Option Key)) (ws : List WaitRecord) (r : ℕ) (o : Option Key)
-    → r < c.resources → ((k : Key) → o ≡ Some k → k.process < c.processes) → PartsFit c s ls os ws → PartsFit c s ls (slice_set os r o) ws
-owner_set c s ls os ws r o resource process fits = record {
-  config_in_range = fits.config_in_range;
-  slots_sized = fits.slots_sized;
-  labels_sized = fits.labels_sized;
-  owners_sized = length-set os r o ∙ fits.owners_sized;
-  last_generation = fits.last_generation;
+-- the owner of one resource changes
+pub owner_sized : {c : Config} {s : Slots Transaction} {ls : List Labels} {os : List (Option Key)} (r : ℕ) (o : Option Key)
+    → r < c.resources → ((k : Key) → o ≡ Some k → k.process < c.processes) → AreSized c s ls os → AreSized c s ls (slice_set os r o)
+owner_sized {c} {s} {ls} {os} r o resource process sizes = record {
+  config = sizes.config;
+  slots = sizes.slots;
+  last_generation = sizes.last_generation;
+  labels = sizes.labels;
+  owners = length-set os r o ∙ sizes.owners;
   owner_in_range = λ q k owned. elim (cases_eq q r) [
-    | inl here ↦ process k (sym (get_or-set_same os r o None (omega (arith, fits.owners_sized))) ∙ ap (λ x. slice_index_or (slice_set os r o) x None) (sym here) ∙ owned)
-    | inr other ↦ fits.owner_in_range q k (sym (get_or-set_other os r q o None other) ∙ owned)
+    | inl here ↦ process k (sym (get_or-set_same os r o None (omega (arith, sizes.owners))) ∙ ap (λ x. slice_index_or (slice_set os r o) x None) (sym here) ∙ owned)
+    | inr other ↦ sizes.owner_in_range q k (sym (get_or-set_other os r q o None other) ∙ owned)
   ];
-  wait_in_range = fits.wait_in_range;
-  waiting = fits.waiting;
-  waits_once = fits.waits_once;
-  waits_live = fits.waits_live;
-  room = fits.room;
 }
 
-pub granted_fit : (c : Config) (os : List (Option Key)) (owned : Lists) (r : ℕ) (k : Key) → OwnedFit c os owned → length os ≡ c.resources → r < c.resources → k.process < c.processes → slice_index_or os r None ≡ None
-    → OwnedFit c (slice_set os r (Some k)) (pushed owned k.process r)
+pub granted_fit : (c : Config) (os : List (Option Key)) (owned : Lists) (r : ℕ) (k : Key) → OwnersAgree c os owned → length os ≡ c.resources → r < c.resources → k.process < c.processes → slice_index_or os r None ≡ None
+    → OwnersAgree c (slice_set os r (Some k)) (pushed owned k.process r)
 granted_fit c os owned r k fit sized resource process free =
     let n = k.process in
     let below : n < length owned.lists = omega (arith, fit.lists) in
@@ -83,8 +78,8 @@ granted_fit c os owned r k fit sized resource process free =
       ];
     }
 
-pub freed_fit : (c : Config) (os : List (Option Key)) (owned : Lists) (r : ℕ) (k : Key) → OwnedFit c os owned → r < length os → slice_index_or os r None ≡ Some k
-    → OwnedFit c (slice_set os r None) (removed owned k.process r)
+pub freed_fit : (c : Config) (os : List (Option Key)) (owned : Lists) (r : ℕ) (k : Key) → OwnersAgree c os owned → r < length os → slice_index_or os r None ≡ Some k
+    → OwnersAgree c (slice_set os r None) (removed owned k.process r)
 freed_fit c os owned r k fit within is =
     let n = k.process in
     let there = in_list fit r k is in
@@ -113,7 +108,7 @@ empty_list (suc n) zero = refl
 empty_list (suc n) (suc m) = empty_list n m
 
 -- no process owns a resource at first
-pub nothing_owned : (c : Config) (os : List (Option Key)) (owned : Lists) → owned ≡ empty_lists c.processes c.resources → ((r : ℕ) → slice_index_or os r None ≡ None) → OwnedFit c os owned
+pub nothing_owned : (c : Config) (os : List (Option Key)) (owned : Lists) → owned ≡ empty_lists c.processes c.resources → ((r : ℕ) → slice_index_or os r None ≡ None) → OwnersAgree c os owned
 nothing_owned c os owned is none =
     let no_member = λ (n r : ℕ) (among : Among r (list_at owned n)).
     subst (Among r) (ap (λ s. list_at s n) is ∙ empty_list c.processes n) among in
@@ -146,7 +141,7 @@ by_owner : (o : Option Key) (n : ℕ) → option_map_or (λ k. nat_eq k.process 
 by_owner None n e = let never : false ≡ true = e in cc
 by_owner (Some k) n e = ap Some (eqb-true k.process n e)
 
-pub listed : (t : Inside) (s : TableState) → IsKept t → state_kept t ≡ s → Listed s t.owned.listed
+pub listed : (t : Inside) (s : TableState) → IsConsistent t → state_of_records t ≡ s → Listed s t.owned.listed
 listed t s kept is = subst (λ (u : TableState). Listed u t.owned.listed) is (record {
   exclusive = kept.owned.exclusive;
   within = λ n r among. omega (arith, kept.owned.exclusive.in_range n r among, kept.owned.resources);

@@ -10,7 +10,7 @@ use Rattle.mm_table.specs.declared.records.Transaction.{Transaction}
 use Rattle.mm_table.specs.declared.records.Labels.{Labels}
 use Rattle.mm_table.specs.declared.records.WaitRecord.{WaitRecord}
 use Rattle.mm_rules.specs.TableState.{opening}
-use Rattle.mm_table.specs.Kept.{opening_labels, verdict_in, wait_in, idle, state_of_parts}
+use Rattle.mm_table.specs.private.Records.{opening_labels, verdict_in, wait_in, idle, state_of_fields}
 
 -- slots that were never used
 abbrev pub unused_places : ℕ → List (Place Transaction)
@@ -41,7 +41,7 @@ none_owned (suc n) (suc r) = none_owned n r
 -- the parts of a table that was just opened stand for the opening of its configuration
 pub opened : (c : Config) (slots : Slots Transaction) (labels : List Labels) (owners : List (Option Key)) (waits : List WaitRecord)
     → slots ≡ opening_slots c.processes c.generation_limit → labels ≡ map opening_labels (range_with_len 0 c.processes) → owners ≡ replicate c.resources None → waits ≡ []
-    → state_of_parts c slots labels owners waits (record { accepted = 0; verdicts = 0; aborts = 0 }) ≡ opening c
+    → state_of_fields c slots labels owners waits (record { accepted = 0; verdicts = 0; aborts = 0 }) ≡ opening c
 opened c slots labels owners waits s l o w =
     let private = each_its_own (λ l. l.private) opening_label (λ i. refl) 0 c.processes in
     let public = each_its_own (λ l. l.public) opening_label (λ i. refl) 0 c.processes in

@@ -15,9 +15,9 @@ use Rattle.mm_table.specs.declared.records.WaitRecord.{WaitRecord}
 use Rattle.mm_lists.specs.Members.{Among, NoRepeat}
 use Rattle.mm_rules.specs.TableState.{is_of, waited_for}
 use Rattle.mm_rules.specs.Change.{activate}
-use Rattle.mm_table.specs.Kept.{idle, wait_in, wait_kept, state_of_parts, PartsFit}
-use Rattle.mm_table.proofs.Kept.Slots.{holds, with_value_live, all_map}
-use Rattle.mm_table.proofs.Kept.Parts.{noted, waited_past}
+use Rattle.mm_table.specs.private.Records.{idle, wait_in, wait_of_record, state_of_fields, WaitsAgree}
+use Rattle.mm_table.proofs.Fields.Slots.{holds, with_value_live, all_map}
+use Rattle.mm_table.proofs.Fields.Waits.{wait_written, waited_past}
 
 -- ---- a list around one place
 
@@ -55,12 +55,12 @@ all_around P (y ∷ b) x a all = (all.0, all_around P b x a all.1)
 
 -- ---- who waits, without that wait
 
-none_among : (ws : List WaitRecord) (n : ℕ) → (Among n (processes ws) → ⊥) → waited_for (map wait_kept ws) n ≡ None
+none_among : (ws : List WaitRecord) (n : ℕ) → (Among n (processes ws) → ⊥) → waited_for (map wait_of_record ws) n ≡ None
 none_among [] n none = refl
 none_among (w ∷ ws) n none =
     waited_past w ws n (ne_eqb w.key.process n (λ e. none (inl (sym e)))) ∙ none_among ws n (λ later. none (inr later))
 
-waited_around : (b : List WaitRecord) (w : WaitRecord) (a : List WaitRecord) (m : ℕ) → w.key.process ≢ m → waited_for (map wait_kept (b ++ w ∷ a)) m ≡ waited_for (map wait_kept (b ++ a)) m
+waited_around : (b : List WaitRecord) (w : WaitRecord) (a : List WaitRecord) (m : ℕ) → w.key.process ≢ m → waited_for (map wait_of_record (b ++ w ∷ a)) m ≡ waited_for (map wait_of_record (b ++ a)) m
 waited_around [] w a m other = waited_past w a m (ne_eqb w.key.process m other)
 waited_around (v ∷ b) w a m other =
     elim (cases_eq v.key.process m) [
@@ -71,36 +71,36 @@ waited_around (v ∷ b) w a m other =
     ]
 
 -- activating a process of the waits takes that one wait
-pub all_kept : (ws : List WaitRecord) (n : ℕ) → (Among n (processes ws) → ⊥) → filter (λ v. not (is_of n v)) (map wait_kept ws) ≡ map wait_kept ws
+pub all_kept : (ws : List WaitRecord) (n : ℕ) → (Among n (processes ws) → ⊥) → filter (λ v. not (is_of n v)) (map wait_of_record ws) ≡ map wait_of_record ws
 all_kept [] n none = refl
 all_kept (w ∷ ws) n none =
     let other : nat_eq w.key.process n ≡ false = ne_eqb w.key.process n (λ e. none (inl (sym e))) in
-    rw other (ap (λ vs. wait_kept w ∷ vs) (all_kept ws n (λ later. none (inr later))))
+    rw other (ap (λ vs. wait_of_record w ∷ vs) (all_kept ws n (λ later. none (inr later))))
 
 filter_around : (b : List WaitRecord) (w : WaitRecord) (a : List WaitRecord) → NoRepeat (processes (b ++ w ∷ a))
-    → filter (λ v. not (is_of w.key.process v)) (map wait_kept (b ++ w ∷ a)) ≡ map wait_kept (b ++ a)
+    → filter (λ v. not (is_of w.key.process v)) (map wait_of_record (b ++ w ∷ a)) ≡ map wait_of_record (b ++ a)
 filter_around [] w a once =
     let mine : nat_eq w.key.process w.key.process ≡ true = eq-eqb w.key.process w.key.process refl in
     rw mine (all_kept a w.key.process once.0)
 filter_around (v ∷ b) w a once =
     let apart : v.key.process ≢ w.key.process = λ e. once.0 (let P : ℕ → Type 0 = λ n. Among n (processes (b ++ w ∷ a)) in subst P (sym e) (among_middle b w a)) in
     let other : nat_eq v.key.process w.key.process ≡ false = ne_eqb v.key.process w.key.process apart in
-    rw other (ap (λ vs. wait_kept v ∷ vs) (filter_around b w a once.1))
+    rw other (ap (λ vs. wait_of_record v ∷ vs) (filter_around b w a once.1))
 
--- ---- the parts then
+-- ---- the fields then
 
 -- the transaction of w, which waited, waits no more
-pub ended : (c : Config) (s : Slots Transaction) (ls : List Labels) (os : List (Option Key)) (ws : List WaitRecord) (t : Totals) (i : ℕ) (w : WaitRecord) (o : Transaction)
-    → slice_get ws i ≡ Some w → lookup s w.key ≡ Some o → PartsFit c s ls os ws
-    → state_of_parts c (with_value s w.key (record o { waits_for = None })) ls os (take i ws ++ drop (suc i) ws) t ≡ activate (state_of_parts c s ls os ws t) w.key.process
-ended c s ls os ws t i w o place found fits =
+pub wait_ended : (c : Config) (s : Slots Transaction) (ls : List Labels) (os : List (Option Key)) (ws : List WaitRecord) (t : Totals) (i : ℕ) (w : WaitRecord) (o : Transaction)
+    → slice_get ws i ≡ Some w → lookup s w.key ≡ Some o → WaitsAgree c s ws
+    → state_of_fields c (with_value s w.key (record o { waits_for = None })) ls os (take i ws ++ drop (suc i) ws) t ≡ activate (state_of_fields c s ls os ws t) w.key.process
+wait_ended c s ls os ws t i w o place found agree =
     let b = take i ws in
     let a = drop (suc i) ws in
     let is : ws ≡ b ++ w ∷ a = split_at_place ws i w place in
-    let once = subst (λ (l : List WaitRecord). NoRepeat (processes l)) is fits.waits_once in
+    let once = subst (λ (l : List WaitRecord). NoRepeat (processes l)) is agree.once in
     let gone = filter_around b w a once in
-    noted c s ls os (b ++ a) t w.key o None found
-    ∙ ap (λ vs. record (state_of_parts c s ls os ws t) { waits = vs }) (sym gone ∙ ap (λ l. filter (λ v. not (is_of w.key.process v)) (map wait_kept l)) (sym is))
+    wait_written c s ls os (b ++ a) t w.key o None found
+    ∙ ap (λ vs. record (state_of_fields c s ls os ws t) { waits = vs }) (sym gone ∙ ap (λ l. filter (λ v. not (is_of w.key.process v)) (map wait_of_record l)) (sym is))
 
 set_none_in_range : (xs : List (Option ℕ)) (n m : ℕ) → n < length xs → ((i s : ℕ) → slice_index_or xs i None ≡ Some s → s < m) → (i s : ℕ) → slice_index_or (slice_set xs n None) i None ≡ Some s → s < m
 set_none_in_range xs n m within before i s waited =
@@ -111,7 +111,7 @@ set_none_in_range xs n m within before i s waited =
       | inr other ↦ before i s (sym (get_or-set_other xs n i None None other) ∙ waited)
     ]
 
-waited_here : (b : List WaitRecord) (w : WaitRecord) (a : List WaitRecord) → NoRepeat (processes (b ++ w ∷ a)) → waited_for (map wait_kept (b ++ w ∷ a)) w.key.process ≡ Some w.resource
+waited_here : (b : List WaitRecord) (w : WaitRecord) (a : List WaitRecord) → NoRepeat (processes (b ++ w ∷ a)) → waited_for (map wait_of_record (b ++ w ∷ a)) w.key.process ≡ Some w.resource
 waited_here [] w a once =
     let mine : nat_eq w.key.process w.key.process ≡ true = eq-eqb w.key.process w.key.process refl in
     rw mine refl
@@ -121,47 +121,41 @@ waited_here (v ∷ b) w a once =
 
 -- who waits for what then
 waits_left : (xs : List (Option ℕ)) (b : List WaitRecord) (w : WaitRecord) (a : List WaitRecord) → w.key.process < length xs → (Among w.key.process (processes (b ++ a)) → ⊥)
-    → ((m : ℕ) → slice_index_or xs m None ≡ waited_for (map wait_kept (b ++ w ∷ a)) m)
-    → (m : ℕ) → slice_index_or (slice_set xs w.key.process None) m None ≡ waited_for (map wait_kept (b ++ a)) m
+    → ((m : ℕ) → slice_index_or xs m None ≡ waited_for (map wait_of_record (b ++ w ∷ a)) m)
+    → (m : ℕ) → slice_index_or (slice_set xs w.key.process None) m None ≡ waited_for (map wait_of_record (b ++ a)) m
 waits_left xs b w a within gone before m =
     let n = w.key.process in
     elim (cases_eq m n) [
       | inl here ↦
           ap (λ j. slice_index_or (slice_set xs n None) j None) here ∙ get_or-set_same xs n None None within
-          ∙ sym (none_among (b ++ a) n gone) ∙ ap (waited_for (map wait_kept (b ++ a))) (sym here)
+          ∙ sym (none_among (b ++ a) n gone) ∙ ap (waited_for (map wait_of_record (b ++ a))) (sym here)
       | inr other ↦ get_or-set_other xs n m None None other ∙ before m ∙ waited_around b w a m (λ e. other (sym e))
     ]
 
-pub ended_fits : (c : Config) (s : Slots Transaction) (ls : List Labels) (os : List (Option Key)) (ws : List WaitRecord) (i : ℕ) (w : WaitRecord) (o : Transaction)
-    → slice_get ws i ≡ Some w → lookup s w.key ≡ Some o → PartsFit c s ls os ws
-    → PartsFit c (with_value s w.key (record o { waits_for = None })) ls os (take i ws ++ drop (suc i) ws)
-ended_fits c s ls os ws i w o place found fits =
+pub wait_ended_agrees : (c : Config) (s : Slots Transaction) (ws : List WaitRecord) (i : ℕ) (w : WaitRecord) (o : Transaction)
+    → slice_get ws i ≡ Some w → lookup s w.key ≡ Some o → WaitsAgree c s ws
+    → WaitsAgree c (with_value s w.key (record o { waits_for = None })) (take i ws ++ drop (suc i) ws)
+wait_ended_agrees c s ws i w o place found agree =
     let n = w.key.process in
     let b = take i ws in
     let a = drop (suc i) ws in
     let is : ws ≡ b ++ w ∷ a = split_at_place ws i w place in
-    let once = once_around b w a (subst (λ (l : List WaitRecord). NoRepeat (processes l)) is fits.waits_once) in
+    let once = once_around b w a (subst (λ (l : List WaitRecord). NoRepeat (processes l)) is agree.once) in
     let now : Transaction = record o { waits_for = None } in
     let p : Place Transaction = record { generation = w.key.generation; value = Some now } in
     let within = (holds s w.key o found).within in
     let changed : map wait_in (slice_set s.places n p) ≡ slice_set (map wait_in s.places) n None = map-set wait_in s.places n p in
     record {
-      config_in_range = fits.config_in_range;
-      slots_sized = length-set s.places n p ∙ fits.slots_sized;
-      labels_sized = fits.labels_sized;
-      owners_sized = fits.owners_sized;
-      last_generation = fits.last_generation;
-      owner_in_range = fits.owner_in_range;
-      wait_in_range = λ m q waits. set_none_in_range (map wait_in s.places) n c.resources (simp length-map within) fits.wait_in_range m q (ap (λ xs. slice_index_or xs m None) (sym changed) ∙ waits);
-      waiting = λ m. ap (λ xs. slice_index_or xs m None) changed ∙ waits_left (map wait_in s.places) b w a (simp length-map within) once.1 (λ j. fits.waiting j ∙ ap (λ l. waited_for (map wait_kept l) j) is) m;
-      waits_once = once.0;
-      waits_live = all_map _ _ (λ v live. with_value_live s w.key v.key o now found live) (b ++ a) (all_around _ b w a (subst (λ (l : List WaitRecord). AllByRecursion (λ v. IsLive s v.key) l) is fits.waits_live));
+      in_range = λ m q waits. set_none_in_range (map wait_in s.places) n c.resources (simp length-map within) agree.in_range m q (ap (λ xs. slice_index_or xs m None) (sym changed) ∙ waits);
+      waiting = λ m. ap (λ xs. slice_index_or xs m None) changed ∙ waits_left (map wait_in s.places) b w a (simp length-map within) once.1 (λ j. agree.waiting j ∙ ap (λ l. waited_for (map wait_of_record l) j) is) m;
+      once = once.0;
+      live = all_map _ _ (λ v live. with_value_live s w.key v.key o now found live) (b ++ a) (all_around _ b w a (subst (λ (l : List WaitRecord). AllByRecursion (λ v. IsLive s v.key) l) is agree.live));
       room =
-          let waited = fits.waiting n ∙ ap (λ l. waited_for (map wait_kept l) n) is ∙ waited_here b w a (subst (λ (l : List WaitRecord). NoRepeat (processes l)) is fits.waits_once) in
+          let waited = agree.waiting n ∙ ap (λ l. waited_for (map wait_of_record l) n) is ∙ waited_here b w a (subst (λ (l : List WaitRecord). NoRepeat (processes l)) is agree.once) in
           let before_is : wait_in (place_at s n) ≡ Some w.resource = sym (get_or-map wait_in s.places n never_used None within) ∙ waited in
           let was_waiting : idle (place_at s n) ≡ 0 = ap (λ x. if is_some x then 0 else 1) before_is in
           let shorter : length ws ≡ length b + suc (length a) = ap length is ∙ length-append b (w ∷ a) in
-          simp length-append (omega (arith, sum_by-set idle s.places n p never_used within, fits.room, shorter));
+          simp length-append (omega (arith, sum_by-set idle s.places n p never_used within, agree.room, shorter));
     }
 
 -- ---- reading a place

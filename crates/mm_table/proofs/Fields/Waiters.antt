@@ -9,26 +9,11 @@ use Rattle.mm_table.specs.declared.records.settle.Waiter.{Waiter}
 use Rattle.mm_rules.specs.TableState.{TableState, owner_of, wait_of, is_waiting, holder_of}
 use Rattle.mm_rules.specs.Change.{greater_label, transmit}
 use Rattle.mm_rules.specs.Laws.{WellFormed}
-use Rattle.mm_table.specs.Sweep.{IsWaiter, processes_of}
-use Rattle.mm_rules.proofs.States.Read.{WaitsHere, waits_here, held, waiting_is_some}
+use Rattle.mm_table.specs.private.Waiters.{IsWaiter, processes_of}
+use Rattle.mm_rules.proofs.States.Read.{unheld_idle, WaitsHere, waits_here, held, waiting_is_some}
 use Rattle.mm_rules.proofs.States.Transmit.{shown}
-use Rattle.mm_table.proofs.Kept.Slots.{all_append, all_map}
-use Rattle.mm_table.proofs.Kept.Rounds.{passes_next, fails_next}
-
--- in a well formed state whoever has no holder does not wait
-unheld_idle : (s : TableState) → WellFormed s → (n : ℕ) → holder_of s n ≡ None → is_waiting s n ≡ false
-unheld_idle s formed n unheld = by (wait_of s n) refl
-  where
-    by : (o : Option ℕ) → wait_of s n ≡ o → is_waiting s n ≡ false
-    by None idle = ap is_some idle
-    by (Some r) waits =
-        let here : WaitsHere s n r = waits_here s n r waits in
-        let owned = held s formed here.wait here.among in
-        let holder : holder_of s n ≡ Some owned.0.process =
-        ap (λ (o : Option ℕ). option_map (λ (k : Key). k.process) (option_and_then (owner_of s) o)) waits
-        ∙ ap (λ q. option_map (λ (k : Key). k.process) (owner_of s q)) (sym here.resource) ∙ ap (option_map (λ (k : Key). k.process)) owned.1 in
-        let never : None ≡ Some owned.0.process = sym unheld ∙ holder in
-        absurd (cc)
+use Rattle.mm_table.proofs.Fields.Slots.{all_append, all_map}
+use Rattle.mm_rules.proofs.States.Turns.{passes_next, fails_next}
 
 -- the waiters with processes below n
 pub record AreBelow (s : TableState) (n : ℕ) (ws : List Waiter) : Type 0 where

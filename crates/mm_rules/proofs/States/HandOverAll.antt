@@ -12,8 +12,7 @@ use Rattle.mm_rules.proofs.States.Handed.{MayHand}
 use Rattle.mm_rules.proofs.States.HandOver.{HandedOver, hand_over_keeps}
 use Rattle.mm_rules.proofs.States.Release.{owns_gives, may_hand}
 use Rattle.mm_rules.proofs.States.Vacate.{Vacating, begins, vacates, vacates_one}
-use Rattle.mm_table.proofs.Kept.HandOverOrder.{any_order}
-use Rattle.mm_table.proofs.Kept.HandingOver.{hand_over_totals}
+use Rattle.mm_rules.proofs.States.HandOverOrder.{any_order}
 
 -- fewer pass a test that only some pass that passed another
 filter_less : (p q : ℕ → Bool) (xs : List ℕ) → ((x : ℕ) → q x ≡ true → p x ≡ true) → length (filter q xs) ≤ length (filter p xs)
@@ -122,16 +121,6 @@ module _ (old s : TableState) (n r : ℕ) (way : IsUnderWay old s n) (among : In
       rw over.config (filter_fewer (owns s n) (owns (hand_over s r) n) (range_with_len 0 s.config.resources) r (λ q own. (owned_before q own).0) mine.0 mine.1 gone)
 
 -- ---- once all is handed over
-
-all_totals : (s : TableState) (rs : List ℕ) → (fold hand_over s rs).totals ≡ s.totals
-all_totals s [] = refl
-all_totals s (r ∷ rs) = all_totals (hand_over s r) rs ∙ hand_over_totals s r
-
-free_slot_totals : (s : TableState) (n : ℕ) → (free_slot s n).totals ≡ s.totals
-free_slot_totals s n = elim (cases_Bool (nat_lt (slice_index s.generations n) s.config.generation_limit)) [ inl again ↦ rw again refl | inr spent ↦ rw spent refl ]
-
-pub vacate_totals : (s : TableState) (n : ℕ) → (vacate s n).totals ≡ s.totals
-vacate_totals s n = free_slot_totals (fold hand_over s (resources_of s n)) n ∙ all_totals s (resources_of s n)
 
 -- its key is live still, and it has no verdict
 module _ (s : TableState) (k : Key) (laws : Laws s) (active : wait_of s k.process ≡ None) (fits : IsTrue (vacate_fits s k.process)) where

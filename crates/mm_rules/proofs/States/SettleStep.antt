@@ -9,7 +9,7 @@ use Rattle.mm_rules.specs.TableState.{TableState, is_waiting, waiting_processes}
 use Rattle.mm_rules.specs.Change.{greater_label, transmit, can_detect, detect, swept}
 use Rattle.mm_rules.specs.Event.{counts_exhausted, Settle, Step, Gives, outcome}
 use Rattle.mm_rules.specs.declared.refusal.Refusal.TheVariants.{CountsExhausted}
-use Rattle.mm_table.specs.Sweep.{IsSwept}
+use Rattle.mm_rules.specs.private.Stages.{IsSwept}
 use Rattle.mm_rules.proofs.States.Lists.{some_of_range_once}
 use Rattle.mm_rules.proofs.States.Outcomes.{counting}
 use Rattle.mm_rules.proofs.States.Transmit.{shown}
@@ -23,33 +23,6 @@ pub below_limit : (s : TableState) → counts_exhausted s ≡ false → (s.total
 below_limit s free =
     let both = or_parts (nat_le (2 ^ 62) s.totals.accepted) (nat_le (2 ^ 62) s.totals.verdicts) free in
     (leb-false (2 ^ 62) s.totals.accepted both.0, leb-false (2 ^ 62) s.totals.verdicts both.1)
-
--- ---- sweeps count nothing, and detects no accepted event
-
-shown_totals : (s : TableState) (n : ℕ) (o : Option Label) → (option_map_or (shown s n) o s).totals ≡ s.totals
-shown_totals s n None = refl
-shown_totals s n (Some l) = refl
-
-transmits_totals : (s : TableState) (ns : List ℕ) → (fold transmit s ns).totals ≡ s.totals
-transmits_totals s [] = refl
-transmits_totals s (n ∷ ns) = transmits_totals (transmit s n) ns ∙ shown_totals s n (greater_label s n)
-
-swept_totals : (s : TableState) (n : ℕ) → (swept s n).totals ≡ s.totals
-swept_totals s zero = refl
-swept_totals s (suc n) = transmits_totals (swept s n) (waiting_processes (swept s n)) ∙ swept_totals s n
-
-pub sweeps_totals : (old : TableState) (raises : ℕ) (mid : TableState) → IsSwept old raises mid → mid.totals ≡ old.totals
-sweeps_totals old raises mid all = ap (λ (s : TableState). s.totals) all.state ∙ swept_totals old all.sweeps
-
-detect_accepted : (s : TableState) (n : ℕ) → (detect s n).totals.accepted ≡ s.totals.accepted
-detect_accepted s n = elim (cases_Bool (can_detect s n)) [
-  | inl can ↦ ap (λ (t : TableState). t.totals.accepted) (detect_convicts s n can)
-  | inr no_detect ↦ ap (λ (t : TableState). t.totals.accepted) (detect_still s n no_detect)
-]
-
-pub detects_accepted : (s : TableState) (ns : List ℕ) → (fold detect s ns).totals.accepted ≡ s.totals.accepted
-detects_accepted s [] = refl
-detects_accepted s (n ∷ ns) = detects_accepted (detect s n) ns ∙ detect_accepted s n
 
 -- ---- the whole
 

@@ -14,29 +14,12 @@ use Rattle.mm_table.specs.declared.records.Labels.{Labels}
 use Rattle.mm_table.specs.declared.records.WaitRecord.{WaitRecord}
 use Rattle.mm_rules.specs.TableState.{is_live, waited_for}
 use Rattle.mm_rules.specs.Change.{free_slot}
-use Rattle.mm_table.specs.Kept.{idle, wait_in, verdict_in, wait_kept, state_of_parts, PartsFit}
-use Rattle.mm_table.proofs.Kept.Slots.{holds, same_slot}
-use Rattle.mm_table.proofs.Kept.Parts.{wait_read, among_waits}
-
--- a live key, by the state, has a value in its slot
-live_found : (places : List (Place Transaction)) (n g : ℕ) → slice_index_or (map (λ p. is_some p.value) places) n false && nat_eq (slice_index (map (λ p. p.generation) places) n) g ≡ true
-    → is_some (value_under g (slice_index_or places n never_used)) ≡ true
-live_found [] n g live = let never : false ≡ true = live in cc
-live_found (p ∷ places) zero g live = let both = and_parts (is_some p.value) (nat_eq p.generation g) live in rw both.1 both.0
-live_found (p ∷ places) (suc n) g live = live_found places n g live
-
-its_value : (v : Option Transaction) → is_some v ≡ true → (o : Transaction) × (v ≡ Some o)
-its_value None some = let never : false ≡ true = some in cc
-its_value (Some o) some = (o, refl)
-
-pub live_value : (c : Config) (s : Slots Transaction) (ls : List Labels) (os : List (Option Key)) (ws : List WaitRecord) (t : Totals) (k : Key) → is_live (state_of_parts c s ls os ws t) k ≡ true → (o : Transaction) × (lookup s k ≡ Some o)
-live_value c s ls os ws t k live = its_value (lookup s k) (live_found s.places k.process k.generation live)
-
-pub its_verdict : (s : Slots Transaction) (k : Key) (o : Transaction) → lookup s k ≡ Some o → slice_index_or (map verdict_in s.places) k.process false ≡ o.has_verdict
-its_verdict s k o found = let held = holds s k o found in get_or-map verdict_in s.places k.process never_used false held.within ∙ ap verdict_in held.place
+use Rattle.mm_table.specs.private.Records.{idle, wait_in, verdict_in, wait_of_record, state_of_fields, AreSized, WaitsAgree}
+use Rattle.mm_table.proofs.Fields.Slots.{holds, same_slot, sized_slots}
+use Rattle.mm_table.proofs.Fields.Waits.{wait_read, among_waits}
 
 module _ (c : Config) (s : Slots Transaction) (ls : List Labels) (os : List (Option Key)) (ws : List WaitRecord) (k : Key) (o : Transaction)
-    (found : lookup s k ≡ Some o) (fits : PartsFit c s ls os ws) where
+    (found : lookup s k ≡ Some o) (sizes : AreSized c s ls os) (agree : WaitsAgree c s ws) where
   abbrev empty : ℕ → Place Transaction
   empty generation = record { generation = generation; value = None }
 
@@ -52,14 +35,14 @@ module _ (c : Config) (s : Slots Transaction) (ls : List Labels) (os : List (Opt
   is_vacated : removed s k ≡ vacated s k
   is_vacated = ap (λ v. if is_some v then vacated s k else s) found
 
-  -- ---- what the parts stand for then
+  -- ---- what the fields stand for then
 
   module _ (t : Totals) (no_verdict : o.has_verdict ≡ false) where
     same_verdicts : (generation : ℕ) → map verdict_in (slice_set s.places k.process (empty generation)) ≡ map verdict_in s.places
     same_verdicts generation = same_slot verdict_in s k.process (empty generation) (sym no_verdict ∙ ap verdict_in (sym place))
 
-    freed_is : state_of_parts c (freed s k) ls os ws t
-        ≡ record (state_of_parts c s ls os ws t) {
+    freed_is : state_of_fields c (freed s k) ls os ws t
+        ≡ record (state_of_fields c s ls os ws t) {
           live = slice_set (map (λ p. is_some p.value) s.places) k.process false;
           generations = slice_set (map (λ p. p.generation) s.places) k.process (k.generation + 1);
           free = k.process ∷ s.free;
@@ -67,29 +50,39 @@ module _ (c : Config) (s : Slots Transaction) (ls : List Labels) (os : List (Opt
     freed_is =
         rw (map-set (λ p. p.generation) s.places k.process (empty (k.generation + 1)), map-set (λ p. is_some p.value) s.places k.process (empty (k.generation + 1)), same_verdicts (k.generation + 1)) refl
 
-    retired_is : state_of_parts c (retired s k) ls os ws t ≡ record (state_of_parts c s ls os ws t) { live = slice_set (map (λ p. is_some p.value) s.places) k.process false }
+    retired_is : state_of_fields c (retired s k) ls os ws t ≡ record (state_of_fields c s ls os ws t) { live = slice_set (map (λ p. is_some p.value) s.places) k.process false }
     retired_is =
         rw (same_slot (λ p. p.generation) s k.process (empty k.generation) (ap (λ p. p.generation) (sym place)), map-set (λ p. is_some p.value) s.places k.process (empty k.generation), same_verdicts k.generation) refl
 
-    pub left : state_of_parts c (removed s k) ls os ws t ≡ free_slot (state_of_parts c s ls os ws t) k.process
-    left =
-        let last = fits.last_generation in
-        ap (λ v. state_of_parts c v ls os ws t) is_vacated
+    pub slot_freed : state_of_fields c (removed s k) ls os ws t ≡ free_slot (state_of_fields c s ls os ws t) k.process
+    slot_freed =
+        let last = sizes.last_generation in
+        ap (λ v. state_of_fields c v ls os ws t) is_vacated
         ∙ elim (cases_Bool (nat_lt k.generation c.generation_limit)) [
           | inl again ↦ rw (generation_is, last, again) freed_is
           | inr spent ↦ rw (generation_is, last, spent) retired_is
         ]
 
-  -- ---- the parts still fit
+  -- ---- sizes, and the waits
 
-  module _ (active : waited_for (map wait_kept ws) k.process ≡ None) where
+  pub slot_freed_sized : (new : Slots Transaction) → new ≡ removed s k → AreSized c new ls os
+  slot_freed_sized new is = elim (cases_Bool (nat_lt k.generation s.limit)) [
+    | inl again ↦
+        let now : new ≡ freed s k = is ∙ is_vacated ∙ rw again refl in
+        sized_slots new (ap (λ (v : Slots Transaction). length v.places) now ∙ length-set s.places k.process (empty (k.generation + 1))) (ap (λ (v : Slots Transaction). v.limit) now) sizes
+    | inr spent ↦
+        let now : new ≡ retired s k = is ∙ is_vacated ∙ rw spent refl in
+        sized_slots new (ap (λ (v : Slots Transaction). length v.places) now ∙ length-set s.places k.process (empty k.generation)) (ap (λ (v : Slots Transaction). v.limit) now) sizes
+  ]
+
+  module _ (active : waited_for (map wait_of_record ws) k.process ≡ None) where
     no_wait : o.waits_for ≡ None
-    no_wait = sym (wait_read fits k o found) ∙ active
+    no_wait = sym (wait_read agree k o found) ∙ active
 
     -- the slots have changed so, and nothing else
-    fits_with : (new : Slots Transaction) (generation : ℕ) → new.places ≡ slice_set s.places k.process (empty generation) → new.limit ≡ s.limit
-        → ((other : Key) → other ≢ k → lookup new other ≡ lookup s other) → PartsFit c new ls os ws
-    fits_with new generation are limit others =
+    agrees_with : (new : Slots Transaction) (generation : ℕ) → new.places ≡ slice_set s.places k.process (empty generation)
+        → ((other : Key) → other ≢ k → lookup new other ≡ lookup s other) → WaitsAgree c new ws
+    agrees_with new generation are others =
         let p : Place Transaction = empty generation in
         let no_wait_here : wait_in p ≡ wait_in (place_at s k.process) = sym no_wait ∙ ap wait_in (sym place) in
         let same_waits : map wait_in new.places ≡ map wait_in s.places = ap (map wait_in) are ∙ same_slot wait_in s k.process p no_wait_here in
@@ -98,17 +91,11 @@ module _ (c : Config) (s : Slots Transaction) (ls : List Labels) (os : List (Opt
         let apart : w.key ≢ k = λ e. among_waits ws k.process (subst (λ (j : Key). Among j.process (map (λ v. v.key.process) ws)) e here) active in
         subst (λ v. is_some v ≡ true) (sym (others w.key apart)) now in
         record {
-          config_in_range = fits.config_in_range;
-          slots_sized = ap length are ∙ length-set s.places k.process p ∙ fits.slots_sized;
-          labels_sized = fits.labels_sized;
-          owners_sized = fits.owners_sized;
-          last_generation = limit ∙ fits.last_generation;
-          owner_in_range = fits.owner_in_range;
-          wait_in_range = λ m r waits. fits.wait_in_range m r (ap (λ xs. slice_index_or xs m None) (sym same_waits) ∙ waits);
-          waiting = λ m. ap (λ xs. slice_index_or xs m None) same_waits ∙ fits.waiting m;
-          waits_once = fits.waits_once;
-          waits_live = all_among ws (λ w here now. live w here now) ws (λ n here. here) fits.waits_live;
-          room = omega (arith, ap (λ xs. sum_by idle xs) are, sum_by-set idle s.places k.process p never_used within, fits.room);
+          in_range = λ m r waits. agree.in_range m r (ap (λ xs. slice_index_or xs m None) (sym same_waits) ∙ waits);
+          waiting = λ m. ap (λ xs. slice_index_or xs m None) same_waits ∙ agree.waiting m;
+          once = agree.once;
+          live = all_among ws (λ w here now. live w here now) ws (λ n here. here) agree.live;
+          room = omega (arith, ap (λ xs. sum_by idle xs) are, sum_by-set idle s.places k.process p never_used within, agree.room);
         }
       where
         all_among : (all : List WaitRecord) → ((w : WaitRecord) → Among w.key.process (map (λ v. v.key.process) all) → IsLive s w.key → IsLive new w.key)
@@ -116,14 +103,14 @@ module _ (c : Config) (s : Slots Transaction) (ls : List Labels) (os : List (Opt
         all_among all each [] sub lives = tt
         all_among all each (x ∷ xs) sub lives = (each x (sub x.key.process (inl refl)) lives.0, all_among all each xs (λ n later. sub n (inr later)) lives.1)
 
-    pub left_fits : (new : Slots Transaction) → new ≡ removed s k → ((other : Key) → other ≢ k → lookup new other ≡ lookup s other) → PartsFit c new ls os ws
-    left_fits new is others =
+    pub slot_freed_agrees : (new : Slots Transaction) → new ≡ removed s k → ((other : Key) → other ≢ k → lookup new other ≡ lookup s other) → WaitsAgree c new ws
+    slot_freed_agrees new is others =
         let now : new ≡ vacated s k = is ∙ is_vacated in
         elim (cases_Bool (nat_lt k.generation s.limit)) [
           | inl again ↦
               let was : vacated s k ≡ freed s k = rw again refl in
-              fits_with new (k.generation + 1) (ap (λ v. v.places) (now ∙ was)) (ap (λ v. v.limit) (now ∙ was)) others
+              agrees_with new (k.generation + 1) (ap (λ v. v.places) (now ∙ was)) others
           | inr spent ↦
               let was : vacated s k ≡ retired s k = rw spent refl in
-              fits_with new k.generation (ap (λ v. v.places) (now ∙ was)) (ap (λ v. v.limit) (now ∙ was)) others
+              agrees_with new k.generation (ap (λ v. v.places) (now ∙ was)) others
         ]

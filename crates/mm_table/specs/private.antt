@@ -1,0 +1,10 @@
+-- How a table is kept: what invariants and the contracts of private functions cite. No public clause cites these files.
+
+-- what the fields of `Records` stand for, and what holds of them
+pub mod Records
+-- what holds of every `Table`
+pub mod Table
+-- queues, found in the one list of waits
+pub mod Queues
+-- those that a settle goes over
+pub mod Waiters
