@@ -1,8 +1,8 @@
 -- Reads of lists of which an element was set, and of lists that were filled with one value.
-use Rattle.std.proofs.Common.{◌≡◌, ◌≢◌, ℕ, zero, suc, ◌<◌, Bool, true, false, List, length, replicate, slice_index_or, slice_set, slice_get, Some, inl, inr, refl, sym, ap, ◌∙◌, arith, length-set, get_or-set_same, get_or-set_other}
+use Rattle.std.proofs.Common.{◌≡◌, ◌≢◌, ℕ, zero, suc, ◌<◌, Bool, true, false, List, length, [], ◌∷◌, replicate, slice_index_or, slice_set, slice_get, Some, inl, inr, refl, sym, ap, ◌∙◌, arith, length-set, get_or-set_same, get_or-set_other}
 use Rattle.std.proofs.lemmas.Bool.{cases_eq, cases_lt}
 use Rattle.std.proofs.lemmas.List.{get_or_past, set_past}
-use Rattle.std.proofs.lemmas.Option.{slice_get_within, slice_get-get_or}
+use Rattle.std.proofs.lemmas.Option.{slice_get-get_or}
 
 -- a read that gives true is within the list
 pub true_within : (xs : List Bool) (n : ℕ) → slice_index_or xs n false ≡ true → n < length xs
@@ -26,12 +26,12 @@ slice_get-set_same xs n x inside =
     let here : n < length (slice_set xs n x) = omega (arith, length-set xs n x) in
     slice_get-get_or (slice_set xs n x) n x here ∙ ap Some (get_or-set_same xs n x x inside)
 
-pub slice_get-set_other : {X : Type 0} (xs : List X) (n m : ℕ) (x y : X) → m ≢ n → slice_get xs m ≡ Some y → slice_get (slice_set xs n x) m ≡ Some y
-slice_get-set_other xs n m x y other e =
-    let inside : m < length xs = slice_get_within xs m y e in
-    let here : m < length (slice_set xs n x) = omega (arith, length-set xs n x) in
-    let was : Some (slice_index_or xs m y) ≡ Some y = sym (slice_get-get_or xs m y inside) ∙ e in
-    slice_get-get_or (slice_set xs n x) m y here ∙ ap Some (get_or-set_other xs n m x y other) ∙ was
+pub slice_get-set_other : {X : Type 0} (xs : List X) (i k : ℕ) (x : X) → i ≢ k → slice_get (slice_set xs k x) i ≡ slice_get xs i
+slice_get-set_other [] i k x other = refl
+slice_get-set_other (y ∷ ys) zero zero x other = absurd (other refl)
+slice_get-set_other (y ∷ ys) zero (suc k) x other = refl
+slice_get-set_other (y ∷ ys) (suc i) zero x other = refl
+slice_get-set_other (y ∷ ys) (suc i) (suc k) x other = slice_get-set_other ys i k x (λ same. other (ap suc same))
 
 -- ---- one value, n times
 

@@ -1,5 +1,5 @@
 -- Begin keeps the laws: a free process gets a live key, and nothing else changes.
-use Rattle.std.proofs.Common.{◌≡◌, ℕ, true, false, drop, nat_eq, slice_index, slice_index_or, slice_set, slice_get, Some, IsTrue, refl, length-set}
+use Rattle.std.proofs.Common.{◌≡◌, ℕ, true, false, drop, nat_eq, slice_index, slice_index_or, slice_set, slice_get, Some, IsTrue, refl, ◌∙◌, length-set}
 use Rattle.std.proofs.lemmas.Bool.{and_parts, and_from}
 use Rattle.mm_arena.specs.declared.key.Key.{Key}
 use Rattle.mm_lists.proofs.Members.{all_at, all_from, all_rest, first_apart, no_repeat_rest}
@@ -37,7 +37,7 @@ made_live_keeps s laws = record {
         verdicts = laws.lawful.well_formed.verdicts;
         free = all_from _ (drop 1 s.free) (λ m among.
             let was : slice_get s.live m ≡ Some false = all_at (λ n. slice_get s.live n ≡ Some false) (drop 1 s.free) m (all_rest (λ n. slice_get s.live n ≡ Some false) s.free laws.lawful.well_formed.free) among in
-            slice_get-set_other s.live (slice_index s.free 0) m true false (first_apart s.free laws.lawful.well_formed.free_once m among) was);
+            slice_get-set_other s.live m (slice_index s.free 0) true (first_apart s.free laws.lawful.well_formed.free_once m among) ∙ was);
         free_once = no_repeat_rest s.free laws.lawful.well_formed.free_once;
       };
       private_labels = record { own = laws.lawful.private_labels.own; at_most_public = laws.lawful.private_labels.at_most_public };

@@ -40,7 +40,7 @@ module _ (s : TableState) (n : ℕ) (vacant : IsVacant s n) where
 
   free_still : (m : ℕ) → Among m s.free → slice_get (slice_set s.live n false) m ≡ Some false
   free_still m among =
-      slice_get-set_other s.live n m false false (free_apart m among) (all_at (λ i. slice_get s.live i ≡ Some false) s.free m vacant.laws.lawful.well_formed.free among)
+      slice_get-set_other s.live m n false (free_apart m among) ∙ all_at (λ i. slice_get s.live i ≡ Some false) s.free m vacant.laws.lawful.well_formed.free among
 
   module _ (generations : List ℕ) (free : List ℕ) (else_same : (m : ℕ) → m ≢ n → slice_index generations m ≡ slice_index s.generations m) where
     live_still : (k : Key) → k.process ≢ n → IsTrue (is_live s k) → IsTrue (is_live (freed s n generations free) k)
