@@ -9,18 +9,17 @@ pub mod Cycles
 pub mod Block
 pub mod Raise
 pub mod Activate
-pub mod Labelled
-pub mod Opening
--- a process whose label returned
-pub mod Returned
-pub mod Stays
--- a whole hand-over
-pub mod Put
+pub mod LabelMakers
+-- a process whose label returned is deadlocked, and its label stays returned
+pub mod Deadlocked
+pub mod LabelReturned
+-- a graph with one process changed, and a whole hand-over
+pub mod Update
 pub mod HandOver
--- raises until none applies
-pub mod Settled
-pub mod Greatest
+-- raises until none applies: what then holds, how many there are, and that sweeps come to their end
+pub mod IsSettled
+pub mod IsGreatest
 pub mod RaiseRun
-pub mod Few
+pub mod RaiseBound
 pub mod Settle
-pub mod Ends
+pub mod SettleEnds

@@ -1,17 +1,17 @@
 -- From the wait graph to the states of the table: each event keeps all laws, and what follows for every state that is reached.
 
--- lists, labels, and how waits are read
-pub mod Lists
-pub mod Words
-pub mod Read
+-- the order of labels, how waits, owners and holders are read, and the lengths of a state's lists
+pub mod LabelOrder
+pub mod Lookups
+pub mod IsSized
 -- a lawful state has a lawful graph, and what an event has to keep
-pub mod Lawful
-pub mod Outcomes
+pub mod Laws
+pub mod Outcome
 -- a table that was just opened
 pub mod Opening
 -- begin and acquire
 pub mod Begin
-pub mod Relabel
+pub mod Relabels
 pub mod Grant
 pub mod Acquire
 -- transmit and detect
@@ -21,8 +21,8 @@ pub mod Detect
 pub mod Activate
 pub mod GiveUp
 -- a hand-over, which is all of a release
-pub mod Blocks
-pub mod Handed
+pub mod Block
+pub mod HandOverLaws
 pub mod HandOver
 pub mod Release
 -- queues as lists, and hand-overs in any order
@@ -33,11 +33,12 @@ pub mod FreeSlot
 pub mod Vacate
 pub mod Abort
 pub mod HandOverAll
--- settle
-pub mod Sweeps
+-- settle: sweeps, how many labels they raise, and the detects of all that wait
+pub mod Sweep
 pub mod SweepRaises
-pub mod Convictions
-pub mod Settling
+pub mod DetectAll
+pub mod Settle
+-- settle as a loop: one process after the other, sweep after sweep, and the whole
 pub mod Turns
 pub mod SweepLoop
 pub mod SettleStep
@@ -45,11 +46,11 @@ pub mod SettleStep
 pub mod Totals
 pub mod Tenants
 -- all events, and what follows
-pub mod Configs
-pub mod Events
-pub mod Few
-pub mod Sound
-pub mod Reached
+pub mod Config
+pub mod EventsKeepLaws
+pub mod RaiseBound
+pub mod SoundVerdicts
+pub mod LawsAreNotEmpty
 -- keys
 pub mod SpentKeys
 pub mod Keys

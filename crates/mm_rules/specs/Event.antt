@@ -195,7 +195,8 @@ IsReached c s = (es : List Event) × Run (opening c) es s
 
 -- ---- opening and reads
 
--- `open` is refused for a number out of range, and else only for want of memory; it gives the opening of the configuration
+-- `open` is refused for a number out of range, and else only for want of memory; it gives the opening of the configuration.
+-- When `Memory` comes is left open: only where a request for memory was refused, which no clause can say.
 abbrev pub Opens : Config → Result TableState Refusal → Type 0
 Opens c (Ok s) = IsInRange c × (s ≡ opening c)
 Opens c (Err e) = ((e ≡ BadConfig) × ¬ IsInRange c) ⊎ ((e ≡ Memory) × IsInRange c)

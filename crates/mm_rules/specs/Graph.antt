@@ -36,16 +36,16 @@ pub record Cycle (g : Graph) (v : ℕ) (places : List ℕ) : Type 0 where
 
 -- ---- labels along the waits
 
--- k, whose own label is older than L, shows L or a greater label
-pub record Carries (g : Graph) (L k : ℕ) : Type 0 where
+-- k relays L: its own label is older than L, and it shows L or a greater label
+pub record Relays (g : Graph) (L k : ℕ) : Type 0 where
   pub older : g.private k < L
   pub shown : L ≤ g.public k
 
--- L came from m to n: there is a path from n to m, on which each process before m carries it
-pub record Carried (g : Graph) (L n m : ℕ) : Type 0 where
+-- L was propagated from m to n: there is a path from n to m, on which each process before m relays it
+pub record Propagated (g : Graph) (L n m : ℕ) : Type 0 where
   pub apart : n ≢ m
   pub places : List ℕ
-  pub along : Walk g (λ k. (k ≢ m) × Carries g L k) n places m
+  pub along : Walk g (λ k. (k ≢ m) × Relays g L k) n places m
 
 -- a process at which L goes no further
 abbrev pub Tops : Graph → ℕ → ℕ → Type 0
@@ -86,8 +86,8 @@ abbrev pub RisingLaw : Graph → Type 0
 RisingLaw g = (k h : ℕ) → WaitsFor g k h → (g.public k ≡ g.private k) ⊎ (g.public k ≤ g.public h)
 
 -- where another process shows the own label of a waiting one, that label came to it along the waits
-abbrev pub CarriedLaw : Graph → Type 0
-CarriedLaw g = (m h n : ℕ) → WaitsFor g m h → n < g.processes → n ≢ m → g.public n ≡ g.private m → Carried g (g.private m) n m
+abbrev pub PropagatedLaw : Graph → Type 0
+PropagatedLaw g = (m h n : ℕ) → WaitsFor g m h → n < g.processes → n ≢ m → g.public n ≡ g.private m → Propagated g (g.private m) n m
 
 abbrev pub ToppedLaw : Graph → Type 0
 ToppedLaw g = (k h : ℕ) → WaitsFor g k h → Topped g k

@@ -10,7 +10,7 @@ use Rattle.mm_rules.specs.declared.reply.Transmitted.TheVariants.{Raised}
 use Rattle.mm_rules.specs.TableState.{TableState, Wait, IsInRange, IsSized, opening, is_live, private_of, public_of, has_verdict, owner_of, is_waiting, waiting_processes, graph_of}
 use Rattle.mm_rules.specs.Event.{Event, Begin, Transmit, Detect, Settle, Answer, Step, Run, IsReached, Settles}
 use Rattle.mm_lists.specs.Members.{Among, NoRepeat}
-use Rattle.mm_rules.specs.Graph.{Cycle, LabelReturned, Deadlocked, IsGreatest, CarriedLaw, RisingLaw, ToppedLaw, IsSettled}
+use Rattle.mm_rules.specs.Graph.{Cycle, LabelReturned, Deadlocked, IsGreatest, PropagatedLaw, RisingLaw, ToppedLaw, IsSettled}
 
 -- ---- lawful
 
@@ -44,7 +44,7 @@ pub record Lawful (s : TableState) : Type 0 where
   pub well_formed : WellFormed s
   pub private_labels : PrivateLabels s
   pub label_bounds : LabelBounds s
-  pub carried : CarriedLaw (graph_of s)
+  pub propagated : PropagatedLaw (graph_of s)
   pub rising : RisingLaw (graph_of s)
   pub counted : s.totals.verdicts ≡ s.totals.aborts + count_by (λ v. v) s.verdicts
 
@@ -161,8 +161,8 @@ raises_told [] old new run = 0
 raises_told (e ∷ es) old new (mid, reply, step, rest) = raise_told e reply + raises_told es mid new rest
 
 -- transmits and detects alone, however many, raise at most so many labels
-abbrev pub RaisesAreFew : Type 0
-RaisesAreFew = (old new : TableState) (es : List Event) → TransmitsAndDetects es → (run : Run old es new) → Laws old → raises_told es old new run ≤ most_raises old
+abbrev pub RaisesAreBounded : Type 0
+RaisesAreBounded = (old new : TableState) (es : List Event) → TransmitsAndDetects es → (run : Run old es new) → Laws old → raises_told es old new run ≤ most_raises old
 
 -- from each lawful state some sweep is the first that raises nothing, so a settle always has an outcome
 abbrev pub SettleEnds : Type 0
@@ -172,7 +172,7 @@ SettleEnds = (s : TableState) → Laws s → (n : ℕ) × Settles s n
 pub record RestsFrom (old new : TableState) (answer : Settled) : Type 0 where
   pub at_rest : AtRest new
   pub greatest : (k : ℕ) → IsGreatest (graph_of old) k (word_of (public_of new k))
-  pub few : answer.raises ≤ most_raises old
+  pub raise_bound : answer.raises ≤ most_raises old
 
 -- so it is after each accepted settle
 abbrev pub SettleGivesRest : Type 0

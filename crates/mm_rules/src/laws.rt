@@ -1,7 +1,7 @@
 //! Facts about all tables. Each function does nothing; its contract is the fact, over the definitions of `specs/`.
-ghost use Rattle.mm_rules.specs.Laws.{EventsKeepLaws, KeysAreFresh, KeysNeverReturn, LawsAreNotEmpty, OpeningIsLawful, PublicLabelsNeverFall, QuietHasNoCycle, RaisesAreFew, ReachedIsLawful, SettleEnds, SettleGivesRest, VerdictsAreSound};
+ghost use Rattle.mm_rules.specs.Laws.{EventsKeepLaws, KeysAreFresh, KeysNeverReturn, LawsAreNotEmpty, OpeningIsLawful, PublicLabelsNeverFall, QuietHasNoCycle, RaisesAreBounded, ReachedIsLawful, SettleEnds, SettleGivesRest, VerdictsAreSound};
 
-/// The state of a table that was just opened is lawful, convicted lawfully and topped, whatever its configuration.
+/// The state of a table that was just opened keeps all laws, whatever its configuration, as long as that is in range.
 pub fn opening_is_lawful()
     ensures { OpeningIsLawful }
 {}
@@ -47,8 +47,8 @@ pub fn keys_never_return()
 {}
 
 /// Transmits and detects alone raise no more labels than there are waiting processes, times processes.
-pub fn raises_are_few()
-    ensures { RaisesAreFew }
+pub fn raises_are_bounded()
+    ensures { RaisesAreBounded }
 {}
 
 /// A settle always ends.

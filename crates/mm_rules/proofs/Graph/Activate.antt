@@ -1,8 +1,8 @@
--- An activation keeps the laws: the process that becomes active stands before the end of no walk that carries a label, and tops what it ended.
+-- An activation keeps the laws: the process that becomes active stands before the end of no walk that relays a label, and tops what it ended.
 use Rattle.std.specs.Prelude.{ℕ, ◌≡◌, ◌≢◌, ◌≤◌, List, [], ◌∷◌}
 use Rattle.std.proofs.Common.{inl, inr, arith, sym, ◌∙◌, refl}
 use Rattle.std.proofs.Math.Decide.{ℕ_discrete}
-use Rattle.mm_rules.specs.Graph.{Graph, WaitsFor, IsWaiting, Walk, Path, Carries, Carried, Tops, Topped, RisingLaw, CarriedLaw, ToppedLaw}
+use Rattle.mm_rules.specs.Graph.{Graph, WaitsFor, IsWaiting, Walk, Path, Relays, Propagated, Tops, Topped, RisingLaw, PropagatedLaw, ToppedLaw}
 use Rattle.mm_rules.proofs.Graph.Laws.{OrderedLaw, OwnLaw, WithinLaw, ApartLaw, IsLawful}
 use Rattle.mm_rules.proofs.Graph.Change.{Activates}
 use Rattle.mm_rules.proofs.Graph.Walks.{one_holder, active_waits_not, begins_waiting, OnTheWay}
@@ -39,9 +39,9 @@ module _ (g new : Graph) (n h : ℕ) (a : Activates g n h new) where
     | inr up ↦ inr (omega (arith, a.publics k, a.publics j))
   ]
 
-  -- n leaves no walk to a process that waits: its holder is active, or it shows its own label and so carries none
-  leaves_no_walk : (M m j : ℕ) (places : List ℕ) → IsWaiting g m → WaitsFor g n j → Carries g M n → Walk g (OnTheWay g M m) j places m → ⊥
-  leaves_no_walk M m j places waiting waits carries rest = elim a.may [
+  -- n leaves no walk to a process that waits: its holder is active, or it shows its own label and so relays none
+  leaves_no_walk : (M m j : ℕ) (places : List ℕ) → IsWaiting g m → WaitsFor g n j → Relays g M n → Walk g (OnTheWay g M m) j places m → ⊥
+  leaves_no_walk M m j places waiting waits relays rest = elim a.may [
     | inl active ↦
         let begins : IsWaiting g j = begins_waiting g (OnTheWay g M m) j places m rest waiting in
         active_waits_not g j (rw (one_holder g n j h waits a.waited) active) begins
@@ -51,15 +51,15 @@ module _ (g new : Graph) (n h : ℕ) (a : Activates g n h new) where
   activate_keeps_walk : (M m : ℕ) → IsWaiting g m → (k : ℕ) (places : List ℕ)
       → Walk g (OnTheWay g M m) k places m → Walk new (OnTheWay new M m) k places m
   activate_keeps_walk M m waiting k [] end = end
-  activate_keeps_walk M m waiting k (j ∷ places) ((apart, carries), waits, rest) =
-      let here : k ≢ n = λ e. leaves_no_walk M m j places waiting (rw e at waits) (rw e at carries) rest in
-      let still : Carries new M k = record { older = omega (arith, a.privates k); shown = omega (arith, a.publics k) } in
+  activate_keeps_walk M m waiting k (j ∷ places) ((apart, relays), waits, rest) =
+      let here : k ≢ n = λ e. leaves_no_walk M m j places waiting (rw e at waits) (rw e at relays) rest in
+      let still : Relays new M k = record { older = omega (arith, a.privates k); shown = omega (arith, a.publics k) } in
       ((apart, still), a.holders k here ∙ waits, activate_keeps_walk M m waiting j places rest)
 
-  activate_keeps_carried : CarriedLaw g → CarriedLaw new
-  activate_keeps_carried law m j k waits k_in apart meets =
+  activate_keeps_propagated : PropagatedLaw g → PropagatedLaw new
+  activate_keeps_propagated law m j k waits k_in apart meets =
       let before : WaitsFor g m j = (waits_before m j waits).1 in
-      let was : Carried g (g.private m) k m = law m j k before (omega arith) apart (sym (a.publics k) ∙ meets ∙ a.privates m) in
+      let was : Propagated g (g.private m) k m = law m j k before (omega arith) apart (sym (a.publics k) ∙ meets ∙ a.privates m) in
       rw (a.privates m) record {
         apart = apart;
         places = was.places;
@@ -110,6 +110,6 @@ module _ (g new : Graph) (n h : ℕ) (a : Activates g n h new) where
     within = activate_keeps_within laws.within;
     apart = activate_keeps_apart laws.apart;
     rising = activate_keeps_rising laws.rising;
-    carried = activate_keeps_carried laws.carried;
+    propagated = activate_keeps_propagated laws.propagated;
     topped = activate_keeps_topped laws.rising laws.topped;
   }

@@ -2,7 +2,7 @@
 use Rattle.std.specs.Prelude.{ℕ, ◌≡◌, ◌≢◌, ◌⊎◌, [], ⊤}
 use Rattle.std.proofs.Common.{inl, inr, arith, sym, ◌∙◌, refl}
 use Rattle.std.proofs.Math.Decide.{ℕ_discrete}
-use Rattle.mm_rules.specs.Graph.{Graph, WaitsFor, Carried, Tops, Topped, RisingLaw, CarriedLaw, ToppedLaw}
+use Rattle.mm_rules.specs.Graph.{Graph, WaitsFor, Propagated, Tops, Topped, RisingLaw, PropagatedLaw, ToppedLaw}
 use Rattle.mm_rules.proofs.Graph.Laws.{OrderedLaw, OwnLaw, WithinLaw, ApartLaw, IsLawful}
 use Rattle.mm_rules.proofs.Graph.Change.{SameAt, Blocks}
 use Rattle.mm_rules.proofs.Graph.Walks.{active_waits_not, walk_again, OnTheWay}
@@ -36,22 +36,22 @@ module _ (g new : Graph) (n h L : ℕ) (b : Blocks g n h L new) where
   block_keeps_rising : RisingLaw g → RisingLaw new
   block_keeps_rising law k j waits = grind (arith, law k j, waits_before k j waits, b.others k, b.others j, ℕ_discrete j n)
 
-  block_keeps_carries : (M m k j : ℕ) → WaitsFor g k j → OnTheWay g M m k → OnTheWay new M m k × WaitsFor new k j
-  block_keeps_carries M m k j waits (apart, carries) =
+  block_keeps_relays : (M m k j : ℕ) → WaitsFor g k j → OnTheWay g M m k → OnTheWay new M m k × WaitsFor new k j
+  block_keeps_relays M m k j waits (apart, relays) =
       let still : (k ≢ n) × WaitsFor new k j = waits_still k j waits in
       let same : SameAt g new k = b.others k still.0 in
       ((apart, record { older = omega arith; shown = omega arith }), still.1)
 
-  block_keeps_carried : WithinLaw g → CarriedLaw g → CarriedLaw new
-  block_keeps_carried within law m j k waits k_in apart meets = elim (waits_before m j waits) [
+  block_keeps_propagated : WithinLaw g → PropagatedLaw g → PropagatedLaw new
+  block_keeps_propagated within law m j k waits k_in apart meets = elim (waits_before m j waits) [
     | inl now ↦ absurd (grind (arith, b.others k, b.fresh k))
     | inr before ↦
         let other : k ≢ n = grind (arith, b.fresh m, within m j, b.others m) in
-        let was : Carried g (g.private m) k m = law m j k before.1 (omega arith) apart (grind (arith, b.others k)) in
+        let was : Propagated g (g.private m) k m = law m j k before.1 (omega arith) apart (grind (arith, b.others k)) in
         rw (b.others m before.0).private record {
           apart = apart;
           places = was.places;
-          along = walk_again g new _ (OnTheWay new (g.private m) m) (block_keeps_carries (g.private m) m) k was.places m was.along;
+          along = walk_again g new _ (OnTheWay new (g.private m) m) (block_keeps_relays (g.private m) m) k was.places m was.along;
         }
   ]
 
@@ -91,6 +91,6 @@ module _ (g new : Graph) (n h L : ℕ) (b : Blocks g n h L new) where
     within = block_keeps_within laws.within;
     apart = block_keeps_apart laws.apart;
     rising = block_keeps_rising laws.rising;
-    carried = block_keeps_carried laws.within laws.carried;
+    propagated = block_keeps_propagated laws.within laws.propagated;
     topped = block_keeps_topped laws.topped;
   }

@@ -4,14 +4,14 @@ use Rattle.std.proofs.Common.{inl, inr, arith, sym, subst, ◌∙◌, refl}
 use Rattle.std.proofs.Math.Decide.{ℕ_discrete}
 use Rattle.mm_lists.specs.Members.{Among, NoRepeat}
 use Rattle.mm_rules.specs.Graph.{Graph, WaitsFor, IsActive, LabelReturned}
-use Rattle.mm_rules.proofs.Graph.Laws.{IsLawful, IsLabelled}
+use Rattle.mm_rules.proofs.Graph.Laws.{IsLawful, HasLabelMakers}
 use Rattle.mm_rules.proofs.Graph.Change.{SameAt, Blocks, Activates, same_then, same_back}
 use Rattle.mm_rules.proofs.Graph.Walks.{active_waits_not, one_holder}
 use Rattle.mm_rules.proofs.Graph.Block.{block_keeps_laws}
 use Rattle.mm_rules.proofs.Graph.Activate.{activate_keeps_laws}
-use Rattle.mm_rules.proofs.Graph.Labelled.{made_labels_are_fresh, block_keeps_labelled, activate_keeps_labelled}
-use Rattle.mm_rules.proofs.Graph.Stays.{holder_waits, block_keeps_returned, activate_keeps_returned}
-use Rattle.mm_rules.proofs.Graph.Put.{IsPut, put, is_put}
+use Rattle.mm_rules.proofs.Graph.LabelMakers.{made_labels_are_fresh, block_keeps_makers, activate_keeps_makers}
+use Rattle.mm_rules.proofs.Graph.LabelReturned.{holder_waits, block_keeps_returned, activate_keeps_returned}
+use Rattle.mm_rules.proofs.Graph.Update.{IsUpdate, update, is_update}
 
 -- o, which is active, gives a resource to f, the first that waits for it.
 -- Each of the rest, which wait for it too, waits for f from now on, with a new label of its own.
@@ -30,13 +30,13 @@ pub record HandsOver (number : ℕ → ℕ) (g : Graph) (o f : ℕ) (rest : List
 -- the laws, the makers of the labels, and each label that returned in g, are kept in new
 pub record KeepsAll (number : ℕ → ℕ) (g new : Graph) : Type 0 where
   pub lawful : IsLawful new
-  pub labelled : IsLabelled number new
+  pub makers : HasLabelMakers number new
   pub returned : (v h : ℕ) → LabelReturned g v h → LabelReturned new v h
 
 keeps_all_then : (number : ℕ → ℕ) (a b c : Graph) → KeepsAll number a b → KeepsAll number b c → KeepsAll number a c
 keeps_all_then number a b c first second = record {
   lawful = second.lawful;
-  labelled = second.labelled;
+  makers = second.makers;
   returned = λ v h was. second.returned v h (first.returned v h was);
 }
 
@@ -46,24 +46,24 @@ returned_elsewhere g o k v h laws active waits returned e =
     active_waits_not g h (rw (one_holder g k h o (rw e at returned.waits) waits) active) (holder_waits g v h laws returned)
 
 activate_keeps_all : (number : ℕ → ℕ) (g new : Graph) (n o : ℕ) → Activates g n o new → IsActive g o
-    → IsLawful g → IsLabelled number g → KeepsAll number g new
-activate_keeps_all number g new n o a active laws labelled = record {
+    → IsLawful g → HasLabelMakers number g → KeepsAll number g new
+activate_keeps_all number g new n o a active laws makers = record {
   lawful = activate_keeps_laws g new n o a laws;
-  labelled = activate_keeps_labelled number g new n o a labelled;
+  makers = activate_keeps_makers number g new n o a makers;
   returned = λ v h returned. activate_keeps_returned g new n o v h a (returned_elsewhere g o n v h laws active a.waited returned) returned;
 }
 
 block_keeps_all : (number : ℕ → ℕ) (g new : Graph) (n h L : ℕ) → Blocks g n h L new → number L ≡ n
-    → IsLawful g → IsLabelled number g → KeepsAll number g new
-block_keeps_all number g new n h L b named laws labelled = record {
+    → IsLawful g → HasLabelMakers number g → KeepsAll number g new
+block_keeps_all number g new n h L b named laws makers = record {
   lawful = block_keeps_laws g new n h L b laws;
-  labelled = block_keeps_labelled number g new n h L b named laws.ordered labelled;
+  makers = block_keeps_makers number g new n h L b named laws.ordered makers;
   returned = λ v i. block_keeps_returned g new n h L v i b laws;
 }
 
 -- a process whose wait alone went
-put_activates : (g new : Graph) (n o : ℕ) → WaitsFor g n o → IsActive g o → IsPut g n None (g.private n) (g.public n) new → Activates g n o new
-put_activates g new n o waits active now =
+update_activates : (g new : Graph) (n o : ℕ) → WaitsFor g n o → IsActive g o → IsUpdate g n None (g.private n) (g.public n) new → Activates g n o new
+update_activates g new n o waits active now =
     let same : (k : ℕ) → (new.private k ≡ g.private k) × (new.public k ≡ g.public k) = λ k. elim (ℕ_discrete k n) [
       | yes e ↦ rw e (now.private, now.public)
       | no apart ↦ ((now.others k apart).private, (now.others k apart).public)
@@ -81,7 +81,7 @@ put_activates g new n o waits active now =
 module _ (number : ℕ → ℕ) (g : Graph) (o f : ℕ) (label : ℕ → ℕ) where
   -- with no one else waiting, a hand-over is one activation
   first_activates : (new : Graph) → HandsOver number g o f [] label new → Activates g f o new
-  first_activates new over = put_activates g new f o over.first over.giver record {
+  first_activates new over = update_activates g new f o over.first over.giver record {
     processes = over.processes;
     holder = over.first_now.0;
     private = over.first_now.1;
@@ -97,7 +97,7 @@ module _ (number : ℕ → ℕ) (g : Graph) (o f : ℕ) (label : ℕ → ℕ) wh
 
   -- the last step of a hand-over undone: k waits for o still, with its old labels
   hands_over_without : (k : ℕ) (rest : List ℕ) (mid new : Graph) → HandsOver number g o f (k ∷ rest) label new
-      → IsPut new k (g.holder k) (g.private k) (g.public k) mid → HandsOver number g o f rest label mid
+      → IsUpdate new k (g.holder k) (g.private k) (g.public k) mid → HandsOver number g o f rest label mid
   hands_over_without k rest mid new over back =
       let at_f : SameAt new mid f = back.others f (λ e. over.simple.0 (inl e)) in
       let apart : (j : ℕ) → Among j rest → j ≢ k = λ j among e. over.simple.1.0 (let P : ℕ → Type 0 = λ x. Among x rest in subst P e among) in
@@ -123,9 +123,9 @@ module _ (number : ℕ → ℕ) (g : Graph) (o f : ℕ) (label : ℕ → ℕ) wh
 
   -- the last step of a hand-over: k, which waits for o in mid and for nobody in free, waits for f
   last_blocks : (k : ℕ) (rest : List ℕ) (mid free new : Graph) → HandsOver number g o f (k ∷ rest) label new
-      → IsPut new k (g.holder k) (g.private k) (g.public k) mid → IsPut mid k None (mid.private k) (mid.public k) free
-      → IsLawful g → IsLawful free → IsLabelled number free → Blocks free k f (label k) new
-  last_blocks k rest mid free new over back now laws free_lawful free_labelled =
+      → IsUpdate new k (g.holder k) (g.private k) (g.public k) mid → IsUpdate mid k None (mid.private k) (mid.public k) free
+      → IsLawful g → IsLawful free → HasLabelMakers number free → Blocks free k f (label k) new
+  last_blocks k rest mid free new over back now laws free_lawful free_makers =
       let k_in : k < free.processes = omega (arith, now.processes, back.processes, over.processes, laws.within k o (over.waiting k (inl refl))) in
       let f_in : f < free.processes = omega (arith, now.processes, back.processes, over.processes, laws.within f o over.first) in
       let above : free.public k < label k = omega (arith, now.public, back.public, over.above k (inl refl)) in
@@ -135,7 +135,7 @@ module _ (number : ℕ → ℕ) (g : Graph) (o f : ℕ) (label : ℕ → ℕ) wh
         within = (k_in, f_in);
         apart = λ e. over.simple.0 (inl (sym e));
         above = above;
-        fresh = made_labels_are_fresh number free k (label k) free_labelled free_lawful.ordered (over.named k (inl refl)) above k_in;
+        fresh = made_labels_are_fresh number free k (label k) free_makers free_lawful.ordered (over.named k (inl refl)) above k_in;
         processes = sym (now.processes ∙ back.processes);
         waits = last.0;
         private_now = last.1;
@@ -144,25 +144,25 @@ module _ (number : ℕ → ℕ) (g : Graph) (o f : ℕ) (label : ℕ → ℕ) wh
       }
 
   last_keeps_all : (k : ℕ) (rest : List ℕ) (mid free new : Graph) → HandsOver number g o f (k ∷ rest) label new
-      → IsPut new k (g.holder k) (g.private k) (g.public k) mid → IsPut mid k None (mid.private k) (mid.public k) free
+      → IsUpdate new k (g.holder k) (g.private k) (g.public k) mid → IsUpdate mid k None (mid.private k) (mid.public k) free
       → IsLawful g → KeepsAll number g mid → KeepsAll number g new
   last_keeps_all k rest mid free new over back now laws kept =
       let waits : WaitsFor mid k o = back.holder ∙ over.waiting k (inl refl) in
       let giver : IsActive mid o = giver_stays rest mid (hands_over_without k rest mid new over back) in
-      let goes : Activates mid k o free = put_activates mid free k o waits giver now in
-      let frees : KeepsAll number mid free = activate_keeps_all number mid free k o goes giver kept.lawful kept.labelled in
+      let goes : Activates mid k o free = update_activates mid free k o waits giver now in
+      let frees : KeepsAll number mid free = activate_keeps_all number mid free k o goes giver kept.lawful kept.makers in
       let named : number (label k) ≡ k = over.named k (inl refl) in
-      let comes : Blocks free k f (label k) new = last_blocks k rest mid free new over back now laws frees.lawful frees.labelled in
-      let blocks : KeepsAll number free new = block_keeps_all number free new k f (label k) comes named frees.lawful frees.labelled in
+      let comes : Blocks free k f (label k) new = last_blocks k rest mid free new over back now laws frees.lawful frees.makers in
+      let blocks : KeepsAll number free new = block_keeps_all number free new k f (label k) comes named frees.lawful frees.makers in
       keeps_all_then number g mid new kept (keeps_all_then number mid free new frees blocks)
 
   pub hand_over_keeps_all : (rest : List ℕ) (new : Graph) → HandsOver number g o f rest label new
-      → IsLawful g → IsLabelled number g → KeepsAll number g new
-  hand_over_keeps_all [] new over laws labelled = activate_keeps_all number g new f o (first_activates new over) over.giver laws labelled
-  hand_over_keeps_all (k ∷ rest) new over laws labelled =
-      let mid : Graph = put new k (g.holder k) (g.private k) (g.public k) in
-      let back : IsPut new k (g.holder k) (g.private k) (g.public k) mid = is_put new k (g.holder k) (g.private k) (g.public k) in
-      let free : Graph = put mid k None (mid.private k) (mid.public k) in
-      let now : IsPut mid k None (mid.private k) (mid.public k) free = is_put mid k None (mid.private k) (mid.public k) in
-      let kept : KeepsAll number g mid = hand_over_keeps_all rest mid (hands_over_without k rest mid new over back) laws labelled in
+      → IsLawful g → HasLabelMakers number g → KeepsAll number g new
+  hand_over_keeps_all [] new over laws makers = activate_keeps_all number g new f o (first_activates new over) over.giver laws makers
+  hand_over_keeps_all (k ∷ rest) new over laws makers =
+      let mid : Graph = update new k (g.holder k) (g.private k) (g.public k) in
+      let back : IsUpdate new k (g.holder k) (g.private k) (g.public k) mid = is_update new k (g.holder k) (g.private k) (g.public k) in
+      let free : Graph = update mid k None (mid.private k) (mid.public k) in
+      let now : IsUpdate mid k None (mid.private k) (mid.public k) free = is_update mid k None (mid.private k) (mid.public k) in
+      let kept : KeepsAll number g mid = hand_over_keeps_all rest mid (hands_over_without k rest mid new over back) laws makers in
       last_keeps_all k rest mid free new over back now laws kept

@@ -1,6 +1,6 @@
 -- The laws of the wait graph, together: those that the specs name, and those that hold the numbers in order.
 use Rattle.std.specs.Prelude.{ℕ, ◌≡◌, ◌≢◌, ◌≤◌, ◌<◌}
-use Rattle.mm_rules.specs.Graph.{Graph, WaitsFor, RisingLaw, CarriedLaw, ToppedLaw}
+use Rattle.mm_rules.specs.Graph.{Graph, WaitsFor, RisingLaw, PropagatedLaw, ToppedLaw}
 
 -- no process shows a label older than its own
 abbrev pub OrderedLaw : Graph → Type 0
@@ -24,11 +24,11 @@ pub record IsLawful (g : Graph) : Type 0 where
   pub within : WithinLaw g
   pub apart : ApartLaw g
   pub rising : RisingLaw g
-  pub carried : CarriedLaw g
+  pub propagated : PropagatedLaw g
   pub topped : ToppedLaw g
 
 -- Each label tells, by `number`, the process that made it. A private label tells its own process, and no label is newer than its maker's private one.
-pub record IsLabelled (number : ℕ → ℕ) (g : Graph) : Type 0 where
+pub record HasLabelMakers (number : ℕ → ℕ) (g : Graph) : Type 0 where
   pub named : (k : ℕ) → k < g.processes → number (g.private k) ≡ k
   pub made : (k : ℕ) → k < g.processes → number (g.public k) < g.processes
   pub newest : (k : ℕ) → k < g.processes → g.public k ≤ g.private (number (g.public k))

@@ -2,7 +2,7 @@
 use Rattle.std.specs.Prelude.{ℕ, Option, Some, None, ◌≡◌, ◌≢◌, ◌≤◌, ◌<◌, ◌⊎◌, List, [], ◌∷◌, ⊤}
 use Rattle.std.proofs.Common.{inl, inr, arith, sym, ap, ◌∙◌, refl}
 use Rattle.std.proofs.Math.Decide.{ℕ_discrete}
-use Rattle.mm_rules.specs.Graph.{Graph, WaitsFor, IsWaiting, Walk, Path, Carries, Carried, Tops, Topped, RisingLaw, CarriedLaw, ToppedLaw}
+use Rattle.mm_rules.specs.Graph.{Graph, WaitsFor, IsWaiting, Walk, Path, Relays, Propagated, Tops, Topped, RisingLaw, PropagatedLaw, ToppedLaw}
 use Rattle.mm_rules.proofs.Graph.Laws.{OrderedLaw, OwnLaw, WithinLaw, ApartLaw, IsLawful}
 use Rattle.mm_rules.proofs.Graph.Change.{Raises}
 use Rattle.mm_rules.proofs.Graph.Walks.{one_holder, walk_again, OnTheWay}
@@ -49,34 +49,34 @@ module _ (g new : Graph) (n h : ℕ) (r : Raises g n h new) where
     ]
   ]
 
-  raise_keeps_carries : (M m k j : ℕ) → WaitsFor g k j → OnTheWay g M m k → OnTheWay new M m k × WaitsFor new k j
-  raise_keeps_carries M m k j waits (apart, carries) =
+  raise_keeps_relays : (M m k j : ℕ) → WaitsFor g k j → OnTheWay g M m k → OnTheWay new M m k × WaitsFor new k j
+  raise_keeps_relays M m k j waits (apart, relays) =
       ((apart, record { older = omega (arith, r.privates k); shown = omega (arith, raise_lowers_nothing k) }), r.holders k ∙ waits)
 
-  raise_keeps_walk : (M k m : ℕ) (was : Carried g M k m) → Walk new (OnTheWay new M m) k was.places m
+  raise_keeps_walk : (M k m : ℕ) (was : Propagated g M k m) → Walk new (OnTheWay new M m) k was.places m
   raise_keeps_walk M k m was =
-      walk_again g new (OnTheWay g M m) (OnTheWay new M m) (raise_keeps_carries M m) k was.places m was.along
+      walk_again g new (OnTheWay g M m) (OnTheWay new M m) (raise_keeps_relays M m) k was.places m was.along
 
   -- the walk back from the holder, with n in front
-  raised_carried : (m : ℕ) → IsLawful g → n ≢ m → IsWaiting g m → g.public h ≡ g.private m → Carried new (g.private m) n m
-  raised_carried m laws apart waiting meets =
+  raised_propagated : (m : ℕ) → IsLawful g → n ≢ m → IsWaiting g m → g.public h ≡ g.private m → Propagated new (g.private m) n m
+  raised_propagated m laws apart waiting meets =
       let inside : (n < g.processes) × (h < g.processes) = laws.within n h r.waits in
-      let carries : Carries new (g.private m) n = record { older = omega (arith, r.privates n, laws.ordered n); shown = omega arith } in
-      let first : OnTheWay new (g.private m) m n = (apart, carries) in
+      let relays : Relays new (g.private m) n = record { older = omega (arith, r.privates n, laws.ordered n); shown = omega arith } in
+      let first : OnTheWay new (g.private m) m n = (apart, relays) in
       elim (ℕ_discrete h m) [
         | yes e ↦ record { apart = apart; places = h ∷ []; along = (first, r.holders n ∙ r.waits, e) }
         | no other ↦
-            let was : Carried g (g.private m) h m = laws.carried m waiting.0 h waiting.1 inside.1 other meets in
+            let was : Propagated g (g.private m) h m = laws.propagated m waiting.0 h waiting.1 inside.1 other meets in
             record { apart = apart; places = h ∷ was.places; along = (first, r.holders n ∙ r.waits, raise_keeps_walk (g.private m) h m was) }
       ]
 
-  raise_keeps_carried : IsLawful g → CarriedLaw new
-  raise_keeps_carried laws m j k waits k_in apart meets =
+  raise_keeps_propagated : IsLawful g → PropagatedLaw new
+  raise_keeps_propagated laws m j k waits k_in apart meets =
       let before : WaitsFor g m j = waits_before m j waits in
       rw (r.privates m) (elim (raised_shows k) [
-        | inl now ↦ rw now.0 (raised_carried m laws (λ e. apart (now.0 ∙ e)) (j, before) (sym now.1 ∙ meets ∙ r.privates m))
+        | inl now ↦ rw now.0 (raised_propagated m laws (λ e. apart (now.0 ∙ e)) (j, before) (sym now.1 ∙ meets ∙ r.privates m))
         | inr same ↦
-            let was : Carried g (g.private m) k m = laws.carried m j k before (omega arith) apart (sym same.1 ∙ meets ∙ r.privates m) in
+            let was : Propagated g (g.private m) k m = laws.propagated m j k before (omega arith) apart (sym same.1 ∙ meets ∙ r.privates m) in
             record { apart = apart; places = was.places; along = raise_keeps_walk (g.private m) k m was }
       ])
 
@@ -114,6 +114,6 @@ module _ (g new : Graph) (n h : ℕ) (r : Raises g n h new) where
     within = raise_keeps_within laws.within;
     apart = raise_keeps_apart laws.apart;
     rising = raise_keeps_rising laws.rising;
-    carried = raise_keeps_carried laws;
+    propagated = raise_keeps_propagated laws;
     topped = raise_keeps_topped laws.topped;
   }

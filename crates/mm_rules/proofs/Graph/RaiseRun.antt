@@ -2,12 +2,12 @@
 use Rattle.std.specs.Prelude.{ℕ, zero, suc, ◌+◌, ◌≡◌}
 use Rattle.std.proofs.Common.{arith, ap, ◌∙◌}
 use Rattle.mm_rules.specs.Graph.{Graph, IsGreatest, IsSettled, LabelReturned}
-use Rattle.mm_rules.proofs.Graph.Laws.{IsLawful, IsLabelled}
+use Rattle.mm_rules.proofs.Graph.Laws.{IsLawful, HasLabelMakers}
 use Rattle.mm_rules.proofs.Graph.Change.{Raises}
 use Rattle.mm_rules.proofs.Graph.Raise.{raise_keeps_laws}
-use Rattle.mm_rules.proofs.Graph.Labelled.{raise_keeps_labelled}
-use Rattle.mm_rules.proofs.Graph.Stays.{raise_keeps_returned}
-use Rattle.mm_rules.proofs.Graph.Greatest.{raise_made_no_greatest, settled_shows_greatest}
+use Rattle.mm_rules.proofs.Graph.LabelMakers.{raise_keeps_makers}
+use Rattle.mm_rules.proofs.Graph.LabelReturned.{raise_keeps_returned}
+use Rattle.mm_rules.proofs.Graph.IsGreatest.{raise_made_no_greatest, settled_shows_greatest}
 
 -- so many raises, and no other change, lead from g to new
 abbrev pub RaiseRun : Graph → ℕ → Graph → Type 0
@@ -36,11 +36,11 @@ run_keeps_returned g zero new same laws v i returned = rw same returned
 run_keeps_returned g (suc raises) new (n, h, next, raise, run) laws v i returned =
     run_keeps_returned next raises new run (raise_keeps_laws g next n h raise laws) v i (raise_keeps_returned g next n h v i raise laws returned)
 
-pub run_keeps_labelled : (number : ℕ → ℕ) (g : Graph) (raises : ℕ) (new : Graph) → RaiseRun g raises new
-    → IsLawful g → IsLabelled number g → IsLabelled number new
-run_keeps_labelled number g zero new same laws labelled = rw same labelled
-run_keeps_labelled number g (suc raises) new (n, h, next, raise, run) laws labelled =
-    run_keeps_labelled number next raises new run (raise_keeps_laws g next n h raise laws) (raise_keeps_labelled number g next n h raise laws.within labelled)
+pub run_keeps_makers : (number : ℕ → ℕ) (g : Graph) (raises : ℕ) (new : Graph) → RaiseRun g raises new
+    → IsLawful g → HasLabelMakers number g → HasLabelMakers number new
+run_keeps_makers number g zero new same laws makers = rw same makers
+run_keeps_makers number g (suc raises) new (n, h, next, raise, run) laws makers =
+    run_keeps_makers number next raises new run (raise_keeps_laws g next n h raise laws) (raise_keeps_makers number g next n h raise laws.within makers)
 
 -- what stands greatest along the waits after raises stood greatest there before
 run_made_no_greatest : (g : Graph) (raises : ℕ) (new : Graph) → RaiseRun g raises new

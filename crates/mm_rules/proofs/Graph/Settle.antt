@@ -3,10 +3,10 @@ use Rattle.std.specs.Prelude.{ℕ, zero, suc, ◌+◌, ◌*◌, ◌≡◌, ◌�
 use Rattle.std.proofs.Common.{inl, inr, arith, sym, ◌∙◌, refl}
 use Rattle.mm_lists.specs.Members.{Among}
 use Rattle.mm_rules.specs.Graph.{Graph, WaitsFor, LabelReturned, IsGreatest, IsSettled}
-use Rattle.mm_rules.proofs.Graph.Laws.{IsLawful, IsLabelled}
+use Rattle.mm_rules.proofs.Graph.Laws.{IsLawful, HasLabelMakers}
 use Rattle.mm_rules.proofs.Graph.Change.{Raises}
-use Rattle.mm_rules.proofs.Graph.RaiseRun.{RaiseRun, runs_join, run_keeps_holders, run_keeps_laws, run_keeps_labelled, run_keeps_returned, settling_gives_greatest}
-use Rattle.mm_rules.proofs.Graph.Few.{raises_are_few}
+use Rattle.mm_rules.proofs.Graph.RaiseRun.{RaiseRun, runs_join, run_keeps_holders, run_keeps_laws, run_keeps_makers, run_keeps_returned, settling_gives_greatest}
+use Rattle.mm_rules.proofs.Graph.RaiseBound.{raises_bound}
 
 -- no raise applies at k
 abbrev pub IsStill : Graph → ℕ → Type 0
@@ -55,9 +55,9 @@ settles_to_settled g ks (suc sweeps) raises new all (now, later, next, some, cou
 
 pub record IsSettledFrom (g : Graph) (waiting : List ℕ) (raises : ℕ) (new : Graph) : Type 0 where
   pub lawful : IsLawful new
-  pub labelled : (number : ℕ → ℕ) → IsLabelled number g → IsLabelled number new
+  pub makers : (number : ℕ → ℕ) → HasLabelMakers number g → HasLabelMakers number new
   pub settled : IsSettled new
-  pub few : raises ≤ length waiting * g.processes
+  pub raise_bound : raises ≤ length waiting * g.processes
   pub greatest : (k : ℕ) → IsGreatest g k (new.public k)
   pub standing : (v h : ℕ) → LabelReturned g v h → LabelReturned new v h
 
@@ -68,9 +68,9 @@ settling_settles g new waiting sweeps raises laws all settles =
     let settled : IsSettled new = settles_to_settled g waiting sweeps raises new all settles in
     record {
       lawful = run_keeps_laws g raises new run laws;
-      labelled = λ number. run_keeps_labelled number g raises new run laws;
+      makers = λ number. run_keeps_makers number g raises new run laws;
       settled = settled;
-      few = raises_are_few g raises new waiting laws.within all run;
+      raise_bound = raises_bound g raises new waiting laws.within all run;
       greatest = settling_gives_greatest g raises new run settled;
       standing = run_keeps_returned g raises new run laws;
     }

@@ -3,13 +3,13 @@ use Rattle.std.proofs.Common.{◌≡◌, ◌≢◌, ℕ, nat_eq, not, Some, IsTr
 use Rattle.std.specs.List.{range_with_len}
 use Rattle.std.proofs.lemmas.Bool.{eqb-true, ne_eqb, not-false, not_from_false}
 use Rattle.mm_arena.specs.declared.key.Key.{Key}
+use Rattle.mm_lists.proofs.Members.{filter_filter, filter_gives, list_all_at, list_all_from}
 use Rattle.mm_rules.specs.TableState.{TableState, is_of, is_live, owner_of, owns, has_verdict, resources_of, waiters_of}
 use Rattle.mm_rules.specs.Change.{withdraw, abort, hand_over_fits, vacate_fits}
 use Rattle.mm_rules.specs.Event.{aborted, abort_tests}
 use Rattle.mm_rules.specs.Laws.{Laws}
-use Rattle.mm_rules.proofs.States.Lists.{filter_filter, filter_gives, list_all_at, list_all_from}
-use Rattle.mm_rules.proofs.States.Read.{held}
-use Rattle.mm_rules.proofs.States.Outcomes.{Keeps, keeps_then, outcome_keeps_laws}
+use Rattle.mm_rules.proofs.States.Lookups.{held}
+use Rattle.mm_rules.proofs.States.Outcome.{KeepsLaws, keeps_then, outcome_keeps_laws}
 use Rattle.mm_rules.proofs.States.Activate.{waits_no_longer}
 use Rattle.mm_rules.proofs.States.GiveUp.{withdraw_keeps}
 use Rattle.mm_rules.proofs.States.HandOver.{fits_again}
@@ -32,13 +32,13 @@ module _ (s : TableState) (n : ℕ) (laws : Laws s) where
       let own : IsTrue (owns s n r) = (filter_gives (owns s n) (range_with_len 0 s.config.resources) r among).1 in
       rw (own_waiters r own) (fits_again s (withdraw s n) (waiters_of s r) refl (λ w found. refl) (list_all_at (hand_over_fits s) (resources_of s n) r fits among)))
 
-  abort_change_keeps : (k : Key) → k.process ≡ n → IsTrue (is_live s k) → IsTrue (has_verdict s n) → IsTrue (vacate_fits s n) → Keeps s (abort s n)
+  abort_change_keeps : (k : Key) → k.process ≡ n → IsTrue (is_live s k) → IsTrue (has_verdict s n) → IsTrue (vacate_fits s n) → KeepsLaws s (abort s n)
   abort_change_keeps k e live verdict fits =
-      let withdrawn : Keeps s (withdraw s n) = withdraw_keeps s n laws verdict in
+      let withdrawn : KeepsLaws s (withdraw s n) = withdraw_keeps s n laws verdict in
       keeps_then s (withdraw s n) (abort s n) withdrawn
       (vacate_keeps (withdraw s n) n withdrawn.laws (rw e at (live_process s k live)) (waits_no_longer s n) (fits_still fits))
 
-pub abort_keeps : (s : TableState) (k : Key) → Laws s → Keeps s (aborted s k).state
+pub abort_keeps : (s : TableState) (k : Key) → Laws s → KeepsLaws s (aborted s k).state
 abort_keeps s k laws = outcome_keeps_laws s tt (abort s k.process) (abort_tests s k) laws (λ passed.
     abort_change_keeps s k.process laws k refl (not-false (is_live s k) passed.1.0) (not-false (has_verdict s k.process) passed.1.1.0)
     (not-false (vacate_fits s k.process) passed.1.1.1.0))

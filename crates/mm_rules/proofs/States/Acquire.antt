@@ -5,22 +5,24 @@ use Rattle.std.proofs.lemmas.Bool.{cases_eq, eqb-false, eq-eqb, ne_eqb, not-fals
 use Rattle.std.proofs.lemmas.List.Folds.{find-append}
 use Rattle.mm_label.specs.Label.{word_of}
 use Rattle.mm_arena.specs.declared.key.Key.{Key}
+use Rattle.mm_lists.specs.Members.{Among}
+use Rattle.mm_lists.proofs.Members.{all_at, all_from, among_append, no_repeat_push}
 use Rattle.mm_rules.specs.Graph.{LabelReturned}
 use Rattle.mm_rules.specs.TableState.{TableState, Wait, is_live, is_of, owner_of, wait_of, public_of, graph_of}
 use Rattle.mm_rules.specs.Change.{label_against, block, block_fits}
 use Rattle.mm_rules.specs.Event.{acquire_tests, acquire_answer, acquire_change, acquired}
 use Rattle.mm_rules.specs.Laws.{IsHeld, Laws, WellFormed}
+use Rattle.mm_rules.proofs.States.IsSized.{same_lengths}
 use Rattle.mm_rules.proofs.Graph.Change.{SameAt, Blocks}
-use Rattle.mm_rules.proofs.Graph.Labelled.{made_labels_are_fresh}
+use Rattle.mm_rules.proofs.Graph.LabelMakers.{made_labels_are_fresh}
 use Rattle.mm_rules.proofs.Graph.Block.{block_keeps_laws}
-use Rattle.mm_rules.proofs.Graph.Stays.{block_keeps_returned}
-use Rattle.mm_rules.proofs.States.Lists.{In, all_at, all_from, in_append, once_push}
-use Rattle.mm_rules.proofs.States.Words.{word_process, word_process_is, fresh_above}
-use Rattle.mm_rules.proofs.States.Read.{WaitsHere, waits_here, waits_of_others, none_of_is_some, map_none, held, live_within, no_holder, holder_is}
+use Rattle.mm_rules.proofs.Graph.LabelReturned.{block_keeps_returned}
+use Rattle.mm_rules.proofs.States.LabelOrder.{word_process, word_process_is, fresh_above}
+use Rattle.mm_rules.proofs.States.Lookups.{WaitsHere, waits_here, waits_of_others, none_of_is_some, map_none, held, live_within, no_holder, holder_is}
 use Rattle.mm_rules.proofs.States.Grant.{unwaited_keeps}
-use Rattle.mm_rules.proofs.States.Lawful.{graph_lawful, graph_labelled, laws_by, public_within}
-use Rattle.mm_rules.proofs.States.Outcomes.{Keeps, outcome_keeps_laws}
-use Rattle.mm_rules.proofs.States.Relabel.{Relabels, GetsLabel, KeepsLabels, blocked_labels, other_labels, block_relabels, relabelled_private, relabelled_bounds, relabelled_rise}
+use Rattle.mm_rules.proofs.States.Laws.{graph_lawful, graph_makers, laws_by, public_within}
+use Rattle.mm_rules.proofs.States.Outcome.{KeepsLaws, outcome_keeps_laws}
+use Rattle.mm_rules.proofs.States.Relabels.{Relabels, GetsLabel, KeepsLabels, blocked_labels, other_labels, block_relabels, relabelled_private, relabelled_bounds, relabelled_rise}
 
 or_none : {X : Type 0} (o : Option X) → option_or o None ≡ o
 or_none None = refl
@@ -77,7 +79,7 @@ module _ (s : TableState) (k : Key) (r : ℕ) where
       apart = λ e. apart (sym e);
       above = above;
       fresh = made_labels_are_fresh word_process (graph_of s) k.process (word_of (label_against s k.process h.process))
-          (graph_labelled s laws) (graph_lawful s laws).ordered named above within;
+          (graph_makers s laws) (graph_lawful s laws).ordered named above within;
       processes = refl;
       waits = holder_is (block (queued s k r) k.process h.process) k.process r h (queued_wait active) owned;
       private_now = ap word_of labels.private;
@@ -88,23 +90,16 @@ module _ (s : TableState) (k : Key) (r : ℕ) where
     queued_formed : WellFormed (block (queued s k r) k.process h.process)
     queued_formed = record {
       config = laws.lawful.well_formed.config;
-      sizes = record {
-        generations = laws.lawful.well_formed.sizes.generations;
-        live = laws.lawful.well_formed.sizes.live;
-        private = length-set s.private k.process (label_against s k.process h.process) ∙ laws.lawful.well_formed.sizes.private;
-        public = length-set s.public k.process (label_against s k.process h.process) ∙ laws.lawful.well_formed.sizes.public;
-        verdicts = laws.lawful.well_formed.sizes.verdicts;
-        owners = laws.lawful.well_formed.sizes.owners;
-      };
+      sizes = same_lengths s _ laws.lawful.well_formed.sizes refl refl refl (length-set s.private k.process (label_against s k.process h.process)) (length-set s.public k.process (label_against s k.process h.process)) refl refl;
       owners = laws.lawful.well_formed.owners;
-      waits = all_from _ (s.waits ++ record { key = k; resource = r } ∷ []) (λ w among. elim (in_append s.waits (record { key = k; resource = r } ∷ []) w among) [
+      waits = all_from _ (s.waits ++ record { key = k; resource = r } ∷ []) (λ w among. elim (among_append s.waits (record { key = k; resource = r } ∷ []) w among) [
         | inl before ↦ all_at (λ w. IsTrue (is_live s w.key) × IsHeld s w) s.waits w laws.lawful.well_formed.waits before
         | inr last ↦ elim last [
           | inl e ↦ rw e (live, rw owned apart)
           | inr never ↦ absurd never
         ]
       ]);
-      waits_once = once_push (λ (w : Wait). w.key.process) s.waits (record { key = k; resource = r }) laws.lawful.well_formed.waits_once
+      waits_once = no_repeat_push (λ (w : Wait). w.key.process) s.waits (record { key = k; resource = r }) laws.lawful.well_formed.waits_once
           (λ w among. waits_of_others s k.process active w among);
       verdicts = λ n verdict. elim (cases_eq n k.process) [
         | inl e ↦ rw e (rw (queued_wait active) refl)
@@ -120,7 +115,7 @@ module _ (s : TableState) (k : Key) (r : ℕ) where
       | inr now ↦ inr (now.0, record { private = now.1.private; public = now.1.public; own = now.1.own; above = now.1.above; limit = now.1.limit })
     ]
 
-    queued_keeps : Keeps s (block (queued s k r) k.process h.process)
+    queued_keeps : KeepsLaws s (block (queued s k r) k.process h.process)
     queued_keeps = record {
       laws = laws_by (block (queued s k r) k.process h.process) queued_formed
           (relabelled_private s (block (queued s k r) k.process h.process) laws relabels)
@@ -138,9 +133,9 @@ module _ (s : TableState) (k : Key) (r : ℕ) where
 
 acquire_change_keeps : (s : TableState) (k : Key) (r : ℕ) → Laws s → (o : Option Key) → owner_of s r ≡ o
     → IsTrue (is_live s k) → wait_of s k.process ≡ None → option_map_or (λ (h : Key). nat_eq h.process k.process) o false ≡ false
-    → option_map_or (λ (h : Key). not (block_fits s k.process h.process)) o false ≡ false → Keeps s (acquire_change s k r o)
+    → option_map_or (λ (h : Key). not (block_fits s k.process h.process)) o false ≡ false → KeepsLaws s (acquire_change s k r o)
 acquire_change_keeps s k r laws None owned live active not_own fits =
-    let none : (w : Wait) → In w s.waits → w.resource ≢ r = λ w among e.
+    let none : (w : Wait) → Among w s.waits → w.resource ≢ r = λ w among e.
     let other : (h : Key) × (owner_of s w.resource ≡ Some h) × (h.process ≢ w.key.process) = held s laws.lawful.well_formed w among in
     let never : None ≡ Some other.0 = sym owned ∙ ap (owner_of s) (sym e) ∙ other.1 in
     absurd (cc) in
@@ -149,7 +144,7 @@ acquire_change_keeps s k r laws None owned live active not_own fits =
 acquire_change_keeps s k r laws (Some h) owned live active not_own fits =
     queued_keeps s k r h laws live active owned (eqb-false h.process k.process not_own) (not-false (block_fits s k.process h.process) fits)
 
-pub acquire_keeps : (s : TableState) (k : Key) (r : ℕ) → Laws s → Keeps s (acquired s k r).state
+pub acquire_keeps : (s : TableState) (k : Key) (r : ℕ) → Laws s → KeepsLaws s (acquired s k r).state
 acquire_keeps s k r laws = outcome_keeps_laws s (acquire_answer s k (owner_of s r)) (acquire_change s k r (owner_of s r)) (acquire_tests s k r) laws (λ passed.
     acquire_change_keeps s k r laws (owner_of s r) refl (not-false (is_live s k) passed.1.0) (none_of_is_some (wait_of s k.process) passed.1.1.1.0)
     passed.1.1.1.1.0 passed.1.1.1.1.1.0)

@@ -12,10 +12,11 @@ use Rattle.mm_rules.specs.TableState.{TableState, holder_of, private_of, public_
 use Rattle.mm_rules.specs.Change.{can_detect, detect}
 use Rattle.mm_rules.specs.Event.{detected, waiting_tests}
 use Rattle.mm_rules.specs.Laws.{Laws}
-use Rattle.mm_rules.proofs.States.Words.{label_eq_true, label_le_same}
-use Rattle.mm_rules.proofs.States.Read.{holder_within, waiting_is_some}
-use Rattle.mm_rules.proofs.States.Lawful.{graph_lawful, laws_by}
-use Rattle.mm_rules.proofs.States.Outcomes.{Keeps, keeps_same, outcome_keeps_laws}
+use Rattle.mm_rules.proofs.States.IsSized.{same_lengths}
+use Rattle.mm_rules.proofs.States.LabelOrder.{label_eq_true, label_le_same}
+use Rattle.mm_rules.proofs.States.Lookups.{holder_within, waiting_is_some}
+use Rattle.mm_rules.proofs.States.Laws.{graph_lawful, laws_by}
+use Rattle.mm_rules.proofs.States.Outcome.{KeepsLaws, keeps_same, outcome_keeps_laws}
 
 -- n gets a verdict, and this is counted
 abbrev pub convicted : TableState → ℕ → TableState
@@ -52,19 +53,12 @@ module _ (s : TableState) (n : ℕ) (laws : Laws s) (fresh : has_verdict s n ≡
       = sum_by-set (λ (v : Bool). cond v 1 0) s.verdicts n true false within in
       omega (arith, rw fresh at more)
 
-  convicted_keeps : Keeps s (convicted s n)
+  convicted_keeps : KeepsLaws s (convicted s n)
   convicted_keeps = record {
     laws = laws_by (convicted s n)
         (record {
           config = laws.lawful.well_formed.config;
-          sizes = record {
-            generations = laws.lawful.well_formed.sizes.generations;
-            live = laws.lawful.well_formed.sizes.live;
-            private = laws.lawful.well_formed.sizes.private;
-            public = laws.lawful.well_formed.sizes.public;
-            verdicts = length-set s.verdicts n true ∙ laws.lawful.well_formed.sizes.verdicts;
-            owners = laws.lawful.well_formed.sizes.owners;
-          };
+          sizes = same_lengths s _ laws.lawful.well_formed.sizes refl refl refl refl refl (length-set s.verdicts n true) refl;
           owners = laws.lawful.well_formed.owners;
           waits = laws.lawful.well_formed.waits;
           waits_once = laws.lawful.well_formed.waits_once;
@@ -92,7 +86,7 @@ detect_still s n no_detect = ap (λ b. if b then convicted s n else s) no_detect
 pub detect_convicts : (s : TableState) (n : ℕ) → can_detect s n ≡ true → detect s n ≡ convicted s n
 detect_convicts s n can = ap (λ b. if b then convicted s n else s) can
 
-pub detect_keeps : (s : TableState) (n : ℕ) → Laws s → Keeps s (detect s n)
+pub detect_keeps : (s : TableState) (n : ℕ) → Laws s → KeepsLaws s (detect s n)
 detect_keeps s n laws = elim (cases_Bool (can_detect s n)) [
   | inl can ↦
       let gives : (has_verdict s n ≡ false) × ((h : ℕ) × LabelReturned (graph_of s) n h) = can_detect_gives s n can in
@@ -100,6 +94,6 @@ detect_keeps s n laws = elim (cases_Bool (can_detect s n)) [
   | inr no_detect ↦ rw (detect_still s n no_detect) (keeps_same s laws)
 ]
 
-pub detected_keeps : (s : TableState) (k : Key) → Laws s → Keeps s (detected s k).state
+pub detected_keeps : (s : TableState) (k : Key) → Laws s → KeepsLaws s (detected s k).state
 detected_keeps s k laws = outcome_keeps_laws s (if has_verdict s k.process then Standing else if can_detect s k.process then Deadlock (private_of s k.process) else Clear)
     (detect s k.process) (waiting_tests s k) laws (λ passed. detect_keeps s k.process laws)

@@ -1,5 +1,5 @@
 -- Give up keeps the laws, and so does the withdrawal with which an abort begins: the one that waits no longer shows its own label.
-use Rattle.std.proofs.Common.{◌≡◌, ◌≢◌, ◌+◌, ℕ, ◌<◌, slice_set, slice_index_or, Bool, true, false, cond, IsTrue, IsFalse, inl, inr, sym, ap, ◌∙◌, arith, length-set, get_or-set_same, get_or-set_other}
+use Rattle.std.proofs.Common.{◌≡◌, ◌≢◌, ◌+◌, ℕ, ◌<◌, slice_set, slice_index_or, Bool, true, false, cond, IsTrue, IsFalse, inl, inr, refl, sym, ap, ◌∙◌, arith, length-set, get_or-set_same, get_or-set_other}
 use Rattle.std.specs.List.{count_by}
 use Rattle.std.proofs.lemmas.Bool.{cases_eq, not-false}
 use Rattle.std.proofs.lemmas.List.Sums.{sum_by-set}
@@ -10,20 +10,20 @@ use Rattle.mm_rules.specs.TableState.{TableState, is_waiting, has_verdict, priva
 use Rattle.mm_rules.specs.Change.{activate, withdraw}
 use Rattle.mm_rules.specs.Event.{given_up, give_up_tests}
 use Rattle.mm_rules.specs.Laws.{Laws}
-use Rattle.mm_rules.proofs.States.Words.{label_eq_true, word_tells}
-use Rattle.mm_rules.proofs.States.Read.{holder_within, waiting_has_holder}
-use Rattle.mm_rules.proofs.States.Lawful.{public_within, private_within}
-use Rattle.mm_rules.proofs.States.Outcomes.{Keeps, outcome_keeps_laws}
-use Rattle.mm_rules.proofs.States.Activate.{left_keeps}
+use Rattle.mm_rules.proofs.States.LabelOrder.{label_eq_true, word_tells}
+use Rattle.mm_rules.proofs.States.Lookups.{holder_within, waiting_has_holder}
+use Rattle.mm_rules.proofs.States.Laws.{public_within, private_within}
+use Rattle.mm_rules.proofs.States.Outcome.{KeepsLaws, outcome_keeps_laws}
+use Rattle.mm_rules.proofs.States.Activate.{activated_with_keeps}
 
-give_up_change_keeps : (s : TableState) (n : ℕ) → Laws s → IsTrue (is_waiting s n) → IsFalse (has_verdict s n) → private_of s n ≡ public_of s n → Keeps s (activate s n)
+give_up_change_keeps : (s : TableState) (n : ℕ) → Laws s → IsTrue (is_waiting s n) → IsFalse (has_verdict s n) → private_of s n ≡ public_of s n → KeepsLaws s (activate s n)
 give_up_change_keeps s n laws waiting none own =
     let waits : IsWaiting (graph_of s) n = waiting_has_holder s laws.lawful.well_formed n waiting in
     let before : (v : ℕ) → slice_index_or s.verdicts v false ≡ true → (v ≢ n) × IsTrue (has_verdict s v)
     = λ v verdict. (λ e. (let never : true ≡ false = sym verdict ∙ ap (has_verdict s) e ∙ none in absurd (cc)), verdict) in
-    left_keeps s n waits.0 s.verdicts s.totals laws waits.1 own before laws.lawful.well_formed.sizes.verdicts laws.lawful.counted
+    activated_with_keeps s n waits.0 s.verdicts s.totals laws waits.1 own before refl laws.lawful.counted
 
-pub given_up_keeps : (s : TableState) (k : Key) → Laws s → Keeps s (given_up s k).state
+pub given_up_keeps : (s : TableState) (k : Key) → Laws s → KeepsLaws s (given_up s k).state
 given_up_keeps s k laws = outcome_keeps_laws s tt (activate s k.process) (give_up_tests s k) laws (λ passed.
     give_up_change_keeps s k.process laws (not-false (is_waiting s k.process) passed.1.1.0) passed.1.1.1.0
     (label_eq_true (private_of s k.process) (public_of s k.process) (not-false (label_eq (private_of s k.process) (public_of s k.process)) passed.1.1.1.1.0)))
@@ -55,6 +55,6 @@ module _ (s : TableState) (n : ℕ) (laws : Laws s) (verdict : IsTrue (has_verdi
       = sum_by-set (λ (v : Bool). cond v 1 0) s.verdicts n false false (omega (arith, within, laws.lawful.well_formed.sizes.verdicts)) in
       omega (arith, rw verdict at less, laws.lawful.counted)
 
-  pub withdraw_keeps : Keeps s (withdraw s n)
-  withdraw_keeps = left_keeps s n (laws.convicted n verdict).0 (slice_set s.verdicts n false) (record s.totals { aborts = s.totals.aborts + 1 }) laws convicted_waits convicted_own
-      verdict_before (length-set s.verdicts n false ∙ laws.lawful.well_formed.sizes.verdicts) counted
+  pub withdraw_keeps : KeepsLaws s (withdraw s n)
+  withdraw_keeps = activated_with_keeps s n (laws.convicted n verdict).0 (slice_set s.verdicts n false) (record s.totals { aborts = s.totals.aborts + 1 }) laws convicted_waits convicted_own
+      verdict_before (length-set s.verdicts n false) counted

@@ -3,13 +3,15 @@ use Rattle.std.proofs.Common.{◌≡◌, ◌≢◌, ℕ, ◌<◌, length, slice_
 use Rattle.std.proofs.lemmas.Bool.{cases_eq, cases_lt}
 use Rattle.std.proofs.lemmas.List.{set_past}
 use Rattle.mm_arena.specs.declared.key.Key.{Key}
+use Rattle.mm_lists.specs.Members.{Among}
+use Rattle.mm_lists.proofs.Members.{all_at, all_from}
 use Rattle.mm_rules.specs.TableState.{TableState, Wait, is_live, owner_of, wait_of, public_of, graph_of}
 use Rattle.mm_rules.specs.Laws.{IsHeld, Laws}
+use Rattle.mm_rules.proofs.States.IsSized.{same_lengths}
 use Rattle.mm_rules.proofs.Graph.Change.{same_graph}
-use Rattle.mm_rules.proofs.States.Lists.{In, all_at, all_from}
-use Rattle.mm_rules.proofs.States.Words.{label_le_same}
-use Rattle.mm_rules.proofs.States.Lawful.{graph_lawful, laws_by}
-use Rattle.mm_rules.proofs.States.Outcomes.{Keeps}
+use Rattle.mm_rules.proofs.States.LabelOrder.{label_le_same}
+use Rattle.mm_rules.proofs.States.Laws.{graph_lawful, laws_by}
+use Rattle.mm_rules.proofs.States.Outcome.{KeepsLaws}
 
 abbrev pub owned_by : TableState → ℕ → Option Key → TableState
 owned_by s r o = record s { owners = slice_set s.owners r o }
@@ -36,22 +38,15 @@ module _ (s : TableState) (r : ℕ) (o : Option Key) where
   })
 
   -- and the laws stay, if the new owner, where there is one, is live
-  pub unwaited_keeps : ((n : ℕ) → wait_of s n ≢ Some r) → ((w : Wait) → In w s.waits → w.resource ≢ r) → ((k : Key) → o ≡ Some k → IsTrue (is_live s k))
-      → Laws s → Keeps s (owned_by s r o)
+  pub unwaited_keeps : ((n : ℕ) → wait_of s n ≢ Some r) → ((w : Wait) → Among w s.waits → w.resource ≢ r) → ((k : Key) → o ≡ Some k → IsTrue (is_live s k))
+      → Laws s → KeepsLaws s (owned_by s r o)
   unwaited_keeps nobody none live laws =
       let graph : graph_of (owned_by s r o) ≡ graph_of s = unwaited_graph nobody in
       record {
         laws = laws_by (owned_by s r o)
             (record {
               config = laws.lawful.well_formed.config;
-              sizes = record {
-                generations = laws.lawful.well_formed.sizes.generations;
-                live = laws.lawful.well_formed.sizes.live;
-                private = laws.lawful.well_formed.sizes.private;
-                public = laws.lawful.well_formed.sizes.public;
-                verdicts = laws.lawful.well_formed.sizes.verdicts;
-                owners = length-set s.owners r o ∙ laws.lawful.well_formed.sizes.owners;
-              };
+              sizes = same_lengths s _ laws.lawful.well_formed.sizes refl refl refl refl refl refl (length-set s.owners r o);
               owners = λ q k owned. elim (cases_eq q r) [
                 | inl e ↦ elim (cases_lt r (length s.owners)) [
                   | inl inside ↦ live k (sym (owner_now s r o inside) ∙ ap (owner_of (owned_by s r o)) (sym e) ∙ owned)

@@ -7,11 +7,12 @@ use Rattle.mm_lists.specs.Members.{NoRepeat}
 use Rattle.mm_rules.specs.TableState.{TableState, is_live, has_verdict, owner_of, owns, wait_of, resources_of}
 use Rattle.mm_rules.specs.Change.{hand_over, hand_over_fits, give_to_fits, free_slot, vacate, vacate_fits}
 use Rattle.mm_rules.specs.Laws.{Laws}
-use Rattle.mm_rules.proofs.States.Lists.{In, to_among, from_among, filter_gives, filter_keeps, list_all_from, some_of_range_once}
-use Rattle.mm_rules.proofs.States.Handed.{MayHand}
+use Rattle.mm_lists.specs.Members.{Among}
+use Rattle.mm_lists.proofs.Members.{filter_gives, filter_keeps, list_all_from, no_repeat_filter_range}
+use Rattle.mm_rules.proofs.States.HandOverLaws.{MayHandOver}
 use Rattle.mm_rules.proofs.States.HandOver.{HandedOver, hand_over_keeps}
-use Rattle.mm_rules.proofs.States.Release.{owns_gives, may_hand}
-use Rattle.mm_rules.proofs.States.Vacate.{Vacating, begins, vacates, vacates_one}
+use Rattle.mm_rules.proofs.States.Release.{owns_gives, may_hand_over}
+use Rattle.mm_rules.proofs.States.Vacate.{Vacating, vacating_begins, vacating_ends, vacating_next}
 use Rattle.mm_rules.proofs.States.HandOverOrder.{any_order}
 
 -- fewer pass a test that only some pass that passed another
@@ -24,7 +25,7 @@ filter_less p q (x ∷ xs) each =
       | inr no_q ↦ elim (cases_Bool (p x)) [ inl yes_p ↦ rw (no_q, yes_p) (omega arith) | inr no_p ↦ rw (no_q, no_p) rest ]
     ]
 
-filter_fewer : (p q : ℕ → Bool) (xs : List ℕ) (r : ℕ) → ((x : ℕ) → q x ≡ true → p x ≡ true) → In r xs → p r ≡ true → q r ≡ false → length (filter q xs) < length (filter p xs)
+filter_fewer : (p q : ℕ → Bool) (xs : List ℕ) (r : ℕ) → ((x : ℕ) → q x ≡ true → p x ≡ true) → Among r xs → p r ≡ true → q r ≡ false → length (filter q xs) < length (filter p xs)
 filter_fewer p q [] r each among yes_p no_q = elim among [ ]
 filter_fewer p q (x ∷ xs) r each (inl here) yes_p no_q =
     let rest = filter_less p q xs each in
@@ -45,15 +46,15 @@ pub record IsUnderWay (old s : TableState) (n : ℕ) : Type 0 where
   pub rest : fold hand_over s (resources_of s n) ≡ fold hand_over old (resources_of old n)
 
 pub starts : (s : TableState) (n : ℕ) → Laws s → wait_of s n ≡ None → IsTrue (vacate_fits s n) → IsUnderWay s s n
-starts s n laws active fits = record { config = refl; now = begins s n laws active fits; rest = refl }
+starts s n laws active fits = record { config = refl; now = vacating_begins s n laws active fits; rest = refl }
 
-module _ (old s : TableState) (n r : ℕ) (way : IsUnderWay old s n) (among : In r (resources_of s n)) where
+module _ (old s : TableState) (n r : ℕ) (way : IsUnderWay old s n) (among : Among r (resources_of s n)) where
   owner : (k : Key) × (owner_of s r ≡ Some k) × (k.process ≡ n)
   owner = way.now.owned r among
 
   over : HandedOver s r owner.0.process (hand_over s r)
   over =
-      let may : MayHand s r owner.0 = may_hand s n r owner.0 way.now.keeps.laws way.now.active owner.1 owner.2 in
+      let may : MayHandOver s r owner.0 = may_hand_over s n r owner.0 way.now.keeps.laws way.now.active owner.1 owner.2 in
       hand_over_keeps s r owner.0 may (way.now.fits r among)
 
   -- what n owns then, it owned before, and it is not r
@@ -64,33 +65,33 @@ module _ (old s : TableState) (n r : ℕ) (way : IsUnderWay old s n) (among : In
       let was : owner_of s q ≡ Some its.0 = sym (over.owners q apart) ∙ its.1 in
       (rw was (eq-eqb its.0.process n its.2), apart)
 
-  in_range_still : (q : ℕ) → In q (range_with_len 0 (hand_over s r).config.resources) → In q (range_with_len 0 s.config.resources)
+  in_range_still : (q : ℕ) → Among q (range_with_len 0 (hand_over s r).config.resources) → Among q (range_with_len 0 s.config.resources)
   in_range_still q found = rw over.config at found
 
-  still_in : (q : ℕ) → In q (resources_of (hand_over s r) n) → In q (resources_of s n) × (q ≢ r)
+  still_in : (q : ℕ) → Among q (resources_of (hand_over s r) n) → Among q (resources_of s n) × (q ≢ r)
   still_in q found =
       let parts = filter_gives (owns (hand_over s r) n) (range_with_len 0 (hand_over s r).config.resources) q found in
       let before = owned_before q parts.1 in
       (filter_keeps (owns s n) (range_with_len 0 s.config.resources) q (in_range_still q parts.0) before.0, before.1)
 
-  stays_in : (q : ℕ) → In q (resources_of s n) → q ≢ r → In q (resources_of (hand_over s r) n)
+  stays_in : (q : ℕ) → Among q (resources_of s n) → q ≢ r → Among q (resources_of (hand_over s r) n)
   stays_in q found apart =
       let its : (k : Key) × (owner_of s q ≡ Some k) × (k.process ≡ n) = way.now.owned q found in
       let now : owner_of (hand_over s r) q ≡ Some its.0 = over.owners q apart ∙ its.1 in
-      let range : In q (range_with_len 0 (hand_over s r).config.resources) = rw over.config (filter_gives (owns s n) (range_with_len 0 s.config.resources) q found).0 in
+      let range : Among q (range_with_len 0 (hand_over s r).config.resources) = rw over.config (filter_gives (owns s n) (range_with_len 0 s.config.resources) q found).0 in
       filter_keeps (owns (hand_over s r) n) (range_with_len 0 (hand_over s r).config.resources) q range (rw now (eq-eqb its.0.process n its.2))
 
   abbrev left : List ℕ
   left = resources_of (hand_over s r) n
 
   once : NoRepeat (r ∷ left)
-  once = ((λ again. (still_in r (from_among left r again)).1 refl), some_of_range_once (owns (hand_over s r) n) 0 (hand_over s r).config.resources)
+  once = ((λ again. (still_in r again).1 refl), no_repeat_filter_range (owns (hand_over s r) n) 0 (hand_over s r).config.resources)
 
-  before : (q : ℕ) → In q (r ∷ left) → In q (resources_of s n)
-  before q (inl here) = subst (λ x. In x (resources_of s n)) (sym here) among
+  before : (q : ℕ) → Among q (r ∷ left) → Among q (resources_of s n)
+  before q (inl here) = subst (λ x. Among x (resources_of s n)) (sym here) among
   before q (inr later) = (still_in q later).0
 
-  after : (q : ℕ) → In q (resources_of s n) → In q (r ∷ left)
+  after : (q : ℕ) → Among q (resources_of s n) → Among q (r ∷ left)
   after q found = elim (cases_eq q r) [ inl here ↦ inl here | inr apart ↦ inr (stays_in q found apart) ]
 
   with_r_first : Vacating old s n (r ∷ left)
@@ -107,10 +108,10 @@ module _ (old s : TableState) (n r : ℕ) (way : IsUnderWay old s n) (among : In
   pub handed_one : IsUnderWay old (hand_over s r) n
   handed_one = record {
     config = over.config ∙ way.config;
-    now = vacates_one old s n r left once with_r_first;
-    rest = any_order s (r ∷ left) (resources_of s n) way.now.keeps.laws.lawful.well_formed.waits_once once (some_of_range_once (owns s n) 0 s.config.resources)
-        (λ q found. to_among (resources_of s n) q (before q (from_among (r ∷ left) q found)))
-        (λ q found. to_among (r ∷ left) q (after q (from_among (resources_of s n) q found)))
+    now = vacating_next old s n r left once with_r_first;
+    rest = any_order s (r ∷ left) (resources_of s n) way.now.keeps.laws.lawful.well_formed.waits_once once (no_repeat_filter_range (owns s n) 0 s.config.resources)
+        (λ q found. before q found)
+        (λ q found. after q found)
         ∙ way.rest;
   }
 
@@ -125,7 +126,7 @@ module _ (old s : TableState) (n r : ℕ) (way : IsUnderWay old s n) (among : In
 -- its key is live still, and it has no verdict
 module _ (s : TableState) (k : Key) (laws : Laws s) (active : wait_of s k.process ≡ None) (fits : IsTrue (vacate_fits s k.process)) where
   done : Vacating s (fold hand_over s (resources_of s k.process)) k.process []
-  done = vacates s k.process laws active fits
+  done = vacating_ends s k.process laws active fits
 
   pub live_still : IsTrue (is_live s k) → IsTrue (is_live (fold hand_over s (resources_of s k.process)) k)
   live_still live = rw (done.live, done.generations) live

@@ -6,6 +6,7 @@ use Rattle.std.specs.List.{AllByRecursion}
 use Rattle.mm_label.specs.Label.{Label, opening_label}
 use Rattle.mm_arena.specs.declared.key.Key.{Key}
 use Rattle.mm_lists.specs.Members.{Among, NoRepeat}
+use Rattle.mm_lists.proofs.Members.{among_map, filter_gives, no_repeat_filter}
 use Rattle.mm_rules.specs.TableState.{TableState, Wait, is_of, waiters_of}
 use Rattle.mm_rules.specs.Change.{label_against, block, activate, give_to, hand_over}
 
@@ -58,34 +59,18 @@ blocks_activate s h n (w ∷ ws) = blocks_activate (block s w.key.process h) h n
 abbrev Once : List Wait → Type 0
 Once ws = NoRepeat (map (λ w. w.key.process) ws)
 
-in_processes : (w : Wait) (ws : List Wait) → Among w ws → Among w.key.process (map (λ v. v.key.process) ws)
-in_processes w (v ∷ vs) (inl here) = inl (ap (λ o. o.key.process) here)
-in_processes w (v ∷ vs) (inr later) = inr (in_processes w vs later)
-in_processes w [] none = elim none [ ]
-
 -- a process waits once, so two waits of one process are one
 one_wait : (ws : List Wait) → Once ws → (v w : Wait) → Among v ws → Among w ws → v.key.process ≡ w.key.process → v ≡ w
 one_wait [] once v w none in_w same = elim none [ ]
 one_wait (u ∷ us) once v w (inl v_here) (inl w_here) same = v_here ∙ sym w_here
 one_wait (u ∷ us) once v w (inl v_here) (inr w_later) same =
-    absurd (once.0 (let P : ℕ → Type 0 = λ n. Among n (map (λ o. o.key.process) us) in subst P (sym same ∙ ap (λ o. o.key.process) v_here) (in_processes w us w_later)))
+    absurd (once.0 (let P : ℕ → Type 0 = λ n. Among n (map (λ o. o.key.process) us) in subst P (sym same ∙ ap (λ o. o.key.process) v_here) (among_map (λ o. o.key.process) us w w_later)))
 one_wait (u ∷ us) once v w (inr v_later) (inl w_here) same =
-    absurd (once.0 (let P : ℕ → Type 0 = λ n. Among n (map (λ o. o.key.process) us) in subst P (same ∙ ap (λ o. o.key.process) w_here) (in_processes v us v_later)))
+    absurd (once.0 (let P : ℕ → Type 0 = λ n. Among n (map (λ o. o.key.process) us) in subst P (same ∙ ap (λ o. o.key.process) w_here) (among_map (λ o. o.key.process) us v v_later)))
 one_wait (u ∷ us) once v w (inr v_later) (inr w_later) same = one_wait us once.1 v w v_later w_later same
 
 abbrev queue : ℕ → List Wait → List Wait
 queue r ws = filter (λ w. nat_eq w.resource r) ws
-
-filter_in : (p : Wait → Bool) (ws : List Wait) (w : Wait) → Among w (filter p ws) → Among w ws × (p w ≡ true)
-filter_in p [] w none = elim none [ ]
-filter_in p (v ∷ vs) w found =
-    elim (cases_Bool (p v)) [
-      | inl e ↦ elim (rw e at found) [
-        | inl here ↦ (inl here, ap p here ∙ e)
-        | inr later ↦ (inr (filter_in p vs w later).0, (filter_in p vs w later).1)
-      ]
-      | inr e ↦ (inr (filter_in p vs w (rw e at found)).0, (filter_in p vs w (rw e at found)).1)
-    ]
 
 -- activating a process that does not wait for r leaves the queue of r
 queue_stays : (ws : List Wait) (n r : ℕ) → ((w : Wait) → Among w ws → w.resource ≡ r → w.key.process ≢ n)
@@ -103,25 +88,9 @@ queue_stays (w ∷ ws) n r others =
 -- who waits for one resource, waits for no other
 other_queue : (ws : List Wait) → Once ws → (r q : ℕ) → r ≢ q → (v w : Wait) → Among v (queue r ws) → Among w ws → w.resource ≡ q → w.key.process ≢ v.key.process
 other_queue ws once r q apart v w in_queue w_in for_q same =
-    let found = filter_in (λ o. nat_eq o.resource r) ws v in_queue in
+    let found = filter_gives (λ o. nat_eq o.resource r) ws v in_queue in
     let one = one_wait ws once v w found.0 w_in (sym same) in
     apart (sym (eqb-true v.resource r found.1) ∙ ap (λ o. o.resource) one ∙ for_q)
-
-among_filtered : (p : Wait → Bool) (ws : List Wait) (n : ℕ) → Among n (map (λ w. w.key.process) (filter p ws)) → Among n (map (λ w. w.key.process) ws)
-among_filtered p [] n none = elim none [ ]
-among_filtered p (w ∷ ws) n found =
-    elim (cases_Bool (p w)) [
-      | inl e ↦ elim (rw e at found) [ inl here ↦ inl here | inr later ↦ inr (among_filtered p ws n later) ]
-      | inr e ↦ inr (among_filtered p ws n (rw e at found))
-    ]
-
-once_filtered : (p : Wait → Bool) (ws : List Wait) → Once ws → Once (filter p ws)
-once_filtered p [] once = tt
-once_filtered p (w ∷ ws) once =
-    elim (cases_Bool (p w)) [
-      | inl e ↦ rw e ((λ again. once.0 (among_filtered p ws w.key.process again)), once_filtered p ws once.1)
-      | inr e ↦ rw e (once_filtered p ws once.1)
-    ]
 
 -- ---- two hand-overs
 
@@ -206,7 +175,7 @@ hand_overs_comm s r q once apart =
     let ws = waiters_of s r in
     let vs = waiters_of s q in
     let not_shared = λ (w v : Wait) (w_in : Among w ws) (v_in : Among v vs) (same : w.key.process ≡ v.key.process).
-    let found = filter_in (λ o. nat_eq o.resource q) s.waits v v_in in
+    let found = filter_gives (λ o. nat_eq o.resource q) s.waits v v_in in
     other_queue s.waits once r q apart w v w_in found.0 (eqb-true v.resource q found.1) (sym same) in
     ap (give_to (hand_over s r) q) (waiters_stay s r q ws once apart refl)
     ∙ gives_comm s r q ws vs apart not_shared
@@ -219,7 +188,7 @@ hand_over_once s r once = kept (waiters_of s r)
     kept [] = once
     kept (f ∷ others) =
         let P : List Wait → Type 0 = Once in
-        subst P (sym (blocks_waits (take_over s r f) f.key.process others)) (once_filtered (λ w. not (is_of f.key.process w)) s.waits once)
+        subst P (sym (blocks_waits (take_over s r f) f.key.process others)) (no_repeat_filter (λ (w : Wait). w.key.process) (λ w. not (is_of f.key.process w)) s.waits once)
 
 -- ---- any order
 

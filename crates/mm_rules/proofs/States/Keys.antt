@@ -1,11 +1,13 @@
 -- No event brings a spent key back, and begin gives a key that was not live.
-use Rattle.std.proofs.Common.{◌≡◌, ◌≢◌, ℕ, zero, suc, List, [], ◌∷◌, length, drop, fold, nat_eq, slice_index, slice_index_or, slice_get, slice_set, Bool, true, false, Option, Some, None, Result, Ok, Err, MatchBool, if◌then◌else◌, count_by, IsTrue, IsFalse, inl, inr, refl, sym, ap, subst, ◌∙◌, arith, get_or-set_same, get_or-set_other}
+use Rattle.std.proofs.Common.{◌≡◌, ◌≢◌, ℕ, zero, suc, List, [], ◌∷◌, length, fold, nat_eq, slice_index, slice_index_or, slice_get, slice_set, Bool, true, false, Option, Some, None, Result, Ok, Err, MatchBool, if◌then◌else◌, count_by, IsTrue, IsFalse, inl, inr, refl, sym, ap, subst, ◌∙◌, arith, get_or-set_same, get_or-set_other}
 use Rattle.std.specs.List.{AllByRecursion}
 use Rattle.std.specs.Option.{option_map_or}
 use Rattle.std.proofs.lemmas.Bool.{eqb-false, eq-eqb, and_from, and_left, not-false}
 use Rattle.std.proofs.lemmas.Option.{slice_get_within, get_or_from_slice_get}
 use Rattle.mm_label.specs.Label.{Label}
 use Rattle.mm_arena.specs.declared.key.Key.{Key}
+use Rattle.mm_lists.specs.Members.{Among}
+use Rattle.mm_lists.proofs.Members.{all_at, among_rest_gives, first_among}
 use Rattle.mm_rules.specs.declared.refusal.Refusal.{Refusal}
 use Rattle.mm_rules.specs.declared.reply.Settled.{Settled}
 use Rattle.mm_rules.specs.declared.reply.Transmitted.TheVariants.{Raised, Still}
@@ -14,16 +16,15 @@ use Rattle.mm_rules.specs.TableState.{TableState, Wait, is_live, key_of, has_ver
 use Rattle.mm_rules.specs.Change.{activate, give_to, hand_over, vacate, withdraw, greater_label, transmit, can_detect, detect, swept, total_raises, abort}
 use Rattle.mm_rules.specs.Event.{Tests, Event, Begin, Acquire, Release, Finish, Transmit, Detect, Abort, Settle, GiveUp, Answer, Gives, Step, Run, Settles, allowed, outcome, decided, begin_tests, acquire_tests, acquire_answer, acquire_change, release_tests, release_answer, waiting_tests, give_up_tests, settle_tests, finish_tests, abort_tests, settled, counts_exhausted}
 use Rattle.mm_rules.specs.Laws.{Laws}
-use Rattle.mm_rules.proofs.States.Lists.{In, all_at, to_among, from_among}
-use Rattle.mm_rules.proofs.States.Outcomes.{counting, outcome_keeps, tests_false}
+use Rattle.mm_rules.proofs.States.Outcome.{counting, outcome_keeps, tests_false}
 use Rattle.mm_rules.proofs.States.Begin.{made_live, live_still}
 use Rattle.mm_rules.proofs.States.Grant.{owned_by}
 use Rattle.mm_rules.proofs.States.Transmit.{shown}
 use Rattle.mm_rules.proofs.States.Detect.{convicted}
-use Rattle.mm_rules.proofs.States.Blocks.{blocked_all, blocked_is}
+use Rattle.mm_rules.proofs.States.Block.{blocked_all, blocked_is}
 use Rattle.mm_rules.proofs.States.Vacate.{live_process}
-use Rattle.mm_rules.proofs.States.Read.{live_within}
-use Rattle.mm_rules.proofs.States.Events.{event_keeps}
+use Rattle.mm_rules.proofs.States.Lookups.{live_within}
+use Rattle.mm_rules.proofs.States.EventsKeepLaws.{event_keeps}
 use Rattle.mm_rules.proofs.States.SpentKeys.{spent_is_dead, KeepsKeys, keys_then, SameKeys, same_keys_then, same_keeps_keys, IsTaken, free_slot_keys}
 
 unchanged : (s : TableState) → SameKeys s s
@@ -98,19 +99,11 @@ is_taken s k laws live =
       live = here;
       not_free = λ among.
           let free : slice_get s.live k.process ≡ Some false
-          = all_at (λ i. slice_get s.live i ≡ Some false) s.free k.process laws.lawful.well_formed.free (from_among s.free k.process among) in
+          = all_at (λ i. slice_get s.live i ≡ Some false) s.free k.process laws.lawful.well_formed.free among in
           let never : true ≡ false = sym here ∙ get_or_from_slice_get s.live k.process false false free in
           absurd (cc);
       within = omega (arith, live_within s k laws.lawful.well_formed.sizes live, laws.lawful.well_formed.sizes.generations);
     }
-
-head_in : (ns : List ℕ) → length ns ≢ 0 → In (slice_index ns 0) ns
-head_in [] some = absurd (some refl)
-head_in (n ∷ ns) some = inl refl
-
-rest_in : (ns : List ℕ) (m : ℕ) → In m (drop 1 ns) → In m ns
-rest_in [] m among = among
-rest_in (n ∷ ns) m among = inr among
 
 module _ (s : TableState) (some : length s.free ≢ 0) where
   pub begin_keys : KeepsKeys s (made_live s (slice_index s.free 0))
@@ -118,10 +111,10 @@ module _ (s : TableState) (some : length s.free ≢ 0) where
     spent = λ k spent. elim spent [
       | inl later ↦ inl later
       | inr dead ↦
-          let apart : k.process ≢ slice_index s.free 0 = λ e. dead.1 (to_among s.free k.process (subst (λ (i : ℕ). In i s.free) (sym e) (head_in s.free some))) in
+          let apart : k.process ≢ slice_index s.free 0 = λ e. dead.1 (subst (λ (i : ℕ). Among i s.free) (sym e) (first_among s.free some)) in
           inr (
             get_or-set_other s.live (slice_index s.free 0) k.process true false apart ∙ dead.0,
-            λ among. dead.1 (to_among s.free k.process (rest_in s.free k.process (from_among (drop 1 s.free) k.process among))),
+            λ among. dead.1 (among_rest_gives s.free k.process among),
           )
     ];
     live = λ k live. inl (live_still s (slice_index s.free 0) k live);
@@ -129,7 +122,7 @@ module _ (s : TableState) (some : length s.free ≢ 0) where
 
   -- the key of the first free process was not live, and is now
   begins_dead : Laws s → slice_get s.live (slice_index s.free 0) ≡ Some false
-  begins_dead laws = all_at (λ i. slice_get s.live i ≡ Some false) s.free (slice_index s.free 0) laws.lawful.well_formed.free (head_in s.free some)
+  begins_dead laws = all_at (λ i. slice_get s.live i ≡ Some false) s.free (slice_index s.free 0) laws.lawful.well_formed.free (first_among s.free some)
 
   pub begun_was_dead : Laws s → IsFalse (is_live s (key_of s (slice_index s.free 0)))
   begun_was_dead laws =

@@ -10,14 +10,14 @@ use Rattle.mm_rules.specs.Change.{greater_label, transmit, can_detect, detect, s
 use Rattle.mm_rules.specs.Event.{counts_exhausted, Settle, Step, Gives, outcome}
 use Rattle.mm_rules.specs.declared.refusal.Refusal.TheVariants.{CountsExhausted}
 use Rattle.mm_rules.specs.private.Stages.{IsSwept}
-use Rattle.mm_rules.proofs.States.Lists.{some_of_range_once}
-use Rattle.mm_rules.proofs.States.Outcomes.{counting}
+use Rattle.mm_lists.proofs.Members.{no_repeat_filter_range}
+use Rattle.mm_rules.proofs.States.Outcome.{counting}
 use Rattle.mm_rules.proofs.States.Transmit.{shown}
 use Rattle.mm_rules.proofs.States.Detect.{detect_still, detect_convicts}
-use Rattle.mm_rules.proofs.States.Sweeps.{same_waiting, swept_same_waits}
+use Rattle.mm_rules.proofs.States.Sweep.{same_waiting, swept_same_waits}
 
 pub waiting_once : (s : TableState) → NoRepeat (waiting_processes s)
-waiting_once s = some_of_range_once (is_waiting s) 0 s.config.processes
+waiting_once s = no_repeat_filter_range (is_waiting s) 0 s.config.processes
 
 pub below_limit : (s : TableState) → counts_exhausted s ≡ false → (s.totals.accepted < 2 ^ 62) × (s.totals.verdicts < 2 ^ 62)
 below_limit s free =

@@ -5,8 +5,8 @@ use Rattle.mm_rules.specs.TableState.{TableState, waiting_processes}
 use Rattle.mm_rules.specs.Change.{transmit, raises_along, sweep_raises, swept, total_raises}
 use Rattle.mm_rules.specs.Laws.{Laws, most_raises}
 use Rattle.mm_rules.specs.private.Stages.{IsSwept}
-use Rattle.mm_rules.proofs.States.Sweeps.{same_waiting, swept_same_waits, raised_nothing}
-use Rattle.mm_rules.proofs.States.SweepRaises.{sweeps_raise_few, most_raises_bound}
+use Rattle.mm_rules.proofs.States.Sweep.{same_waiting, swept_same_waits, raised_nothing}
+use Rattle.mm_rules.proofs.States.SweepRaises.{sweep_raises_bound, most_raises_bound}
 
 -- s came from old by some sweeps, each of which raised something, and which raised so many labels
 pub record IsSweeping (old : TableState) (raises : ℕ) (s : TableState) : Type 0 where
@@ -34,7 +34,7 @@ module _ (old : TableState) (raises : ℕ) (s : TableState) (waiting : List ℕ)
   total_now = omega (arith, way.raised, raised_now)
 
   in_bound : raises + more ≤ most_raises old
-  in_bound = omega (arith, total_now, sweeps_raise_few old (suc way.sweeps) laws)
+  in_bound = omega (arith, total_now, sweep_raises_bound old (suc way.sweeps) laws)
 
   pub falls : 0 < more → most_raises old - (raises + more) < most_raises old - raises
   falls some = omega (arith, in_bound)

@@ -1,5 +1,5 @@
 -- Transmit keeps the laws: where the holder shows a greater label it is a raise of the graph, and else nothing changes.
-use Rattle.std.proofs.Common.{◌≡◌, ◌≢◌, ◌⊎◌, ℕ, ◌<◌, slice_set, true, Option, Some, None, option_and_then, if◌then◌else◌, IsTrue, inl, inr, refl, ap, ◌∙◌, arith, length-set, get_or-set_same, get_or-set_other}
+use Rattle.std.proofs.Common.{◌≡◌, ◌≢◌, ◌⊎◌, ℕ, ◌<◌, slice_set, true, Option, Some, None, option_and_then, if◌then◌else◌, IsTrue, inl, inr, refl, ap, arith, length-set, get_or-set_same, get_or-set_other}
 use Rattle.std.specs.Option.{option_map_or}
 use Rattle.std.proofs.lemmas.Bool.{cases_eq, cases_Bool}
 use Rattle.mm_label.specs.Label.{Label, label_le, label_lt, opening_label, word_of}
@@ -10,15 +10,16 @@ use Rattle.mm_rules.specs.TableState.{TableState, holder_of, private_of, public_
 use Rattle.mm_rules.specs.Change.{greater_label, transmit}
 use Rattle.mm_rules.specs.Event.{transmitted, waiting_tests}
 use Rattle.mm_rules.specs.Laws.{PrivateLabels, LabelBounds, Laws}
+use Rattle.mm_rules.proofs.States.IsSized.{same_lengths}
 use Rattle.mm_rules.proofs.Graph.Change.{Raises}
 use Rattle.mm_rules.proofs.Graph.Raise.{raise_keeps_laws}
-use Rattle.mm_rules.proofs.Graph.Stays.{raise_keeps_returned}
+use Rattle.mm_rules.proofs.Graph.LabelReturned.{raise_keeps_returned}
 use Rattle.mm_rules.proofs.Graph.Settle.{IsStill}
 use Rattle.mm_rules.proofs.Graph.Walks.{active_waits_not, one_holder}
-use Rattle.mm_rules.proofs.States.Words.{lt_words, lt_false_words, label_le_same, label_le_then, label_le_lt}
-use Rattle.mm_rules.proofs.States.Read.{holder_within}
-use Rattle.mm_rules.proofs.States.Lawful.{graph_lawful, laws_by, public_within}
-use Rattle.mm_rules.proofs.States.Outcomes.{Keeps, keeps_same, outcome_keeps_laws}
+use Rattle.mm_rules.proofs.States.LabelOrder.{lt_words, lt_false_words, label_le_same, label_le_then, label_le_lt}
+use Rattle.mm_rules.proofs.States.Lookups.{holder_within}
+use Rattle.mm_rules.proofs.States.Laws.{graph_lawful, laws_by, public_within}
+use Rattle.mm_rules.proofs.States.Outcome.{KeepsLaws, keeps_same, outcome_keeps_laws}
 
 -- n shows l
 abbrev pub shown : TableState → ℕ → Label → TableState
@@ -107,19 +108,12 @@ module _ (s : TableState) (laws : Laws s) (n : ℕ) where
       ];
     }
 
-    shown_keeps : Keeps s (shown s n (public_of s h))
+    shown_keeps : KeepsLaws s (shown s n (public_of s h))
     shown_keeps = record {
       laws = laws_by (shown s n (public_of s h))
           (record {
             config = laws.lawful.well_formed.config;
-            sizes = record {
-              generations = laws.lawful.well_formed.sizes.generations;
-              live = laws.lawful.well_formed.sizes.live;
-              private = laws.lawful.well_formed.sizes.private;
-              public = length-set s.public n (public_of s h) ∙ laws.lawful.well_formed.sizes.public;
-              verdicts = laws.lawful.well_formed.sizes.verdicts;
-              owners = laws.lawful.well_formed.sizes.owners;
-            };
+            sizes = same_lengths s _ laws.lawful.well_formed.sizes refl refl refl refl (length-set s.public n (public_of s h)) refl refl;
             owners = laws.lawful.well_formed.owners;
             waits = laws.lawful.well_formed.waits;
             waits_once = laws.lawful.well_formed.waits_once;
@@ -144,12 +138,12 @@ module _ (s : TableState) (laws : Laws s) (n : ℕ) where
   pub transmit_shown : (h : ℕ) → HolderIsAbove s n h → transmit s n ≡ shown s n (public_of s h)
   transmit_shown h above = ap (λ o. option_map_or (shown s n) o s) above.greater
 
-  pub transmit_keeps : Keeps s (transmit s n)
+  pub transmit_keeps : KeepsLaws s (transmit s n)
   transmit_keeps = elim transmit_cases [
     | inl still ↦ rw (transmit_still still.0) (keeps_same s laws)
     | inr raised ↦ rw (transmit_shown raised.0 raised.1) (shown_keeps raised.0 raised.1)
   ]
 
-pub transmitted_keeps : (s : TableState) (k : Key) → Laws s → Keeps s (transmitted s k).state
+pub transmitted_keeps : (s : TableState) (k : Key) → Laws s → KeepsLaws s (transmitted s k).state
 transmitted_keeps s k laws = outcome_keeps_laws s (option_map_or Raised (greater_label s k.process) Still) (transmit s k.process) (waiting_tests s k) laws
     (λ passed. transmit_keeps s laws k.process)

@@ -3,35 +3,35 @@ use Rattle.std.proofs.Common.{◌≡◌, ◌≢◌, ℕ, ◌<◌, List, [], ◌�
 use Rattle.std.specs.List.{range_with_len}
 use Rattle.std.proofs.lemmas.Bool.{cases_eq, eq-eqb, and_parts, not-false}
 use Rattle.mm_arena.specs.declared.key.Key.{Key}
-use Rattle.mm_lists.specs.Members.{NoRepeat}
+use Rattle.mm_lists.specs.Members.{NoRepeat, Among}
+use Rattle.mm_lists.proofs.Members.{among_range, filter_gives, filter_keeps, list_all_at, no_repeat_filter_range}
 use Rattle.mm_rules.specs.TableState.{TableState, is_live, owner_of, owns, wait_of, resources_of}
 use Rattle.mm_rules.specs.Change.{hand_over, hand_over_fits, vacate, vacate_fits}
 use Rattle.mm_rules.specs.Event.{finished, finish_tests}
 use Rattle.mm_rules.specs.Laws.{Laws}
-use Rattle.mm_rules.proofs.States.Lists.{In, to_among, list_all_at, filter_gives, filter_keeps, range_holds, some_of_range_once}
-use Rattle.mm_rules.proofs.States.Outcomes.{Keeps, keeps_same, keeps_then, outcome_keeps_laws}
-use Rattle.mm_rules.proofs.States.Read.{none_of_is_some}
-use Rattle.mm_rules.proofs.States.Handed.{MayHand, owner_within}
+use Rattle.mm_rules.proofs.States.Outcome.{KeepsLaws, keeps_same, keeps_then, outcome_keeps_laws}
+use Rattle.mm_rules.proofs.States.Lookups.{none_of_is_some}
+use Rattle.mm_rules.proofs.States.HandOverLaws.{MayHandOver, owner_within}
 use Rattle.mm_rules.proofs.States.HandOver.{HandedOver, hand_over_keeps, others_fit}
-use Rattle.mm_rules.proofs.States.Release.{owns_gives, may_hand}
+use Rattle.mm_rules.proofs.States.Release.{owns_gives, may_hand_over}
 use Rattle.mm_rules.proofs.States.FreeSlot.{IsVacant, free_slot_keeps}
 
 -- n, which waits for nothing, owns these resources and no other, and may hand each of them over
 pub record Vacating (old s : TableState) (n : ℕ) (rs : List ℕ) : Type 0 where
-  pub keeps : Keeps old s
+  pub keeps : KeepsLaws old s
   pub live : s.live ≡ old.live
   pub generations : s.generations ≡ old.generations
   pub active : wait_of s n ≡ None
-  pub owned : (r : ℕ) → In r rs → (k : Key) × (owner_of s r ≡ Some k) × (k.process ≡ n)
-  pub fits : (r : ℕ) → In r rs → IsTrue (hand_over_fits s r)
-  pub only : (r : ℕ) (k : Key) → owner_of s r ≡ Some k → k.process ≡ n → In r rs
+  pub owned : (r : ℕ) → Among r rs → (k : Key) × (owner_of s r ≡ Some k) × (k.process ≡ n)
+  pub fits : (r : ℕ) → Among r rs → IsTrue (hand_over_fits s r)
+  pub only : (r : ℕ) (k : Key) → owner_of s r ≡ Some k → k.process ≡ n → Among r rs
 
 module _ (old s : TableState) (n r : ℕ) (rs : List ℕ) (once : NoRepeat (r ∷ rs)) (now : Vacating old s n (r ∷ rs)) where
-  rest_apart : (q : ℕ) → In q rs → q ≢ r
-  rest_apart q among e = once.0 (rw e at (to_among rs q among))
+  rest_apart : (q : ℕ) → Among q rs → q ≢ r
+  rest_apart q among e = once.0 (rw e at among)
 
-  vacated_more : (o : ℕ) → o ≡ n → HandedOver s r o (hand_over s r) → Vacating old (hand_over s r) n rs
-  vacated_more o e over = record {
+  vacating_after_hand_over : (o : ℕ) → o ≡ n → HandedOver s r o (hand_over s r) → Vacating old (hand_over s r) n rs
+  vacating_after_hand_over o e over = record {
     keeps = keeps_then old s (hand_over s r) now.keeps over.keeps;
     live = over.live ∙ now.live;
     generations = over.generations ∙ now.generations;
@@ -44,18 +44,18 @@ module _ (old s : TableState) (n r : ℕ) (rs : List ℕ) (once : NoRepeat (r �
     ];
   }
 
-  pub vacates_one : Vacating old (hand_over s r) n rs
-  vacates_one =
+  pub vacating_next : Vacating old (hand_over s r) n rs
+  vacating_next =
       let owner : (k : Key) × (owner_of s r ≡ Some k) × (k.process ≡ n) = now.owned r (inl refl) in
-      let may : MayHand s r owner.0 = may_hand s n r owner.0 now.keeps.laws now.active owner.1 owner.2 in
-      vacated_more owner.0.process owner.2 (hand_over_keeps s r owner.0 may (now.fits r (inl refl)))
+      let may : MayHandOver s r owner.0 = may_hand_over s n r owner.0 now.keeps.laws now.active owner.1 owner.2 in
+      vacating_after_hand_over owner.0.process owner.2 (hand_over_keeps s r owner.0 may (now.fits r (inl refl)))
 
-vacates_all : (old s : TableState) (n : ℕ) (rs : List ℕ) → NoRepeat rs → Vacating old s n rs → Vacating old (fold hand_over s rs) n []
-vacates_all old s n [] once now = now
-vacates_all old s n (r ∷ rs) once now = vacates_all old (hand_over s r) n rs once.1 (vacates_one old s n r rs once now)
+vacating_all : (old s : TableState) (n : ℕ) (rs : List ℕ) → NoRepeat rs → Vacating old s n rs → Vacating old (fold hand_over s rs) n []
+vacating_all old s n [] once now = now
+vacating_all old s n (r ∷ rs) once now = vacating_all old (hand_over s r) n rs once.1 (vacating_next old s n r rs once now)
 
-pub begins : (s : TableState) (n : ℕ) → Laws s → wait_of s n ≡ None → IsTrue (vacate_fits s n) → Vacating s s n (resources_of s n)
-begins s n laws active fits = record {
+pub vacating_begins : (s : TableState) (n : ℕ) → Laws s → wait_of s n ≡ None → IsTrue (vacate_fits s n) → Vacating s s n (resources_of s n)
+vacating_begins s n laws active fits = record {
   keeps = keeps_same s laws;
   live = refl;
   generations = refl;
@@ -63,20 +63,20 @@ begins s n laws active fits = record {
   owned = λ r among. owns_gives s n r (filter_gives (owns s n) (range_with_len 0 s.config.resources) r among).1;
   fits = λ r among. list_all_at (hand_over_fits s) (resources_of s n) r fits among;
   only = λ r k owned mine.
-      let within : r < length s.owners = owner_within s r k (may_hand s n r k laws active owned mine) in
-      let in_all : In r (range_with_len 0 s.config.resources) = range_holds 0 s.config.resources r (omega arith) (omega (arith, laws.lawful.well_formed.sizes.owners)) in
+      let within : r < length s.owners = owner_within s r k (may_hand_over s n r k laws active owned mine) in
+      let in_all : Among r (range_with_len 0 s.config.resources) = among_range 0 s.config.resources r (omega arith) (omega (arith, laws.lawful.well_formed.sizes.owners)) in
       let mine_too : IsTrue (owns s n r) = rw owned (eq-eqb k.process n mine) in
       filter_keeps (owns s n) (range_with_len 0 s.config.resources) r in_all mine_too;
 }
 
 -- after all hand-overs
-pub vacates : (s : TableState) (n : ℕ) → Laws s → wait_of s n ≡ None → IsTrue (vacate_fits s n) → Vacating s (fold hand_over s (resources_of s n)) n []
-vacates s n laws active fits = vacates_all s s n (resources_of s n) (some_of_range_once (owns s n) 0 s.config.resources) (begins s n laws active fits)
+pub vacating_ends : (s : TableState) (n : ℕ) → Laws s → wait_of s n ≡ None → IsTrue (vacate_fits s n) → Vacating s (fold hand_over s (resources_of s n)) n []
+vacating_ends s n laws active fits = vacating_all s s n (resources_of s n) (no_repeat_filter_range (owns s n) 0 s.config.resources) (vacating_begins s n laws active fits)
 
 module _ (s : TableState) (n : ℕ) (laws : Laws s) (live : slice_index_or s.live n false ≡ true) (active : wait_of s n ≡ None) (fits : IsTrue (vacate_fits s n)) where
-  pub vacate_keeps : Keeps s (vacate s n)
+  pub vacate_keeps : KeepsLaws s (vacate s n)
   vacate_keeps =
-      let done : Vacating s (fold hand_over s (resources_of s n)) n [] = vacates s n laws active fits in
+      let done : Vacating s (fold hand_over s (resources_of s n)) n [] = vacating_ends s n laws active fits in
       let vacant : IsVacant (fold hand_over s (resources_of s n)) n = record {
         laws = done.keeps.laws;
         live = rw done.live live;
@@ -88,7 +88,7 @@ module _ (s : TableState) (n : ℕ) (laws : Laws s) (live : slice_index_or s.liv
 pub live_process : (s : TableState) (k : Key) → IsTrue (is_live s k) → slice_index_or s.live k.process false ≡ true
 live_process s k live = (and_parts (slice_index_or s.live k.process false) (nat_eq (slice_index s.generations k.process) k.generation) live).0
 
-pub finish_keeps : (s : TableState) (k : Key) → Laws s → Keeps s (finished s k).state
+pub finish_keeps : (s : TableState) (k : Key) → Laws s → KeepsLaws s (finished s k).state
 finish_keeps s k laws = outcome_keeps_laws s tt (vacate s k.process) (finish_tests s k) laws (λ passed.
     vacate_keeps s k.process laws (live_process s k (not-false (is_live s k) passed.1.0)) (none_of_is_some (wait_of s k.process) passed.1.1.0)
     (not-false (vacate_fits s k.process) passed.1.1.1.0))

@@ -17,7 +17,7 @@ use Rattle.mm_table.specs.declared.records.WaitRecord.{WaitRecord}
 use Rattle.mm_rules.specs.TableState.{TableState, owns, resources_of}
 use Rattle.mm_rules.specs.Change.{hand_over_fits, vacate_fits}
 use Rattle.mm_table.specs.private.Records.{owning, OwnersAgree, AreSized, IsConsistent, state_of_records}
-use Rattle.mm_rules.proofs.States.Lists.{In, filter_gives, filter_keeps, list_all_at, list_all_from, range_holds}
+use Rattle.mm_lists.proofs.Members.{filter_gives, filter_keeps, list_all_at, list_all_from, among_range}
 
 -- the owner of one resource changes
 owning_here : (os : List (Option Key)) (r : ℕ) (o : Option Key) → r < length os → owning (slice_set os r o) r ≡ option_map (λ k. k.process) o
@@ -150,11 +150,11 @@ listed t s kept is = subst (λ (u : TableState). Listed u t.owned.listed) is (re
 })
 
 module _ (s : TableState) (owned : Lists) (lists : Listed s owned) (n : ℕ) where
-  pub in_resources : (r : ℕ) → Among r (list_at owned n) → In r (resources_of s n)
+  pub in_resources : (r : ℕ) → Among r (list_at owned n) → Among r (resources_of s n)
   in_resources r among =
-      filter_keeps (owns s n) (range_with_len 0 s.config.resources) r (range_holds 0 s.config.resources r (omega arith) (omega (arith, lists.within n r among))) (lists.mine n r among)
+      filter_keeps (owns s n) (range_with_len 0 s.config.resources) r (among_range 0 s.config.resources r (omega arith) (omega (arith, lists.within n r among))) (lists.mine n r among)
 
-  of_resources : (r : ℕ) → In r (resources_of s n) → Among r (list_at owned n)
+  of_resources : (r : ℕ) → Among r (resources_of s n) → Among r (list_at owned n)
   of_resources r among = lists.all n r (filter_gives (owns s n) (range_with_len 0 s.config.resources) r among).1
 
   -- the limit, by the list
@@ -174,6 +174,6 @@ module _ (s : TableState) (owned : Lists) (lists : Listed s owned) (n : ℕ) whe
       headless [] e r among = among
       headless (q ∷ rs) e r among = let never : Some q ≡ None = e in cc
 
-      empty : (rs : List ℕ) → ((r : ℕ) → In r rs → ⊥) → rs ≡ []
+      empty : (rs : List ℕ) → ((r : ℕ) → Among r rs → ⊥) → rs ≡ []
       empty [] none = refl
       empty (r ∷ rs) none = absurd (none r (inl refl))

@@ -5,8 +5,8 @@ use Rattle.mm_table.specs.declared.table.Table.TheInside.{Inside}
 use Rattle.mm_rules.specs.TableState.{TableState}
 use Rattle.mm_rules.specs.Event.{Event, Answer, Step}
 use Rattle.mm_table.specs.private.Table.{KeepsLaws}
-use Rattle.mm_rules.proofs.States.Events.{event_keeps}
-use Rattle.mm_rules.proofs.States.Configs.{event_config}
+use Rattle.mm_rules.proofs.States.EventsKeepLaws.{event_keeps}
+use Rattle.mm_rules.proofs.States.Config.{event_config}
 
 pub table_kept : (e : Event) (old : Inside) (new : TableState) (reply : Result (Answer e) Refusal) → Step e old.records reply new → KeepsLaws old → KeepsLaws (record old { records = new })
 table_kept e old new reply step kept = record {

@@ -8,7 +8,7 @@ use Rattle.mm_table.specs.declared.records.Transaction.{Transaction}
 use Rattle.mm_table.specs.declared.records.WaitRecord.{WaitRecord}
 use Rattle.mm_rules.specs.TableState.{waited_for}
 use Rattle.mm_table.specs.private.Records.{wait_in, wait_of_record, WaitsAgree}
-use Rattle.mm_rules.proofs.States.Read.{map_none}
+use Rattle.mm_rules.proofs.States.Lookups.{map_none}
 
 key_if : (value : Option Transaction) (key : Key) → option_map (λ _. key) value ≡ (if is_some value then Some key else None)
 key_if None key = refl

@@ -1,4 +1,4 @@
-use Rattle.mm_rules.proofs.States.Events.{event_keeps}
+use Rattle.mm_rules.proofs.States.EventsKeepLaws.{event_keeps}
 use Rattle.mm_rules.proofs.laws.events_keep_laws.Goals as goal
 
 pub returns : goal.returns

@@ -1,4 +1,4 @@
-use Rattle.mm_rules.proofs.States.Reached.{laws_are_not_empty}
+use Rattle.mm_rules.proofs.States.LawsAreNotEmpty.{laws_are_not_empty}
 use Rattle.mm_rules.proofs.laws.laws_are_not_empty.Goals as goal
 
 pub returns : goal.returns

@@ -1,4 +1,4 @@
-use Rattle.mm_rules.proofs.States.Events.{event_keeps}
+use Rattle.mm_rules.proofs.States.EventsKeepLaws.{event_keeps}
 use Rattle.mm_rules.proofs.laws.public_labels_never_fall.Goals as goal
 
 pub returns : goal.returns

@@ -1,4 +1,4 @@
-use Rattle.mm_rules.proofs.States.Events.{reached_is_lawful}
+use Rattle.mm_rules.proofs.States.EventsKeepLaws.{reached_is_lawful}
 use Rattle.mm_rules.proofs.laws.reached_is_lawful.Goals as goal
 
 pub returns : goal.returns

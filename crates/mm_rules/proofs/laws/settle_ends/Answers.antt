@@ -1,4 +1,4 @@
-use Rattle.mm_rules.proofs.States.Sweeps.{settles_after}
+use Rattle.mm_rules.proofs.States.Sweep.{settles_after}
 use Rattle.mm_rules.proofs.laws.settle_ends.Goals as goal
 
 pub returns : goal.returns

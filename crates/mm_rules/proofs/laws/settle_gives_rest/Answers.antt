@@ -1,4 +1,4 @@
-use Rattle.mm_rules.proofs.States.Settling.{settle_gives_rest}
+use Rattle.mm_rules.proofs.States.Settle.{settle_gives_rest}
 use Rattle.mm_rules.proofs.laws.settle_gives_rest.Goals as goal
 
 pub returns : goal.returns

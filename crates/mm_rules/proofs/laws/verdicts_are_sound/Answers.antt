@@ -1,4 +1,4 @@
-use Rattle.mm_rules.proofs.States.Sound.{verdicts_are_sound}
+use Rattle.mm_rules.proofs.States.SoundVerdicts.{verdicts_are_sound}
 use Rattle.mm_rules.proofs.laws.verdicts_are_sound.Goals as goal
 
 pub returns : goal.returns

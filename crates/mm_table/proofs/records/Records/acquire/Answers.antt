@@ -1,7 +1,7 @@
 use Rattle.std.proofs.Common.{◌≡◌, ap, sym, ◌∙◌, Err, rules}
 use Rattle.mm_rules.specs.TableState.{owner_of}
 use Rattle.mm_rules.specs.Event.{resource_tests, acquire_answer, acquire_change, decided}
-use Rattle.mm_rules.proofs.States.Outcomes.{refused_first}
+use Rattle.mm_rules.proofs.States.Outcome.{refused_first}
 use Rattle.mm_table.proofs.records.Records.acquire.Goals as goal
 
 pub returns-in_err-may_use : goal.returns-in_err-may_use

@@ -3,14 +3,14 @@ use Rattle.std.specs.List.{range_with_len}
 use Rattle.std.proofs.lemmas.List.{length-map}
 use Rattle.mm_table.specs.declared.records.settle.Waiter.{Waiter}
 use Rattle.mm_rules.specs.TableState.{is_waiting}
-use Rattle.mm_rules.proofs.States.SweepRaises.{few_pass}
+use Rattle.mm_lists.proofs.Members.{length_filter_range}
 use Rattle.mm_table.proofs.Fields.Waiters.{AreBelow, one_waits, none_waits}
 use Rattle.mm_table.proofs.records.Records.gather_waiters.Goals as goal
 use Rattle.mm_table.proofs.records.Records.gather_waiters.Goals.{in-Some, in_default}
 
 pub push_reserved-requires : goal.push_reserved-requires
 push_reserved-requires c =
-    let few = few_pass (is_waiting c.args.self.now) c.loop-process.process in
+    let few = length_filter_range (is_waiting c.args.self.now) c.loop-process.process in
     let items = simp length-map at (ap length c.loop-process.invariant.below.processes) in
     let processes = ap (λ s. s.config.processes) c.self.view_is in
     omega (arith, c.loop-process.waiters.ok.0)

@@ -3,7 +3,7 @@ use Rattle.mm_owned.proofs.OwnedWalks.{Among-head}
 use Rattle.mm_owned.specs.Owned.{list_at}
 use Rattle.mm_rules.specs.TableState.{TableState, resources_of}
 use Rattle.mm_rules.specs.Change.{hand_over}
-use Rattle.mm_rules.proofs.States.Lists.{In}
+use Rattle.mm_lists.specs.Members.{Among}
 use Rattle.mm_table.proofs.Fields.Ownership.{listed, in_resources, none_left}
 use Rattle.mm_rules.proofs.States.HandOverAll.{IsUnderWay, starts, handed_one, fewer_left}
 use Rattle.mm_table.proofs.records.Records.hand_over_all.Goals as goal
@@ -15,7 +15,7 @@ pub first-requires : goal.first-requires
 first-requires c =
     omega (arith, c.self.invariant.owned.lists, ap (λ s. s.config.processes) c.self.view_is, ap (λ k. k.processes) c.loop-resource.invariant.config, c.requires.process)
 
-found : (c : goal.After-hand_over-arg-1) → In c.in-Some.resource (resources_of c.loop-resource.self c.args.process)
+found : (c : goal.After-hand_over-arg-1) → Among c.in-Some.resource (resources_of c.loop-resource.self c.args.process)
 found c =
     let owned = c.self.inside.owned.listed in
     let lists = listed c.self.inside c.loop-resource.self c.self.invariant c.self.view_is in

@@ -1,8 +1,8 @@
 use Rattle.std.proofs.Common.{◌+◌, length, ap, sym, ◌∙◌, subst, arith}
 use Rattle.mm_lists.specs.Members.{NoRepeat}
 use Rattle.mm_table.specs.private.Waiters.{processes_of}
-use Rattle.mm_rules.proofs.States.SweepRaises.{few_wait}
-use Rattle.mm_rules.proofs.States.Outcomes.{counting}
+use Rattle.mm_rules.proofs.States.SweepRaises.{waiting_bound}
+use Rattle.mm_rules.proofs.States.Outcome.{counting}
 use Rattle.mm_rules.proofs.States.SettleStep.{waiting_once, below_limit, settle_gives}
 use Rattle.mm_rules.proofs.States.Totals.{sweeps_totals, detects_accepted}
 use Rattle.mm_table.proofs.records.Records.settle.Goals as goal
@@ -17,7 +17,7 @@ detect_all-verdicts-requires-clause-count c =
     let same = ap (λ t. t.verdicts) (sweeps_totals s c.sweep_all-raises.result c.sweep_all-raises.new.self c.sweep_all-raises.ensures) in
     let below = below_limit s (sym c.counts_exhausted.ensures ∙ c.if-counts_exhausted.false) in
     let long = ap length (ap processes_of c.deref-2.ensures.value ∙ c.gather_waiters.ensures.processes) in
-    omega (arith, few_wait s, c.requires.laws.lawful.well_formed.config.processes.1)
+    omega (arith, waiting_bound s, c.requires.laws.lawful.well_formed.config.processes.1)
 
 pub count-requires : goal.count-requires
 count-requires c =

@@ -5,7 +5,7 @@ use Rattle.mm_rules.specs.Graph.{Graph, WaitsFor, Path, IsGreatest, IsSettled}
 use Rattle.mm_rules.proofs.Graph.Change.{Raises}
 use Rattle.mm_rules.proofs.Graph.Walks.{walk_again}
 use Rattle.mm_rules.proofs.Graph.Raise.{raise_lowers_nothing, raised_shows, raise_keeps_path}
-use Rattle.mm_rules.proofs.Graph.Settled.{falls_to}
+use Rattle.mm_rules.proofs.Graph.IsSettled.{falls_to}
 
 pub settled_shows_greatest : (g : Graph) → IsSettled g → (k : ℕ) → IsGreatest g k (g.public k)
 settled_shows_greatest g settled k = record { bound = falls_to g settled k; place = k; places = []; along = refl; met = refl }

@@ -6,17 +6,18 @@ use Rattle.mm_rules.specs.declared.refusal.Refusal.{Refusal}
 use Rattle.mm_rules.specs.TableState.{TableState, public_of}
 use Rattle.mm_rules.specs.Event.{Tests, allowed, decided, outcome}
 use Rattle.mm_rules.specs.Laws.{Laws}
-use Rattle.mm_rules.proofs.States.Words.{label_le_same, label_le_then}
+use Rattle.mm_rules.proofs.States.IsSized.{same_lengths}
+use Rattle.mm_rules.proofs.States.LabelOrder.{label_le_same, label_le_then}
 
 -- the new state keeps all laws, and no public label fell
-pub record Keeps (old new : TableState) : Type 0 where
+pub record KeepsLaws (old new : TableState) : Type 0 where
   pub laws : Laws new
   pub rise : (n : ℕ) → IsTrue (label_le (public_of old n) (public_of new n))
 
-pub keeps_same : (s : TableState) → Laws s → Keeps s s
+pub keeps_same : (s : TableState) → Laws s → KeepsLaws s s
 keeps_same s laws = record { laws = laws; rise = λ n. label_le_same (public_of s n) }
 
-pub keeps_then : (a b c : TableState) → Keeps a b → Keeps b c → Keeps a c
+pub keeps_then : (a b c : TableState) → KeepsLaws a b → KeepsLaws b c → KeepsLaws a c
 keeps_then a b c first second = record {
   laws = second.laws;
   rise = λ n. label_le_then (public_of a n) (public_of b n) (public_of c n) (first.rise n) (second.rise n);
@@ -31,14 +32,7 @@ counting_keeps_laws s n laws = record {
   lawful = record {
     well_formed = record {
       config = laws.lawful.well_formed.config;
-      sizes = record {
-        generations = laws.lawful.well_formed.sizes.generations;
-        live = laws.lawful.well_formed.sizes.live;
-        private = laws.lawful.well_formed.sizes.private;
-        public = laws.lawful.well_formed.sizes.public;
-        verdicts = laws.lawful.well_formed.sizes.verdicts;
-        owners = laws.lawful.well_formed.sizes.owners;
-      };
+      sizes = same_lengths s _ laws.lawful.well_formed.sizes refl refl refl refl refl refl refl;
       owners = laws.lawful.well_formed.owners;
       waits = laws.lawful.well_formed.waits;
       waits_once = laws.lawful.well_formed.waits_once;
@@ -48,7 +42,7 @@ counting_keeps_laws s n laws = record {
     };
     private_labels = record { own = laws.lawful.private_labels.own; at_most_public = laws.lawful.private_labels.at_most_public };
     label_bounds = record { made = laws.lawful.label_bounds.made; newest = laws.lawful.label_bounds.newest; limit = laws.lawful.label_bounds.limit };
-    carried = laws.lawful.carried;
+    propagated = laws.lawful.propagated;
     rising = laws.lawful.rising;
     counted = laws.lawful.counted;
   };
@@ -56,7 +50,7 @@ counting_keeps_laws s n laws = record {
   topped = laws.topped;
 }
 
-counting_keeps : (old new : TableState) (n : ℕ) → Keeps old new → Keeps old (counting new n)
+counting_keeps : (old new : TableState) (n : ℕ) → KeepsLaws old new → KeepsLaws old (counting new n)
 counting_keeps old new n keeps = record { laws = counting_keeps_laws new n keeps.laws; rise = keeps.rise }
 
 -- ---- refusals
@@ -76,11 +70,11 @@ module _ (P : TableState → Type 0) (again : (s : TableState) (n : ℕ) → P s
   pub outcome_keeps : (tests : Tests) → P old → (AllByRecursion (λ t. t.0 ≡ false) tests → P new) → P (outcome tests old answer new).state
   outcome_keeps tests before after = decided_keeps (allowed tests) before (λ ok. after (tests_false tests ok))
 
--- for `Keeps`: the old state keeps its laws, and the changed one where all tests are false
+-- for `KeepsLaws`: the old state keeps its laws, and the changed one where all tests are false
 pub outcome_keeps_laws : {A : Type 0} (old : TableState) (answer : A) (new : TableState) (tests : Tests) → Laws old
-    → (AllByRecursion (λ t. t.0 ≡ false) tests → Keeps old new) → Keeps old (outcome tests old answer new).state
+    → (AllByRecursion (λ t. t.0 ≡ false) tests → KeepsLaws old new) → KeepsLaws old (outcome tests old answer new).state
 outcome_keeps_laws old answer new tests laws after =
-    outcome_keeps (λ s. Keeps old s) (λ s n. counting_keeps old s n) old answer new tests (keeps_same old laws) after
+    outcome_keeps (λ s. KeepsLaws old s) (λ s n. counting_keeps old s n) old answer new tests (keeps_same old laws) after
 
 -- ---- tests, some of which are made apart from the others
 

@@ -4,40 +4,40 @@ use Rattle.std.specs.Prelude.{ℕ, ◌<◌, ◌≡◌, ◌≢◌, ◌≤◌, Lis
 use Rattle.std.proofs.Common.{inl, inr, arith, sym, ap, ◌∙◌, refl}
 use Rattle.std.proofs.Math.Decide.{ℕ_discrete}
 use Rattle.mm_lists.specs.Members.{Among}
-use Rattle.mm_rules.specs.Graph.{Graph, Walk, Cycle, Carries, Carried, LabelReturned, Deadlocked, RisingLaw}
+use Rattle.mm_rules.specs.Graph.{Graph, Walk, Cycle, Relays, Propagated, LabelReturned, Deadlocked, RisingLaw}
 use Rattle.mm_rules.proofs.Graph.Laws.{IsLawful}
 use Rattle.mm_rules.proofs.Graph.Walks.{walk_again, OnTheWay}
 use Rattle.mm_rules.proofs.Graph.Cycles.{no_repeat, leaves, cycles_meet, start_on_cycle}
 
--- who carries another's label shows no greater one than its holder, and so on to the end
+-- who relays another's label shows no greater one than its holder, and so on to the end
 rises_to_end : (g : Graph) → RisingLaw g → (M n : ℕ) (places : List ℕ) (m k : ℕ) → Walk g (OnTheWay g M m) n places m
     → Among k (n ∷ places) → g.public k ≤ g.public m
 rises_to_end g rising M n [] m k end (inl e) = omega (arith, ap g.public (e ∙ end))
 rises_to_end g rising M n [] m k end (inr found) = absurd found
-rises_to_end g rising M n (j ∷ places) m k ((apart, carries), waits, rest) (inl e) =
-    omega (arith, ap g.public e, carries.older, carries.shown, rising n j waits, rises_to_end g rising M j places m j rest (inl refl))
+rises_to_end g rising M n (j ∷ places) m k ((apart, relays), waits, rest) (inl e) =
+    omega (arith, ap g.public e, relays.older, relays.shown, rising n j waits, rises_to_end g rising M j places m j rest (inl refl))
 rises_to_end g rising M n (j ∷ places) m k walk (inr found) = rises_to_end g rising M j places m k walk.2 found
 
 module _ (g : Graph) (v h : ℕ) (laws : IsLawful g) (returned : LabelReturned g v h) where
   -- the walk that brought v's label back to its holder
-  pub way_back : Carried g (g.private v) h v
+  pub way_back : Propagated g (g.private v) h v
   way_back =
       let apart : h ≢ v = λ e. laws.apart v h returned.waits (sym e) in
-      laws.carried v h h returned.waits (laws.within v h returned.waits).1 apart (sym returned.back ∙ sym returned.own)
+      laws.propagated v h h returned.waits (laws.within v h returned.waits).1 apart (sym returned.back ∙ sym returned.own)
 
   way_back-again : (Every : ℕ → Type 0) → ((k : ℕ) → OnTheWay g (g.private v) v k → Every k) → Walk g Every h way_back.places v
   way_back-again Every each =
       walk_again g g (OnTheWay g (g.private v) v) Every (λ k j waits here. (each k here, waits)) h way_back.places v way_back.along
 
-  carries_back : (k : ℕ) → Among k (h ∷ way_back.places) → k ≢ v → Carries g (g.private v) k
-  carries_back k found apart = (leaves g (OnTheWay g (g.private v) v) h way_back.places v k way_back.along found apart).1
+  relays_back : (k : ℕ) → Among k (h ∷ way_back.places) → k ≢ v → Relays g (g.private v) k
+  relays_back k found apart = (leaves g (OnTheWay g (g.private v) v) h way_back.places v k way_back.along found apart).1
 
   one_label_back : (k : ℕ) → Among k (h ∷ way_back.places) → g.public k ≡ g.public v
   one_label_back k found = elim (ℕ_discrete k v) [
     | yes e ↦ ap g.public e
     | no apart ↦
         let rises : g.public k ≤ g.public v = rises_to_end g laws.rising (g.private v) h way_back.places v k way_back.along found in
-        omega (arith, (carries_back k found apart).shown, returned.own)
+        omega (arith, (relays_back k found apart).shown, returned.own)
   ]
 
   pub returned_are_deadlocked : Deadlocked g v
@@ -48,7 +48,7 @@ module _ (g : Graph) (v h : ℕ) (laws : IsLawful g) (returned : LabelReturned g
       moves = omega arith;
       simple = no_repeat g h way_back.places v (way_back-again (λ k. k ≢ v) (λ k here. here.0));
     };
-    greatest = λ k found apart. (carries_back k found apart).older;
+    greatest = λ k found apart. (relays_back k found apart).older;
     one_label = one_label_back;
   }
 

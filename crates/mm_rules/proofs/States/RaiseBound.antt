@@ -1,4 +1,4 @@
--- Along transmits and detects, each raise that is told is a raise of the graph, so they are few.
+-- Along transmits and detects, each raise that is told is a raise of the graph, of which there are so many at most.
 use Rattle.std.proofs.Common.{◌≡◌, ◌+◌, ◌≤◌, ℕ, suc, List, [], ◌∷◌, Option, Result, Ok, Err, if◌then◌else◌, inl, inr, refl, sym, ap, subst, ◌∙◌, ◌⊎◌, arith, zero-add}
 use Rattle.std.specs.Option.{option_map_or}
 use Rattle.mm_label.specs.Label.{Label}
@@ -14,13 +14,13 @@ use Rattle.mm_rules.specs.Event.{Event, Begin, Acquire, Release, Finish, Transmi
 use Rattle.mm_rules.specs.Laws.{Laws, TransmitsAndDetects, raise_told, raises_told, most_raises}
 use Rattle.mm_rules.proofs.Graph.Change.{Raises}
 use Rattle.mm_rules.proofs.Graph.RaiseRun.{RaiseRun}
-use Rattle.mm_rules.proofs.Graph.Few.{raises_are_few}
-use Rattle.mm_rules.proofs.States.Lawful.{graph_lawful}
-use Rattle.mm_rules.proofs.States.Outcomes.{outcome_keeps}
+use Rattle.mm_rules.proofs.Graph.RaiseBound.{raises_bound}
+use Rattle.mm_rules.proofs.States.Laws.{graph_lawful}
+use Rattle.mm_rules.proofs.States.Outcome.{outcome_keeps}
 use Rattle.mm_rules.proofs.States.Transmit.{transmit_cases, transmit_still}
-use Rattle.mm_rules.proofs.States.Sweeps.{waiting_among, transmit_raises}
-use Rattle.mm_rules.proofs.States.Convictions.{detect_graph}
-use Rattle.mm_rules.proofs.States.Events.{event_keeps}
+use Rattle.mm_rules.proofs.States.Sweep.{waiting_among, transmit_raises}
+use Rattle.mm_rules.proofs.States.DetectAll.{detect_graph}
+use Rattle.mm_rules.proofs.States.EventsKeepLaws.{event_keeps}
 
 -- the reply tells of no raise, and the graph is the same; or it tells of one, and the graph is raised so
 abbrev Tells : TableState → Key → Result Transmitted Refusal → TableState → Type 0
@@ -71,7 +71,7 @@ told_run (Abort k ∷ es) only s new run laws = absurd only
 told_run (Settle ∷ es) only s new run laws = absurd only
 told_run (GiveUp k ∷ es) only s new run laws = absurd only
 
-pub told_are_few : (old new : TableState) (es : List Event) → TransmitsAndDetects es → (run : Run old es new) → Laws old → raises_told es old new run ≤ most_raises old
-told_are_few old new es only run laws =
+pub raises_told_bound : (old new : TableState) (es : List Event) → TransmitsAndDetects es → (run : Run old es new) → Laws old → raises_told es old new run ≤ most_raises old
+raises_told_bound old new es only run laws =
     let raises : RunOf (graph_of old) (raises_told es old new run) = told_run es only old new run laws in
-    raises_are_few (graph_of old) (raises_told es old new run) raises.0 (waiting_processes old) (graph_lawful old laws).within (waiting_among old laws.lawful.well_formed) raises.1
+    raises_bound (graph_of old) (raises_told es old new run) raises.0 (waiting_processes old) (graph_lawful old laws).within (waiting_among old laws.lawful.well_formed) raises.1

@@ -5,7 +5,7 @@ use Rattle.mm_label.specs.Label.{Label, label_le, opening_label}
 use Rattle.mm_rules.specs.TableState.{TableState, private_of, public_of}
 use Rattle.mm_rules.specs.Change.{label_against, block, block_fits}
 use Rattle.mm_rules.specs.Laws.{PrivateLabels, LabelBounds, Laws}
-use Rattle.mm_rules.proofs.States.Words.{label_le_same, label_le_counter, at_most_to}
+use Rattle.mm_rules.proofs.States.LabelOrder.{label_le_same, label_le_counter, at_most_to}
 
 pub record KeepsLabels (s new : TableState) (k : ℕ) : Type 0 where
   pub private : private_of new k ≡ private_of s k

@@ -1,14 +1,10 @@
 -- Several processes block on one, each in turn: only labels change, and each of these gets the label that the first state gives it.
-use Rattle.std.proofs.Common.{◌≡◌, ◌≢◌, ◌⊎◌, ℕ, ◌<◌, List, [], ◌∷◌, length, map, fold, inl, inr, refl, ◌∙◌, arith, length-set}
-use Rattle.std.proofs.lemmas.Bool.{cases_eq}
-use Rattle.mm_label.specs.Label.{fresh_label}
+use Rattle.std.proofs.Common.{◌≡◌, ◌≢◌, ℕ, ◌<◌, List, [], ◌∷◌, length, map, fold, inl, inr, refl, ◌∙◌, arith, length-set, get_or-set_same}
+use Rattle.mm_label.specs.Label.{fresh_label, opening_label}
 use Rattle.mm_lists.specs.Members.{Among, NoRepeat}
 use Rattle.mm_rules.specs.TableState.{TableState, Wait, private_of, public_of}
 use Rattle.mm_rules.specs.Change.{label_against, block}
-use Rattle.mm_rules.proofs.States.Lists.{In}
-use Rattle.mm_rules.proofs.States.Relabel.{KeepsLabels, other_labels}
-use Rattle.std.proofs.Common.{get_or-set_same}
-use Rattle.mm_label.specs.Label.{opening_label}
+use Rattle.mm_rules.proofs.States.Relabels.{KeepsLabels, other_labels}
 
 abbrev pub process_of : Wait → ℕ
 process_of w = w.key.process
@@ -20,16 +16,6 @@ pub blocked_is : (s : TableState) (h : ℕ) (ws : List Wait) → blocked_all s h
 blocked_is s h [] = refl
 blocked_is s h (w ∷ ws) = blocked_is (block s w.key.process h) h ws
 
-pub among_or_not : (n : ℕ) (ns : List ℕ) → Among n ns ⊎ (Among n ns → ⊥)
-among_or_not n [] = inr (λ found. found)
-among_or_not n (m ∷ ms) = elim (cases_eq n m) [
-  | inl e ↦ inl (inl e)
-  | inr apart ↦ elim (among_or_not n ms) [
-    | inl later ↦ inl (inr later)
-    | inr never ↦ inr (λ found. elim found [ inl e ↦ apart e | inr later ↦ never later ])
-  ]
-]
-
 -- the labels after these have blocked on h
 pub record LabelsAfter (s : TableState) (h : ℕ) (ws : List Wait) (new : TableState) : Type 0 where
   pub waiters : (k : ℕ) → Among k (map process_of ws) → (private_of new k ≡ label_against s k h) × (public_of new k ≡ label_against s k h)
@@ -38,7 +24,7 @@ pub record LabelsAfter (s : TableState) (h : ℕ) (ws : List Wait) (new : TableS
   pub public_sized : length new.public ≡ length s.public
 
 abbrev AllWithin : TableState → List Wait → Type 0
-AllWithin s ws = (w : Wait) → In w ws → (w.key.process < length s.private) × (w.key.process < length s.public)
+AllWithin s ws = (w : Wait) → Among w ws → (w.key.process < length s.private) × (w.key.process < length s.public)
 
 module _ (s : TableState) (h : ℕ) (w : Wait) (ws : List Wait) (new : TableState) (other : h ≢ w.key.process) (once : Among w.key.process (map process_of ws) → ⊥)
     (within : (w.key.process < length s.private) × (w.key.process < length s.public))

@@ -1,22 +1,19 @@
 -- Detects of several processes: none of them touches the graph, and afterwards each of these whose label has returned has a verdict.
-use Rattle.std.proofs.Common.{◌≡◌, ◌&&◌, ℕ, ◌<◌, List, [], ◌∷◌, fold, true, false, not, nat_eq, IsTrue, inl, inr, refl, ap, subst, ◌∙◌, arith, get_or-set_same}
+use Rattle.std.proofs.Common.{◌≡◌, ◌&&◌, ℕ, ◌<◌, List, [], ◌∷◌, fold, true, false, not, IsTrue, inl, inr, refl, ap, subst, ◌∙◌, arith, get_or-set_same}
 use Rattle.std.specs.Option.{option_map_or}
-use Rattle.std.proofs.lemmas.Bool.{cases_Bool, eq-eqb, and_from, not_from_false}
-use Rattle.mm_label.specs.Label.{Label, label_eq}
+use Rattle.std.proofs.lemmas.Bool.{cases_Bool, and_from, not_from_false}
+use Rattle.mm_label.specs.Label.{label_eq}
 use Rattle.mm_lists.specs.Members.{Among}
+use Rattle.mm_lists.proofs.Updates.{true_still}
 use Rattle.mm_rules.specs.Graph.{LabelReturned}
 use Rattle.mm_rules.specs.TableState.{TableState, holder_of, private_of, public_of, has_verdict, graph_of}
 use Rattle.mm_rules.specs.Change.{can_detect, detect}
 use Rattle.mm_rules.specs.Laws.{Laws}
-use Rattle.mm_rules.proofs.States.Words.{word_tells}
-use Rattle.mm_rules.proofs.States.Read.{holder_within}
-use Rattle.mm_rules.proofs.States.Lawful.{public_within, private_within}
-use Rattle.mm_rules.proofs.States.Outcomes.{Keeps, keeps_same, keeps_then}
-use Rattle.mm_rules.proofs.States.Begin.{true_still}
+use Rattle.mm_rules.proofs.States.LabelOrder.{word_tells, label_eq_is}
+use Rattle.mm_rules.proofs.States.Lookups.{holder_within}
+use Rattle.mm_rules.proofs.States.Laws.{public_within, private_within}
+use Rattle.mm_rules.proofs.States.Outcome.{KeepsLaws, keeps_same, keeps_then}
 use Rattle.mm_rules.proofs.States.Detect.{convicted, detect_still, detect_convicts, detect_keeps}
-
-label_eq_is : (a b : Label) → a ≡ b → label_eq a b ≡ true
-label_eq_is a b e = and_from (nat_eq a.counter b.counter) (nat_eq a.process b.process) (eq-eqb a.counter b.counter (ap (λ (l : Label). l.counter) e)) (eq-eqb a.process b.process (ap (λ (l : Label). l.process) e))
 
 pub detect_graph : (s : TableState) (n : ℕ) → graph_of (detect s n) ≡ graph_of s
 detect_graph s n = elim (cases_Bool (can_detect s n)) [
@@ -28,10 +25,10 @@ pub detects_graph : (s : TableState) (ks : List ℕ) → graph_of (fold detect s
 detects_graph s [] = refl
 detects_graph s (k ∷ ks) = detects_graph (detect s k) ks ∙ detect_graph s k
 
-pub detects_keep : (s : TableState) (ks : List ℕ) → Laws s → Keeps s (fold detect s ks)
+pub detects_keep : (s : TableState) (ks : List ℕ) → Laws s → KeepsLaws s (fold detect s ks)
 detects_keep s [] laws = keeps_same s laws
 detects_keep s (k ∷ ks) laws =
-    let now : Keeps s (detect s k) = detect_keeps s k laws in
+    let now : KeepsLaws s (detect s k) = detect_keeps s k laws in
     keeps_then s (detect s k) (fold detect (detect s k) ks) now (detects_keep (detect s k) ks now.laws)
 
 module _ (s : TableState) (laws : Laws s) (v h : ℕ) (returned : LabelReturned (graph_of s) v h) where

@@ -17,19 +17,19 @@ unfolding with_at
 with_at-elsewhere f n x k apart = grind (arith, nat_tests)
 
 -- new is as g but at n, which has the holder x and the labels p and q
-pub record IsPut (g : Graph) (n : ℕ) (x : Option ℕ) (p q : ℕ) (new : Graph) : Type 0 where
+pub record IsUpdate (g : Graph) (n : ℕ) (x : Option ℕ) (p q : ℕ) (new : Graph) : Type 0 where
   pub processes : new.processes ≡ g.processes
   pub holder : new.holder n ≡ x
   pub private : new.private n ≡ p
   pub public : new.public n ≡ q
   pub others : (k : ℕ) → k ≢ n → SameAt g new k
 
-pub put : Graph → ℕ → Option ℕ → ℕ → ℕ → Graph
-put g n x p q = record { processes = g.processes; holder = with_at g.holder n x; private = with_at g.private n p; public = with_at g.public n q }
+pub update : Graph → ℕ → Option ℕ → ℕ → ℕ → Graph
+update g n x p q = record { processes = g.processes; holder = with_at g.holder n x; private = with_at g.private n p; public = with_at g.public n q }
 
-pub is_put : (g : Graph) (n : ℕ) (x : Option ℕ) (p q : ℕ) → IsPut g n x p q (put g n x p q)
-unfolding put
-is_put g n x p q = record {
+pub is_update : (g : Graph) (n : ℕ) (x : Option ℕ) (p q : ℕ) → IsUpdate g n x p q (update g n x p q)
+unfolding update
+is_update g n x p q = record {
   processes = refl;
   holder = with_at-here g.holder n x;
   private = with_at-here g.private n p;

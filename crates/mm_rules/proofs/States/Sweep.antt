@@ -5,6 +5,7 @@ use Rattle.std.specs.List.{range_with_len}
 use Rattle.std.proofs.lemmas.Bool.{cases_Bool}
 use Rattle.mm_label.specs.Label.{Label}
 use Rattle.mm_lists.specs.Members.{Among}
+use Rattle.mm_lists.proofs.Members.{among_range, filter_keeps}
 use Rattle.mm_rules.specs.Graph.{Graph, WaitsFor}
 use Rattle.mm_rules.specs.TableState.{TableState, waited_for, is_waiting, waiting_processes, graph_of}
 use Rattle.mm_rules.specs.Change.{greater_label, can_transmit, transmit, raises_along, sweep_raises, swept, total_raises}
@@ -13,12 +14,11 @@ use Rattle.mm_rules.specs.Laws.{WellFormed, Laws}
 use Rattle.mm_rules.proofs.Graph.Change.{Raises}
 use Rattle.mm_rules.proofs.Graph.Settle.{Sweep, IsSettledFrom, settling_settles, IsStill}
 use Rattle.mm_rules.proofs.Graph.Settle as graph
-use Rattle.mm_rules.proofs.Graph.Ends.{AreSweeps, total, sweeps_settle, SettlingEnds, settling_ends}
-use Rattle.mm_rules.proofs.States.Lists.{to_among, filter_keeps, range_holds}
-use Rattle.mm_rules.proofs.States.Read.{holder_within, waiting_is_some}
-use Rattle.mm_rules.proofs.States.Lawful.{graph_lawful}
-use Rattle.mm_rules.proofs.States.Outcomes.{Keeps, keeps_same, keeps_then}
-use Rattle.mm_rules.proofs.States.Read.{none_of_is_some}
+use Rattle.mm_rules.proofs.Graph.SettleEnds.{AreSweeps, total, sweeps_settle, SettlingEnds, settling_ends}
+use Rattle.mm_rules.proofs.States.Lookups.{holder_within, waiting_is_some}
+use Rattle.mm_rules.proofs.States.Laws.{graph_lawful}
+use Rattle.mm_rules.proofs.States.Outcome.{KeepsLaws, keeps_same, keeps_then}
+use Rattle.mm_rules.proofs.States.Lookups.{none_of_is_some}
 use Rattle.mm_rules.proofs.States.Transmit.{shown, HolderIsAbove, transmit_cases, transmit_still, transmit_shown, shown_raises, transmit_keeps}
 
 -- the same waits and the same configuration
@@ -49,21 +49,20 @@ swept_same_waits s (suc n) = same_waits_then s (swept s n) (swept s (suc n)) (sw
 pub waiting_among : (s : TableState) → WellFormed s → (k h : ℕ) → WaitsFor (graph_of s) k h → Among k (waiting_processes s)
 waiting_among s formed k h waits =
     let inside : k < s.config.processes = (holder_within s formed k h waits).0 in
-    to_among (waiting_processes s) k (filter_keeps (is_waiting s) (range_with_len 0 s.config.processes) k
-    (range_holds 0 s.config.processes k (omega arith) (omega arith)) (waiting_is_some s k h waits))
+    filter_keeps (is_waiting s) (range_with_len 0 s.config.processes) k (among_range 0 s.config.processes k (omega arith) (omega arith)) (waiting_is_some s k h waits)
 
 -- ---- one sweep
 
-transmits_keep : (s : TableState) (ks : List ℕ) → Laws s → Keeps s (fold transmit s ks)
+transmits_keep : (s : TableState) (ks : List ℕ) → Laws s → KeepsLaws s (fold transmit s ks)
 transmits_keep s [] laws = keeps_same s laws
 transmits_keep s (k ∷ ks) laws =
-    let now : Keeps s (transmit s k) = transmit_keeps s laws k in
+    let now : KeepsLaws s (transmit s k) = transmit_keeps s laws k in
     keeps_then s (transmit s k) (fold transmit (transmit s k) ks) now (transmits_keep (transmit s k) ks now.laws)
 
-pub swept_keeps : (s : TableState) (n : ℕ) → Laws s → Keeps s (swept s n)
+pub swept_keeps : (s : TableState) (n : ℕ) → Laws s → KeepsLaws s (swept s n)
 swept_keeps s zero laws = keeps_same s laws
 swept_keeps s (suc n) laws =
-    let before : Keeps s (swept s n) = swept_keeps s n laws in
+    let before : KeepsLaws s (swept s n) = swept_keeps s n laws in
     keeps_then s (swept s n) (swept s (suc n)) before (transmits_keep (swept s n) (waiting_processes (swept s n)) before.laws)
 
 module _ (s : TableState) (k : ℕ) (ks : List ℕ) (next : TableState) (can : Bool) where

@@ -7,7 +7,7 @@ use Rattle.mm_rules.specs.TableState.{TableState, IsInRange, opening}
 use Rattle.mm_rules.specs.Event.{Event, Begin, Acquire, Release, Finish, Transmit, Detect, Abort, Settle, GiveUp, Answer, Gives, Step, Run, IsReached, Settles, settled, counts_exhausted}
 use Rattle.mm_rules.specs.Laws.{Laws}
 use Rattle.mm_rules.proofs.States.Opening.{opening_lawful}
-use Rattle.mm_rules.proofs.States.Outcomes.{Keeps}
+use Rattle.mm_rules.proofs.States.Outcome.{KeepsLaws}
 use Rattle.mm_rules.proofs.States.Begin.{begin_keeps}
 use Rattle.mm_rules.proofs.States.Acquire.{acquire_keeps}
 use Rattle.mm_rules.proofs.States.Release.{release_keeps}
@@ -16,17 +16,17 @@ use Rattle.mm_rules.proofs.States.Transmit.{transmitted_keeps}
 use Rattle.mm_rules.proofs.States.Detect.{detected_keeps}
 use Rattle.mm_rules.proofs.States.Abort.{abort_keeps}
 use Rattle.mm_rules.proofs.States.GiveUp.{given_up_keeps}
-use Rattle.mm_rules.proofs.States.Settling.{settled_keeps}
+use Rattle.mm_rules.proofs.States.Settle.{settled_keeps}
 
-gives_keeps : (old new state : TableState) → new ≡ state → Keeps old state → Keeps old new
+gives_keeps : (old new state : TableState) → new ≡ state → KeepsLaws old state → KeepsLaws old new
 gives_keeps old new state is keeps = rw is keeps
 
 settle_keeps : (old new : TableState) (reply : Result Settled Refusal) (b : Bool)
-    → MatchBool b (Gives (settled old 0) reply new) ((n : ℕ) × Settles old n × Gives (settled old n) reply new) → Laws old → Keeps old new
+    → MatchBool b (Gives (settled old 0) reply new) ((n : ℕ) × Settles old n × Gives (settled old n) reply new) → Laws old → KeepsLaws old new
 settle_keeps old new reply true step laws = gives_keeps old new (settled old 0).state step.1 (settled_keeps old 0 laws)
 settle_keeps old new reply false (n, settles, step) laws = gives_keeps old new (settled old n).state step.1 (settled_keeps old n laws)
 
-pub event_keeps : (e : Event) (old new : TableState) (reply : Result (Answer e) Refusal) → Step e old reply new → Laws old → Keeps old new
+pub event_keeps : (e : Event) (old new : TableState) (reply : Result (Answer e) Refusal) → Step e old reply new → Laws old → KeepsLaws old new
 event_keeps Begin old new reply step laws = gives_keeps old new _ step.1 (begin_keeps old laws)
 event_keeps (Acquire k r) old new reply step laws = gives_keeps old new _ step.1 (acquire_keeps old k r laws)
 event_keeps (Release k r) old new reply step laws = gives_keeps old new _ step.1 (release_keeps old k r laws)

@@ -9,7 +9,7 @@ use Rattle.mm_rules.specs.TableState.{TableState, Wait, owner_of, waiters_of, re
 use Rattle.mm_rules.specs.Change.{block, activate, give_to, hand_over, free_slot, vacate, withdraw, greater_label, transmit, can_detect, detect, swept}
 use Rattle.mm_rules.specs.Event.{Event, Begin, Acquire, Release, Finish, Transmit, Detect, Abort, Settle, GiveUp, Answer, Step, Gives, decided, acquire_change, Settles, settled, counts_exhausted}
 use Rattle.mm_rules.proofs.States.Transmit.{shown}
-use Rattle.mm_rules.proofs.States.Sweeps.{swept_same_waits}
+use Rattle.mm_rules.proofs.States.Sweep.{swept_same_waits}
 
 decided_config : {A : Type 0} (r : Result (Unit {0}) Refusal) (old new : TableState) (answer : A) → new.config ≡ old.config → (decided r old answer new).state.config ≡ old.config
 decided_config (Err refusal) old new answer kept = refl

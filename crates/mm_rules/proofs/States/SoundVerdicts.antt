@@ -2,15 +2,15 @@
 use Rattle.std.proofs.Common.{◌≡◌, ◌≢◌, ◌<◌, ℕ, List, true, false, IsTrue, sym, ap, ◌∙◌}
 use Rattle.mm_label.specs.Label.{Label, label_lt}
 use Rattle.mm_lists.specs.Members.{Among}
+use Rattle.mm_lists.proofs.Members.{all_at, all_from}
 use Rattle.mm_rules.specs.Graph.{Cycle}
 use Rattle.mm_rules.specs.TableState.{TableState, is_live, has_verdict, private_of, graph_of}
 use Rattle.mm_rules.specs.Laws.{IsHeld, Laws, Quiet, HasSoundVerdicts}
-use Rattle.mm_rules.proofs.Graph.Returned.{one_returned_on_a_cycle}
-use Rattle.mm_rules.proofs.Graph.Settled.{quiet_has_no_cycle}
-use Rattle.mm_rules.proofs.States.Lists.{all_at, all_from}
-use Rattle.mm_rules.proofs.States.Words.{lt_from_words}
-use Rattle.mm_rules.proofs.States.Read.{holder_within}
-use Rattle.mm_rules.proofs.States.Lawful.{graph_lawful, private_within}
+use Rattle.mm_rules.proofs.Graph.Deadlocked.{one_returned_on_a_cycle}
+use Rattle.mm_rules.proofs.Graph.IsSettled.{quiet_has_no_cycle}
+use Rattle.mm_rules.proofs.States.LabelOrder.{lt_from_words}
+use Rattle.mm_rules.proofs.States.Lookups.{holder_within}
+use Rattle.mm_rules.proofs.States.Laws.{graph_lawful, private_within}
 
 module _ (s : TableState) (laws : Laws s) where
   smaller : (v : ℕ) (verdict : IsTrue (has_verdict s v)) (k : ℕ) → Among k (laws.convicted v verdict).2.places → k ≢ v → IsTrue (label_lt (private_of s k) (private_of s v))

@@ -6,10 +6,10 @@ use Rattle.mm_rules.specs.Graph.{Graph, WaitsFor, IsWaiting, Path, Cycle, Tops, 
 use Rattle.mm_rules.proofs.Graph.Laws.{IsLawful}
 use Rattle.mm_rules.proofs.Graph.Walks.{active_waits_not, begins_waiting}
 use Rattle.mm_rules.proofs.Graph.Cycles.{cycle_holds_next, cycle_holds_reached, start_on_cycle}
-use Rattle.mm_rules.proofs.Graph.Returned.{returned_is_greatest, one_returned_on_a_cycle}
+use Rattle.mm_rules.proofs.Graph.Deadlocked.{returned_is_greatest, one_returned_on_a_cycle}
 
 -- the one process of a cycle whose label returned, with the greatest private label there
-pub record Found (g : Graph) (places : List ℕ) : Type 0 where
+pub record ReturnedOnCycle (g : Graph) (places : List ℕ) : Type 0 where
   pub process : ℕ
   pub holder : ℕ
   pub on_cycle : Among process places
@@ -54,7 +54,7 @@ module _ (g : Graph) (s : ℕ) (places : List ℕ) (laws : IsLawful g) (settled 
       let next : g.public h ≡ g.public s = one_label_shown h (cycle_holds_next g s places cycle v h on_cycle waits) in
       record { waits = waits; own = omega (arith, laws.ordered v (laws.within v h waits).0); back = shows ∙ sym next }
 
-  pub settled_finds_each_cycle : Found g places
+  pub settled_finds_each_cycle : ReturnedOnCycle g places
   settled_finds_each_cycle =
       let waits : IsWaiting g s = start_waits g s places cycle in
       let topped : Topped g s = laws.topped s waits.0 waits.1 in
@@ -74,5 +74,5 @@ module _ (g : Graph) (s : ℕ) (places : List ℕ) (laws : IsLawful g) (settled 
 pub quiet_has_no_cycle : (g : Graph) → IsLawful g → IsSettled g
     → ((v h : ℕ) → LabelReturned g v h → ⊥) → (s : ℕ) (places : List ℕ) → Cycle g s places → ⊥
 quiet_has_no_cycle g laws settled quiet s places cycle =
-    let found : Found g places = settled_finds_each_cycle g s places laws settled cycle in
+    let found : ReturnedOnCycle g places = settled_finds_each_cycle g s places laws settled cycle in
     quiet found.process found.holder found.returned

@@ -5,7 +5,7 @@ use Rattle.mm_lists.specs.Members.{Among}
 use Rattle.mm_rules.specs.Graph.{Graph, WaitsFor}
 use Rattle.mm_rules.proofs.Graph.Laws.{IsLawful}
 use Rattle.mm_rules.proofs.Graph.RaiseRun.{RaiseRun, runs_join, run_keeps_laws}
-use Rattle.mm_rules.proofs.Graph.Few.{raises_are_few}
+use Rattle.mm_rules.proofs.Graph.RaiseBound.{raises_bound}
 use Rattle.mm_rules.proofs.Graph.Settle.{Sweep, Settles, sweep_runs}
 
 -- from each lawful graph of the sequence a sweep leads to the next
@@ -74,7 +74,7 @@ sweeps_settle after raised waiting (suc n) laws sweep none before =
 -- of the sweeps from `after 0` on, the first that raises nothing
 pub record SettlingEnds (after : ℕ → Graph) (raised : ℕ → ℕ) (waiting : List ℕ) : Type 0 where
   pub sweeps : ℕ
-  pub few : sweeps ≤ length waiting * (after 0).processes
+  pub bound : sweeps ≤ length waiting * (after 0).processes
   pub none : raised sweeps ≡ 0
   pub before : (i : ℕ) → i < sweeps → 0 < raised i
   pub settles : Settles (after 0) waiting sweeps (total raised sweeps) (after (suc sweeps))
@@ -85,11 +85,11 @@ pub settling_ends : (after : ℕ → Graph) (raised : ℕ → ℕ) (waiting : Li
 settling_ends after raised waiting laws all sweep =
     let bound : ℕ = length waiting * (after 0).processes in
     let run : RaiseRun (after 0) (total raised (suc bound)) (after (suc bound)) = sweeps_run after raised waiting (suc bound) laws sweep in
-    let few : total raised (suc bound) ≤ bound = raises_are_few (after 0) (total raised (suc bound)) (after (suc bound)) waiting laws.within all run in
+    let at_most : total raised (suc bound) ≤ bound = raises_bound (after 0) (total raised (suc bound)) (after (suc bound)) waiting laws.within all run in
     elim (first_zero raised (suc bound)) [
       | inl found ↦ record {
         sweeps = found.place;
-        few = omega (arith, found.inside);
+        bound = omega (arith, found.inside);
         none = found.zero_there;
         before = found.before;
         settles = sweeps_settle after raised waiting found.place laws sweep found.zero_there found.before;

@@ -5,10 +5,10 @@ use Rattle.mm_label.specs.Label.{word_of, process_range}
 use Rattle.mm_rules.specs.Graph.{LabelReturned}
 use Rattle.mm_rules.specs.TableState.{TableState, private_of, public_of, has_verdict, graph_of}
 use Rattle.mm_rules.specs.Laws.{WellFormed, PrivateLabels, LabelBounds, Laws}
-use Rattle.mm_rules.proofs.Graph.Laws.{IsLawful, IsLabelled}
-use Rattle.mm_rules.proofs.Graph.Returned.{returned_are_deadlocked}
-use Rattle.mm_rules.proofs.States.Words.{word_process, word_process_is, le_words}
-use Rattle.mm_rules.proofs.States.Read.{holder_within, holder_apart}
+use Rattle.mm_rules.proofs.Graph.Laws.{IsLawful, HasLabelMakers}
+use Rattle.mm_rules.proofs.Graph.Deadlocked.{returned_are_deadlocked}
+use Rattle.mm_rules.proofs.States.LabelOrder.{word_process, word_process_is, le_words}
+use Rattle.mm_rules.proofs.States.Lookups.{holder_within, holder_apart}
 
 module _ (s : TableState) (laws : Laws s) where
   private_is_own : (k : ℕ) → k < s.config.processes → word_process (word_of (private_of s k)) ≡ k
@@ -29,15 +29,15 @@ module _ (s : TableState) (laws : Laws s) where
     within = holder_within s laws.lawful.well_formed;
     apart = holder_apart s laws.lawful.well_formed;
     rising = laws.lawful.rising;
-    carried = laws.lawful.carried;
+    propagated = laws.lawful.propagated;
     topped = laws.topped;
   }
 
   public_tells : (k : ℕ) → k < s.config.processes → word_process (word_of (public_of s k)) ≡ (public_of s k).process
   public_tells k k_in = word_process_is (public_of s k) (public_within k k_in)
 
-  pub graph_labelled : IsLabelled word_process (graph_of s)
-  graph_labelled = record {
+  pub graph_makers : HasLabelMakers word_process (graph_of s)
+  graph_makers = record {
     named = private_is_own;
     made = λ k k_in. omega (arith, public_tells k k_in, laws.lawful.label_bounds.made k k_in);
     newest = λ k k_in.
@@ -57,7 +57,7 @@ laws_by s formed own bounds graph counted returned = record {
     well_formed = formed;
     private_labels = own;
     label_bounds = bounds;
-    carried = graph.carried;
+    propagated = graph.propagated;
     rising = graph.rising;
     counted = counted;
   };

@@ -9,22 +9,22 @@ use Rattle.mm_rules.specs.Change.{can_detect, detect, swept, total_raises}
 use Rattle.mm_rules.specs.Event.{counts_exhausted, settle_tests, settled, Settles, Settle, Step, Gives}
 use Rattle.mm_rules.specs.Laws.{Laws, NoneToDetect, HasOneVerdict, AtRest, RestsFrom}
 use Rattle.mm_rules.proofs.Graph.Settle.{IsSettledFrom}
-use Rattle.mm_rules.proofs.Graph.Settled.{Found, settled_finds_each_cycle}
-use Rattle.mm_rules.proofs.States.Lawful.{graph_lawful}
-use Rattle.mm_rules.proofs.States.Outcomes.{Keeps, keeps_then, outcome_keeps_laws, counting, counting_keeps_laws}
-use Rattle.mm_rules.proofs.States.Sweeps.{waiting_among, swept_keeps, settled_from}
-use Rattle.mm_rules.proofs.States.Convictions.{detects_graph, detects_keep, detects_find}
+use Rattle.mm_rules.proofs.Graph.IsSettled.{ReturnedOnCycle, settled_finds_each_cycle}
+use Rattle.mm_rules.proofs.States.Laws.{graph_lawful}
+use Rattle.mm_rules.proofs.States.Outcome.{KeepsLaws, keeps_then, outcome_keeps_laws, counting, counting_keeps_laws}
+use Rattle.mm_rules.proofs.States.Sweep.{waiting_among, swept_keeps, settled_from}
+use Rattle.mm_rules.proofs.States.DetectAll.{detects_graph, detects_keep, detects_find}
 
 -- the state after so many sweeps, and the detects of all that wait
 abbrev rested : TableState → ℕ → TableState
 rested s n = fold detect (swept s n) (waiting_processes (swept s n))
 
-rested_keeps : (s : TableState) (n : ℕ) → Laws s → Keeps s (rested s n)
+rested_keeps : (s : TableState) (n : ℕ) → Laws s → KeepsLaws s (rested s n)
 rested_keeps s n laws =
-    let sweeps : Keeps s (swept s n) = swept_keeps s n laws in
+    let sweeps : KeepsLaws s (swept s n) = swept_keeps s n laws in
     keeps_then s (swept s n) (rested s n) sweeps (detects_keep (swept s n) (waiting_processes (swept s n)) sweeps.laws)
 
-pub settled_keeps : (s : TableState) (n : ℕ) → Laws s → Keeps s (settled s n).state
+pub settled_keeps : (s : TableState) (n : ℕ) → Laws s → KeepsLaws s (settled s n).state
 settled_keeps s n laws = outcome_keeps_laws s
     (record { raises = total_raises s n; verdicts = count_by (can_detect (swept s n)) (waiting_processes (swept s n)) }) (rested s n) (settle_tests s) laws
     (λ passed. rested_keeps s n laws)
@@ -33,7 +33,7 @@ settled_keeps s n laws = outcome_keeps_laws s
 
 pub rest_finds_cycles : (s : TableState) → Laws s → IsSettled (graph_of s) → NoneToDetect s → (k : ℕ) (cycle : List ℕ) → Cycle (graph_of s) k cycle → HasOneVerdict s cycle
 rest_finds_cycles s laws settled detected k cycle is =
-    let found : Found (graph_of s) cycle = settled_finds_each_cycle (graph_of s) k cycle (graph_lawful s laws) settled is in
+    let found : ReturnedOnCycle (graph_of s) cycle = settled_finds_each_cycle (graph_of s) k cycle (graph_lawful s laws) settled is in
     record {
       victim = found.process;
       on_cycle = found.on_cycle;
@@ -71,7 +71,7 @@ module _ (s : TableState) (n : ℕ) (laws : Laws s) (settles : Settles s n) wher
   rests m answer raised = record {
     at_rest = at_rest_by (counting (rested s n) m) (counting_keeps_laws (rested s n) m (rested_keeps s n laws).laws) rested_settled rested_detected;
     greatest = rested_greatest;
-    few = omega (arith, from.few);
+    raise_bound = omega (arith, from.raise_bound);
   }
 
 -- the two cases of a step of settle

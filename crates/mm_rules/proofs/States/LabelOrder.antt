@@ -1,6 +1,6 @@
 -- Labels and their words: a word tells the process of its label, and words compare as labels do.
-use Rattle.std.proofs.Common.{◌≡◌, ◌≢◌, ◌⊎◌, ◌&&◌, ℕ, ◌%◌, ◌<◌, ◌≤◌, true, false, nat_lt, nat_eq, IsTrue, refl, arith, inl, inr}
-use Rattle.std.proofs.lemmas.Bool.{cases_Bool, cases_lt, eqb-true, eqb-false, ltb-true, ltb-false, and_parts, or_parts, or_cases, not-true, and_cases}
+use Rattle.std.proofs.Common.{◌≡◌, ◌≢◌, ◌⊎◌, ◌&&◌, ℕ, ◌%◌, ◌<◌, ◌≤◌, true, false, nat_lt, nat_eq, IsTrue, refl, ap, arith, inl, inr}
+use Rattle.std.proofs.lemmas.Bool.{cases_Bool, cases_lt, eqb-true, eqb-false, ltb-true, ltb-false, and_parts, or_parts, or_cases, not-true, and_cases, and_from, eq-eqb}
 use Rattle.mm_label.specs.Label.{Label, label_lt, label_le, label_eq, fresh_label, word_of, process_range}
 
 -- the process of the label that a word keeps
@@ -17,6 +17,9 @@ pub label_eq_true : (a b : Label) → label_eq a b ≡ true → a ≡ b
 label_eq_true a b e =
     let parts : (nat_eq a.counter b.counter ≡ true) × (nat_eq a.process b.process ≡ true) = and_parts (nat_eq a.counter b.counter) (nat_eq a.process b.process) e in
     same_label a b (eqb-true a.counter b.counter parts.0) (eqb-true a.process b.process parts.1)
+
+pub label_eq_is : (a b : Label) → a ≡ b → label_eq a b ≡ true
+label_eq_is a b e = and_from (nat_eq a.counter b.counter) (nat_eq a.process b.process) (eq-eqb a.counter b.counter (ap (λ (l : Label). l.counter) e)) (eq-eqb a.process b.process (ap (λ (l : Label). l.process) e))
 
 -- one word, one label
 pub word_tells : (a b : Label) → a.process < process_range → b.process < process_range → word_of a ≡ word_of b → a ≡ b

@@ -2,17 +2,17 @@
 use Rattle.std.specs.Prelude.{ℕ, ◌≡◌, ◌≢◌}
 use Rattle.std.proofs.Common.{arith, sym, ap, ◌∙◌}
 use Rattle.mm_lists.specs.Members.{Among}
-use Rattle.mm_rules.specs.Graph.{Graph, IsWaiting, Carried, LabelReturned, Deadlocked}
+use Rattle.mm_rules.specs.Graph.{Graph, IsWaiting, Propagated, LabelReturned, Deadlocked}
 use Rattle.mm_rules.proofs.Graph.Laws.{IsLawful}
 use Rattle.mm_rules.proofs.Graph.Change.{SameAt, Blocks, Raises, Activates}
 use Rattle.mm_rules.proofs.Graph.Walks.{active_waits_not, begins_waiting, OnTheWay}
 use Rattle.mm_rules.proofs.Graph.Cycles.{cycle_holds_next, start_on_cycle}
-use Rattle.mm_rules.proofs.Graph.Returned.{way_back, returned_are_deadlocked}
+use Rattle.mm_rules.proofs.Graph.Deadlocked.{way_back, returned_are_deadlocked}
 
 -- the holder of a process whose label returned waits
 pub holder_waits : (g : Graph) (v h : ℕ) → IsLawful g → LabelReturned g v h → IsWaiting g h
 holder_waits g v h laws returned =
-    let back : Carried g (g.private v) h v = way_back g v h laws returned in
+    let back : Propagated g (g.private v) h v = way_back g v h laws returned in
     begins_waiting g (OnTheWay g (g.private v) v) h back.places v back.along (h, returned.waits)
 
 pub block_keeps_returned : (g new : Graph) (n i L v h : ℕ) → Blocks g n i L new → IsLawful g → LabelReturned g v h → LabelReturned new v h

@@ -1,4 +1,4 @@
--- Raises are few: each lifts a waiting process over one at least of the labels that were shown at the start, and raises make no label.
+-- How many raises there can be: each lifts a waiting process over one at least of the labels that were shown at the start, and raises make no label.
 use Rattle.std.specs.Prelude.{ℕ, zero, suc, ◌+◌, ◌*◌, ◌-◌, min, length, ◌≡◌, ◌≤◌, ◌<◌, ◌⊎◌, List, [], ◌∷◌}
 use Rattle.std.proofs.Common.{inl, inr, arith, sym, ap, ◌∙◌, refl}
 use Rattle.mm_lists.specs.Members.{Among}
@@ -81,9 +81,9 @@ run_is_few start g (suc raises) new ks waiting old (n, h, next, raise, run) =
       run_is_few start next raises new ks waiting_still old_still run,
     )
 
-pub raises_are_few : (g : Graph) (raises : ℕ) (new : Graph) (waiting : List ℕ) → WithinLaw g → ((k h : ℕ) → WaitsFor g k h → Among k waiting)
+pub raises_bound : (g : Graph) (raises : ℕ) (new : Graph) (waiting : List ℕ) → WithinLaw g → ((k h : ℕ) → WaitsFor g k h → Among k waiting)
     → RaiseRun g raises new → raises ≤ length waiting * g.processes
-raises_are_few g raises new waiting within all run =
+raises_bound g raises new waiting within all run =
     omega (
       arith,
       to_pass_at_most g g waiting,

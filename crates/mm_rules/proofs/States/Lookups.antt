@@ -1,13 +1,13 @@
 -- How waits, owners and holders are read: who waits for what, and that each wait is held by another live process.
-use Rattle.std.proofs.Common.{◌≡◌, ◌≢◌, ℕ, ◌<◌, Bool, true, false, List, map, length, find, nat_eq, Option, Some, None, MatchOption, is_some, option_map, option_and_then, slice_index, slice_index_or, IsTrue, inl, inr, refl, sym, ap, ◌∙◌, arith}
-use Rattle.std.proofs.lemmas.Bool.{cases_lt, eqb-true, eqb-false, and_parts}
-use Rattle.std.proofs.lemmas.List.{get_or_past}
+use Rattle.std.proofs.Common.{◌≡◌, ◌≢◌, ℕ, ◌<◌, true, false, map, find, nat_eq, Option, Some, None, MatchOption, is_some, option_map, option_and_then, slice_index, slice_index_or, IsTrue, refl, sym, ap, ◌∙◌, arith}
+use Rattle.std.proofs.lemmas.Bool.{eqb-true, eqb-false, and_parts}
 use Rattle.mm_arena.specs.declared.key.Key.{Key}
-use Rattle.mm_lists.specs.Members.{NoRepeat}
+use Rattle.mm_lists.specs.Members.{NoRepeat, Among}
+use Rattle.mm_lists.proofs.Members.{all_at, found_among, found_by_number, not_found}
+use Rattle.mm_lists.proofs.Updates.{true_within}
 use Rattle.mm_rules.specs.Graph.{WaitsFor, IsWaiting}
 use Rattle.mm_rules.specs.TableState.{TableState, Wait, IsSized, is_live, owner_of, is_of, wait_of, is_waiting, holder_of, graph_of}
 use Rattle.mm_rules.specs.Laws.{IsHeld, WellFormed}
-use Rattle.mm_rules.proofs.States.Lists.{In, all_at, found_in, not_found, once_found}
 
 -- ---- options
 
@@ -25,13 +25,6 @@ is_some_gives (Some x) e = (x, refl)
 
 -- ---- keys
 
--- a read that gives true is within the list
-pub true_within : (xs : List Bool) (n : ℕ) → slice_index_or xs n false ≡ true → n < length xs
-true_within xs n e = elim (cases_lt n (length xs)) [
-  | inl inside ↦ inside
-  | inr past ↦ (let never : false ≡ true = sym (get_or_past xs n false past) ∙ e in absurd (cc))
-]
-
 pub live_within : (s : TableState) (k : Key) → IsSized s → IsTrue (is_live s k) → k.process < s.config.processes
 live_within s k sized live =
     let parts : (slice_index_or s.live k.process false ≡ true) × (nat_eq (slice_index s.generations k.process) k.generation ≡ true)
@@ -43,7 +36,7 @@ live_within s k sized live =
 -- a wait that is one of the state's
 pub record WaitsHere (s : TableState) (n r : ℕ) : Type 0 where
   pub wait : Wait
-  pub among : In wait s.waits
+  pub among : Among wait s.waits
   pub process : wait.key.process ≡ n
   pub resource : wait.resource ≡ r
 
@@ -54,14 +47,14 @@ some_of_map f (Some x) y e = (x, refl, (let same : Some (f x) ≡ Some y = e in 
 pub waits_here : (s : TableState) (n r : ℕ) → wait_of s n ≡ Some r → WaitsHere s n r
 waits_here s n r waits =
     let found : (w : Wait) × (find (is_of n) s.waits ≡ Some w) × (w.resource ≡ r) = some_of_map (λ (w : Wait). w.resource) (find (is_of n) s.waits) r waits in
-    let here : In found.0 s.waits × (is_of n found.0 ≡ true) = found_in (is_of n) s.waits found.0 found.1 in
+    let here : Among found.0 s.waits × (is_of n found.0 ≡ true) = found_among (is_of n) s.waits found.0 found.1 in
     record { wait = found.0; among = here.0; process = eqb-true found.0.key.process n here.1; resource = found.2 }
 
-wait_is : (s : TableState) (w : Wait) (n : ℕ) → NoRepeat (map (λ w. w.key.process) s.waits) → In w s.waits → w.key.process ≡ n → wait_of s n ≡ Some w.resource
-wait_is s w n once among e = ap (option_map (λ (w : Wait). w.resource)) (once_found (λ (w : Wait). w.key.process) s.waits w n once among e)
+wait_is : (s : TableState) (w : Wait) (n : ℕ) → NoRepeat (map (λ w. w.key.process) s.waits) → Among w s.waits → w.key.process ≡ n → wait_of s n ≡ Some w.resource
+wait_is s w n once among e = ap (option_map (λ (w : Wait). w.resource)) (found_by_number (λ (w : Wait). w.key.process) s.waits w n once among e)
 
 -- where n does not wait, no wait is its
-pub waits_of_others : (s : TableState) (n : ℕ) → wait_of s n ≡ None → (w : Wait) → In w s.waits → w.key.process ≢ n
+pub waits_of_others : (s : TableState) (n : ℕ) → wait_of s n ≡ None → (w : Wait) → Among w s.waits → w.key.process ≢ n
 waits_of_others s n active w among =
     eqb-false w.key.process n (not_found (is_of n) s.waits w (map_none (λ (x : Wait). x.resource) (find (is_of n) s.waits) active) among)
 
@@ -95,17 +88,17 @@ held_by s w None e held = absurd held
 held_by s w (Some k) e held = (k, e, held)
 
 module _ (s : TableState) (formed : WellFormed s) where
-  live_and_held : (w : Wait) → In w s.waits → IsTrue (is_live s w.key) × IsHeld s w
+  live_and_held : (w : Wait) → Among w s.waits → IsTrue (is_live s w.key) × IsHeld s w
   live_and_held w among = all_at (λ w. IsTrue (is_live s w.key) × IsHeld s w) s.waits w formed.waits among
 
   -- the owner of what a member of the waits waits for
-  pub held : (w : Wait) → In w s.waits → (k : Key) × (owner_of s w.resource ≡ Some k) × (k.process ≢ w.key.process)
+  pub held : (w : Wait) → Among w s.waits → (k : Key) × (owner_of s w.resource ≡ Some k) × (k.process ≢ w.key.process)
   held w among = held_by s w (owner_of s w.resource) refl (live_and_held w among).1
 
-  pub waiter_live : (w : Wait) → In w s.waits → IsTrue (is_live s w.key)
+  pub waiter_live : (w : Wait) → Among w s.waits → IsTrue (is_live s w.key)
   waiter_live w among = (live_and_held w among).0
 
-  pub waiter_within : (w : Wait) → In w s.waits → w.key.process < s.config.processes
+  pub waiter_within : (w : Wait) → Among w s.waits → w.key.process < s.config.processes
   waiter_within w among = live_within s w.key formed.sizes (waiter_live w among)
 
   process_within : (n r : ℕ) → wait_of s n ≡ Some r → n < s.config.processes
@@ -113,7 +106,7 @@ module _ (s : TableState) (formed : WellFormed s) where
       let here : WaitsHere s n r = waits_here s n r waits in
       omega (arith, here.process, waiter_within here.wait here.among)
 
-  pub waiter_waits : (w : Wait) (n : ℕ) → In w s.waits → w.key.process ≡ n → wait_of s n ≡ Some w.resource
+  pub waiter_waits : (w : Wait) (n : ℕ) → Among w s.waits → w.key.process ≡ n → wait_of s n ≡ Some w.resource
   waiter_waits w n among e = wait_is s w n formed.waits_once among e
 
   -- whoever waits has a holder
