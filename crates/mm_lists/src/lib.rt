@@ -1,2 +1,2 @@
-//! What is in a list: words of the definitions of other crates, in `specs/`. It has no code.
+//! What is in a list: words of the definitions of other crates, in `specs/`, and their lemmas, in `proofs/`. It has no code.
 #![tactic(auto)]

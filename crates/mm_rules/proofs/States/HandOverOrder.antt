@@ -6,7 +6,9 @@ use Rattle.std.specs.List.{AllByRecursion}
 use Rattle.mm_label.specs.Label.{Label, opening_label}
 use Rattle.mm_arena.specs.declared.key.Key.{Key}
 use Rattle.mm_lists.specs.Members.{Among, NoRepeat}
-use Rattle.mm_lists.proofs.Members.{among_map, filter_gives, no_repeat_filter}
+use Rattle.mm_lists.proofs.Lemmas.Among.{among_map}
+use Rattle.mm_lists.proofs.Lemmas.Filter.{filter_gives}
+use Rattle.mm_lists.proofs.Lemmas.NoRepeat.{no_repeat_filter}
 use Rattle.mm_rules.specs.TableState.{TableState, Wait, is_of, waiters_of}
 use Rattle.mm_rules.specs.Change.{label_against, block, activate, give_to, hand_over}
 

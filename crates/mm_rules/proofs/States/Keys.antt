@@ -7,7 +7,7 @@ use Rattle.std.proofs.lemmas.Option.{slice_get_within, get_or_from_slice_get}
 use Rattle.mm_label.specs.Label.{Label}
 use Rattle.mm_arena.specs.declared.key.Key.{Key}
 use Rattle.mm_lists.specs.Members.{Among}
-use Rattle.mm_lists.proofs.Members.{all_at, among_rest_gives, first_among}
+use Rattle.mm_lists.proofs.Lemmas.Among.{all_at, among_rest_gives, first_among}
 use Rattle.mm_rules.specs.declared.refusal.Refusal.{Refusal}
 use Rattle.mm_rules.specs.declared.reply.Settled.{Settled}
 use Rattle.mm_rules.specs.declared.reply.Transmitted.TheVariants.{Raised, Still}

@@ -10,7 +10,7 @@ use Rattle.mm_rules.specs.Change.{greater_label, transmit, can_detect, detect, s
 use Rattle.mm_rules.specs.Event.{counts_exhausted, Settle, Step, Gives, outcome}
 use Rattle.mm_rules.specs.declared.refusal.Refusal.TheVariants.{CountsExhausted}
 use Rattle.mm_rules.specs.private.Stages.{IsSwept}
-use Rattle.mm_lists.proofs.Members.{no_repeat_filter_range}
+use Rattle.mm_lists.proofs.Lemmas.Range.{no_repeat_filter_range}
 use Rattle.mm_rules.proofs.States.Outcome.{counting}
 use Rattle.mm_rules.proofs.States.Transmit.{shown}
 use Rattle.mm_rules.proofs.States.Detect.{detect_still, detect_convicts}

@@ -3,7 +3,7 @@ use Rattle.std.proofs.Common.{◌≡◌, ◌≢◌, ◌⊎◌, ◌+◌, ℕ, ◌
 use Rattle.std.proofs.lemmas.Bool.{cases_eq, cases_Bool, and_parts, and_left, and_right, eqb-true, ne_eqb}
 use Rattle.mm_arena.specs.declared.key.Key.{Key}
 use Rattle.mm_lists.specs.Members.{Among}
-use Rattle.mm_lists.proofs.Updates.{true_within}
+use Rattle.mm_lists.proofs.Lemmas.Set.{true_within}
 use Rattle.mm_rules.specs.TableState.{TableState, is_live}
 use Rattle.mm_rules.specs.Change.{free_slot}
 

@@ -5,7 +5,8 @@ use Rattle.std.specs.List.{range_with_len}
 use Rattle.std.proofs.lemmas.Bool.{cases_Bool}
 use Rattle.mm_label.specs.Label.{Label}
 use Rattle.mm_lists.specs.Members.{Among}
-use Rattle.mm_lists.proofs.Members.{among_range, filter_keeps}
+use Rattle.mm_lists.proofs.Lemmas.Range.{among_range}
+use Rattle.mm_lists.proofs.Lemmas.Filter.{filter_keeps}
 use Rattle.mm_rules.specs.Graph.{Graph, WaitsFor}
 use Rattle.mm_rules.specs.TableState.{TableState, waited_for, is_waiting, waiting_processes, graph_of}
 use Rattle.mm_rules.specs.Change.{greater_label, can_transmit, transmit, raises_along, sweep_raises, swept, total_raises}
@@ -15,10 +16,9 @@ use Rattle.mm_rules.proofs.Graph.Change.{Raises}
 use Rattle.mm_rules.proofs.Graph.Settle.{Sweep, IsSettledFrom, settling_settles, IsStill}
 use Rattle.mm_rules.proofs.Graph.Settle as graph
 use Rattle.mm_rules.proofs.Graph.SettleEnds.{AreSweeps, total, sweeps_settle, SettlingEnds, settling_ends}
-use Rattle.mm_rules.proofs.States.Lookups.{holder_within, waiting_is_some}
+use Rattle.mm_rules.proofs.States.Lookups.{holder_within, waiting_is_some, none_of_is_some}
 use Rattle.mm_rules.proofs.States.Laws.{graph_lawful}
 use Rattle.mm_rules.proofs.States.Outcome.{KeepsLaws, keeps_same, keeps_then}
-use Rattle.mm_rules.proofs.States.Lookups.{none_of_is_some}
 use Rattle.mm_rules.proofs.States.Transmit.{shown, HolderIsAbove, transmit_cases, transmit_still, transmit_shown, shown_raises, transmit_keeps}
 
 -- the same waits and the same configuration

@@ -4,7 +4,7 @@ use Rattle.std.proofs.lemmas.Bool.{cases_Bool, and_parts, and_from, eq-eqb}
 use Rattle.mm_arena.specs.declared.key.Key.{Key}
 use Rattle.mm_rules.specs.TableState.{TableState, key_of, is_live}
 use Rattle.mm_rules.specs.Event.{tenant_of}
-use Rattle.mm_lists.proofs.Updates.{true_within}
+use Rattle.mm_lists.proofs.Lemmas.Set.{true_within}
 
 -- the live key of a process is live
 tenant_lives : (s : TableState) (n : ℕ) (k : Key) → Some k ≡ tenant_of s n → IsTrue (is_live s k) × (k.process ≡ n)

@@ -13,7 +13,8 @@ use Rattle.mm_table.specs.declared.records.Transaction.{Transaction}
 use Rattle.mm_table.specs.declared.records.Labels.{Labels}
 use Rattle.mm_table.specs.declared.records.WaitRecord.{WaitRecord}
 use Rattle.mm_table.specs.private.Records.{idle, wait_in, verdict_in, state_of_fields, AreSized, WaitsAgree}
-use Rattle.mm_table.proofs.Fields.Slots.{same_slot, sized_slots, all_map}
+use Rattle.mm_table.proofs.Fields.Slots.{same_slot, sized_slots}
+use Rattle.mm_lists.proofs.Lemmas.Among.{all_map}
 
 -- the key is that of the first free process
 pub record Taken (s : Slots Transaction) (key : Key) : Type 0 where

@@ -13,18 +13,15 @@ use Rattle.mm_table.specs.declared.records.Transaction.{Transaction}
 use Rattle.mm_table.specs.declared.records.Labels.{Labels}
 use Rattle.mm_table.specs.declared.records.WaitRecord.{WaitRecord}
 use Rattle.mm_lists.specs.Members.{Among, NoRepeat}
+use Rattle.mm_lists.proofs.Lemmas.Among.{all_around, all_map}
+use Rattle.mm_lists.proofs.Lemmas.Cut.{split_at_place}
 use Rattle.mm_rules.specs.TableState.{is_of, waited_for}
 use Rattle.mm_rules.specs.Change.{activate}
 use Rattle.mm_table.specs.private.Records.{idle, wait_in, wait_of_record, state_of_fields, WaitsAgree}
-use Rattle.mm_table.proofs.Fields.Slots.{holds, with_value_live, all_map}
+use Rattle.mm_table.proofs.Fields.Slots.{holds, with_value_live}
 use Rattle.mm_table.proofs.Fields.Waits.{wait_written, waited_past}
 
--- ---- a list around one place
-
-pub split_at_place : {X : Type 0} (xs : List X) (i : ℕ) (x : X) → slice_get xs i ≡ Some x → xs ≡ take i xs ++ x ∷ drop (suc i) xs
-split_at_place [] i x found = let never : None ≡ Some x = found in cc
-split_at_place (y ∷ xs) zero x found = let here : Some y ≡ Some x = found in let same : y ≡ x = cc in ap (λ z. z ∷ xs) same
-split_at_place (y ∷ xs) (suc i) x found = ap (λ zs. y ∷ zs) (split_at_place xs i x found)
+-- ---- the waits around one place
 
 abbrev processes : List WaitRecord → List ℕ
 processes ws = map (λ w. w.key.process) ws
@@ -48,10 +45,6 @@ once_around (v ∷ b) w a once =
         | inr later ↦ rest.1 later
       ],
     )
-
-all_around : {X : Type 0} (P : X → Type 0) (b : List X) (x : X) (a : List X) → AllByRecursion P (b ++ x ∷ a) → AllByRecursion P (b ++ a)
-all_around P [] x a all = all.1
-all_around P (y ∷ b) x a all = (all.0, all_around P b x a all.1)
 
 -- ---- who waits, without that wait
 

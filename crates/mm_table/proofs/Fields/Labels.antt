@@ -12,7 +12,8 @@ use Rattle.mm_table.specs.declared.records.Transaction.{Transaction}
 use Rattle.mm_table.specs.declared.records.Labels.{Labels}
 use Rattle.mm_table.specs.declared.records.WaitRecord.{WaitRecord}
 use Rattle.mm_table.specs.private.Records.{idle, wait_in, verdict_in, state_of_fields, AreSized, WaitsAgree}
-use Rattle.mm_table.proofs.Fields.Slots.{holds, same_slot, with_value_live, all_map}
+use Rattle.mm_table.proofs.Fields.Slots.{holds, same_slot, with_value_live}
+use Rattle.mm_lists.proofs.Lemmas.Among.{all_map}
 
 -- both labels of process n are new
 pub labels_written : (c : Config) (s : Slots Transaction) (ls : List Labels) (os : List (Option Key)) (ws : List WaitRecord) (t : Totals) (n : ℕ) (l : Labels)

@@ -17,7 +17,9 @@ use Rattle.mm_table.specs.declared.records.WaitRecord.{WaitRecord}
 use Rattle.mm_rules.specs.TableState.{TableState, owns, resources_of}
 use Rattle.mm_rules.specs.Change.{hand_over_fits, vacate_fits}
 use Rattle.mm_table.specs.private.Records.{owning, OwnersAgree, AreSized, IsConsistent, state_of_records}
-use Rattle.mm_lists.proofs.Members.{filter_gives, filter_keeps, list_all_at, list_all_from, among_range}
+use Rattle.mm_lists.proofs.Lemmas.Filter.{filter_gives, filter_keeps}
+use Rattle.mm_lists.proofs.Lemmas.Among.{list_all_at, list_all_from}
+use Rattle.mm_lists.proofs.Lemmas.Range.{among_range}
 
 -- the owner of one resource changes
 owning_here : (os : List (Option Key)) (r : ℕ) (o : Option Key) → r < length os → owning (slice_set os r o) r ≡ option_map (λ k. k.process) o

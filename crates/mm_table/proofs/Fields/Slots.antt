@@ -58,14 +58,6 @@ module _ {T : Type 0} where
         | inr elsewhere ↦ let stays = get_or-set_other s.places key.process other.process written never_used elsewhere in rw stays live
       ]
 
-pub all_append : {X : Type 0} (P : X → Type 0) (xs ys : List X) → AllByRecursion P xs → AllByRecursion P ys → AllByRecursion P (xs ++ ys)
-all_append P [] ys first second = second
-all_append P (x ∷ xs) ys first second = (first.0, all_append P xs ys first.1 second)
-
-pub all_map : {X : Type 0} (P Q : X → Type 0) → ((x : X) → P x → Q x) → (xs : List X) → AllByRecursion P xs → AllByRecursion Q xs
-all_map P Q each [] all = tt
-all_map P Q each (x ∷ xs) all = (each x all.0, all_map P Q each xs all.1)
-
 pub all_at : {X : Type 0} (P : X → Type 0) (xs : List X) (i : ℕ) (x : X) → AllByRecursion P xs → i < length xs → x ≡ slice_index_or xs i x → P x
 all_at P [] i x all within is = absurd (omega arith)
 all_at P (y ∷ xs) zero x all within is = subst P (sym is) all.0

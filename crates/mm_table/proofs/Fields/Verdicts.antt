@@ -12,7 +12,8 @@ use Rattle.mm_table.specs.declared.records.Transaction.{Transaction}
 use Rattle.mm_table.specs.declared.records.Labels.{Labels}
 use Rattle.mm_table.specs.declared.records.WaitRecord.{WaitRecord}
 use Rattle.mm_table.specs.private.Records.{idle, wait_in, verdict_in, state_of_fields, AreSized, WaitsAgree}
-use Rattle.mm_table.proofs.Fields.Slots.{holds, same_slot, with_value_live, all_map}
+use Rattle.mm_table.proofs.Fields.Slots.{holds, same_slot, with_value_live}
+use Rattle.mm_lists.proofs.Lemmas.Among.{all_map}
 
 pub its_verdict : (s : Slots Transaction) (k : Key) (o : Transaction) → lookup s k ≡ Some o → slice_index_or (map verdict_in s.places) k.process false ≡ o.has_verdict
 its_verdict s k o found = let held = holds s k o found in get_or-map verdict_in s.places k.process never_used false held.within ∙ ap verdict_in held.place

@@ -12,7 +12,7 @@ use Rattle.mm_rules.specs.Laws.{WellFormed}
 use Rattle.mm_table.specs.private.Waiters.{IsWaiter, processes_of}
 use Rattle.mm_rules.proofs.States.Lookups.{unheld_idle, WaitsHere, waits_here, held, waiting_is_some}
 use Rattle.mm_rules.proofs.States.Transmit.{shown}
-use Rattle.mm_table.proofs.Fields.Slots.{all_append, all_map}
+use Rattle.mm_lists.proofs.Lemmas.Among.{all_append, all_map}
 use Rattle.mm_rules.proofs.States.Turns.{passes_next, fails_next}
 
 -- the waiters with processes below n

@@ -17,7 +17,8 @@ use Rattle.mm_table.specs.declared.records.WaitRecord.{WaitRecord}
 use Rattle.mm_lists.specs.Members.{Among, NoRepeat}
 use Rattle.mm_rules.specs.TableState.{Wait, is_of, waited_for}
 use Rattle.mm_table.specs.private.Records.{idle, wait_in, verdict_in, wait_of_record, state_of_fields, WaitsAgree}
-use Rattle.mm_table.proofs.Fields.Slots.{holds, same_slot, with_value_live, all_append, all_map}
+use Rattle.mm_table.proofs.Fields.Slots.{holds, same_slot, with_value_live}
+use Rattle.mm_lists.proofs.Lemmas.Among.{all_append, all_map}
 
 -- ---- what the parts stand for
 

@@ -3,7 +3,7 @@ use Rattle.std.specs.List.{range_with_len}
 use Rattle.std.proofs.lemmas.List.{length-map}
 use Rattle.mm_table.specs.declared.records.settle.Waiter.{Waiter}
 use Rattle.mm_rules.specs.TableState.{is_waiting}
-use Rattle.mm_lists.proofs.Members.{length_filter_range}
+use Rattle.mm_lists.proofs.Lemmas.Range.{length_filter_range}
 use Rattle.mm_table.proofs.Fields.Waiters.{AreBelow, one_waits, none_waits}
 use Rattle.mm_table.proofs.records.Records.gather_waiters.Goals as goal
 use Rattle.mm_table.proofs.records.Records.gather_waiters.Goals.{in-Some, in_default}

@@ -1,0 +1,3 @@
+pub mod Link
+pub mod Links
+pub mod Chain
