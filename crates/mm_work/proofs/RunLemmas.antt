@@ -195,8 +195,8 @@ none_of (x ∷ l) h = absurd (omega arith)
 
 -- a line that is too long is cut short
 pub progress_next : (rb ra wb wa : Option (List ℕ)) (read input : Input) (session : Session) (rest : List ℕ) → PieceAnswered rb ra wb wa read session rest [] → IsOpen rest → session.replies.items ≡ []
-    → read.taken ≤ input_limit → held input ≡ take 129 rest → input.taken ≡ read.taken → input.len ≤ 129 → Progress rb ra wb wa input session
-progress_next rb ra wb wa read input session rest answered open_rest none h short taken len =
+    → read.taken ≤ input_limit → held input ≡ take 129 rest → input.taken ≡ read.taken → Progress rb ra wb wa input session
+progress_next rb ra wb wa read input session rest answered open_rest none h short taken =
     let reached = answered.reached in
     let no_past : answered.past ≡ [] = none_of answered.past (omega (arith, answered.past_limit)) in
     record {
@@ -213,7 +213,7 @@ progress_next rb ra wb wa read input session rest answered open_rest none h shor
         lawful = reached.lawful;
       };
       none_kept = none;
-      ready = record { room = len; within_limit = omega arith };
+      ready = record { room = omega (arith, ap length short, length-take 129 rest); within_limit = omega arith };
       open_line = subst IsOpen (sym short) (open_part (take 129 rest) (drop 129 rest) (subst IsOpen (sym (take-append-drop 129 rest)) open_rest));
     }
 

@@ -49,7 +49,7 @@ loop-session-preserved g c =
     let piece = piece_answered _ _ _ _ _ _ _ c.read.new.self _ _ _ _ _ c.loop-session.invariant c.in_ok-read.ensures.ok none_lost in
     let left : lines.0 ≡ drop c.in_ok-count.count (held c.read.new.self) = lines.3.1 ∙ ap (drop c.in_ok-count.count) (c.within_limit.ensures ∙ within_all c.read.new.self within) in
     progress_next _ _ _ _ c.read.new.self c.drop_front.new.self _ lines.0 piece lines.3.2 c.in_ok-count.ensures.replies within
-    (c.drop_front.ensures.held ∙ ap (take 129) (sym left)) c.drop_front.ensures.taken c.drop_front.ensures.len
+    (c.drop_front.ensures.held ∙ ap (take 129) (sym left)) c.drop_front.ensures.taken
 
 pub returns-clause-ends : goal.returns-clause-ends
 returns-clause-ends g c =
