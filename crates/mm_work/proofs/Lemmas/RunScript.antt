@@ -8,14 +8,14 @@ use Rattle.mm_work.specs.declared.script.ScriptFault.{ScriptFault}
 use Rattle.mm_work.specs.declared.script.ScriptFault.TheVariants.{Read, Write, TooLong}
 use Rattle.mm_work.specs.declared.script.engine.Session.{Session}
 use Rattle.mm_work.specs.declared.script.input.Input.{Input}
-use Rattle.mm_work.specs.Input.{held, within_limit, IsReady, Reads}
+use Rattle.mm_work.specs.private.Input.{held, within_limit, IsReady, Reads}
 use Rattle.mm_work.specs.Lines.{lines_of, whole_lines, whole_parts}
 use Rattle.mm_work.specs.Script.{Ends, input_limit}
-use Rattle.mm_work.specs.Session.{AnswersLines, IsLawful, IsOpen, Leads, Writes, cut}
+use Rattle.mm_work.specs.private.Session.{AnswersLines, IsLawful, IsOpen, Leads, Writes, cut}
 use Rattle.mm_work.specs.Text.{Text}
-use Rattle.mm_work.proofs.LeadsLemmas.{leads_none, leads_then, leads_more, leads_short}
-use Rattle.mm_work.proofs.LinesLemmas.{parts-open, open_part}
-use Rattle.mm_work.proofs.TextLemmas.{text_total}
+use Rattle.mm_work.proofs.Lemmas.Leads.{leads_none, leads_then, leads_more, leads_short}
+use Rattle.mm_work.proofs.Lemmas.Lines.{parts-open, open_part}
+use Rattle.mm_work.proofs.Lemmas.Text.{text_total}
 
 -- these bytes were read, and some past them; the lines at their front are answered and the rest is left; replies are written but for those that are lost
 pub record Reached (reader_before reader_after writer_before writer_after : Option (List ℕ)) (count : ℕ) (session : Session) (allowed past rest lost : List ℕ) : Type 0 where

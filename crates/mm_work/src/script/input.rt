@@ -7,7 +7,7 @@ use super::line::LONGEST_LINE;
 use arrayvec::ArrayVec;
 use std::io::Read;
 
-/// A read gives at most so many bytes.
+/// The most bytes that are held. A read returns at most so many.
 const INPUT_LEN: usize = 32768;
 
 /// A script has at most so many bytes: 16 MiB.
@@ -16,7 +16,7 @@ pub const INPUT_LIMIT: usize = 16_777_216;
 /// More bytes than the longest line has. Of an open line no more are held.
 const MOST_HELD: usize = LONGEST_LINE + 1;
 
-/// The bytes behind the lines that are answered.
+/// The bytes that were read and belong to no answered line yet.
 #[derive(Drop)]
 pub struct Input {
     bytes: ArrayVec<u8, INPUT_LEN>,
@@ -25,7 +25,7 @@ pub struct Input {
 }
 
 impl Input {
-    ghost use Rattle.mm_work.specs.Input.{held, within_limit, IsReady, Reads};
+    ghost use Rattle.mm_work.specs.private.Input.{held, within_limit, IsReady, Reads};
 
     pub fn new() -> Self
         ensures held { held result ≡ [] }
@@ -76,7 +76,7 @@ impl Input {
         }
     }
 
-    /// Lets bytes at the front go, and all of an open line but so many that it is too long.
+    /// Removes `count` bytes at the front, and of the open line behind them all but the first 129, which make it too long.
     pub fn drop_front(&mut self, count: usize)
         requires { count ≤ length (held self.old) }
         ensures held { held self.new ≡ take MOST_HELD (drop count (held self.old)) }

@@ -3,9 +3,9 @@ use Rattle.std.proofs.lemmas.Bool.{cases_lt}
 use Rattle.std.proofs.lemmas.Result.{err_from_is_err_and}
 use Rattle.mm_work.specs.declared.script.ScriptFault.TheVariants.{Read, Write}
 use Rattle.mm_work.specs.Script.{input_limit}
-use Rattle.mm_work.specs.Input.{held, within_limit}
-use Rattle.mm_work.specs.Session.{AnswersLines}
-use Rattle.mm_work.proofs.RunLemmas.{Ran, progress_first, progress_next, piece_answered, ran_progress_read, ran_piece_write, ran_piece_too_long, ran_finish, within_all, few_before, few_read}
+use Rattle.mm_work.specs.private.Input.{held, within_limit}
+use Rattle.mm_work.specs.private.Session.{AnswersLines}
+use Rattle.mm_work.proofs.Lemmas.RunScript.{Ran, progress_first, progress_next, piece_answered, ran_progress_read, ran_piece_write, ran_piece_too_long, ran_finish, within_all, few_before, few_read}
 use Rattle.mm_work.proofs.script.run_script.Goals as goal
 
 pub loop-session-init : goal.loop-session-init

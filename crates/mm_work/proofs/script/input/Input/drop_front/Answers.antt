@@ -1,7 +1,7 @@
 use Rattle.std.proofs.Common.{ℕ, List, drop, arith}
 use Rattle.std.proofs.lemmas.Grind.{common_steps}
 use Rattle.std.proofs.lemmas.List.{take_min}
-use Rattle.mm_work.proofs.InputLemmas.{take-moved}
+use Rattle.mm_work.proofs.Lemmas.Input.{take-moved}
 use Rattle.mm_work.proofs.script.input.Input.drop_front.Goals as goal
 
 pub returns-clause-held : goal.returns-clause-held
