@@ -18,13 +18,13 @@ pub enum Request {
     Script,
     /// Help, with its text.
     Help(Error),
-    /// Nothing that there is, with the text that says so.
+    /// The words are no command line of this program; the text says why.
     Wrong(Error),
     /// Memory was refused while the words were read.
     Memory,
 }
 
-/// What the command line asks for that the program was started with. Takes memory.
+/// Returns what the command line asks for that the program was started with. Allocates.
 pub fn asked(rt: &HostRuntime) -> Request {
     asked_or_refused(rt).unwrap_or(Request::Memory)
 }
@@ -44,7 +44,7 @@ fn asked_or_refused(rt: &HostRuntime) -> Result<Request, AllocError> {
     }
 }
 
-/// What words ask for; the first is the program's name. Takes memory.
+/// Returns what the words ask for; the first is the program's name. Allocates.
 pub fn request_of<S: AsStr>(alloc: Global, words: &[S]) -> Request
     ensures script { AsksForScript (map S.text words.now) → IsScript result }
     ensures help { AsksForHelp (map S.text words.now) → IsHelp result }
@@ -53,7 +53,7 @@ pub fn request_of<S: AsStr>(alloc: Global, words: &[S]) -> Request
     request_by(parsed(alloc, words))
 }
 
-/// What is to be done with what clap answers.
+/// Returns the request that follows from clap's result.
 fn request_by(outcome: Result<ArgMatches<'_>, Error>) -> Request
     ensures { result ≡ request_by outcome.entry }
 {

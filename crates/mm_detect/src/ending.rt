@@ -9,11 +9,11 @@ use mm_work::ScriptFault;
 pub enum Ending {
     /// A script was run: so many lines were malformed, or a fault came.
     Ran(Result<u64, ScriptFault>),
-    /// Help was asked for, and was printed or could not be.
+    /// Help was asked for; its text was printed, or a fault came.
     Helped(Result<(), ScriptFault>),
     /// The command line was wrong.
     Wrong,
-    /// Memory for the command line was refused, and the line that says so was printed or could not be.
+    /// Memory for the command line was refused; the line that says so was printed, or a fault came.
     Refused(Result<(), ScriptFault>),
 }
 
@@ -42,7 +42,7 @@ pub fn script_status(outcome: &Result<u64, ScriptFault>) -> u8
     }
 }
 
-/// The fault that standard error is to tell, if any.
+/// The fault that is printed on standard error, if any.
 pub fn fault(ending: &Ending) -> Option<ScriptFault>
     ensures { result ≡ fault_told ending.now }
 {

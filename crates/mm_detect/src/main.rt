@@ -19,7 +19,7 @@ use std::process::ExitCode;
 fn main(rt: HostRuntime) -> ExitCode {
     let ending = answer(&rt, asked(&rt));
     if let Some(fault) = fault(&ending) {
-        // Where standard error takes nothing either, the status still tells.
+        // Where standard error cannot be written either, the status alone reports it.
         let _ = eprintln!(rt; "{fault}");
     }
     ExitCode::from(status(&ending))
@@ -35,7 +35,7 @@ fn answer(rt: &HostRuntime, request: Request) -> Ending {
             Ending::Helped(print!(rt; "{text}").map_err(|_| ScriptFault::Write))
         }
         Request::Wrong(text) => {
-            // Where standard error takes nothing either, the status still tells.
+            // Where standard error cannot be written either, the status alone reports it.
             let _ = eprint!(rt; "{text}");
             Ending::Wrong
         }

@@ -1,10 +1,9 @@
 pub mod Cut
-pub mod Input
 pub mod Line
 pub mod Lines
 pub mod Reply
 pub mod Script
-pub mod Session
 pub mod Text
 pub mod Words
-pub mod WordsLeft
+-- private: how input, words, replies and a session are kept; no public clause cites these
+pub mod private

@@ -1,5 +1,5 @@
 -- How replies are printed.
-use Rattle.std.specs.Prelude.{Option, Some, None, ◌≡◌, ℕ, ◌≤◌, List, ◌++◌, length, codes, decimal}
+use Rattle.std.specs.Prelude.{Option, Some, None, ℕ, List, ◌++◌, codes, decimal}
 use Rattle.mm_arena.specs.declared.key.Key.{Key}
 use Rattle.mm_arena.specs.Key.{key_text}
 use Rattle.mm_label.specs.Label.{label_text}
@@ -80,8 +80,3 @@ reply_text (Refused refusal) = refusal_text refusal
 -- a reply and its newline
 abbrev pub reply_line : Reply → List ℕ
 reply_line reply = reply_text reply ++ codes "\n"
-
--- the text, of at most so many bytes, is added at the end
-pub record Prints (old text : List ℕ) (most : ℕ) (new : List ℕ) : Type 0 where
-  pub added : new ≡ old ++ text
-  pub short : length text ≤ most

@@ -39,11 +39,17 @@ pub enum ScriptFault {
     TooLong,
 }
 
-/// Answers the lines of a script, and returns how many of them are malformed.
+/// Reads a script to the reader's end, writes one reply for each call and each malformed line, in their order, and returns how many
+/// lines are malformed. A script has at most 16,777,216 bytes.
 ///
-/// The replies to the lines of a piece are written before the next read, so at a `Read` or `TooLong` fault all whole lines
-/// are answered; at a `Write` fault replies are lost. After a fault nothing is read or written. Of a script that is too long
-/// one byte past the limit is read. Only `table` takes memory.
+/// The replies to the lines of a piece of input are written before the next read, and the writer is flushed once, at the end.
+/// After a fault nothing is read or written:
+///
+/// - `Read`: a read failed. The replies to all lines whose newline was read are written.
+/// - `TooLong`: one byte past the limit was read. The replies to the lines whose newline is within the limit are written.
+/// - `Write`: a write or the flush failed, or a write took no byte. A part of the replies from the front on is written.
+///
+/// O(bytes) time beside that of the table's calls. Only `table` allocates; input and replies take about 100 KiB of the stack.
 pub fn run_script<R: Read, W: Write>(
     alloc: Global,
     reader: &mut R,

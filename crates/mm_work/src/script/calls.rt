@@ -7,7 +7,7 @@ use super::reply::Reply;
 use mm_table::Table;
 use std::alloc::Global;
 
-/// Makes a call, and answers its reply. Only `table` takes memory.
+/// Makes a call of the table, or opens one, and returns the reply. Only `table` allocates.
 pub fn make(table: &mut Option<Table>, alloc: Global, call: Call) -> Reply
     ensures { Replies call table.old result table.new }
 {
@@ -50,7 +50,7 @@ fn make_with_table(table: &mut Table, call: Call) -> Reply
     }
 }
 
-/// A refused `table` leaves none.
+/// Makes a call while no table stands. A refused `table` leaves none.
 fn make_with_none(table: &mut Option<Table>, alloc: Global, call: Call) -> Reply
     requires { table.old ≡ None }
     ensures { RepliesWithNone call result table.new }

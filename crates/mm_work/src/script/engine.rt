@@ -28,7 +28,7 @@ pub struct Session {
 }
 
 impl Session {
-    ghost use Rattle.mm_work.specs.Session.{AnswersLine, AnswersLines, AnswersOpen, IsOpen, Writes};
+    ghost use Rattle.mm_work.specs.private.Session.{AnswersLine, AnswersLines, AnswersOpen, IsOpen, Writes};
 
     pub fn new(alloc: Global) -> Self
         ensures table { result.table ≡ None }

@@ -4,9 +4,10 @@ ghost use Rattle.std.specs.Io.KnownBytes.{Keeps};
 
 use super::ScriptFault;
 use super::line::LONGEST_LINE;
+use arrayvec::ArrayVec;
 use std::io::Read;
 
-/// A read gives at most so many bytes.
+/// The most bytes that are held. A read returns at most so many.
 const INPUT_LEN: usize = 32768;
 
 /// A script has at most so many bytes: 16 MiB.
@@ -15,17 +16,16 @@ pub const INPUT_LIMIT: usize = 16_777_216;
 /// More bytes than the longest line has. Of an open line no more are held.
 const MOST_HELD: usize = LONGEST_LINE + 1;
 
-/// The bytes behind the lines that are answered.
+/// The bytes that were read and belong to no answered line yet.
 #[derive(Drop)]
 pub struct Input {
-    bytes: [u8; INPUT_LEN],
-    len: usize,
+    bytes: ArrayVec<u8, INPUT_LEN>,
     /// How many bytes were read in all.
     taken: usize,
 }
 
 impl Input {
-    ghost use Rattle.mm_work.specs.Input.{held, within_limit, IsReady, Reads};
+    ghost use Rattle.mm_work.specs.private.Input.{held, within_limit, IsReady, Reads};
 
     pub fn new() -> Self
         ensures held { held result ≡ [] }
@@ -33,19 +33,18 @@ impl Input {
         ensures ready { IsReady result }
     {
         Input {
-            bytes: [0; INPUT_LEN],
-            len: 0,
+            bytes: ArrayVec::new(),
             taken: 0,
         }
     }
 
     /// The bytes that are held, but none past the limit.
     pub fn within_limit(&self) -> &[u8]
-        requires { self.now.len ≤ INPUT_LEN }
         ensures { result.now ≡ within_limit self.now }
     {
         let past = self.taken.saturating_sub(INPUT_LIMIT);
-        self.bytes.split_at(self.len.saturating_sub(past)).0
+        let bytes = self.bytes.as_slice();
+        bytes.split_at(bytes.len().saturating_sub(past)).0
     }
 
     /// Whether a byte past the limit was read.
@@ -62,10 +61,14 @@ impl Input {
         ensures fault { IsOkUnless result ScriptFault.Read }
         ensures err { OnErr result (Keeps (R.remaining reader.old) (R.remaining reader.new)) }
     {
-        let end = INPUT_LEN.min(self.len + (INPUT_LIMIT + 1 - self.taken));
-        match reader.read(&mut self.bytes[self.len..end]) {
+        let mut piece = [0; INPUT_LEN];
+        let most = self
+            .bytes
+            .remaining_capacity()
+            .min(INPUT_LIMIT + 1 - self.taken);
+        match reader.read(&mut piece[..most]) {
             Ok(count) => {
-                self.len += count;
+                let _fits = self.bytes.try_extend_from_slice(&piece[..count]);
                 self.taken += count;
                 Ok(count > 0)
             }
@@ -73,16 +76,14 @@ impl Input {
         }
     }
 
-    /// Lets bytes at the front go, and all of an open line but so many that it is too long.
+    /// Removes `count` bytes at the front, and of the open line behind them all but the first 129, which make it too long.
     pub fn drop_front(&mut self, count: usize)
-        requires in_range { count ≤ self.old.len }
-        requires fits { self.old.len ≤ INPUT_LEN }
+        requires { count ≤ length (held self.old) }
         ensures held { held self.new ≡ take MOST_HELD (drop count (held self.old)) }
         ensures taken { self.new.taken ≡ self.old.taken }
-        ensures len { self.new.len ≤ MOST_HELD }
     {
-        let len = MOST_HELD.min(self.len - count);
-        self.bytes.copy_within(count..count + len, 0);
-        self.len = len;
+        let len = MOST_HELD.min(self.bytes.len() - count);
+        self.bytes.as_mut_slice().copy_within(count..count + len, 0);
+        self.bytes.truncate(len);
     }
 }

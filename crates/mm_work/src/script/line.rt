@@ -2,7 +2,7 @@
 ghost use Rattle.std.specs.Prelude.{◌≡◌};
 ghost use Rattle.std.specs.Str.Lines.{strip_carriage_return};
 ghost use Rattle.mm_work.specs.Line.{line_of, call_of, table_call, no_arguments, key_and_resource, key_alone, resource_alone};
-ghost use Rattle.mm_work.specs.WordsLeft.{words_left};
+ghost use Rattle.mm_work.specs.private.WordsLeft.{words_left};
 
 use super::words::{Words, key, number32, number64};
 use mm_table::{Config, Key};

@@ -1,7 +1,7 @@
 //! Writes the replies that wait. At a fault some of them are lost.
 ghost use Rattle.std.specs.Prelude.{◌≡◌, ◌+◌, ◌≤◌, List, ℕ, [], OnOk, IsOkUnless};
 ghost use Rattle.arrayvec.specs.ArrayVec.{array_vec_len};
-ghost use Rattle.mm_work.specs.Session.{Writes};
+ghost use Rattle.mm_work.specs.private.Session.{Writes};
 
 use super::ScriptFault;
 use super::reply::{LONGEST_REPLY, REPLIES_LEN, Replies};

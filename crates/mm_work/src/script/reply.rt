@@ -1,7 +1,8 @@
 //! Replies, and how they are printed.
 ghost use Rattle.std.specs.Prelude.{◌≡◌, ◌≤◌, ◌+◌, ◌++◌, length, codes, decimal};
 ghost use Rattle.arrayvec.specs.ArrayVec.{array_vec_len};
-ghost use Rattle.mm_work.specs.Reply.{reply_line, settled_text, state_text, totals_text, refusal_text, Prints};
+ghost use Rattle.mm_work.specs.Reply.{reply_line, settled_text, state_text, totals_text, refusal_text};
+ghost use Rattle.mm_work.specs.private.Prints.{Prints};
 ghost use Rattle.mm_arena.specs.Key.{key_text};
 ghost use Rattle.mm_label.specs.Label.{label_text};
 
@@ -11,7 +12,7 @@ use mm_table::{
     Acquired, Detected, Key, Label, Mode, Refusal, Released, Settled, State, Totals, Transmitted,
 };
 
-/// What a line is answered.
+/// The reply to a line.
 #[derive(Clone, Copy, Debug, PartialEq, Eq)]
 pub enum Reply {
     Malformed,

@@ -54,6 +54,29 @@ fn read_fails(rt: HostRuntime) -> Result<(), Fail> {
     Ok(())
 }
 
+/// A read fails in the middle of a line: the lines before it are answered, and it is not.
+#[test]
+fn read_fails_within_a_line(rt: HostRuntime) -> Result<(), Fail> {
+    for (piece, calls) in [(64, 1), (7, 4), (1, 23)] {
+        let mut reader = FailingReader {
+            bytes: b"table 1 1 9 9\nbegin\nbeg".as_slice(),
+            piece,
+            calls,
+            kind: ErrorKind::Other,
+        };
+        let mut output = Vec::new(rt.alloc());
+        let outcome = run_script(rt.alloc(), &mut reader, &mut output);
+        assert_eq!(rt; outcome, Err(ScriptFault::Read), "{piece} bytes a call");
+        assert_eq!(rt;
+            output.as_slice(),
+            b"ok\nkey 0.1\n".as_slice(),
+            "{piece} bytes a call"
+        );
+        assert!(rt; reader.bytes.is_empty(), "{piece} bytes a call");
+    }
+    Ok(())
+}
+
 /// A writer takes some bytes a call, and fails or takes none when it is full, or fails at the flush:
 /// no write and no flush comes after it. Where nothing fails there is one flush.
 #[test]

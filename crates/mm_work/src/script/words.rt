@@ -13,7 +13,7 @@ pub struct Words<'a> {
 }
 
 impl<'a> Words<'a> {
-    ghost use Rattle.mm_work.specs.WordsLeft.{words_left};
+    ghost use Rattle.mm_work.specs.private.WordsLeft.{words_left};
 
     pub fn new(line: &'a [u8]) -> Self
         ensures { words_left result ≡ words_of line.now }
@@ -23,7 +23,7 @@ impl<'a> Words<'a> {
 }
 
 impl<'a> Iterator for Words<'a> {
-    ghost use Rattle.mm_work.specs.WordsLeft.{words_left};
+    ghost use Rattle.mm_work.specs.private.WordsLeft.{words_left};
 
     type Item = &'a [u8];
 

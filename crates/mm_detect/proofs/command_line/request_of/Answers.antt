@@ -1,7 +1,7 @@
 use Rattle.std.proofs.Common.{subst, sym, map, List}
 use Rattle.clap.specs.Words.{Text, fault_of}
 use Rattle.mm_detect.specs.CommandLine.{IsHelp, IsScript, program}
-use Rattle.mm_detect.proofs.CommandLineLemmas.{script_by, script_when, help_by, help_when}
+use Rattle.mm_detect.proofs.Lemmas.CommandLine.{script_by, script_when, help_by, help_when}
 use Rattle.mm_detect.proofs.command_line.request_of.Goals as goal
 
 pub returns-clause-script : goal.returns-clause-script

@@ -3,9 +3,9 @@ use Rattle.std.proofs.lemmas.Bool.{cases_lt}
 use Rattle.std.proofs.lemmas.Result.{err_from_is_err_and}
 use Rattle.mm_work.specs.declared.script.ScriptFault.TheVariants.{Read, Write}
 use Rattle.mm_work.specs.Script.{input_limit}
-use Rattle.mm_work.specs.Input.{held, within_limit}
-use Rattle.mm_work.specs.Session.{AnswersLines}
-use Rattle.mm_work.proofs.RunLemmas.{Ran, progress_first, progress_next, piece_answered, ran_progress_read, ran_piece_write, ran_piece_too_long, ran_finish, within_all, few_before, few_read}
+use Rattle.mm_work.specs.private.Input.{held, within_limit}
+use Rattle.mm_work.specs.private.Session.{AnswersLines}
+use Rattle.mm_work.proofs.Lemmas.RunScript.{Ran, progress_first, progress_next, piece_answered, ran_progress_read, ran_piece_write, ran_piece_too_long, ran_finish, within_all, few_before, few_read}
 use Rattle.mm_work.proofs.script.run_script.Goals as goal
 
 pub loop-session-init : goal.loop-session-init
@@ -49,7 +49,7 @@ loop-session-preserved g c =
     let piece = piece_answered _ _ _ _ _ _ _ c.read.new.self _ _ _ _ _ c.loop-session.invariant c.in_ok-read.ensures.ok none_lost in
     let left : lines.0 ≡ drop c.in_ok-count.count (held c.read.new.self) = lines.3.1 ∙ ap (drop c.in_ok-count.count) (c.within_limit.ensures ∙ within_all c.read.new.self within) in
     progress_next _ _ _ _ c.read.new.self c.drop_front.new.self _ lines.0 piece lines.3.2 c.in_ok-count.ensures.replies within
-    (c.drop_front.ensures.held ∙ ap (take 129) (sym left)) c.drop_front.ensures.taken c.drop_front.ensures.len
+    (c.drop_front.ensures.held ∙ ap (take 129) (sym left)) c.drop_front.ensures.taken
 
 pub returns-clause-ends : goal.returns-clause-ends
 returns-clause-ends g c =

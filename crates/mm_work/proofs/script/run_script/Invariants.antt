@@ -1,5 +1,5 @@
 use Rattle.std.proofs.Common.{◌-◌}
-use Rattle.mm_work.proofs.RunLemmas.{Progress}
+use Rattle.mm_work.proofs.Lemmas.RunScript.{Progress}
 use Rattle.mm_work.proofs.script.run_script.Given as goal
 
 abbrev pub invariant-loop-session : goal.invariant-loop-session

@@ -1,4 +1,4 @@
-use Rattle.mm_work.proofs.SessionLemmas.{writes_more}
+use Rattle.mm_work.proofs.Lemmas.Session.{writes_more}
 use Rattle.mm_work.proofs.script.output.write_all.Goals as goal
 
 pub loop-rest-preserved : goal.loop-rest-preserved

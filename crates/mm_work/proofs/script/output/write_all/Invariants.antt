@@ -1,5 +1,5 @@
 use Rattle.std.proofs.Common.{length}
-use Rattle.mm_work.specs.Session.{Writes}
+use Rattle.mm_work.specs.private.Session.{Writes}
 use Rattle.mm_work.proofs.script.output.write_all.Given as goal
 
 -- what is not written is left

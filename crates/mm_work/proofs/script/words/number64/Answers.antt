@@ -2,7 +2,7 @@ use Rattle.std.proofs.Common.{◌≡◌, ◌∙◌, sym, ap, true, [], drop, ari
 use Rattle.std.proofs.lemmas.Grind.{common_steps}
 use Rattle.std.specs.Str.{all_ascii_digits}
 use Rattle.std.specs.Str.Parse.{digits_value, digits_value_after}
-use Rattle.mm_work.proofs.NumberLemmas.{number_at_most-over, number_at_most-some}
+use Rattle.mm_work.proofs.Lemmas.Number.{number_at_most-over, number_at_most-some}
 use Rattle.mm_work.proofs.script.words.number64.Goals as goal
 
 pub returns-in_err-checked_mul : goal.returns-in_err-checked_mul

@@ -3,7 +3,7 @@ use Rattle.mm_work.specs.Reply.{reply_line}
 use Rattle.mm_work.specs.declared.script.engine.Session.{Session}
 use Rattle.mm_work.specs.declared.script.line.Line.TheVariants as kind
 use Rattle.mm_work.specs.declared.script.reply.Reply.TheVariants as replies
-use Rattle.mm_work.proofs.SessionLemmas.{answers_line}
+use Rattle.mm_work.proofs.Lemmas.Session.{answers_line}
 use Rattle.mm_work.proofs.script.engine.Session.answer.Goals as goal
 use Rattle.mm_work.proofs.script.engine.Session.answer.Goals.{in-Malformed, in-Call}
 

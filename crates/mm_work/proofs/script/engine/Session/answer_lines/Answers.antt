@@ -2,8 +2,8 @@ use Rattle.std.proofs.Common.{◌≡◌, ◌∙◌, sym, ap, subst, ℕ, ◌+◌
 use Rattle.std.specs.List.{position_or_len, before_first, after_first}
 use Rattle.std.proofs.lemmas.List.{drop-drop}
 use Rattle.mm_work.specs.Cut.{is}
-use Rattle.mm_work.specs.Session.{AnswersLine, AnswersLines, Writes}
-use Rattle.mm_work.proofs.SessionLemmas.{answers_none, answers_written, answers_more, if_ok-at_err}
+use Rattle.mm_work.specs.private.Session.{AnswersLine, AnswersLines, Writes}
+use Rattle.mm_work.proofs.Lemmas.Session.{answers_none, answers_written, answers_more, if_ok-at_err}
 use Rattle.mm_work.proofs.script.engine.Session.answer_lines.Goals as goal
 
 pub loop-rest-init : goal.loop-rest-init

@@ -1,5 +1,5 @@
 use Rattle.std.proofs.Common.{◌-◌, ◌≤◌, length, drop}
-use Rattle.mm_work.specs.Session.{AnswersLines}
+use Rattle.mm_work.specs.private.Session.{AnswersLines}
 use Rattle.mm_work.proofs.script.engine.Session.answer_lines.Given as goal
 
 -- the lines so far are answered

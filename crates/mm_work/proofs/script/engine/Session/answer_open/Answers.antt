@@ -1,6 +1,6 @@
 use Rattle.std.proofs.Common.{◌≡◌, ◌<◌, length, arith}
 use Rattle.std.proofs.lemmas.Grind.{common_steps}
-use Rattle.mm_work.proofs.SessionLemmas.{answers_no_line, answers_open}
+use Rattle.mm_work.proofs.Lemmas.Session.{answers_no_line, answers_open}
 use Rattle.mm_work.proofs.script.engine.Session.answer_open.Goals as goal
 
 pub returns-then-not-is_empty : goal.returns-then-not-is_empty

@@ -1,6 +1,6 @@
 use Rattle.std.proofs.Common.{subst}
-use Rattle.mm_work.specs.Session.{AnswersLines}
-use Rattle.mm_work.proofs.SessionLemmas.{answers_written, if_ok-at_err}
+use Rattle.mm_work.specs.private.Session.{AnswersLines}
+use Rattle.mm_work.proofs.Lemmas.Session.{answers_written, if_ok-at_err}
 use Rattle.mm_work.proofs.script.engine.Session.answer_piece.Goals as goal
 
 pub returns-in_err-write_replies-clause-answered : goal.returns-in_err-write_replies-clause-answered

@@ -1,6 +1,6 @@
 use Rattle.std.proofs.Common.{List, ℕ, ◌++◌, ap, subst, ◌∙◌}
-use Rattle.mm_work.specs.Session.{Writes}
-use Rattle.mm_work.proofs.SessionLemmas.{writes_flushed}
+use Rattle.mm_work.specs.private.Session.{Writes}
+use Rattle.mm_work.proofs.Lemmas.Session.{writes_flushed}
 use Rattle.mm_work.proofs.script.engine.Session.finish.Goals as goal
 
 pub returns-in-Err-clause-finished : goal.returns-in-Err-clause-finished

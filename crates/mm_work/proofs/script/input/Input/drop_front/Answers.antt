@@ -1,7 +1,10 @@
-use Rattle.std.proofs.Common.{◌∙◌, ap, take, arith}
-use Rattle.mm_work.proofs.InputLemmas.{take-moved, take-held}
+use Rattle.std.proofs.Common.{ℕ, List, drop, arith}
+use Rattle.std.proofs.lemmas.Grind.{common_steps}
+use Rattle.std.proofs.lemmas.List.{take_min}
+use Rattle.mm_work.proofs.Lemmas.Input.{take-moved}
 use Rattle.mm_work.proofs.script.input.Input.drop_front.Goals as goal
 
 pub returns-clause-held : goal.returns-clause-held
 returns-clause-held c =
-    ap (take c.min-len.result) c.copy_within.ensures.after ∙ (take-moved c.args.count c.min-len.result c.args.self.now.bytes (omega arith) ∙ take-held c.args.count c.args.self.now.len 129 c.min-len.result c.args.self.now.bytes c.requires.in_range c.min-len.ensures)
+    let xs : List ℕ = c.args.self.now.bytes.items in
+    grind (arith, common_steps, take-moved c.args.count c.min-len.result xs (omega arith), take_min 129 (drop c.args.count xs))

@@ -1,6 +1,6 @@
 use Rattle.std.proofs.Common.{arith}
 use Rattle.std.proofs.lemmas.Grind.{common_steps}
-use Rattle.mm_work.proofs.WordsLemmas.{words-skip, words-front, word-begins}
+use Rattle.mm_work.proofs.Lemmas.Words.{words-skip, words-front, word-begins}
 use Rattle.mm_work.proofs.script.words.WordsIterator.next.Goals as goal
 
 pub returns-then-is_empty-clause-steps : goal.returns-then-is_empty-clause-steps

@@ -8,12 +8,12 @@ use Rattle.mm_work.specs.declared.script.engine.Session.{Session}
 use Rattle.mm_work.specs.Line.{line_of}
 use Rattle.std.specs.List.{position_or_len, before_first, after_first}
 use Rattle.mm_work.specs.Cut.{is}
-use Rattle.mm_work.proofs.LeadsLemmas.{leads_none, leads_then, leads_line}
-use Rattle.mm_work.proofs.TextLemmas.{answers_keep}
+use Rattle.mm_work.proofs.Lemmas.Leads.{leads_none, leads_then, leads_line}
+use Rattle.mm_work.proofs.Lemmas.Text.{answers_keep}
 use Rattle.mm_work.specs.Text.{Answers, Text}
 use Rattle.mm_work.specs.Lines.{lines_of_parts}
-use Rattle.mm_work.proofs.LinesLemmas.{parts-open}
-use Rattle.mm_work.specs.Session.{AnswersLine, AnswersLines, AnswersOpen, IsOpen, Writes}
+use Rattle.mm_work.proofs.Lemmas.Lines.{parts-open}
+use Rattle.mm_work.specs.private.Session.{AnswersLine, AnswersLines, AnswersOpen, IsOpen, Writes}
 
 -- the front of what is left is written
 pub writes_more : (before mid after : Option (List ℕ)) (bytes rest : List ℕ) (n : ℕ) → Writes before mid bytes rest → Appends mid after (take n rest) → Writes before after bytes (drop n rest)

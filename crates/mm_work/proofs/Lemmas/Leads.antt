@@ -5,8 +5,8 @@ use Rattle.mm_table.specs.TableState.{TableState}
 use Rattle.mm_work.specs.Cut.{is}
 use Rattle.mm_work.specs.Line.{line_of}
 use Rattle.mm_work.specs.Text.{Answers, Text}
-use Rattle.mm_work.specs.Session.{cut, IsOpen, Leads}
-use Rattle.mm_work.proofs.LinesLemmas.{cut-line, long_text}
+use Rattle.mm_work.specs.private.Session.{cut, IsOpen, Leads}
+use Rattle.mm_work.proofs.Lemmas.Lines.{cut-line, long_text}
 use Rattle.std.proofs.lemmas.Bool.{cases_lt}
 use Rattle.std.proofs.lemmas.List.{take_all}
 

@@ -7,7 +7,7 @@ use Rattle.std.proofs.lemmas.List.Sums.{split_at_first, fails_before_first, pass
 use Rattle.mm_work.specs.Cut.{is}
 use Rattle.mm_work.specs.Lines.{parts_of, lines_of_parts, whole_parts}
 use Rattle.mm_work.specs.Line.{line_of}
-use Rattle.mm_work.specs.Session.{cut, IsOpen}
+use Rattle.mm_work.specs.private.Session.{cut, IsOpen}
 use Rattle.mm_work.specs.Text.{Answers, Text}
 use Rattle.mm_table.specs.TableState.{TableState}
 use Rattle.mm_work.specs.declared.script.line.Line.TheVariants as kind

@@ -2,12 +2,12 @@
 use Rattle.std.specs.Prelude.{◌≡◌, ℕ, ◌+◌, ◌-◌, ◌≤◌, ◌<◌, Bool, List, [], ◌++◌, length, take, Option, MatchBool}
 use Rattle.std.specs.Io.KnownBytes.{Consumes, IsAtEnd}
 use Rattle.mm_work.specs.declared.script.input.Input.{Input}
-use Rattle.mm_work.specs.declared.script.input.TheConstants.{INPUT_LEN, MOST_HELD}
+use Rattle.mm_work.specs.declared.script.input.TheConstants.{MOST_HELD}
 use Rattle.mm_work.specs.Script.{input_limit}
 
 -- the bytes that are held
 abbrev pub held : Input → List ℕ
-held input = take input.len input.bytes
+held input = input.bytes.items
 
 -- those of them that are not past the limit
 abbrev pub within_limit : Input → List ℕ
@@ -15,7 +15,7 @@ within_limit input = take (length (held input) - (input.taken - input_limit)) (h
 
 -- there is room for a byte, and one more may be read
 pub record IsReady (input : Input) : Type 0 where
-  pub room : input.len ≤ MOST_HELD
+  pub room : length (held input) ≤ MOST_HELD
   pub within_limit : input.taken ≤ input_limit
 
 -- a read gave a piece, or was at the end
@@ -25,5 +25,4 @@ pub record Reads (before after : Option (List ℕ)) (old new : Input) (some : Bo
   pub held : held new ≡ held old ++ piece
   pub taken : new.taken ≡ old.taken + length piece
   pub one_past : new.taken ≤ input_limit + 1
-  pub fits : new.len ≤ INPUT_LEN
   pub end : MatchBool some (0 < length piece) ((piece ≡ []) × IsAtEnd after)

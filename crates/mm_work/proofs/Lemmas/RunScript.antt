@@ -8,14 +8,14 @@ use Rattle.mm_work.specs.declared.script.ScriptFault.{ScriptFault}
 use Rattle.mm_work.specs.declared.script.ScriptFault.TheVariants.{Read, Write, TooLong}
 use Rattle.mm_work.specs.declared.script.engine.Session.{Session}
 use Rattle.mm_work.specs.declared.script.input.Input.{Input}
-use Rattle.mm_work.specs.Input.{held, within_limit, IsReady, Reads}
+use Rattle.mm_work.specs.private.Input.{held, within_limit, IsReady, Reads}
 use Rattle.mm_work.specs.Lines.{lines_of, whole_lines, whole_parts}
 use Rattle.mm_work.specs.Script.{Ends, input_limit}
-use Rattle.mm_work.specs.Session.{AnswersLines, IsLawful, IsOpen, Leads, Writes, cut}
+use Rattle.mm_work.specs.private.Session.{AnswersLines, IsLawful, IsOpen, Leads, Writes, cut}
 use Rattle.mm_work.specs.Text.{Text}
-use Rattle.mm_work.proofs.LeadsLemmas.{leads_none, leads_then, leads_more, leads_short}
-use Rattle.mm_work.proofs.LinesLemmas.{parts-open, open_part}
-use Rattle.mm_work.proofs.TextLemmas.{text_total}
+use Rattle.mm_work.proofs.Lemmas.Leads.{leads_none, leads_then, leads_more, leads_short}
+use Rattle.mm_work.proofs.Lemmas.Lines.{parts-open, open_part}
+use Rattle.mm_work.proofs.Lemmas.Text.{text_total}
 
 -- these bytes were read, and some past them; the lines at their front are answered and the rest is left; replies are written but for those that are lost
 pub record Reached (reader_before reader_after writer_before writer_after : Option (List ℕ)) (count : ℕ) (session : Session) (allowed past rest lost : List ℕ) : Type 0 where
@@ -195,8 +195,8 @@ none_of (x ∷ l) h = absurd (omega arith)
 
 -- a line that is too long is cut short
 pub progress_next : (rb ra wb wa : Option (List ℕ)) (read input : Input) (session : Session) (rest : List ℕ) → PieceAnswered rb ra wb wa read session rest [] → IsOpen rest → session.replies.items ≡ []
-    → read.taken ≤ input_limit → held input ≡ take 129 rest → input.taken ≡ read.taken → input.len ≤ 129 → Progress rb ra wb wa input session
-progress_next rb ra wb wa read input session rest answered open_rest none h short taken len =
+    → read.taken ≤ input_limit → held input ≡ take 129 rest → input.taken ≡ read.taken → Progress rb ra wb wa input session
+progress_next rb ra wb wa read input session rest answered open_rest none h short taken =
     let reached = answered.reached in
     let no_past : answered.past ≡ [] = none_of answered.past (omega (arith, answered.past_limit)) in
     record {
@@ -213,7 +213,7 @@ progress_next rb ra wb wa read input session rest answered open_rest none h shor
         lawful = reached.lawful;
       };
       none_kept = none;
-      ready = record { room = len; within_limit = omega arith };
+      ready = record { room = omega (arith, ap length short, length-take 129 rest); within_limit = omega arith };
       open_line = subst IsOpen (sym short) (open_part (take 129 rest) (drop 129 rest) (subst IsOpen (sym (take-append-drop 129 rest)) open_rest));
     }
 

@@ -22,7 +22,7 @@ use Rattle.mm_work.specs.declared.script.reply.Reply.TheVariants as replies_are
 use Rattle.mm_work.specs.Reply.{reply_line}
 use Rattle.mm_work.specs.Line.{line_of}
 use Rattle.mm_work.specs.Text.{Answers, Makes, Replies, RepliesWithNone, RepliesWithTable, Text, reply_to}
-use Rattle.mm_work.specs.Session.{IsLawful}
+use Rattle.mm_work.specs.private.Session.{IsLawful}
 
 both : {A B : Type 0} → A ⊎ (¬ A) → B ⊎ (¬ B) → (A × B) ⊎ (¬ (A × B))
 both (inl a) (inl b) = inl (a, b)

@@ -1,0 +1,2 @@
+-- what clap's rules give for the words that a contract names
+pub mod CommandLine

@@ -1,0 +1,4 @@
+pub mod Input
+pub mod Prints
+pub mod Session
+pub mod WordsLeft
