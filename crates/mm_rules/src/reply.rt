@@ -1,7 +1,7 @@
 use crate::Key;
 use mm_label::Label;
 
-/// What `acquire` answers.
+/// What `acquire` returns.
 #[derive(Clone, Copy, Debug, PartialEq, Eq)]
 pub enum Acquired {
     /// The resource was free, and the transaction owns it now.
@@ -10,7 +10,7 @@ pub enum Acquired {
     Waits { holder: Key, label: Label },
 }
 
-/// What `release` answers.
+/// What `release` returns.
 #[derive(Clone, Copy, Debug, PartialEq, Eq)]
 pub enum Released {
     /// Nobody waited, and the resource is free.
@@ -19,7 +19,7 @@ pub enum Released {
     To(Key),
 }
 
-/// What `transmit` answers.
+/// What `transmit` returns.
 #[derive(Clone, Copy, Debug, PartialEq, Eq)]
 pub enum Transmitted {
     /// The transaction took over its holder's greater public label.
@@ -28,7 +28,7 @@ pub enum Transmitted {
     Still,
 }
 
-/// What `detect` answers.
+/// What `detect` returns.
 #[derive(Clone, Copy, Debug, PartialEq, Eq)]
 pub enum Detected {
     /// The transaction has a verdict from now on. The label is its own, which came round to its holder.
@@ -39,7 +39,7 @@ pub enum Detected {
     Clear,
 }
 
-/// What `settle` answers.
+/// What `settle` returns.
 #[derive(Clone, Copy, Debug, PartialEq, Eq)]
 pub struct Settled {
     /// How many labels were transmitted.
@@ -57,7 +57,7 @@ pub enum Mode {
     Convicted(u32),
 }
 
-/// What `state` answers of a transaction.
+/// What `state` returns of a transaction.
 #[derive(Clone, Copy, Debug, PartialEq, Eq)]
 pub struct State {
     pub mode: Mode,

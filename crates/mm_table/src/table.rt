@@ -11,8 +11,8 @@ use std::marker::Model;
 
 /// A table of exclusive locks for transactions.
 ///
-/// A contract sees it as a `TableState` (`specs/TableState.antt`). Each call is one event, or a read, by the definitions of
-/// `specs/Event.antt`: these say the answer, the refusal and the new state. A refused call changes nothing, and the refusals
+/// A contract sees it as a `TableState` (`specs/TableState.antt` of mm_rules). Each call is one event, or a read, by the definitions of
+/// `specs/Event.antt` of mm_rules: these give the reply, the refusal and the new state. A refused call changes nothing, and the refusals
 /// that a call can give stand in the order in which they are tested. No call but `open` takes memory.
 #[derive(Drop)]
 pub struct Table {
@@ -23,13 +23,13 @@ pub struct Table {
 
 impl Model for Table {
     ghost use Rattle.mm_rules.specs.TableState.{TableState};
-    ghost use Rattle.mm_table.specs.private.Table.{KeepsLaws};
+    ghost use Rattle.mm_table.specs.private.Table.{IsLawfulTable};
 
     ghost Value = { TableState };
 
     ghost view = { λ t. t.records };
 
-    ghost invariant = { KeepsLaws };
+    ghost invariant = { IsLawfulTable };
 }
 
 impl Table {
@@ -48,7 +48,7 @@ impl Table {
         Ok(Table { records, waiters })
     }
 
-    /// Starts a transaction in the first free process, and answers its key. The labels of the process stay as they are.
+    /// Starts a transaction in the first free process, and returns its key. The labels of the process stay as they are.
     ///
     /// Refused as `CountsExhausted` or `Full`. Constant time.
     pub fn begin(&mut self) -> Result<Key, Refusal>
@@ -70,7 +70,7 @@ impl Table {
     /// Hands the resource over: the longest waiter owns it from now on, and each other waiter keeps its place and gets a fresh
     /// label against the new owner; with no waiter it is free.
     ///
-    /// Refused as `CountsExhausted`, `Stale`, `NoResource`, `Waiting`, `NotOwner` or `LabelsExhausted`. Time by how many transactions wait in the table.
+    /// Refused as `CountsExhausted`, `Stale`, `NoResource`, `Waiting`, `NotOwner` or `LabelsExhausted`. `O(waiting transactions)`: the one list of waits is searched.
     /// The rule is this project's.
     pub fn release(&mut self, key: Key, resource: u32) -> Result<Released, Refusal>
         ensures { Step (Release key resource) self.old result self.new }
@@ -82,7 +82,7 @@ impl Table {
     /// to be given again, under the next generation; at the last generation it is retired, and never given again.
     ///
     /// Refused as `CountsExhausted`, `Stale`, `Waiting` or `LabelsExhausted`; the last is tested for all of its resources before
-    /// anything changes. For each resource that it owns, time by how many transactions wait in the table. The rule is this project's.
+    /// anything changes. `O(waiting transactions)` for each resource that it owns. The rule is this project's.
     pub fn finish(&mut self, key: Key) -> Result<(), Refusal>
         ensures { Step (Finish key) self.old result self.new }
     {
@@ -111,7 +111,7 @@ impl Table {
     /// Ends a transaction with a verdict: takes back its wait, and then hands over all that it owns and frees its slot as `finish` does.
     ///
     /// Refused as `CountsExhausted`, `Stale`, `NoVerdict` or `LabelsExhausted`; a refused call keeps the wait and the verdict.
-    /// For each resource that it owns, time by how many transactions wait in the table.
+    /// `O(waiting transactions)` for each resource that it owns.
     /// That a convicted transaction gives way is Mitchell and Merritt's rule; how it hands over is this project's.
     pub fn abort(&mut self, key: Key) -> Result<(), Refusal>
         ensures { Step (Abort key) self.old result self.new }
@@ -120,7 +120,7 @@ impl Table {
     }
 
     /// Each waiting transaction in turn, by rising process number, transmits where it can; this is done again until a whole sweep
-    /// raises nothing. Then each of them detects where it can. One accepted event; the answer counts the raises and the verdicts.
+    /// raises nothing. Then each of them detects where it can. One accepted event; the reply counts the raises and the verdicts.
     /// The table is then at rest: one verdict stands on each cycle of waits, and nothing is left to transmit or to detect.
     ///
     /// Refused as `CountsExhausted`. Time by one pass over the processes, and one over those that wait for each sweep and for the
@@ -167,7 +167,7 @@ impl Table {
         self.records.totals()
     }
 
-    /// Does nothing. Its contract is what holds of every table that is lent, whatever was called: no owner or wait names a freed
+    /// Does nothing. Its contract is what holds of any table that a caller can hold, whatever was called: no owner or wait names a freed
     /// key, private labels are distinct, and each standing verdict names a transaction on a cycle of waits whose private label is
     /// that cycle's greatest, and no cycle has two.
     pub fn verdicts_are_sound(&self)
@@ -176,7 +176,7 @@ impl Table {
         let _ = &self.records;
     }
 
-    /// Does nothing. Its contract is that all laws hold of every table that is lent, whatever was called; so each fact of `laws`
+    /// Does nothing. Its contract is that all laws hold of any table that a caller can hold, whatever was called; so each fact of `laws`
     /// about lawful tables is one about it.
     pub fn keeps_laws(&self)
         ensures { Laws self.now }

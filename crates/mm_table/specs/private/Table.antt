@@ -4,6 +4,6 @@ use Rattle.mm_table.specs.declared.table.Table.TheInside.{Inside}
 use Rattle.mm_rules.specs.Laws.{Laws}
 
 -- all laws, and room for each process that may wait
-pub record KeepsLaws (t : Inside) : Type 0 where
+pub record IsLawfulTable (t : Inside) : Type 0 where
   pub laws : Laws t.records
   pub room : t.records.config.processes ≤ vec_capacity t.waiters

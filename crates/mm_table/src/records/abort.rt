@@ -17,7 +17,7 @@ fn place_of(waits: &[WaitRecord], process: u32) -> Option<usize>
 
 impl Records {
     /// Takes back the wait of a transaction with a verdict, hands over all that it owns, and frees its slot.
-    /// Time by how many resources it owns, and by how many transactions wait in the table, for each of them.
+    /// `O(waiting transactions)` for each resource that it owns.
     pub fn abort(&mut self, key: Key) -> Result<(), Refusal>
         requires { Laws self.old }
         ensures { Gives (aborted self.old key) result self.new }
@@ -46,7 +46,7 @@ impl Records {
         Ok(())
     }
 
-    /// Takes back the wait and the verdict of a transaction that waits, and counts an abort. Time by how many transactions wait.
+    /// Takes back the wait and the verdict of a transaction that waits, and counts an abort. `O(waiting transactions)`.
     fn withdraw(&mut self, key: Key)
         requires live { IsTrue (is_live self.old key) }
         requires waiting { IsTrue (is_waiting self.old key.process) }

@@ -10,7 +10,7 @@ use crate::{Key, Refusal};
 
 impl Records {
     /// Hands over all that the transaction owns, and frees its slot.
-    /// Time by how many resources it owns, and by how many transactions wait in the table, for each of them.
+    /// `O(waiting transactions)` for each resource that it owns.
     pub fn finish(&mut self, key: Key) -> Result<(), Refusal>
         requires { Laws self.old }
         ensures { Gives (finished self.old key) result self.new }

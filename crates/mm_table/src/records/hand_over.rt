@@ -17,7 +17,7 @@ fn first_place(waits: &[WaitRecord], resource: u32) -> Option<usize>
 }
 
 impl Records {
-    /// Hands a resource over, and answers what becomes of it.
+    /// Hands a resource over, and returns what becomes of it.
     pub(super) fn hand_over(&mut self, resource: u32) -> Released
         requires resource { resource < self.old.config.resources }
         requires fits { IsTrue (hand_over_fits self.old resource) }
@@ -89,7 +89,7 @@ impl Records {
         }
     }
 
-    /// Takes away the wait at this place among the waits. Answers who waited.
+    /// Takes away the wait at this place among the waits. Returns who waited.
     pub(super) fn end_wait(&mut self, place: usize) -> Key
         requires { place < length self.old.waits }
         ensures key { option_map (λ w. w.key) (slice_get self.old.waits place) ≡ Some result }

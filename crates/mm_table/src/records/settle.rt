@@ -46,7 +46,7 @@ impl Records {
         }
     }
 
-    /// The process takes over its holder's public label where that is greater. Answers whether it did.
+    /// The process takes over its holder's public label where that is greater. Returns whether it did.
     fn transmit_by(&mut self, waiter: Waiter) -> bool
         requires { IsWaiter self.old waiter }
         ensures raised { result ≡ can_transmit self.old waiter.process }
@@ -60,7 +60,7 @@ impl Records {
         raised
     }
 
-    /// Each of these in turn transmits where it can. Answers how many did.
+    /// Each of these in turn transmits where it can. Returns how many did.
     fn sweep(&mut self, waiters: &[Waiter]) -> u64
         requires { AllByRecursion (IsWaiter self.old) waiters.now }
         ensures raises { result ≡ raises_along self.old (processes_of waiters.now) }
@@ -76,7 +76,7 @@ impl Records {
         raises
     }
 
-    /// Sweeps until one raises nothing. Answers how many labels were raised.
+    /// Sweeps until one raises nothing. Returns how many labels were raised.
     fn sweep_all(&mut self, waiters: &[Waiter]) -> u64
         requires laws { Laws self.old }
         requires processes { processes_of waiters.now ≡ waiting_processes self.old }
@@ -93,7 +93,7 @@ impl Records {
         }
     }
 
-    /// `process` gets a verdict where its label came round to its holder. Answers whether it did.
+    /// `process` gets a verdict where its label came round to its holder. Returns whether it did.
     fn detect_at(&mut self, process: u32) -> bool
         requires { self.old.totals.verdicts < u64.MAX }
         ensures convicted { result ≡ can_detect self.old process }
@@ -109,7 +109,7 @@ impl Records {
         can
     }
 
-    /// Each of these in turn detects where it can. Answers how many verdicts are new.
+    /// Each of these in turn detects where it can. Returns how many verdicts are new.
     fn detect_all(&mut self, waiters: &[Waiter]) -> u64
         requires once { NoRepeat (processes_of waiters.now) }
         requires count { self.old.totals.verdicts + length waiters.now < u64.MAX }

@@ -9,7 +9,7 @@ use Rattle.mm_table.specs.TableState.{TableState, IsInRange, opening}
 use Rattle.mm_table.specs.Laws.{Laws}
 use Rattle.mm_table.proofs.States.Opening.{opening_lawful}
 use Rattle.mm_table.proofs.States.Events.{event_keeps}
-use Rattle.mm_table.proofs.States.Sweeps.{settles_after}
+use Rattle.mm_table.proofs.States.Sweep.{settles_after}
 use Rattle.mm_table.specs.reply.Settled.{Settled}
 use Rattle.mm_table.specs.Event as events
 use Rattle.mm_table.specs.Event.{Event, Answer, Opens, Gives, Step, Settles, counts_exhausted, begun, acquired, released, finished, transmitted, detected, aborted, settled, state_of, owner_told}
