@@ -1,5 +1,4 @@
 pub mod Owned
-pub mod Owner
-pub mod Link
-pub mod Linked
 pub use Rattle.mm_lists.specs.Members
+-- private: how the fields keep what is seen; no public clause cites these
+pub mod private

@@ -1,10 +1,9 @@
 //! Who owns each resource, and the resources of each process.
 //!
-//! - `link`, `owner`: a resource or none, and a key or none, in few bytes.
+//! - `owner`: a key or none, in eight bytes.
 //! - `owned`: `Owned`.
 #![tactic(auto)]
 
-mod link;
 mod owned;
 mod owner;
 

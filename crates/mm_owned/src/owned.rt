@@ -1,32 +1,21 @@
-//! The owner of each resource, and lists of resources by process, each resource in at most one list, linked in both directions.
-ghost use Rattle.std.specs.Prelude.{◌≡◌, ◌<◌, length, IfOk, IsNone, None, slice_index_or};
+//! The owner of each resource, and the resources of each process: a list in which each resource is linked to the one before it and to
+//! the next.
+ghost use Rattle.std.specs.Prelude.{◌≡◌, ◌<◌, length, IfOk, IsNone, None};
 ghost use Rattle.std.specs.Option.{ForSome};
-ghost use Rattle.mm_lists.specs.Members.{Among};
-ghost use Rattle.mm_owned.specs.Owned.{unowned, list_at, head, given, taken, IsExclusive, IsLoose, IsNext};
-ghost use Rattle.mm_owned.specs.Linked.{first_with_next, with_before, with_next, links_of, owners_of};
+ghost use Rattle.mm_links.specs.Links.{with_before, with_next};
+ghost use Rattle.mm_links.specs.Chain.{first_with_next};
+ghost use Rattle.mm_owned.specs.Owned.{unowned, owner_at, list_at, head, given, freed, IsNext, ListsMatchOwners};
+ghost use Rattle.mm_owned.specs.private.Linked.{links_of, owners_of};
 
-use crate::link::Link;
 use crate::owner::Owner;
 use mm_arena::Key;
+use mm_links::{Link, Links};
 use std::alloc::{AllocError, Global};
 use std::marker::Model;
 use std::mem;
 
-/// The neighbours of a resource in its list.
-#[derive(Clone, Copy, Debug)]
-struct Links {
-    before: Link,
-    next: Link,
-}
-
-/// The links of a resource that is in no list.
-const UNLINKED: Links = Links {
-    before: Link::NONE,
-    next: Link::NONE,
-};
-
 /// What is kept of a resource, in sixteen bytes that stand together, so that a call reads and writes one place of the memory.
-#[derive(Drop)]
+#[derive(Debug, Drop)]
 struct Resource {
     owner: Owner,
     links: Links,
@@ -35,12 +24,12 @@ struct Resource {
 /// What is kept of a resource that nobody owns and that is in no list.
 const FREE: Resource = Resource {
     owner: Owner::NONE,
-    links: UNLINKED,
+    links: Links::NONE,
 };
 
 /// The owner of each resource, and the resources of each process, those that came last first. All of the memory is taken when it is
 /// made.
-#[derive(Drop)]
+#[derive(Debug, Drop)]
 pub struct Owned {
     // By process: the first resource of its list.
     firsts: Vec<Link>,
@@ -49,24 +38,25 @@ pub struct Owned {
 
 impl Model for Owned {
     ghost use Rattle.mm_owned.specs.Owned.{Ownership};
-    ghost use Rattle.mm_owned.specs.Linked.{seen, links_of, owners_of, IsOwned};
+    ghost use Rattle.mm_owned.specs.private.Linked.{seen, AreKept};
 
     ghost Value = { Ownership };
 
-    ghost view = { λ o. record { owners = owners_of o.resources.items; listed = seen o.firsts.items (links_of o.resources.items) } };
+    ghost view = { λ o. seen o.firsts.items o.resources.items };
 
-    ghost invariant = { λ o. IsOwned o.firsts.items o.resources.items };
+    ghost invariant = { λ o. AreKept o.firsts.items o.resources.items };
 }
 
 impl Owned {
-    /// This many empty lists, for this many resources without an owner, in time proportional to both. It takes memory twice, and no later call takes any.
+    /// This many processes, and this many resources without an owner, in `O(processes + resources)`. It takes memory twice, and no
+    /// later call takes any.
     ///
     /// `Err` only where that memory is refused.
-    pub fn new(alloc: Global, lists: u32, resources: u32) -> Result<Owned, AllocError>
-        ensures { IfOk result (λ owned. owned ≡ unowned lists resources) }
+    pub fn new(alloc: Global, processes: u32, resources: u32) -> Result<Owned, AllocError>
+        ensures { IfOk result (λ owned. owned ≡ unowned processes resources) }
     {
-        let mut firsts = Vec::with_capacity(alloc, lists as usize)?;
-        'firsts: for _ in 0..lists {
+        let mut firsts = Vec::with_capacity(alloc, processes as usize)?;
+        'firsts: for _ in 0..processes {
             firsts.push_reserved(Link::NONE);
         }
         let mut kept = Vec::with_capacity(alloc, resources as usize)?;
@@ -83,37 +73,39 @@ impl Owned {
     #[inline]
     pub fn owner(&self, resource: u32) -> Option<Key>
         requires { resource < length self.now.owners }
-        ensures { result ≡ slice_index_or self.now.owners resource None }
+        ensures { result ≡ owner_at self.now resource }
     {
         self.resources[resource as usize].owner.get()
     }
 
-    /// The first resource of a list, in constant time.
+    /// The first resource in the list of a process, in constant time. `None` where the process owns nothing.
     #[inline]
-    pub fn first(&self, list: u32) -> Option<u32>
-        requires { list < length self.now.listed.lists }
-        ensures first { result ≡ head (list_at self.now.listed list) }
-        ensures exclusive { IsExclusive self.now.listed }
+    pub fn first(&self, process: u32) -> Option<u32>
+        requires { process < length self.now.lists }
+        ensures first { result ≡ head (list_at self.now process) }
+        ensures matched { ListsMatchOwners self.now }
     {
-        self.firsts[list as usize].get()
+        self.firsts[process as usize].get()
     }
 
-    /// The resource that follows in the list of this one, in constant time. `None` for the last of a list, and for a resource in no list.
+    /// The resource that follows this one in the list of its owner's process, in constant time. `None` for the last of a list, and for
+    /// a resource without an owner.
     #[inline]
     pub fn next(&self, resource: u32) -> Option<u32>
-        requires { resource < self.now.listed.resources }
-        ensures listed { IsNext self.now.listed resource result }
-        ensures loose { IsLoose self.now.listed resource → IsNone result }
+        requires { resource < length self.now.owners }
+        ensures listed { IsNext self.now resource result }
+        ensures unowned { owner_at self.now resource ≡ None → IsNone result }
     {
         self.resources[resource as usize].links.next.get()
     }
 
-    /// Makes the key the owner of a resource that is in no list, and puts it first in the list of the key's process, in constant time.
+    /// Makes the key the owner of a resource that has none, and puts the resource first in the list of the key's process, in constant
+    /// time.
     #[inline]
     pub fn push(&mut self, key: Key, resource: u32)
-        requires list_in_range { key.process < length self.old.listed.lists }
-        requires resource_in_range { resource < self.old.listed.resources }
-        requires loose { IsLoose self.old.listed resource }
+        requires process_in_range { key.process < length self.old.lists }
+        requires resource_in_range { resource < length self.old.owners }
+        requires unowned { owner_at self.old resource ≡ None }
         ensures { self.new ≡ given self.old key resource }
     {
         let first = &mut self.firsts[key.process as usize];
@@ -121,22 +113,28 @@ impl Owned {
         let next = mem::replace(first, link);
         self.resources[resource as usize] = Resource {
             owner: Owner::of(key),
-            links: Links { next, ..UNLINKED },
+            links: Links {
+                next,
+                ..Links::NONE
+            },
         };
         set_before(&mut self.resources, next, link);
     }
 
-    /// Takes a resource from its list and from its owner, in constant time.
+    /// Takes a resource from its owner and from the list that it is in, where it has an owner, in constant time. The others in the
+    /// list keep their order.
     #[inline]
-    pub fn remove(&mut self, list: u32, resource: u32)
-        requires { Among resource (list_at self.old.listed list) }
-        ensures state { self.new ≡ taken self.old list resource }
-        ensures loose { IsLoose self.new.listed resource }
+    pub fn remove(&mut self, resource: u32)
+        requires { resource < length self.old.owners }
+        ensures { self.new ≡ freed self.old resource }
     {
+        let Some(owner) = self.owner(resource) else {
+            return;
+        };
         let was = mem::replace(&mut self.resources[resource as usize], FREE);
         let Links { before, next } = was.links;
         set_next(
-            &mut self.firsts[list as usize],
+            &mut self.firsts[owner.process as usize],
             &mut self.resources,
             before,
             next,

@@ -1,12 +1,12 @@
 //! The owner of a resource, or none, in eight bytes.
 ghost use Rattle.std.specs.Prelude.{◌≡◌, ◌<◌, None, Some};
-ghost use Rattle.mm_owned.specs.Owner.{no_process};
+ghost use Rattle.mm_owned.specs.private.Owner.{no_process};
 
 use mm_arena::Key;
 use std::marker::Model;
 
 /// A key, or none, in eight bytes. The process `u32::MAX` stands for none.
-#[derive(Drop)]
+#[derive(Debug, Drop)]
 pub struct Owner {
     process: u32,
     generation: u32,
@@ -15,7 +15,7 @@ pub struct Owner {
 impl Model for Owner {
     ghost use Rattle.std.specs.Prelude.{Option};
     ghost use Rattle.mm_arena.specs.declared.key.Key.{Key};
-    ghost use Rattle.mm_owned.specs.Owner.{meant};
+    ghost use Rattle.mm_owned.specs.private.Owner.{meant};
 
     ghost Value = { Option Key };
 

@@ -6,11 +6,11 @@ use super::*;
 use std::test::Fail;
 
 // A walk through a list.
-fn is_in_list(owned: &Owned, list: u32, resource: u32) -> bool
-    requires { list < length owned.now.listed.lists }
-    ensures { IsTrue result ↔ Among resource (list_at owned.now.listed list) }
+fn is_in_list(owned: &Owned, process: u32, resource: u32) -> bool
+    requires { process < length owned.now.lists }
+    ensures { IsTrue result ↔ Among resource (list_at owned.now process) }
 {
-    let mut next = owned.first(list);
+    let mut next = owned.first(process);
     while let Some(other) = next {
         if other == resource {
             return true;
@@ -40,13 +40,13 @@ fn keeps_each_list_in_order(rt: HostRuntime) -> Result<(), Fail> {
     assert_eq!(rt; owned.next(0), None);
     assert!(rt; is_in_list(&owned, 1, 0));
     assert_eq!(rt; owned.owner(2), Some(earlier));
-    owned.remove(1, 2);
+    owned.remove(2);
     assert!(rt; !is_in_list(&owned, 1, 2));
     assert_eq!(rt; owned.owner(2), None);
     assert_eq!(rt; owned.next(1), Some(0));
     assert_eq!(rt; owned.next(2), None);
     owned.push(later, 2);
-    owned.remove(1, 1);
+    owned.remove(1);
     assert_eq!(rt; owned.first(1), Some(0));
     assert_eq!(rt; owned.first(0), Some(2));
     assert_eq!(rt; owned.owner(2), Some(later));

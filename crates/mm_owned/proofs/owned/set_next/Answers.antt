@@ -1,5 +1,5 @@
 use Rattle.std.proofs.Common.{sym, ◌∙◌}
-use Rattle.mm_owned.proofs.OwnedKept.{set_next_links, same_owners}
+use Rattle.mm_owned.proofs.Lemmas.Resources.{set_next_links, same_owners}
 use Rattle.mm_owned.proofs.owned.set_next.Goals as goal
 
 pub returns-in-Some-clause-links : goal.returns-in-Some-clause-links

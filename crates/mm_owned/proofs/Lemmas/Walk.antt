@@ -3,9 +3,11 @@ use Rattle.std.specs.Prelude.{◌==◌, if◌then◌else◌}
 use Rattle.std.proofs.Common.{◌≡◌, ℕ, List, [], ◌∷◌, ◌++◌, Option, Some, None, refl, sym, ap, subst, ◌∙◌, inl, inr}
 use Rattle.std.proofs.lemmas.Bool.{eq-eqb, ne_eqb}
 use Rattle.mm_lists.specs.Members.{Among, NoRepeat}
-use Rattle.mm_owned.specs.Owned.{Lists, list_at, head, IsNext}
-use Rattle.mm_owned.proofs.OwnedLists.{cut_at, AreApart, AreApart-cut, Among-right}
-use Rattle.mm_owned.proofs.OwnedChains.{head_or-None, Among-head_or}
+use Rattle.mm_lists.proofs.Lemmas.Among.{in_right}
+use Rattle.mm_lists.proofs.Lemmas.Cut.{cut_at, AreApart, AreApart-cut}
+use Rattle.mm_links.proofs.Lemmas.Ends.{Among-head_or}
+use Rattle.mm_owned.specs.Owned.{Ownership, list_at, head, IsNext}
+use Rattle.mm_owned.proofs.Lemmas.Linked.{head_or-None}
 
 -- the part of a list from this one on
 abbrev pub rest_from : List ℕ → Option ℕ → List ℕ
@@ -34,13 +36,13 @@ rest_from-after earlier r (q ∷ later) apart =
     rest_from-append earlier (r ∷ q ∷ later) q (λ among. apart.disjoint q among (inl refl))
     ∙ rw (ne_eqb r q (λ same. apart.not_later (inl same))) (rest_from-head (q ∷ later))
 
-module _ (s : Lists) (n r : ℕ) (next : Option ℕ) (among : Among r (list_at s n)) (is_next : IsNext s r next) where
+module _ (s : Ownership) (n r : ℕ) (next : Option ℕ) (among : Among r (list_at s n)) (is_next : IsNext s r next) where
   -- what follows r is in its list
   pub Among-next : (q : ℕ) → next ≡ Some q → Among q (list_at s n)
   Among-next q is =
       let cut = cut_at r (list_at s n) among in
       let first = sym (is_next n cut.earlier cut.later cut.whole) ∙ is in
-      subst (Among q) (sym cut.whole) (Among-right q cut.earlier (r ∷ cut.later) (inr (Among-head cut.later q first)))
+      subst (Among q) (sym cut.whole) (in_right cut.earlier (r ∷ cut.later) q (inr (Among-head cut.later q first)))
 
   -- from r on, the list is r and what is left from the next on
   pub rest_from-next : NoRepeat (list_at s n) → rest_from (list_at s n) (Some r) ≡ r ∷ rest_from (list_at s n) next
