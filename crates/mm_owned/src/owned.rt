@@ -1,6 +1,6 @@
 //! The owner of each resource, and the resources of each process: a list in which each resource is linked to the one before it and to
 //! the next.
-ghost use Rattle.std.specs.Prelude.{◌≡◌, ◌<◌, length, IfOk, IsNone, None};
+ghost use Rattle.std.specs.Prelude.{◌≡◌, ◌<◌, length, IfOk, IfSome, IsNone, None};
 ghost use Rattle.std.specs.Option.{ForSome};
 ghost use Rattle.mm_links.specs.Links.{with_before, with_next};
 ghost use Rattle.mm_links.specs.Chain.{first_with_next};
@@ -69,11 +69,12 @@ impl Owned {
         })
     }
 
-    /// The owner of a resource, in constant time.
+    /// The owner of a resource, whose process is one of those that there are, in constant time.
     #[inline]
     pub fn owner(&self, resource: u32) -> Option<Key>
         requires { resource < length self.now.owners }
-        ensures { result ≡ owner_at self.now resource }
+        ensures owner { result ≡ owner_at self.now resource }
+        ensures in_range { IfSome result (λ owner. owner.process < length self.now.lists) }
     {
         self.resources[resource as usize].owner.get()
     }

@@ -1,5 +1,5 @@
 -- Lists that match the owners: what is in them, and that they match at first, after a resource is given, and after it is freed.
-use Rattle.std.proofs.Common.{◌≡◌, ◌≢◌, ℕ, zero, suc, ◌<◌, replicate, List, [], ◌∷◌, length, Option, Some, None, option_map, map, set, get_or, refl, sym, ap, subst, ◌∙◌, inl, inr, arith}
+use Rattle.std.proofs.Common.{IfSome, ◌≡◌, ◌≢◌, ℕ, zero, suc, ◌<◌, replicate, List, [], ◌∷◌, length, Option, Some, None, option_map, map, set, get_or, refl, sym, ap, subst, ◌∙◌, inl, inr, arith}
 use Rattle.std.proofs.lemmas.Bool.{cases_eq, cases_lt}
 use Rattle.std.proofs.lemmas.List.{get_or-set_same, get_or-set_other, get_or_past, set-get_or}
 use Rattle.std.proofs.lemmas.Option.{same_Some}
@@ -48,6 +48,11 @@ module _ (s : Ownership) (matched : ListsMatchOwners s) where
         | inl below ↦ below
         | inr past ↦ absurd (in_no_list r (get_or_past s.owners r None past) n among)
       ]
+
+  -- and an owner is one of the processes
+  pub owner_in_range : (r : ℕ) (o : Option Key) → o ≡ owner_at s r → IfSome o (λ owner. owner.process < length s.lists)
+  owner_in_range r None is = tt
+  owner_in_range r (Some k) is = list_in_range s k.process r (in_its_list r k (sym is))
 
 -- ---- the owner of one resource is written
 

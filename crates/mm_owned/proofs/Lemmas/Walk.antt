@@ -3,7 +3,7 @@ use Rattle.std.specs.Prelude.{◌==◌, if◌then◌else◌}
 use Rattle.std.proofs.Common.{◌≡◌, ℕ, List, [], ◌∷◌, ◌++◌, Option, Some, None, refl, sym, ap, subst, ◌∙◌, inl, inr}
 use Rattle.std.proofs.lemmas.Bool.{eq-eqb, ne_eqb}
 use Rattle.mm_lists.specs.Members.{Among, NoRepeat}
-use Rattle.mm_lists.proofs.Lemmas.Among.{in_right}
+use Rattle.mm_lists.proofs.Lemmas.Among.{among_right}
 use Rattle.mm_lists.proofs.Lemmas.Cut.{cut_at, AreApart, AreApart-cut}
 use Rattle.mm_links.proofs.Lemmas.Ends.{Among-head_or}
 use Rattle.mm_owned.specs.Owned.{Ownership, list_at, head, IsNext}
@@ -42,7 +42,7 @@ module _ (s : Ownership) (n r : ℕ) (next : Option ℕ) (among : Among r (list_
   Among-next q is =
       let cut = cut_at r (list_at s n) among in
       let first = sym (is_next n cut.earlier cut.later cut.whole) ∙ is in
-      subst (Among q) (sym cut.whole) (in_right cut.earlier (r ∷ cut.later) q (inr (Among-head cut.later q first)))
+      subst (Among q) (sym cut.whole) (among_right cut.earlier (r ∷ cut.later) q (inr (Among-head cut.later q first)))
 
   -- from r on, the list is r and what is left from the next on
   pub rest_from-next : NoRepeat (list_at s n) → rest_from (list_at s n) (Some r) ≡ r ∷ rest_from (list_at s n) next

@@ -1,11 +1,11 @@
 -- All that a process owns is handed over, in whatever order its resources come.
-use Rattle.std.proofs.Common.{◌≡◌, ◌≢◌, ℕ, ◌<◌, ◌≤◌, Bool, true, false, List, [], ◌∷◌, length, filter, fold, slice_index, nat_lt, nat_eq, is_some, IsTrue, IsFalse, Some, None, inl, inr, refl, sym, ap, ◌∙◌, arith, subst}
+use Rattle.std.proofs.Common.{◌≡◌, ◌≢◌, ℕ, ◌<◌, ◌≤◌, Bool, true, false, List, [], ◌∷◌, length, filter, fold, nat_eq, is_some, IsTrue, IsFalse, Some, None, inl, inr, refl, sym, ap, ◌∙◌, arith, subst}
 use Rattle.std.specs.List.{range_with_len}
 use Rattle.std.proofs.lemmas.Bool.{cases_eq, cases_Bool, eq-eqb}
 use Rattle.mm_arena.specs.declared.key.Key.{Key}
 use Rattle.mm_lists.specs.Members.{NoRepeat, Among}
 use Rattle.mm_rules.specs.TableState.{TableState, is_live, has_verdict, owner_of, owns, wait_of, resources_of}
-use Rattle.mm_rules.specs.Change.{hand_over, hand_over_fits, give_to_fits, free_slot, vacate, vacate_fits}
+use Rattle.mm_rules.specs.Change.{hand_over, hand_over_fits, give_to_fits, vacate_fits}
 use Rattle.mm_rules.specs.Laws.{Laws}
 use Rattle.mm_lists.proofs.Lemmas.Filter.{filter_gives, filter_keeps}
 use Rattle.mm_lists.proofs.Lemmas.Among.{list_all_from}

@@ -1,19 +1,15 @@
 -- A settle is its sweeps, its detects and a count.
-use Rattle.std.proofs.Common.{◌≡◌, nat_le, ◌+◌, ◌<◌, ◌^◌, ℕ, zero, suc, Bool, true, false, List, [], ◌∷◌, fold, count_by, Option, Some, None, Ok, MatchBool, refl, sym, ap, ◌∙◌, inl, inr}
-use Rattle.std.specs.Option.{option_map_or}
-use Rattle.std.proofs.lemmas.Bool.{cases_Bool, or_parts, leb-false}
-use Rattle.mm_label.specs.Label.{Label}
+use Rattle.std.proofs.Common.{◌≡◌, nat_le, ◌+◌, ◌<◌, ◌^◌, ℕ, Bool, true, false, List, [], ◌∷◌, fold, count_by, Ok, MatchBool, refl, sym, ap, ◌∙◌}
+use Rattle.std.proofs.lemmas.Bool.{or_parts, leb-false}
 use Rattle.mm_rules.specs.declared.reply.Settled.{Settled}
 use Rattle.mm_lists.specs.Members.{NoRepeat}
 use Rattle.mm_rules.specs.TableState.{TableState, is_waiting, waiting_processes}
-use Rattle.mm_rules.specs.Change.{greater_label, transmit, can_detect, detect, swept}
+use Rattle.mm_rules.specs.Change.{can_detect, detect, swept}
 use Rattle.mm_rules.specs.Event.{counts_exhausted, Settle, Step, Gives, outcome}
 use Rattle.mm_rules.specs.declared.refusal.Refusal.TheVariants.{CountsExhausted}
 use Rattle.mm_rules.specs.private.Stages.{IsSwept}
 use Rattle.mm_lists.proofs.Lemmas.Range.{no_repeat_filter_range}
 use Rattle.mm_rules.proofs.States.Outcome.{counting}
-use Rattle.mm_rules.proofs.States.Transmit.{shown}
-use Rattle.mm_rules.proofs.States.Detect.{detect_still, detect_convicts}
 use Rattle.mm_rules.proofs.States.Sweep.{same_waiting, swept_same_waits}
 
 pub waiting_once : (s : TableState) → NoRepeat (waiting_processes s)

@@ -12,6 +12,7 @@ use Rattle.mm_rules.specs.declared.reply.Totals.{Totals}
 use Rattle.mm_table.specs.declared.records.Transaction.{Transaction}
 use Rattle.mm_table.specs.declared.records.Labels.{Labels}
 use Rattle.mm_table.specs.declared.records.WaitRecord.{WaitRecord}
+use Rattle.mm_owned.specs.Owned.{Ownership}
 use Rattle.mm_table.specs.private.Records.{idle, wait_in, verdict_in, state_of_fields, AreSized, WaitsAgree}
 use Rattle.mm_table.proofs.Fields.Slots.{same_slot, sized_slots}
 use Rattle.mm_lists.proofs.Lemmas.Among.{all_map}
@@ -66,7 +67,7 @@ pub begun_places : (s new : Slots Transaction) (key : Key) → new ≡ inserted 
     → new.places ≡ slice_set s.places key.process (record { generation = (place_at s key.process).generation; value = Some new_transaction })
 begun_places s new key is free = ap (λ o. o.places) is ∙ ap (λ l. (filled s new_transaction l).places) free.free
 
-pub begun_sized : {c : Config} {s : Slots Transaction} {ls : List Labels} {os : List (Option Key)} (new : Slots Transaction) (key : Key)
+pub begun_sized : {c : Config} {s : Slots Transaction} {ls : List Labels} {os : Ownership} (new : Slots Transaction) (key : Key)
     → new ≡ inserted s new_transaction → Taken s key → AreSized c s ls os → AreSized c new ls os
 begun_sized {c} {s} new key is free sizes = sized_slots new
     (ap length (begun_places s new key is free) ∙ length-set s.places key.process _)

@@ -1,12 +1,11 @@
 -- The waiters of a resource are blocked place by place: what is left to do leads to the same state.
-use Rattle.std.proofs.Common.{◌≡◌, ◌≢◌, ℕ, zero, suc, ◌+◌, ◌<◌, ◌&&◌, List, [], ◌∷◌, length, map, filter, drop, slice_index_or, nat_eq, IsTrue, refl, ap, sym, ◌∙◌, inl, inr, subst, get_or-set_other}
-use Rattle.std.proofs.lemmas.Bool.{cases_Bool, and_parts}
+use Rattle.std.proofs.Common.{◌≡◌, ◌≢◌, ℕ, ◌+◌, ◌<◌, List, [], ◌∷◌, length, map, filter, drop, slice_index_or, nat_eq, IsTrue, refl, ap, sym, ◌∙◌, subst}
+use Rattle.std.proofs.lemmas.Bool.{and_parts}
 use Rattle.std.specs.List.{list_all}
-use Rattle.mm_label.specs.Label.{opening_label}
 use Rattle.mm_table.specs.declared.records.WaitRecord.{WaitRecord}
-use Rattle.mm_lists.specs.Members.{Among, NoRepeat}
+use Rattle.mm_lists.specs.Members.{NoRepeat}
 use Rattle.mm_rules.specs.TableState.{TableState, Wait}
-use Rattle.mm_rules.specs.Change.{block, block_fits, label_against}
+use Rattle.mm_rules.specs.Change.{block, block_fits}
 use Rattle.mm_table.specs.private.Queues.{queue_from, fits_from}
 use Rattle.mm_rules.specs.private.Stages.{blocked_on, NoneIs}
 use Rattle.mm_table.specs.private.Records.{wait_of_record}

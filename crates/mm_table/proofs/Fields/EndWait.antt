@@ -1,5 +1,5 @@
 -- The wait at a place among the waits goes, and the others keep their order.
-use Rattle.std.proofs.Common.{◌≡◌, ◌≢◌, ℕ, zero, suc, ◌+◌, ◌<◌, true, false, not, List, [], ◌∷◌, ◌++◌, length, map, filter, take, drop, slice_index_or, slice_set, Option, Some, None, is_some, nat_eq, if◌then◌else◌, refl, ap, sym, ◌∙◌, inl, inr, arith, subst, length-set, length-append, get_or-set_same, get_or-set_other}
+use Rattle.std.proofs.Common.{◌≡◌, ◌≢◌, ℕ, zero, suc, ◌+◌, ◌<◌, true, false, not, List, [], ◌∷◌, ◌++◌, length, map, filter, take, drop, slice_index_or, slice_set, Option, Some, None, is_some, nat_eq, if◌then◌else◌, refl, ap, sym, ◌∙◌, inl, inr, arith, subst, length-append, get_or-set_same, get_or-set_other}
 use Rattle.std.proofs.lemmas.List.{map-set, length-map, get_or-map}
 use Rattle.std.proofs.lemmas.List.Sums.{sum_by-set}
 use Rattle.std.proofs.lemmas.Bool.{cases_eq, eq-eqb, ne_eqb}

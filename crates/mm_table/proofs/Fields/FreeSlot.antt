@@ -1,25 +1,26 @@
 -- The slot of a transaction that neither waits nor has a verdict is freed, or retired.
-use Rattle.std.proofs.Common.{◌≡◌, ◌≢◌, ◌+◌, ◌&&◌, zero, suc, nat_eq, ℕ, ◌<◌, true, false, List, [], ◌∷◌, length, map, slice_index, slice_index_or, slice_set, Option, Some, None, is_some, nat_lt, if◌then◌else◌, refl, ap, sym, ◌∙◌, inl, inr, arith, subst, length-set}
+use Rattle.std.proofs.Common.{◌≡◌, ◌≢◌, ◌+◌, ℕ, ◌<◌, true, false, List, [], ◌∷◌, length, map, slice_index, slice_index_or, slice_set, Some, None, is_some, nat_lt, if◌then◌else◌, refl, ap, sym, ◌∙◌, inl, inr, arith, subst, length-set}
 use Rattle.std.proofs.lemmas.List.{map-set, get_or-map}
 use Rattle.std.proofs.lemmas.List.Sums.{sum_by-set}
-use Rattle.std.proofs.lemmas.Bool.{cases_Bool, and_parts}
+use Rattle.std.proofs.lemmas.Bool.{cases_Bool}
 use Rattle.std.specs.List.{AllByRecursion, sum_by}
 use Rattle.mm_arena.specs.declared.key.Key.{Key}
-use Rattle.mm_arena.specs.Slots.{Slots, Place, never_used, place_at, value_under, lookup, IsLive, freed, retired, vacated, removed}
+use Rattle.mm_arena.specs.Slots.{Slots, Place, never_used, place_at, lookup, IsLive, freed, retired, vacated, removed}
 use Rattle.mm_lists.specs.Members.{Among}
 use Rattle.mm_rules.specs.declared.config.Config.{Config}
 use Rattle.mm_rules.specs.declared.reply.Totals.{Totals}
 use Rattle.mm_table.specs.declared.records.Transaction.{Transaction}
 use Rattle.mm_table.specs.declared.records.Labels.{Labels}
 use Rattle.mm_table.specs.declared.records.WaitRecord.{WaitRecord}
-use Rattle.mm_rules.specs.TableState.{is_live, waited_for}
+use Rattle.mm_rules.specs.TableState.{waited_for}
 use Rattle.mm_rules.specs.Change.{free_slot}
+use Rattle.mm_owned.specs.Owned.{Ownership}
 use Rattle.mm_table.specs.private.Records.{idle, wait_in, verdict_in, wait_of_record, state_of_fields, AreSized, WaitsAgree}
 use Rattle.mm_table.proofs.Fields.Slots.{holds, same_slot, sized_slots}
 use Rattle.mm_table.proofs.Fields.Waits.{wait_read, among_waits}
 
-module _ (c : Config) (s : Slots Transaction) (ls : List Labels) (os : List (Option Key)) (ws : List WaitRecord) (k : Key) (o : Transaction)
-    (found : lookup s k ≡ Some o) (sizes : AreSized c s ls os) (agree : WaitsAgree c s ws) where
+module _ (c : Config) (s : Slots Transaction) (ls : List Labels) (owned : Ownership) (ws : List WaitRecord) (k : Key) (o : Transaction)
+    (found : lookup s k ≡ Some o) (sizes : AreSized c s ls owned) (agree : WaitsAgree c s ws) where
   abbrev empty : ℕ → Place Transaction
   empty generation = record { generation = generation; value = None }
 
@@ -41,8 +42,8 @@ module _ (c : Config) (s : Slots Transaction) (ls : List Labels) (os : List (Opt
     same_verdicts : (generation : ℕ) → map verdict_in (slice_set s.places k.process (empty generation)) ≡ map verdict_in s.places
     same_verdicts generation = same_slot verdict_in s k.process (empty generation) (sym no_verdict ∙ ap verdict_in (sym place))
 
-    freed_is : state_of_fields c (freed s k) ls os ws t
-        ≡ record (state_of_fields c s ls os ws t) {
+    freed_is : state_of_fields c (freed s k) ls owned.owners ws t
+        ≡ record (state_of_fields c s ls owned.owners ws t) {
           live = slice_set (map (λ p. is_some p.value) s.places) k.process false;
           generations = slice_set (map (λ p. p.generation) s.places) k.process (k.generation + 1);
           free = k.process ∷ s.free;
@@ -50,14 +51,14 @@ module _ (c : Config) (s : Slots Transaction) (ls : List Labels) (os : List (Opt
     freed_is =
         rw (map-set (λ p. p.generation) s.places k.process (empty (k.generation + 1)), map-set (λ p. is_some p.value) s.places k.process (empty (k.generation + 1)), same_verdicts (k.generation + 1)) refl
 
-    retired_is : state_of_fields c (retired s k) ls os ws t ≡ record (state_of_fields c s ls os ws t) { live = slice_set (map (λ p. is_some p.value) s.places) k.process false }
+    retired_is : state_of_fields c (retired s k) ls owned.owners ws t ≡ record (state_of_fields c s ls owned.owners ws t) { live = slice_set (map (λ p. is_some p.value) s.places) k.process false }
     retired_is =
         rw (same_slot (λ p. p.generation) s k.process (empty k.generation) (ap (λ p. p.generation) (sym place)), map-set (λ p. is_some p.value) s.places k.process (empty k.generation), same_verdicts k.generation) refl
 
-    pub slot_freed : state_of_fields c (removed s k) ls os ws t ≡ free_slot (state_of_fields c s ls os ws t) k.process
+    pub slot_freed : state_of_fields c (removed s k) ls owned.owners ws t ≡ free_slot (state_of_fields c s ls owned.owners ws t) k.process
     slot_freed =
         let last = sizes.last_generation in
-        ap (λ v. state_of_fields c v ls os ws t) is_vacated
+        ap (λ v. state_of_fields c v ls owned.owners ws t) is_vacated
         ∙ elim (cases_Bool (nat_lt k.generation c.generation_limit)) [
           | inl again ↦ rw (generation_is, last, again) freed_is
           | inr spent ↦ rw (generation_is, last, spent) retired_is
@@ -65,7 +66,7 @@ module _ (c : Config) (s : Slots Transaction) (ls : List Labels) (os : List (Opt
 
   -- ---- sizes, and the waits
 
-  pub slot_freed_sized : (new : Slots Transaction) → new ≡ removed s k → AreSized c new ls os
+  pub slot_freed_sized : (new : Slots Transaction) → new ≡ removed s k → AreSized c new ls owned
   slot_freed_sized new is = elim (cases_Bool (nat_lt k.generation s.limit)) [
     | inl again ↦
         let now : new ≡ freed s k = is ∙ is_vacated ∙ rw again refl in

@@ -7,7 +7,7 @@ use Rattle.mm_arena.specs.declared.key.Key.{Key}
 use Rattle.mm_table.specs.declared.records.WaitRecord.{WaitRecord}
 use Rattle.mm_lists.specs.Members.{Among, NoRepeat}
 use Rattle.mm_rules.specs.TableState.{TableState, Wait, is_of, waiters_of}
-use Rattle.mm_rules.specs.Change.{activate, block, block_fits, give_to, give_to_fits, hand_over, hand_over_fits}
+use Rattle.mm_rules.specs.Change.{activate, block_fits, give_to, give_to_fits, hand_over, hand_over_fits}
 use Rattle.mm_rules.specs.Event.{release_answer}
 use Rattle.mm_rules.specs.declared.reply.Released.TheVariants.{To}
 use Rattle.mm_table.specs.private.Queues.{queue_from, fits_from}

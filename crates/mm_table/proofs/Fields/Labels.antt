@@ -1,19 +1,17 @@
 -- The labels of a process: how they are written and read.
-use Rattle.std.proofs.Common.{◌≡◌, ℕ, ◌<◌, Bool, true, false, List, [], ◌∷◌, map, slice_index_or, slice_set, Option, Some, None, is_some, if◌then◌else◌, refl, ap, sym, ◌∙◌, arith}
+use Rattle.std.proofs.Common.{◌≡◌, ℕ, ◌<◌, List, map, slice_index_or, slice_set, Option, refl, ap, sym, ◌∙◌}
 use Rattle.std.proofs.Math.Seq.{map-set_same}
 use Rattle.std.proofs.lemmas.List.{map-set, get_or-map}
-use Rattle.std.proofs.lemmas.List.Sums.{sum_by-set}
 use Rattle.mm_arena.specs.declared.key.Key.{Key}
-use Rattle.mm_arena.specs.Slots.{Slots, Place, never_used, place_at, lookup, with_value}
+use Rattle.mm_arena.specs.Slots.{Slots}
 use Rattle.mm_label.specs.Label.{Label}
 use Rattle.mm_rules.specs.declared.config.Config.{Config}
 use Rattle.mm_rules.specs.declared.reply.Totals.{Totals}
 use Rattle.mm_table.specs.declared.records.Transaction.{Transaction}
 use Rattle.mm_table.specs.declared.records.Labels.{Labels}
 use Rattle.mm_table.specs.declared.records.WaitRecord.{WaitRecord}
-use Rattle.mm_table.specs.private.Records.{idle, wait_in, verdict_in, state_of_fields, AreSized, WaitsAgree}
-use Rattle.mm_table.proofs.Fields.Slots.{holds, same_slot, with_value_live}
-use Rattle.mm_lists.proofs.Lemmas.Among.{all_map}
+use Rattle.mm_owned.specs.Owned.{Ownership}
+use Rattle.mm_table.specs.private.Records.{state_of_fields, AreSized}
 
 -- both labels of process n are new
 pub labels_written : (c : Config) (s : Slots Transaction) (ls : List Labels) (os : List (Option Key)) (ws : List WaitRecord) (t : Totals) (n : ℕ) (l : Labels)
@@ -29,6 +27,6 @@ public_written c s ls os ws t n own l is =
     let new : Labels = record own { public = l } in
     rw (map-set_same (λ q. q.private) ls n new own (ap (λ q. q.private) is), map-set (λ q. q.public) ls n new) refl
 
-pub public_read : {c : Config} {s : Slots Transaction} {ls : List Labels} {os : List (Option Key)} → AreSized c s ls os
+pub public_read : {c : Config} {s : Slots Transaction} {ls : List Labels} {os : Ownership} → AreSized c s ls os
     → (n : ℕ) (l : Labels) (d : Label) → n < c.processes → l ≡ slice_index_or ls n l → slice_index_or (map (λ q. q.public) ls) n d ≡ l.public
 public_read {c} {s} {ls} sizes n l d h is = get_or-map (λ q. q.public) ls n l d (rw sizes.labels h) ∙ ap (λ q. q.public) (sym is)

@@ -1,5 +1,5 @@
 -- Slots of transactions: what a live key tells of its slot, and what a write of one slot changes.
-use Rattle.std.proofs.Common.{◌&&◌, slice_index, length-set, ◌≡◌, ℕ, zero, suc, subst, ◌<◌, true, false, List, [], ◌∷◌, ◌++◌, length, map, slice_index_or, slice_set, Option, Some, None, is_some, nat_eq, refl, ap, sym, ◌∙◌, arith, get_or-set_same, get_or-set_other, inl, inr}
+use Rattle.std.proofs.Common.{◌&&◌, slice_index, length-set, ◌≡◌, ℕ, zero, suc, subst, ◌<◌, true, false, List, [], ◌∷◌, length, map, slice_index_or, slice_set, Option, Some, None, is_some, nat_eq, refl, ap, sym, ◌∙◌, arith, get_or-set_same, get_or-set_other, inl, inr}
 use Rattle.std.proofs.Math.Seq.{map-set_same}
 use Rattle.std.proofs.lemmas.List.{get_or_past}
 use Rattle.std.proofs.lemmas.Bool.{and_parts, cases_eq, cases_lt, cases_Bool, eqb-true}
@@ -12,6 +12,7 @@ use Rattle.mm_table.specs.declared.records.Transaction.{Transaction}
 use Rattle.mm_table.specs.declared.records.Labels.{Labels}
 use Rattle.mm_table.specs.declared.records.WaitRecord.{WaitRecord}
 use Rattle.mm_table.specs.private.Records.{state_of_fields, AreSized}
+use Rattle.mm_owned.specs.Owned.{Ownership}
 use Rattle.mm_arena.specs.Slots.{Slots, Place, never_used, place_at, value_under, lookup, IsLive, with_value}
 
 module _ {T : Type 0} where
@@ -87,21 +88,21 @@ pub live_value : (c : Config) (s : Slots Transaction) (ls : List Labels) (os : L
 live_value c s ls os ws t k live = its_value (lookup s k) (live_found s.places k.process k.generation live)
 
 -- as many slots with the same last generation are sized as before
-pub sized_slots : {c : Config} {s : Slots Transaction} {ls : List Labels} {os : List (Option Key)} (new : Slots Transaction)
+pub sized_slots : {c : Config} {s : Slots Transaction} {ls : List Labels} {os : Ownership} (new : Slots Transaction)
     → length new.places ≡ length s.places → new.limit ≡ s.limit → AreSized c s ls os → AreSized c new ls os
 sized_slots new long limit sizes = record {
   config = sizes.config;
   slots = long ∙ sizes.slots;
   last_generation = limit ∙ sizes.last_generation;
   labels = sizes.labels;
+  lists = sizes.lists;
   owners = sizes.owners;
-  owner_in_range = sizes.owner_in_range;
 }
 
-pub sized_value : {c : Config} {s : Slots Transaction} {ls : List Labels} {os : List (Option Key)} (k : Key) (o : Transaction) → AreSized c s ls os → AreSized c (with_value s k o) ls os
+pub sized_value : {c : Config} {s : Slots Transaction} {ls : List Labels} {os : Ownership} (k : Key) (o : Transaction) → AreSized c s ls os → AreSized c (with_value s k o) ls os
 sized_value {c} {s} k o sizes = sized_slots (with_value s k o) (length-set s.places k.process _) refl sizes
 
 -- the process of a live transaction is one of the table's
-pub key_within : {c : Config} {s : Slots Transaction} {ls : List Labels} {os : List (Option Key)} → AreSized c s ls os
+pub key_within : {c : Config} {s : Slots Transaction} {ls : List Labels} {os : Ownership} → AreSized c s ls os
     → (k : Key) (o : Transaction) → lookup s k ≡ Some o → k.process < c.processes
 key_within {c} {s} sizes k o found = rw (← sizes.slots) (holds s k o found).within

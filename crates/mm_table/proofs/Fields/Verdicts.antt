@@ -1,17 +1,15 @@
 -- Whether a transaction has a verdict: how it is written and read.
-use Rattle.std.proofs.Common.{◌≡◌, ℕ, ◌<◌, Bool, true, false, List, [], ◌∷◌, map, slice_index_or, slice_set, Option, Some, None, is_some, if◌then◌else◌, refl, ap, sym, ◌∙◌, arith}
-use Rattle.std.proofs.Math.Seq.{map-set_same}
+use Rattle.std.proofs.Common.{◌≡◌, Bool, false, List, map, slice_index_or, slice_set, Option, Some, None, is_some, if◌then◌else◌, refl, ap, sym, ◌∙◌, arith}
 use Rattle.std.proofs.lemmas.List.{map-set, get_or-map}
 use Rattle.std.proofs.lemmas.List.Sums.{sum_by-set}
 use Rattle.mm_arena.specs.declared.key.Key.{Key}
 use Rattle.mm_arena.specs.Slots.{Slots, Place, never_used, place_at, lookup, with_value}
-use Rattle.mm_label.specs.Label.{Label}
 use Rattle.mm_rules.specs.declared.config.Config.{Config}
 use Rattle.mm_rules.specs.declared.reply.Totals.{Totals}
 use Rattle.mm_table.specs.declared.records.Transaction.{Transaction}
 use Rattle.mm_table.specs.declared.records.Labels.{Labels}
 use Rattle.mm_table.specs.declared.records.WaitRecord.{WaitRecord}
-use Rattle.mm_table.specs.private.Records.{idle, wait_in, verdict_in, state_of_fields, AreSized, WaitsAgree}
+use Rattle.mm_table.specs.private.Records.{idle, wait_in, verdict_in, state_of_fields, WaitsAgree}
 use Rattle.mm_table.proofs.Fields.Slots.{holds, same_slot, with_value_live}
 use Rattle.mm_lists.proofs.Lemmas.Among.{all_map}
 

@@ -1,16 +1,15 @@
 -- The list of those that wait, with their holders: what it lists, and that transmits leave it true.
-use Rattle.std.proofs.Common.{◌≡◌, ◌+◌, ◌++◌, ◌∷◌, [], ℕ, List, true, false, Option, Some, None, is_some, option_map, option_and_then, filter, subst, refl, sym, ap, ◌∙◌}
+use Rattle.std.proofs.Common.{◌≡◌, ◌+◌, ◌++◌, ◌∷◌, [], ℕ, List, true, Option, Some, None, filter, subst, sym, ap, ◌∙◌}
 use Rattle.std.specs.Option.{option_map_or}
 use Rattle.std.specs.List.{range_with_len, AllByRecursion}
 use Rattle.std.proofs.lemmas.List.{map-append}
-use Rattle.mm_arena.specs.declared.key.Key.{Key}
 use Rattle.mm_label.specs.Label.{Label}
 use Rattle.mm_table.specs.declared.records.settle.Waiter.{Waiter}
-use Rattle.mm_rules.specs.TableState.{TableState, owner_of, wait_of, is_waiting, holder_of}
+use Rattle.mm_rules.specs.TableState.{TableState, is_waiting, holder_of}
 use Rattle.mm_rules.specs.Change.{greater_label, transmit}
 use Rattle.mm_rules.specs.Laws.{WellFormed}
 use Rattle.mm_table.specs.private.Waiters.{IsWaiter, processes_of}
-use Rattle.mm_rules.proofs.States.Lookups.{unheld_idle, WaitsHere, waits_here, held, waiting_is_some}
+use Rattle.mm_rules.proofs.States.Lookups.{unheld_idle, waiting_is_some}
 use Rattle.mm_rules.proofs.States.Transmit.{shown}
 use Rattle.mm_lists.proofs.Lemmas.Among.{all_append, all_map}
 use Rattle.mm_rules.proofs.States.Turns.{passes_next, fails_next}

@@ -1,14 +1,12 @@
 -- What a transaction waits for: how it is written and read, and that a wait that is added agrees with the others.
-use Rattle.std.proofs.Common.{◌≡◌, ℕ, ◌<◌, Bool, true, false, List, [], ◌∷◌, ◌++◌, length, map, find, option_map, slice_index_or, slice_set, Option, Some, None, is_some, nat_eq, if◌then◌else◌, refl, ap, sym, ◌∙◌, inl, inr, ◌⊎◌, arith, length-set, length-append, get_or-set_same, get_or-set_other}
-use Rattle.std.proofs.Math.Seq.{map-set_same}
-use Rattle.std.proofs.lemmas.List.{map-set, map-append, length-map, get_or-map, get_or_default}
+use Rattle.std.proofs.Common.{◌≡◌, ℕ, ◌<◌, true, false, List, [], ◌∷◌, ◌++◌, length, map, find, option_map, slice_index_or, slice_set, Option, Some, None, is_some, nat_eq, if◌then◌else◌, refl, ap, sym, ◌∙◌, inl, inr, ◌⊎◌, arith, length-append, get_or-set_same, get_or-set_other}
+use Rattle.std.proofs.lemmas.List.{map-set, map-append, length-map, get_or-map}
 use Rattle.std.proofs.lemmas.List.Folds.{find-append}
 use Rattle.std.proofs.lemmas.List.Sums.{sum_by-set}
 use Rattle.std.proofs.lemmas.Bool.{cases_eq, eq-eqb, ne_eqb}
 use Rattle.std.specs.Option.{option_or}
 use Rattle.mm_arena.specs.declared.key.Key.{Key}
 use Rattle.mm_arena.specs.Slots.{Slots, Place, never_used, place_at, lookup, with_value}
-use Rattle.mm_label.specs.Label.{Label}
 use Rattle.mm_rules.specs.declared.config.Config.{Config}
 use Rattle.mm_rules.specs.declared.reply.Totals.{Totals}
 use Rattle.mm_table.specs.declared.records.Transaction.{Transaction}

@@ -1,5 +1,5 @@
 -- What the fields of `Records` stand for, and what holds of them.
-use Rattle.std.specs.Prelude.{◌≡◌, ℕ, ◌+◌, ◌<◌, ◌≤◌, List, length, Bool, false, Option, None, Some, if◌then◌else◌, is_some, option_and_then, option_map, map, sum_by, slice_index_or, vec_capacity}
+use Rattle.std.specs.Prelude.{◌≡◌, ℕ, ◌+◌, ◌<◌, ◌≤◌, List, length, Bool, false, Option, None, Some, if◌then◌else◌, is_some, option_and_then, map, sum_by, slice_index_or, vec_capacity}
 use Rattle.std.specs.List.{AllByRecursion}
 use Rattle.std.specs.Option.{option_map_or}
 use Rattle.mm_arena.specs.declared.key.Key.{Key}
@@ -11,8 +11,8 @@ use Rattle.mm_table.specs.declared.records.Records.TheInside.{Inside}
 use Rattle.mm_table.specs.declared.records.Transaction.{Transaction}
 use Rattle.mm_table.specs.declared.records.Labels.{Labels}
 use Rattle.mm_table.specs.declared.records.WaitRecord.{WaitRecord}
-use Rattle.mm_lists.specs.Members.{Among, NoRepeat}
-use Rattle.mm_owned.specs.Owned.{Lists, IsExclusive, list_at}
+use Rattle.mm_lists.specs.Members.{NoRepeat}
+use Rattle.mm_owned.specs.Owned.{Ownership}
 use Rattle.mm_rules.specs.TableState.{TableState, Wait, IsInRange, waited_for}
 
 -- what a record of a wait stands for
@@ -54,14 +54,14 @@ state_of_fields config slots labels owners waits totals = record {
 abbrev pub state_of_records : Inside → TableState
 state_of_records t = state_of_fields t.config t.transactions t.labels.items t.owned.owners t.waits.items t.totals
 
--- There is one slot and one pair of labels for each process, and one owner for each resource, who is one of the processes.
-pub record AreSized (c : Config) (s : Slots Transaction) (ls : List Labels) (os : List (Option Key)) : Type 0 where
+-- There is one slot, one pair of labels and one list of owned resources for each process, and one owner for each resource.
+pub record AreSized (c : Config) (s : Slots Transaction) (ls : List Labels) (o : Ownership) : Type 0 where
   pub config : IsInRange c
   pub slots : length s.places ≡ c.processes
   pub last_generation : s.limit ≡ c.generation_limit
   pub labels : length ls ≡ c.processes
-  pub owners : length os ≡ c.resources
-  pub owner_in_range : (r : ℕ) (k : Key) → slice_index_or os r None ≡ Some k → k.process < c.processes
+  pub lists : length o.lists ≡ c.processes
+  pub owners : length o.owners ≡ c.resources
 
 -- Each transaction knows what it waits for, as the waits say. The waits and the slots without a waiting transaction are as many as the processes.
 pub record WaitsAgree (c : Config) (s : Slots Transaction) (ws : List WaitRecord) : Type 0 where
@@ -71,21 +71,8 @@ pub record WaitsAgree (c : Config) (s : Slots Transaction) (ws : List WaitRecord
   pub live : AllByRecursion (λ w. IsLive s w.key) ws
   pub room : length ws + sum_by idle s.places ≡ c.processes
 
--- the process that owns resource r
-abbrev pub owning : List (Option Key) → ℕ → Option ℕ
-owning owners r = option_map (λ k. k.process) (slice_index_or owners r None)
-
--- The list of each process has the resources that it owns, and no others.
-pub record OwnersAgree (config : Config) (owners : List (Option Key)) (owned : Lists) : Type 0 where
-  pub lists : length owned.lists ≡ config.processes
-  pub resources : owned.resources ≡ config.resources
-  pub exclusive : IsExclusive owned
-  pub listed : (n r : ℕ) → Among r (list_at owned n) → owning owners r ≡ Some n
-  pub all : (n r : ℕ) → owning owners r ≡ Some n → Among r (list_at owned n)
-
 -- the fields are of one table, and there is room for the wait of each process
 pub record IsConsistent (t : Inside) : Type 0 where
-  pub sizes : AreSized t.config t.transactions t.labels.items t.owned.owners
+  pub sizes : AreSized t.config t.transactions t.labels.items t.owned
   pub waits : WaitsAgree t.config t.transactions t.waits.items
-  pub owned : OwnersAgree t.config t.owned.owners t.owned.listed
   pub capacity : t.config.processes ≤ vec_capacity t.waits

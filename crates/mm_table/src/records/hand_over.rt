@@ -84,9 +84,7 @@ impl Records {
         requires { resource < self.old.config.resources }
         ensures { self.new ≡ record self.old { owners = slice_set self.old.owners resource None } }
     {
-        if let Some(owner) = self.owned.owner(resource) {
-            self.owned.remove(owner.process, resource);
-        }
+        self.owned.remove(resource);
     }
 
     /// Takes away the wait at this place among the waits. Returns who waited.

@@ -10,19 +10,19 @@ use Rattle.mm_owned.proofs.owned.Owned.remove.Goals as goal
 pub returns-in_default : goal.returns-in_default
 returns-in_default c =
     let linked = links_now _ _ c.self.inside.resources.items c.self.view_is c.self.invariant in
-    sym (freed_unowned c.args.self.now c.args.resource linked.matched (sym c.owner.ensures ∙ c.in_default.is))
+    sym (freed_unowned c.args.self.now c.args.resource linked.matched (sym c.owner.ensures.owner ∙ c.in_default.is))
 
 pub index_mut-requires-2 : goal.index_mut-requires-2
 index_mut-requires-2 c =
     let linked = links_now _ _ c.self.inside.resources.items c.self.view_is c.self.invariant in
-    let there = in_its_list c.args.self.now linked.matched c.args.resource c.in-Some.owner (sym c.owner.ensures ∙ c.in-Some.is) in
+    let there = in_its_list c.args.self.now linked.matched c.args.resource c.in-Some.owner (sym c.owner.ensures.owner ∙ c.in-Some.is) in
     omega (arith, length-firsts _ _ _ linked, list_in_range c.args.self.now c.in-Some.owner.process c.args.resource there)
 
 pub set_next-requires : goal.set_next-requires
 set_next-requires c =
     let rs = c.self.inside.resources.items in
     let linked = links_now _ _ rs c.self.view_is c.self.invariant in
-    let owned = sym c.owner.ensures ∙ c.in-Some.is in
+    let owned = sym c.owner.ensures.owner ∙ c.in-Some.is in
     let read = read_links rs c.args.resource _ _ (c.replace-was.ensures.value ∙ c.index_mut.ensures.value) in
     let same = ap length c.deref_mut.ensures.value ∙ length-set rs c.args.resource c.replace-was.new.dest in
     λ q is. omega (arith, length-links_of rs, before_in_range _ c.in-Some.owner c.args.resource c.requires _ _ linked owned c.replace-was.result.links _ read q is)
@@ -31,7 +31,7 @@ pub set_before-requires : goal.set_before-requires
 set_before-requires c =
     let rs = c.self.inside.resources.items in
     let linked = links_now _ _ rs c.self.view_is c.self.invariant in
-    let owned = sym c.owner.ensures ∙ c.in-Some.is in
+    let owned = sym c.owner.ensures.owner ∙ c.in-Some.is in
     let read = read_links rs c.args.resource _ _ (c.replace-was.ensures.value ∙ c.index_mut.ensures.value) in
     λ q is. omega (arith, length-links_of rs, next_in_range _ c.in-Some.owner c.args.resource c.requires _ _ linked owned c.replace-was.result.links _ read q is)
 
@@ -41,7 +41,7 @@ invariant_of-self c =
     let rs = inside.resources.items in
     let was = c.replace-was.result in
     let linked = links_now _ _ rs c.self.view_is c.self.invariant in
-    let owned = sym c.owner.ensures ∙ c.in-Some.is in
+    let owned = sym c.owner.ensures.owner ∙ c.in-Some.is in
     let below = list_in_range c.args.self.now c.in-Some.owner.process c.args.resource (in_its_list c.args.self.now linked.matched c.args.resource c.in-Some.owner owned) in
     let read = read_links rs c.args.resource was c.index_mut.result.now (c.replace-was.ensures.value ∙ c.index_mut.ensures.value) in
     let first = first_is _ _ _ linked c.in-Some.owner.process _ _ below c.index_mut-2.ensures.value in
@@ -57,7 +57,7 @@ returns c =
     let rs = inside.resources.items in
     let was = c.replace-was.result in
     let linked = links_now _ _ rs c.self.view_is c.self.invariant in
-    let owned = sym c.owner.ensures ∙ c.in-Some.is in
+    let owned = sym c.owner.ensures.owner ∙ c.in-Some.is in
     let below = list_in_range c.args.self.now c.in-Some.owner.process c.args.resource (in_its_list c.args.self.now linked.matched c.args.resource c.in-Some.owner owned) in
     let read = read_links rs c.args.resource was c.index_mut.result.now (c.replace-was.ensures.value ∙ c.index_mut.ensures.value) in
     let first = first_is _ _ _ linked c.in-Some.owner.process _ _ below c.index_mut-2.ensures.value in

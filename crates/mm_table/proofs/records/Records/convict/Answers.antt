@@ -13,7 +13,6 @@ invariant_of-self c =
     record {
       sizes = sized_value c.args.key _ c.self.invariant.sizes;
       waits = verdict_written_agrees inside.config inside.transactions inside.waits.items c.args.key c.unwrap-transaction.result.now true found c.self.invariant.waits;
-      owned = c.self.invariant.owned;
       capacity = c.self.invariant.capacity;
     }
 

@@ -23,7 +23,6 @@ invariant_of-self c = let inside = c.self.inside in record {
   sizes = sized_value c.remove.result.key _ c.self.invariant.sizes;
   waits = rw c.remove.ensures.items (wait_ended_agrees inside.config inside.transactions inside.waits.items c.args.place c.remove.result c.unwrap.result.now
       (at_place c) (found c) c.self.invariant.waits);
-  owned = c.self.invariant.owned;
   capacity = rw c.remove.ensures.capacity c.self.invariant.capacity;
 }
 

@@ -20,10 +20,9 @@ invariant_of-self c =
     let o = value c in
     let dropped = subst (λ r. OnSome r (DropsKey inside.transactions c.remove.new.self c.args.key)) (c.remove.ensures.value ∙ o.1) c.remove.ensures.dropped in
     record {
-      sizes = slot_freed_sized inside.config inside.transactions inside.labels.items inside.owned.owners inside.waits.items c.args.key o.0 o.1 c.self.invariant.sizes c.self.invariant.waits c.remove.new.self c.remove.ensures.slots;
-      waits = slot_freed_agrees inside.config inside.transactions inside.labels.items inside.owned.owners inside.waits.items c.args.key o.0 o.1 c.self.invariant.sizes c.self.invariant.waits
+      sizes = slot_freed_sized inside.config inside.transactions inside.labels.items inside.owned inside.waits.items c.args.key o.0 o.1 c.self.invariant.sizes c.self.invariant.waits c.remove.new.self c.remove.ensures.slots;
+      waits = slot_freed_agrees inside.config inside.transactions inside.labels.items inside.owned inside.waits.items c.args.key o.0 o.1 c.self.invariant.sizes c.self.invariant.waits
           (ap (λ s. wait_of s c.args.key.process) c.self.view_is ∙ c.requires.active) c.remove.new.self c.remove.ensures.slots dropped.updates.others;
-      owned = c.self.invariant.owned;
       capacity = c.self.invariant.capacity;
     }
 
@@ -33,5 +32,5 @@ returns c =
     let o = value c in
     let no_verdict : o.0.has_verdict ≡ false = sym (its_verdict inside.transactions c.args.key o.0 o.1) ∙ ap (λ s. has_verdict s c.args.key.process) c.self.view_is ∙ c.requires.no_verdict in
     ap (λ slots. state_of_fields inside.config slots inside.labels.items inside.owned.owners inside.waits.items inside.totals) c.remove.ensures.slots
-    ∙ slot_freed inside.config inside.transactions inside.labels.items inside.owned.owners inside.waits.items c.args.key o.0 o.1 c.self.invariant.sizes c.self.invariant.waits inside.totals no_verdict
+    ∙ slot_freed inside.config inside.transactions inside.labels.items inside.owned inside.waits.items c.args.key o.0 o.1 c.self.invariant.sizes c.self.invariant.waits inside.totals no_verdict
     ∙ ap (λ s. free_slot s c.args.key.process) c.self.view_is

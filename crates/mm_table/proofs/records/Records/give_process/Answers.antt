@@ -15,7 +15,6 @@ invariant_of-self-2 c = let inside = c.self.inside in record {
   sizes = begun_sized c.insert.new.self c.in-Ok.key c.insert.ensures.slots (taken inside.transactions _ c.in-Ok.key c.in-Ok.ensures.key) c.self.invariant.sizes;
   waits = begun_agrees inside.config inside.transactions c.insert.new.self inside.waits.items c.in-Ok.key
       c.insert.ensures.slots (taken inside.transactions _ c.in-Ok.key c.in-Ok.ensures.key) c.in-Ok.ensures.added c.self.invariant.waits;
-  owned = c.self.invariant.owned;
   capacity = c.self.invariant.capacity;
 }
 

@@ -1,5 +1,5 @@
 use Rattle.std.proofs.Common.{◌<◌, ap, sym, subst, ◌∙◌, arith, fold, length}
-use Rattle.mm_owned.proofs.OwnedWalks.{Among-head}
+use Rattle.mm_owned.proofs.Lemmas.Walk.{Among-head}
 use Rattle.mm_owned.specs.Owned.{list_at}
 use Rattle.mm_rules.specs.TableState.{TableState, resources_of}
 use Rattle.mm_rules.specs.Change.{hand_over}
@@ -13,18 +13,18 @@ loop-resource-init c = starts c.args.self.now c.args.process c.requires.laws c.r
 
 pub first-requires : goal.first-requires
 first-requires c =
-    omega (arith, c.self.invariant.owned.lists, ap (λ s. s.config.processes) c.self.view_is, ap (λ k. k.processes) c.loop-resource.invariant.config, c.requires.process)
+    omega (arith, c.self.invariant.sizes.lists, ap (λ s. s.config.processes) c.self.view_is, ap (λ k. k.processes) c.loop-resource.invariant.config, c.requires.process)
 
 found : (c : goal.After-hand_over-arg-1) → Among c.in-Some.resource (resources_of c.loop-resource.self c.args.process)
 found c =
-    let owned = c.self.inside.owned.listed in
-    let lists = listed c.self.inside c.loop-resource.self c.self.invariant c.self.view_is in
+    let owned = c.self.inside.owned in
+    let lists = listed c.self.inside c.loop-resource.self c.self.invariant c.self.view_is c.first.ensures.matched in
     in_resources c.loop-resource.self owned lists c.args.process c.in-Some.resource (Among-head (list_at owned c.args.process) c.in-Some.resource (sym c.first.ensures.first ∙ c.in-Some.is))
 
 pub hand_over-requires-clause-resource : goal.hand_over-requires-clause-resource
 hand_over-requires-clause-resource c =
-    let owned = c.self.inside.owned.listed in
-    let lists = listed c.self.inside c.loop-resource.self c.self.invariant c.self.view_is in
+    let owned = c.self.inside.owned in
+    let lists = listed c.self.inside c.loop-resource.self c.self.invariant c.self.view_is c.first.ensures.matched in
     lists.within c.args.process c.in-Some.resource (Among-head (list_at owned c.args.process) c.in-Some.resource (sym c.first.ensures.first ∙ c.in-Some.is))
 
 pub hand_over-requires-clause-fits : goal.hand_over-requires-clause-fits
@@ -48,5 +48,5 @@ pub returns : goal.returns
 returns c =
     let s = c.loop-resource.self in
     let n = c.args.process in
-    let lists = listed c.self.inside s c.self.invariant c.self.view_is in
-    ap (fold hand_over s) (sym (none_left s c.self.inside.owned.listed lists n (sym c.first.ensures.first ∙ c.in_default.is))) ∙ c.loop-resource.invariant.rest
+    let lists = listed c.self.inside s c.self.invariant c.self.view_is c.first.ensures.matched in
+    ap (fold hand_over s) (sym (none_left s c.self.inside.owned lists n (sym c.first.ensures.first ∙ c.in_default.is))) ∙ c.loop-resource.invariant.rest

@@ -19,16 +19,12 @@ returns-clause-holder c =
     let h = c.in_ok-holder.holder in
     let found = sym c.in_ok-get.ensures in
     let resource = resource_within waits c.args.key c.in_ok-get.field-0.now r found c.in_ok-resource.was in
-    let owned = sym c.owner.ensures ∙ c.in_ok-holder.was in
+    let owned = sym c.owner.ensures.owner ∙ c.in_ok-holder.was in
     let waited = wait_read waits c.args.key c.in_ok-get.field-0.now found ∙ c.in_ok-resource.was in
     let holder : holder_of (state_of_records inside) n ≡ Some h.process = rw (waited, owned) refl in
     sym holder ∙ ap (λ s. holder_of s n) c.self.view_is
 
 pub returns-clause-in_range : goal.returns-clause-in_range
 returns-clause-in_range c =
-    let waits = c.self.invariant.waits in
-    let r = c.in_ok-resource.resource in
-    let resource = resource_within waits c.args.key c.in_ok-get.field-0.now r (sym c.in_ok-get.ensures) c.in_ok-resource.was in
-    let owned = sym c.owner.ensures ∙ c.in_ok-holder.was in
-    let processes = ap (λ s. s.config.processes) c.self.view_is in
-    omega (arith, c.self.invariant.sizes.owner_in_range r c.in_ok-holder.holder owned)
+    let within = rw c.in_ok-holder.was at c.owner.ensures.in_range in
+    omega (arith, within, c.self.invariant.sizes.lists, ap (λ s. s.config.processes) c.self.view_is)

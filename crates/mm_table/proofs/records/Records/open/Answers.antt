@@ -1,4 +1,4 @@
-use Rattle.std.proofs.Common.{◌≡◌, length, map, ap, ◌∙◌, sym, arith, None, Some, slice_index_or, rules}
+use Rattle.std.proofs.Common.{[], ◌≡◌, length, map, ap, ◌∙◌, sym, arith, None, Some, slice_index_or, rules}
 use Rattle.std.proofs.lemmas.List.{length-replicate}
 use Rattle.std.proofs.lemmas.List.FromFn.{length-map-range_with_len}
 use Rattle.std.specs.List.{sum_by}
@@ -6,8 +6,7 @@ use Rattle.mm_arena.specs.Slots.{never_used}
 use Rattle.mm_owned.specs.Owned.{Ownership}
 use Rattle.mm_rules.specs.TableState.{waited_for}
 use Rattle.mm_table.specs.private.Records.{idle, wait_in, wait_of_record, opening_labels}
-use Rattle.mm_table.proofs.Fields.Opening.{all_idle, none_waits, none_owned, opened}
-use Rattle.mm_table.proofs.Fields.Ownership.{nothing_owned}
+use Rattle.mm_table.proofs.Fields.Opening.{all_idle, none_waits, opened}
 use Rattle.mm_table.proofs.records.Records.open.Goals as goal
 
 pub invariant_of-result : goal.invariant_of-result
@@ -21,9 +20,7 @@ invariant_of-result c =
         labels = ap length c.in-Ok-labels_at_opening.ensures ∙ length-map-range_with_len opening_labels 0 c.args.config.processes;
         owners = ap (λ (o : Ownership). length o.owners) c.in-Ok-new.ensures ∙ length-replicate c.args.config.resources None;
         last_generation = ap (λ s. s.limit) c.in-Ok.ensures;
-        owner_in_range = λ r k owned.
-            let never : None ≡ Some k = sym (none_owned c.args.config.resources r) ∙ sym (ap (λ (o : Ownership). slice_index_or o.owners r None) c.in-Ok-new.ensures) ∙ owned in
-            cc;
+        lists = ap (λ (o : Ownership). length o.lists) c.in-Ok-new.ensures ∙ length-replicate c.args.config.processes [];
       };
       waits = record {
         in_range = λ n r waits.
@@ -37,8 +34,6 @@ invariant_of-result c =
             let waits : length c.in-Ok-with_capacity.waits.items ≡ 0 = ap length no_waits in
             omega arith;
       };
-      owned = nothing_owned c.args.config c.in-Ok-new.owned.owners c.in-Ok-new.owned.listed (ap (λ (o : Ownership). o.listed) c.in-Ok-new.ensures)
-          (λ r. ap (λ (o : Ownership). slice_index_or o.owners r None) c.in-Ok-new.ensures ∙ none_owned c.args.config.resources r);
       capacity = omega (arith, c.in-Ok-with_capacity.ensures.exact);
     }
 

@@ -17,7 +17,6 @@ invariant_of-self c = let inside = c.self.inside in record {
   sizes = sized_value c.args.key _ c.self.invariant.sizes;
   waits = rw c.push_reserved.ensures.items (wait_added_agrees inside.config inside.transactions inside.waits.items c.args.key c.unwrap-transaction.result.now c.args.resource
       (found c) (ap (λ s. wait_of s c.args.key.process) c.self.view_is ∙ c.requires.idle) (rw (ap (λ s. s.config.resources) c.self.view_is) c.requires.resource) c.self.invariant.waits);
-  owned = c.self.invariant.owned;
   capacity = rw c.push_reserved.ensures.capacity c.self.invariant.capacity;
 }
 

@@ -1,7 +1,8 @@
 use Rattle.std.proofs.Common.{◌≡◌, ◌∷◌, length, IsTrue, sym, ap, subst, ◌∙◌, inl, inr, arith}
 use Rattle.mm_lists.specs.Members.{Among}
 use Rattle.mm_owned.specs.Owned.{list_at}
-use Rattle.mm_owned.proofs.OwnedWalks.{rest_from, Among-head, Among-next, rest_from-head, rest_from-next}
+use Rattle.mm_owned.proofs.Lemmas.ListsMatchOwners.{in_range}
+use Rattle.mm_owned.proofs.Lemmas.Walk.{rest_from, Among-head, Among-next, rest_from-head, rest_from-next}
 use Rattle.mm_rules.specs.Change.{hand_over_fits}
 use Rattle.mm_table.proofs.Fields.Ownership.{listed, some_past, all_fit}
 use Rattle.std.specs.Vec.{vec_len}
@@ -12,7 +13,7 @@ use Rattle.mm_table.proofs.records.Records.vacate_fits.Goals as goal
 
 pub loop-next-init : goal.loop-next-init
 loop-next-init c =
-    let list = list_at c.self.inside.owned.listed c.args.process in
+    let list = list_at c.self.inside.owned c.args.process in
     let first = c.first-next.ensures.first in (
       λ q is. Among-head list q (sym first ∙ is),
       λ q among. inr (subst (Among q) (sym (ap (rest_from list) first ∙ rest_from-head list)) among),
@@ -20,29 +21,29 @@ loop-next-init c =
 
 pub returns-then-not-hand_over_fits : goal.returns-then-not-hand_over_fits
 returns-then-not-hand_over_fits c =
-    let lists = listed c.self.inside c.args.self.now c.self.invariant c.self.view_is in
-    sym (some_past c.args.self.now c.self.inside.owned.listed lists c.args.process c.in-Some.resource (c.loop-next.invariant.0 c.in-Some.resource c.in-Some.is) (sym c.hand_over_fits.ensures ∙ c.if-not-hand_over_fits.true))
+    let lists = listed c.self.inside c.args.self.now c.self.invariant c.self.view_is c.first-next.ensures.matched in
+    sym (some_past c.args.self.now c.self.inside.owned lists c.args.process c.in-Some.resource (c.loop-next.invariant.0 c.in-Some.resource c.in-Some.is) (sym c.hand_over_fits.ensures ∙ c.if-not-hand_over_fits.true))
 
 pub next-next-requires : goal.next-next-requires
 next-next-requires c =
-    c.first-next.ensures.exclusive.in_range c.args.process c.in-Some.resource (c.loop-next.invariant.0 c.in-Some.resource c.in-Some.is)
+    in_range c.self.inside.owned c.first-next.ensures.matched c.args.process c.in-Some.resource (c.loop-next.invariant.0 c.in-Some.resource c.in-Some.is)
 
 pub loop-next-smaller : goal.loop-next-smaller
 loop-next-smaller c =
-    let owned = c.self.inside.owned.listed in
+    let owned = c.self.inside.owned in
     let list = list_at owned c.args.process in
     let among = c.loop-next.invariant.0 c.in-Some.resource c.in-Some.is in
     let rest : rest_from list c.loop-next.next ≡ c.in-Some.resource ∷ rest_from list c.next-next.result =
-    ap (rest_from list) c.in-Some.is ∙ rest_from-next owned c.args.process _ _ among c.next-next.ensures.listed (c.first-next.ensures.exclusive.once c.args.process) in
+    ap (rest_from list) c.in-Some.is ∙ rest_from-next owned c.args.process _ _ among c.next-next.ensures.listed (c.first-next.ensures.matched.once c.args.process) in
     omega (arith, ap length rest)
 
 pub loop-next-preserved : goal.loop-next-preserved
 loop-next-preserved c =
-    let owned = c.self.inside.owned.listed in
+    let owned = c.self.inside.owned in
     let list = list_at owned c.args.process in
     let among = c.loop-next.invariant.0 c.in-Some.resource c.in-Some.is in
     let rest : rest_from list c.loop-next.next ≡ c.in-Some.resource ∷ rest_from list c.next-next.result =
-    ap (rest_from list) c.in-Some.is ∙ rest_from-next owned c.args.process _ _ among c.next-next.ensures.listed (c.first-next.ensures.exclusive.once c.args.process) in (
+    ap (rest_from list) c.in-Some.is ∙ rest_from-next owned c.args.process _ _ among c.next-next.ensures.listed (c.first-next.ensures.matched.once c.args.process) in (
       Among-next owned c.args.process _ _ among c.next-next.ensures.listed,
       λ q there. elim (c.loop-next.invariant.1 q there) [
         | inl fits ↦ inl fits
@@ -55,9 +56,9 @@ loop-next-preserved c =
 
 pub returns : goal.returns
 returns c =
-    let list = list_at c.self.inside.owned.listed c.args.process in
-    let lists = listed c.self.inside c.args.self.now c.self.invariant c.self.view_is in
-    sym (all_fit c.args.self.now c.self.inside.owned.listed lists c.args.process (λ q among. elim (c.loop-next.invariant.1 q among) [
+    let list = list_at c.self.inside.owned c.args.process in
+    let lists = listed c.self.inside c.args.self.now c.self.invariant c.self.view_is c.first-next.ensures.matched in
+    sym (all_fit c.args.self.now c.self.inside.owned lists c.args.process (λ q among. elim (c.loop-next.invariant.1 q among) [
       | inl fits ↦ fits
       | inr left ↦ absurd (subst (Among q) (ap (rest_from list) c.in_default.is) left)
     ]))

@@ -26,7 +26,6 @@ invariant_of-self c =
     record {
       sizes = sized_value c.args.key _ c.self-2.invariant.sizes;
       waits = verdict_written_agrees inside.config inside.transactions inside.waits.items c.args.key c.unwrap.result.now false (found c) c.self-2.invariant.waits;
-      owned = c.self-2.invariant.owned;
       capacity = c.self-2.invariant.capacity;
     }
 
