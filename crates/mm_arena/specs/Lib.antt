@@ -1,5 +1,6 @@
 pub mod Key
 pub mod Slots
 pub mod Calls
-pub mod Layout
 pub mod Lending
+-- private: how the slots are kept; no public clause cites these
+pub mod private

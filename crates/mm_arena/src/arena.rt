@@ -32,11 +32,11 @@ impl<T> Model for Arena<T> {
 
     ghost Value = { Slots T };
 
-    ghost use Rattle.mm_arena.specs.Layout.{fields_of, seen, IsSound};
+    ghost use Rattle.mm_arena.specs.private.Layout.{fields_of, seen, IsLaidOut};
 
     ghost view = { λ a. seen (fields_of a) };
 
-    ghost invariant = { λ a. IsSound (fields_of a) };
+    ghost invariant = { λ a. IsLaidOut (fields_of a) };
 }
 
 impl<T> Arena<T> {

@@ -2,7 +2,7 @@
 ghost use Rattle.std.specs.Prelude.{◌≡◌, ◌+◌, ◌<◌, ◌^◌, Some, IsSome, option_copied, is_some, None};
 ghost use Rattle.std.specs.Borrow.{Lends, sem};
 ghost use Rattle.mm_arena.specs.Slots.{value_under};
-ghost use Rattle.mm_arena.specs.Layout.{place_of, IsFree, IsLive};
+ghost use Rattle.mm_arena.specs.private.Layout.{place_of, IsFree, IsLive};
 
 use std::mem;
 

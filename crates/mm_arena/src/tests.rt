@@ -4,7 +4,7 @@ ghost use Rattle.mm_arena.specs.Slots.{lookup, live_count};
 use super::*;
 use std::test::Fail;
 
-// What a caller knows of two inserts: the caller of README.md.
+// What a caller knows of two inserts.
 fn store_pair(arena: &mut Arena<u32>, a: u32, b: u32) -> Result<(Key, Key), u32>
     ensures differ { IfOk result (λ keys. keys.0 ≢ keys.1) }
     ensures first { IfOk result (λ keys. lookup arena.new keys.0 ≡ Some a) }
@@ -23,19 +23,18 @@ fn key(process: u32, generation: u32) -> Key {
     }
 }
 
+// The example of README.md.
 #[test]
 fn gives_each_generation_once(rt: HostRuntime) -> Result<(), Fail> {
-    let mut arena = Arena::new(rt.alloc(), 1, 2)?;
+    let mut arena = Arena::<u64>::new(rt.alloc(), 1, 2)?;
     assert_eq!(rt; arena.insert(7), Ok(key(0, 1)));
     assert_eq!(rt; arena.insert(8), Err(8));
     assert_eq!(rt; arena.remove(key(0, 1)), Some(7));
     assert_eq!(rt; arena.insert(8), Ok(key(0, 2)));
-    assert_eq!(rt; arena.get(key(0, 1)).copied(), None);
-    assert_eq!(rt; arena.key_at(0), Some(key(0, 2)));
+    assert_eq!(rt; arena.get(key(0, 1)), None);
     assert_eq!(rt; arena.remove(key(0, 2)), Some(8));
     assert_eq!(rt; arena.insert(9), Err(9));
     assert_eq!(rt; arena.key_at(0), None);
-    assert_eq!(rt; arena.live(), 0);
     Ok(())
 }
 

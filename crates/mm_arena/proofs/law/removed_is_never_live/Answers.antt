@@ -1,4 +1,4 @@
-use Rattle.mm_arena.proofs.Removed as removed
+use Rattle.mm_arena.proofs.Lemmas.RemovedIsNeverLive as removed
 use Rattle.mm_arena.proofs.law.removed_is_never_live.Goals as goal
 
 pub returns : goal.returns

@@ -2,8 +2,8 @@ use Rattle.std.proofs.Common.{◌<◌, arith, sym, ap, refl, subst, length, ◌�
 use Rattle.std.specs.Option.{ok_or}
 use Rattle.std.proofs.lemmas.Option.{slice_get_read}
 use Rattle.mm_arena.specs.Slots.{next_key, filled, inserted}
-use Rattle.mm_arena.specs.Layout.{HasFree}
-use Rattle.mm_arena.proofs.Sound.{newest_is_free, Inserts-freed, Inserts-untouched, none_free}
+use Rattle.mm_arena.specs.private.Layout.{HasFree}
+use Rattle.mm_arena.proofs.Lemmas.Layout.{newest_is_free, Inserts-freed, Inserts-untouched, none_free}
 use Rattle.mm_arena.proofs.arena.Arena.insert.Goals as goal
 
 pub index_mut-slot-requires : goal.index_mut-slot-requires
@@ -19,7 +19,7 @@ fill-self-inside-requires g c =
 
 pub invariant_of-self : goal.invariant_of-self
 invariant_of-self g c =
-    (Inserts-freed _ c.self.invariant c.in-Some.process c.args.value _ _ _ c.index_mut-slot.ensures.value c.fill-self-inside.ensures.link c.fill-self-inside.ensures.filled c.in-Some.is).sound
+    (Inserts-freed _ c.self.invariant c.in-Some.process c.args.value _ _ _ c.index_mut-slot.ensures.value c.fill-self-inside.ensures.link c.fill-self-inside.ensures.filled c.in-Some.is).laid_out
 
 pub returns-in-Some-clause-key : goal.returns-in-Some-clause-key
 returns-in-Some-clause-key g c =
@@ -55,7 +55,7 @@ fill-requires g c =
 
 pub invariant_of-self-2 : goal.invariant_of-self-2
 invariant_of-self-2 g c =
-    (Inserts-untouched _ c.self.invariant c.self.inside.unused c.args.value _ _ _ c.index_mut-slot-2.ensures.value c.fill.ensures.link c.fill.ensures.filled c.in_default.is refl (omega (arith, c.self.invariant.within))).sound
+    (Inserts-untouched _ c.self.invariant c.self.inside.unused c.args.value _ _ _ c.index_mut-slot-2.ensures.value c.fill.ensures.link c.fill.ensures.filled c.in_default.is refl (omega (arith, c.self.invariant.within))).laid_out
 
 pub returns-clause-key : goal.returns-clause-key
 returns-clause-key g c =

@@ -1,5 +1,5 @@
 use Rattle.std.proofs.Common.{◌≡◌, ◌≤◌, replicate, vec_capacity}
-use Rattle.mm_arena.proofs.Opening.{new_slot}
+use Rattle.mm_arena.proofs.Lemmas.OpeningSlots.{new_slot}
 use Rattle.mm_arena.proofs.arena.Arena.new.Given as goal
 
 abbrev pub invariant-loop : goal.invariant-loop

@@ -1,13 +1,13 @@
 use Rattle.std.proofs.Common.{◌+◌, sym, ap, subst, ◌∙◌}
 use Rattle.mm_arena.specs.declared.slot.State.TheVariants.{Free}
 use Rattle.mm_arena.specs.Slots.{IsLive, vacated}
-use Rattle.mm_arena.proofs.Sound.{Removes-freed, Removes-retired}
+use Rattle.mm_arena.proofs.Lemmas.Layout.{Removes-freed, Removes-retired}
 use Rattle.mm_arena.proofs.arena.Arena.remove_live.Goals as goal
 
 pub invariant_of-self : goal.invariant_of-self
 invariant_of-self g c =
     let live = subst (λ s. IsLive s c.args.key) (sym c.self.view_is) c.requires in
-    (Removes-retired _ c.self.invariant c.args.key live c.retire.result _ c.index_mut-slot.ensures.value c.retire.ensures.value _ c.if-slot-self.true c.retire.ensures.retired).sound
+    (Removes-retired _ c.self.invariant c.args.key live c.retire.result _ c.index_mut-slot.ensures.value c.retire.ensures.value _ c.if-slot-self.true c.retire.ensures.retired).laid_out
 
 pub returns-then-slot-self-clause-slots : goal.returns-then-slot-self-clause-slots
 returns-then-slot-self-clause-slots g c =
@@ -25,7 +25,7 @@ pub invariant_of-self-2 : goal.invariant_of-self-2
 invariant_of-self-2 g c =
     let live = subst (λ s. IsLive s c.args.key) (sym c.self.view_is) c.requires in
     let freed = c.free.ensures.freed ∙ ap (λ next. record { generation = c.index_mut-slot.result.now.generation + 1; state = Free next }) c.replace-before.ensures.value in
-    rw c.replace-before.ensures.after (Removes-freed _ c.self.invariant c.args.key live c.free.result _ c.index_mut-slot.ensures.value c.free.ensures.value _ c.if-slot-self.false freed).sound
+    rw c.replace-before.ensures.after (Removes-freed _ c.self.invariant c.args.key live c.free.result _ c.index_mut-slot.ensures.value c.free.ensures.value _ c.if-slot-self.false freed).laid_out
 
 pub returns-clause-slots : goal.returns-clause-slots
 returns-clause-slots g c =

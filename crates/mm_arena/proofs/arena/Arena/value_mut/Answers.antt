@@ -1,12 +1,12 @@
 use Rattle.std.proofs.Common.{refl, sym, ap, subst, ◌∙◌}
 use Rattle.mm_arena.specs.Slots.{IsLive, lookup, with_value}
-use Rattle.mm_arena.proofs.Sound.{Rewrites-live, lookup-seen}
+use Rattle.mm_arena.proofs.Lemmas.Layout.{Rewrites-live, lookup-seen}
 use Rattle.mm_arena.proofs.arena.Arena.value_mut.Goals as goal
 
 pub invariant_of-self-lent : goal.invariant_of-self-lent
 invariant_of-self-lent g c w =
     let live = subst (λ s. IsLive s c.args.key) (sym c.self.view_is) c.requires in
-    (Rewrites-live _ c.self.invariant c.args.key live _ _ c.index_mut.ensures.value c.value_mut.ensures.value w).sound
+    (Rewrites-live _ c.self.invariant c.args.key live _ _ c.index_mut.ensures.value c.value_mut.ensures.value w).laid_out
 
 pub returns : goal.returns
 returns g c =

@@ -8,8 +8,8 @@ use Rattle.mm_arena.specs.declared.arena.TheConstants.{MAX_CAPACITY}
 use Rattle.mm_arena.specs.declared.slot.Slot.{Slot}
 use Rattle.mm_arena.specs.declared.slot.State.TheVariants.{Free}
 use Rattle.mm_arena.specs.Slots.{opening_slots}
-use Rattle.mm_arena.specs.Layout.{place_of, walk, seen, HasFree, IsInLimit, IsSound}
-use Rattle.mm_arena.proofs.Sound.{live_slots, same_slots}
+use Rattle.mm_arena.specs.private.Layout.{place_of, walk, seen, HasFree, IsInLimit, IsLaidOut}
+use Rattle.mm_arena.proofs.Lemmas.Layout.{live_slots, same_slots}
 
 -- a slot that was never used
 abbrev pub new_slot : {T : Type 0} → Slot T
@@ -30,8 +30,8 @@ no_live T zero = refl
 no_live T (suc n) = no_live T n
 
 module _ {T : Type 0} (slots : List (Slot T)) (capacity limit : ℕ) (all : slots ≡ replicate capacity new_slot) where
-  pub IsSound-opening : capacity ≤ MAX_CAPACITY → 1 ≤ limit → IsSound (record { slots = slots; newest = None; unused = 0; live = 0; limit = limit })
-  IsSound-opening small some =
+  pub IsLaidOut-opening : capacity ≤ MAX_CAPACITY → 1 ≤ limit → IsLaidOut (record { slots = slots; newest = None; unused = 0; live = 0; limit = limit })
+  IsLaidOut-opening small some =
       let same_length = length-replicate capacity (new_slot {T = T}) in
       rw all (record {
         freed = [];

@@ -6,9 +6,9 @@ use Rattle.std.proofs.lemmas.List.{get_or-set_same, get_or-set_other, set_past}
 use Rattle.mm_arena.specs.declared.key.Key.{Key}
 use Rattle.mm_arena.specs.Slots.{Slots, Place, never_used, place_at, lookup, IsLive, live_key, opening_slots, filled, freed, removed}
 use Rattle.mm_arena.specs.Calls.{Call, after_all}
-use Rattle.mm_arena.proofs.Keys.{IsLive-within, generation_at_value, value_under-other, value_under-empty}
-use Rattle.mm_arena.proofs.Runs.{kept_after_all}
-use Rattle.mm_arena.proofs.Free.{has_value, IsLive-off, AreFree-after_all}
+use Rattle.mm_arena.proofs.Lemmas.Updates.{IsLive-within, generation_at_value, value_under-other, value_under-empty}
+use Rattle.mm_arena.proofs.Lemmas.AfterAll.{kept_after_all}
+use Rattle.mm_arena.proofs.Lemmas.AreFree.{has_value, IsLive-off, AreFree-after_all}
 
 module _ {T : Type 0} where
   -- ---- the process has come to a later generation than the key's

@@ -1,4 +1,4 @@
--- How an `Arena` lays out its slots. No public clause cites this module.
+-- How an `Arena` lays out its slots.
 use Rattle.std.specs.Prelude.{◌≡◌, ◌≢◌, ⊤, ℕ, zero, suc, ◌+◌, ◌-◌, ◌<◌, ◌≤◌, List, [], ◌∷◌, ◌++◌, map, length, Option, Some, None, count_by, All, slice_get, is_some}
 use Rattle.std.specs.List.{range_with_len, AllByRecursion}
 use Rattle.mm_arena.specs.declared.arena.TheConstants.{MAX_CAPACITY}
@@ -96,7 +96,7 @@ module _ {T : Type 0} where
   IsInLimit limit slot = (1 ≤ slot.generation) × (slot.generation ≤ limit)
 
   -- the links give the freed slots, the slots from `unused` on are free, and `live` counts the live ones
-  pub record IsSound (f : Fields T) : Type 0 where
+  pub record IsLaidOut (f : Fields T) : Type 0 where
     pub freed : List ℕ
     pub linked : IsChain f.slots f.unused freed f.newest
     pub untouched : (process : ℕ) → f.unused ≤ process → process < length f.slots → HasFree (slice_get f.slots process)

@@ -6,8 +6,8 @@ use Rattle.std.proofs.lemmas.List.{get_or-set_same, get_or-set_other}
 use Rattle.mm_arena.specs.declared.key.Key.{Key}
 use Rattle.mm_arena.specs.Slots.{Slots, Place, never_used, place_at, IsLive, opening_slots, filled, freed, retired, with_value}
 use Rattle.mm_arena.specs.Calls.{Call, after_all}
-use Rattle.mm_arena.proofs.Keys.{IsLive-within}
-use Rattle.mm_arena.proofs.Runs.{kept_after_all}
+use Rattle.mm_arena.proofs.Lemmas.Updates.{IsLive-within}
+use Rattle.mm_arena.proofs.Lemmas.AfterAll.{kept_after_all}
 
 -- the numbers from a higher one on
 range_above : (low from n : ℕ) → low < from → AllByRecursion (λ other. other ≢ low) (range_with_len from n)
