@@ -1,18 +1,9 @@
 -- The list of freed slots through the slots, and what a write of one slot leaves of it.
-use Rattle.std.proofs.Common.{◌≡◌, ◌≢◌, ℕ, zero, suc, ◌<◌, ◌≤◌, List, [], ◌∷◌, Option, Some, None, length, set, slice_get, refl, ap, subst, ◌∙◌, arith}
-use Rattle.std.proofs.lemmas.List.{get_or-set_same, length-set}
-use Rattle.std.proofs.lemmas.Option.{slice_get-get_or}
+use Rattle.std.proofs.Common.{◌≡◌, ◌≢◌, ℕ, zero, suc, ◌≤◌, List, [], ◌∷◌, Option, Some, None, length, set, slice_get, refl, ap, subst, ◌∙◌, arith}
 use Rattle.std.specs.List.{AllByRecursion}
+use Rattle.mm_lists.proofs.Lemmas.Set.{slice_get-set_other}
 use Rattle.mm_arena.specs.declared.slot.Slot.{Slot}
 use Rattle.mm_arena.specs.Layout.{HasFree, IsLink, IsChain, link_of, walk}
-
--- a write at another index keeps what is read
-pub slice_get-set_other : {X : Type 0} (xs : List X) (i k : ℕ) (x : X) → i ≢ k → slice_get (set xs k x) i ≡ slice_get xs i
-slice_get-set_other [] i k x other = refl
-slice_get-set_other (y ∷ ys) zero zero x other = absurd (other refl)
-slice_get-set_other (y ∷ ys) zero (suc k) x other = refl
-slice_get-set_other (y ∷ ys) (suc i) zero x other = refl
-slice_get-set_other (y ∷ ys) (suc i) (suc k) x other = slice_get-set_other ys i k x (λ same. other (ap suc same))
 
 module _ {T : Type 0} (slots : List (Slot T)) (unused : ℕ) where
   -- a write of a slot that is not listed keeps the links
@@ -59,8 +50,3 @@ module _ {T : Type 0} (slots : List (Slot T)) (unused : ℕ) where
   pub IsChain-none : (listed : List ℕ) (first : Option ℕ) → first ≡ None → IsChain slots unused listed first → listed ≡ []
   IsChain-none [] first is chain = refl
   IsChain-none (head ∷ later) first is chain = absurd (cc)
-
--- a write at an index inside is what is read there
-pub slice_get-set_same : {X : Type 0} (xs : List X) (i : ℕ) (x : X) → i < length xs → slice_get (set xs i x) i ≡ Some x
-slice_get-set_same xs i x inside =
-    slice_get-get_or (set xs i x) i x (omega (arith, length-set xs i x)) ∙ ap Some (get_or-set_same xs i x x inside)

@@ -12,7 +12,8 @@ use Rattle.mm_arena.specs.declared.key.Key.{Key}
 use Rattle.mm_arena.specs.Slots.{Slots, Place, never_used, place_at, value_under, lookup, IsLive, with_value, next_key, inserted, vacated, AddsKey, DropsKey}
 use Rattle.mm_arena.specs.Layout.{Fields, place_of, place_in, link_of, walk, seen, HasFree, IsChain, IsInLimit, IsSound}
 use Rattle.mm_arena.proofs.Keys.{value_under-same, IsLive-within, generation_at_value, inserted-first, AddsKey-first, DropsKey-freed, DropsKey-retired, Holds}
-use Rattle.mm_arena.proofs.Chains.{IsChain-set, walk-IsChain, IsChain-off, IsChain-some, IsChain-none, slice_get-set_other, slice_get-set_same}
+use Rattle.mm_arena.proofs.Chains.{IsChain-set, walk-IsChain, IsChain-off, IsChain-some, IsChain-none}
+use Rattle.mm_lists.proofs.Lemmas.Set.{slice_get-set_other, slice_get-set_same}
 
 -- two views with the same parts
 pub same_slots : {T : Type 0} (places other : List (Place T)) (free rest : List ℕ) (limit : ℕ) → places ≡ other → free ≡ rest → ◌≡◌ {A = Slots T} (record { places = places; free = free; limit = limit }) (record { places = other; free = rest; limit = limit })
