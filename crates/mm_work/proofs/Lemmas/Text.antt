@@ -8,7 +8,7 @@ use Rattle.mm_table.specs.refusal.Refusal.TheVariants.{BadConfig}
 use Rattle.mm_table.specs.TableState.{TableState, IsInRange, opening}
 use Rattle.mm_table.specs.Laws.{Laws}
 use Rattle.mm_table.proofs.States.Opening.{opening_lawful}
-use Rattle.mm_table.proofs.States.Events.{event_keeps}
+use Rattle.mm_table.proofs.States.EventsKeepLaws.{event_keeps}
 use Rattle.mm_table.proofs.States.Sweep.{settles_after}
 use Rattle.mm_table.specs.reply.Settled.{Settled}
 use Rattle.mm_table.specs.Event as events
