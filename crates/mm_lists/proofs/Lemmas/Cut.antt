@@ -1,5 +1,5 @@
 -- A list that is cut at one of its members, or at a place.
-use Rattle.std.proofs.Common.{◌≡◌, ℕ, zero, suc, not, eqb, List, [], ◌∷◌, ◌++◌, Some, None, take, drop, slice_get, refl, sym, ap, subst, ◌∙◌, inl, inr}
+use Rattle.std.proofs.Common.{◌≡◌, ◌⊎◌, ℕ, zero, suc, not, eqb, List, [], ◌∷◌, ◌++◌, Some, None, take, drop, slice_get, refl, sym, ap, subst, ◌∙◌, inl, inr}
 use Rattle.std.proofs.lemmas.Bool.{eq-eqb}
 use Rattle.std.proofs.lemmas.List.Elements.{filter-append}
 use Rattle.mm_lists.specs.Members.{Among, NoRepeat, without}
@@ -62,3 +62,26 @@ pub without-cut : (xs : List ℕ) (r : ℕ) (ys : List ℕ) → AreApart xs r ys
 without-cut xs r ys apart =
     filter-append (λ q. not (eqb q r)) xs (r ∷ ys)
     ∙ rw (without-absent r xs apart.not_earlier, eq-eqb r r refl, without-absent r ys apart.not_later) refl
+
+-- ---- the list without the member at which it is cut
+
+pub among_around : {X : Type 0} (x r : X) (before after : List X) → Among x (before ++ after) → Among x (before ++ r ∷ after)
+among_around x r [] after found = inr found
+among_around x r (q ∷ before) after (inl here) = inl here
+among_around x r (q ∷ before) after (inr later) = inr (among_around x r before after later)
+
+pub among_around_gives : {X : Type 0} (x r : X) (before after : List X) → Among x (before ++ r ∷ after) → (x ≡ r) ⊎ Among x (before ++ after)
+among_around_gives x r [] after found = found
+among_around_gives x r (q ∷ before) after (inl here) = inr (inl here)
+among_around_gives x r (q ∷ before) after (inr later) = elim (among_around_gives x r before after later) [ inl is ↦ inl is | inr rest ↦ inr (inr rest) ]
+
+pub no_repeat_around : {X : Type 0} (r : X) (before after : List X) → NoRepeat (before ++ r ∷ after) → NoRepeat (before ++ after) × (Among r (before ++ after) → ⊥)
+no_repeat_around r [] after once = (once.1, once.0)
+no_repeat_around r (q ∷ before) after once =
+    let rest = no_repeat_around r before after once.1 in (
+      (λ again. once.0 (among_around q r before after again), rest.0),
+      λ found. elim found [
+        | inl here ↦ once.0 (subst (λ x. Among x (before ++ r ∷ after)) here (among_right before (r ∷ after) r (inl refl)))
+        | inr later ↦ rest.1 later
+      ],
+    )

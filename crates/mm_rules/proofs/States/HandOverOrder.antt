@@ -9,6 +9,7 @@ use Rattle.mm_lists.specs.Members.{Among, NoRepeat}
 use Rattle.mm_lists.proofs.Lemmas.Among.{among_map}
 use Rattle.mm_lists.proofs.Lemmas.Filter.{filter_gives}
 use Rattle.mm_lists.proofs.Lemmas.NoRepeat.{no_repeat_filter}
+use Rattle.mm_lists.proofs.Lemmas.Cut.{cut_at, AreApart-cut, among_around, among_around_gives, no_repeat_around}
 use Rattle.mm_rules.specs.TableState.{TableState, Wait, is_of, waiters_of}
 use Rattle.mm_rules.specs.Change.{label_against, block, activate, give_to, hand_over}
 
@@ -200,61 +201,21 @@ to_front s (q ∷ before) r after once new =
     to_front (hand_over s q) before r after (hand_over_once s q once) (λ later. new (inr later))
     ∙ ap (λ t. fold hand_over t (before ++ after)) (hand_overs_comm s q r once (λ e. new (inl (sym e))))
 
--- where a member stands
-record Split (r : ℕ) (rs : List ℕ) : Type 0 where
-  before : List ℕ
-  after : List ℕ
-  is : rs ≡ before ++ r ∷ after
-  new : Among r before → ⊥
-
-split : (r : ℕ) (rs : List ℕ) → Among r rs → NoRepeat rs → Split r rs
-split r [] none once = elim none [ ]
-split r (q ∷ rs) (inl here) once = record { before = []; after = rs; is = ap (λ n. n ∷ rs) (sym here); new = λ none. none }
-split r (q ∷ rs) (inr later) once =
-    let rest = split r rs later once.1 in
-    record {
-      before = q ∷ rest.before;
-      after = rest.after;
-      is = ap (λ l. q ∷ l) rest.is;
-      new = λ found. elim found [ inl here ↦ once.0 (let P : ℕ → Type 0 = λ n. Among n rs in subst P here later) | inr before ↦ rest.new before ];
-    }
-
-among_middle : (x r : ℕ) (before after : List ℕ) → Among x (before ++ r ∷ after) → (x ≡ r) ⊎ Among x (before ++ after)
-among_middle x r [] after found = found
-among_middle x r (q ∷ before) after (inl here) = inr (inl here)
-among_middle x r (q ∷ before) after (inr later) = elim (among_middle x r before after later) [ inl is ↦ inl is | inr rest ↦ inr (inr rest) ]
-
-among_around : (x r : ℕ) (before after : List ℕ) → Among x (before ++ after) → Among x (before ++ r ∷ after)
-among_around x r [] after found = inr found
-among_around x r (q ∷ before) after (inl here) = inl here
-among_around x r (q ∷ before) after (inr later) = inr (among_around x r before after later)
-
-among_here : (r q : ℕ) (before after : List ℕ) → r ≡ q → Among q (before ++ r ∷ after)
-among_here r q [] after is = inl (sym is)
-among_here r q (p ∷ before) after is = inr (among_here r q before after is)
-
-no_repeat_around : (r : ℕ) (before after : List ℕ) → NoRepeat (before ++ r ∷ after) → NoRepeat (before ++ after) × (Among r (before ++ after) → ⊥)
-no_repeat_around r [] after once = (once.1, once.0)
-no_repeat_around r (q ∷ before) after once =
-    let rest = no_repeat_around r before after once.1 in (
-      (λ again. once.0 (among_around q r before after again), rest.0),
-      λ found. elim found [ inl here ↦ once.0 (among_here r q before after here) | inr later ↦ rest.1 later ],
-    )
-
 pub any_order : (s : TableState) (xs ys : List ℕ) → Once s.waits → NoRepeat xs → NoRepeat ys → ((r : ℕ) → Among r xs → Among r ys) → ((r : ℕ) → Among r ys → Among r xs) → fold hand_over s xs ≡ fold hand_over s ys
 any_order s [] [] once x_once y_once there back = refl
 any_order s [] (y ∷ ys) once x_once y_once there back = absurd (back y (inl refl))
 any_order s (x ∷ xs) ys once x_once y_once there back =
-    let place = split x ys (there x (inl refl)) y_once in
-    let around = no_repeat_around x place.before place.after (let P : List ℕ → Type 0 = λ l. NoRepeat l in subst P place.is y_once) in
-    any_order (hand_over s x) xs (place.before ++ place.after) (hand_over_once s x once) x_once.1 around.0
-    (λ r found. elim (among_middle r x place.before place.after (let P : List ℕ → Type 0 = λ l. Among r l in subst P place.is (there r (inr found)))) [
+    let place = cut_at x ys (there x (inl refl)) in
+    let cut_once = subst NoRepeat place.whole y_once in
+    let around = no_repeat_around x place.earlier place.later cut_once in
+    any_order (hand_over s x) xs (place.earlier ++ place.later) (hand_over_once s x once) x_once.1 around.0
+    (λ r found. elim (among_around_gives r x place.earlier place.later (let P : List ℕ → Type 0 = λ l. Among r l in subst P place.whole (there r (inr found)))) [
       | inl is ↦ absurd (x_once.0 (let P : ℕ → Type 0 = λ n. Among n xs in subst P is found))
       | inr rest ↦ rest
     ])
-    (λ r found. elim (back r (let P : List ℕ → Type 0 = λ l. Among r l in subst P (sym place.is) (among_around r x place.before place.after found))) [
-      | inl is ↦ absurd (around.1 (let P : ℕ → Type 0 = λ n. Among n (place.before ++ place.after) in subst P is found))
+    (λ r found. elim (back r (let P : List ℕ → Type 0 = λ l. Among r l in subst P (sym place.whole) (among_around r x place.earlier place.later found))) [
+      | inl is ↦ absurd (around.1 (let P : ℕ → Type 0 = λ n. Among n (place.earlier ++ place.later) in subst P is found))
       | inr rest ↦ rest
     ])
-    ∙ sym (to_front s place.before x place.after once place.new)
-    ∙ ap (fold hand_over s) (sym place.is)
+    ∙ sym (to_front s place.earlier x place.later once (AreApart-cut place.earlier x place.later cut_once).not_earlier)
+    ∙ ap (fold hand_over s) (sym place.whole)

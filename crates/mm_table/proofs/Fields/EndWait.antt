@@ -157,8 +157,3 @@ pub got : {X : Type 0} (xs : List X) (i : ℕ) (x : X) → i < length xs → x �
 got [] i x within is = absurd (omega arith)
 got (y ∷ xs) zero x within is = ap Some (sym is)
 got (y ∷ xs) (suc i) x within is = got xs i x (omega arith) is
-
-pub slice_get-map : {X Y : Type 0} (f : X → Y) (xs : List X) (i : ℕ) → slice_get (map f xs) i ≡ option_map f (slice_get xs i)
-slice_get-map f [] i = refl
-slice_get-map f (x ∷ xs) zero = refl
-slice_get-map f (x ∷ xs) (suc i) = slice_get-map f xs i

@@ -3,6 +3,7 @@ use Rattle.std.proofs.Common.{◌≡◌, ◌≢◌, ℕ, zero, suc, ◌+◌, ◌
 use Rattle.std.proofs.lemmas.List.Quantifiers.{position-Some}
 use Rattle.std.proofs.lemmas.Bool.{eq-eqb, ne_eqb}
 use Rattle.std.specs.List.{position, slice_get, list_all}
+use Rattle.std.proofs.lemmas.Option.{slice_get-map}
 use Rattle.mm_arena.specs.declared.key.Key.{Key}
 use Rattle.mm_table.specs.declared.records.WaitRecord.{WaitRecord}
 use Rattle.mm_lists.specs.Members.{Among, NoRepeat}
@@ -16,7 +17,7 @@ use Rattle.mm_table.specs.private.Records.{wait_of_record}
 use Rattle.mm_table.proofs.Fields.Queues.{queue, queue_first, next_at}
 use Rattle.mm_rules.proofs.States.Queues.{once_drop, not_among_queue}
 use Rattle.mm_table.proofs.Fields.BlockQueue.{processes_kept}
-use Rattle.mm_table.proofs.Fields.EndWait.{all_kept, got, slice_get-map}
+use Rattle.mm_table.proofs.Fields.EndWait.{all_kept, got}
 
 -- an element in range
 record Placed {X : Type 0} (xs : List X) (i : ℕ) : Type 0 where

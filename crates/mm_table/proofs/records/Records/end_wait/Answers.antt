@@ -1,13 +1,14 @@
 use Rattle.std.proofs.Common.{◌≡◌, ◌<◌, List, length, ap, sym, ◌∙◌, Some, None, arith, slice_get}
 use Rattle.std.proofs.lemmas.List.{length-map}
 use Rattle.std.specs.Option.{option_map, option_copied_mut}
+use Rattle.std.proofs.lemmas.Option.{slice_get-map}
 use Rattle.mm_arena.specs.Slots.{lookup, with_value}
 use Rattle.mm_table.specs.declared.records.WaitRecord.{WaitRecord}
 use Rattle.mm_rules.specs.TableState.{TableState}
 use Rattle.mm_rules.specs.Change.{activate}
 use Rattle.mm_table.specs.private.Records.{state_of_fields, wait_of_record}
 use Rattle.mm_table.proofs.Fields.Slots.{key_within, sized_value}
-use Rattle.mm_table.proofs.Fields.EndWait.{wait_ended, wait_ended_agrees, got, slice_get-map}
+use Rattle.mm_table.proofs.Fields.EndWait.{wait_ended, wait_ended_agrees, got}
 use Rattle.mm_table.proofs.records.Records.end_wait.Goals as goal
 
 found : (c : goal.After-self-1) → lookup c.self.inside.transactions c.remove.result.key ≡ Some c.unwrap.result.now
