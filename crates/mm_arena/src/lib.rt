@@ -8,6 +8,7 @@ mod arena;
 mod key;
 mod law;
 mod memory;
+mod shelf;
 mod slot;
 #[cfg(test)]
 mod tests;
@@ -16,3 +17,4 @@ pub use arena::{Arena, MAX_CAPACITY};
 pub use key::Key;
 pub use law::removed_is_never_live;
 pub use memory::Memory;
+pub use shelf::Shelf;

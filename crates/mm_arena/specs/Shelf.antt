@@ -1,0 +1,29 @@
+-- What a contract sees of a `Shelf`.
+use Rattle.std.specs.Prelude.{ℕ, Bool, List, Option, Some, None, is_some, ◌==◌, ◌&&◌, slice_index_or, slice_set, if◌then◌else◌}
+use Rattle.mm_arena.specs.declared.key.Key.{Key}
+
+-- what each process has: a value, and the key that it was put with
+abbrev pub Entries : Type 0 → Type 0
+Entries T = List (Option (Key × T))
+
+-- whether two keys are the same
+abbrev pub key_eq : Key → Key → Bool
+key_eq j k = j.process == k.process && j.generation == k.generation
+
+module _ {T : Type 0} where
+  -- what a process has
+  abbrev pub entry_at : Entries T → ℕ → Option (Key × T)
+  entry_at s process = slice_index_or s process None
+
+  -- the value, where it was put with this very key
+  abbrev pub value_under : Key → Option (Key × T) → Option T
+  value_under key None = None
+  value_under key (Some entry) = if key_eq entry.0 key then Some entry.1 else None
+
+  -- the value under a key
+  abbrev pub value_at : Entries T → Key → Option T
+  value_at s key = value_under key (entry_at s key.process)
+
+  -- without the value under a key, where there is one
+  abbrev pub taken : Entries T → Key → Entries T
+  taken s key = if is_some (value_at s key) then slice_set s key.process None else s

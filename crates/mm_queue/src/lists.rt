@@ -1,0 +1,160 @@
+//! The lists.
+ghost use Rattle.std.specs.Prelude.{◌≡◌, ◌<◌, ◌≤◌, ◌↔◌, ◌++◌, ◌∷◌, [], length, drop, IsTrue, IsNone, IfOk, MatchOption};
+ghost use Rattle.std.specs.Bool.{OnFalse};
+ghost use Rattle.mm_queue.specs.Members.{Among};
+ghost use Rattle.mm_queue.specs.Queues.{queue, first, empty_queues, with_queue, Stands, IsOccupied, IsNext, Removes, StandsOnce};
+
+use crate::ends::{Ends, end_after};
+use crate::entry::{Entry, set_before, set_next};
+use mm_arena::{Key, MAX_CAPACITY, Memory, Shelf};
+use mm_links::{Link, Links};
+use std::alloc::Global;
+use std::marker::Model;
+
+/// Lists of keys, in each of which the keys stand in the order in which they came. A process stands in at most one list, under one key, once. All of the memory is taken when it is made.
+#[derive(Drop)]
+pub struct Lists {
+    ends: Vec<Ends>,
+    entries: Shelf<Entry>,
+}
+
+impl Model for Lists {
+    ghost use Rattle.mm_queue.specs.Queues.{Queues};
+    ghost use Rattle.mm_queue.specs.private.Linked.{seen, AreKept};
+
+    ghost Value = { Queues };
+
+    ghost view = { λ l. seen l.ends.items l.entries };
+
+    ghost invariant = { λ l. AreKept l.ends.items l.entries };
+}
+
+impl Lists {
+    /// This many lists without keys, for this many processes, in `O(lists + processes)`. It takes memory twice, and no later call takes any.
+    ///
+    /// `Err` only where that memory is refused.
+    pub fn new(alloc: Global, lists: u32, processes: u32) -> Result<Lists, Memory>
+        requires some_lists { 1 ≤ lists }
+        requires lists_in_range { lists ≤ MAX_CAPACITY }
+        requires some_processes { 1 ≤ processes }
+        requires processes_in_range { processes ≤ MAX_CAPACITY }
+        ensures { IfOk result (λ made. made ≡ empty_queues lists processes) }
+    {
+        let mut ends = Vec::with_capacity(alloc, lists as usize).map_err(|_| Memory)?;
+        for _ in 0..lists {
+            ends.push_reserved(Ends::NONE);
+        }
+        let entries = Shelf::new(alloc, processes)?;
+        Ok(Lists { ends, entries })
+    }
+
+    /// Puts a key last in a list, in constant time. Its process stands in no list yet.
+    pub fn push_back(&mut self, list: u32, key: Key)
+        requires list_in_range { list < length self.old.lists }
+        requires process_in_range { key.process < self.old.processes }
+        requires not_occupied { ¬ IsOccupied self.old key.process }
+        ensures { self.new ≡ with_queue self.old list (queue self.old list ++ key ∷ []) }
+    {
+        let ends = self.ends[list as usize];
+        let link = Link::to(key.process);
+        self.entries.put(
+            key,
+            Entry {
+                list,
+                links: Links {
+                    before: ends.back,
+                    ..Links::NONE
+                },
+            },
+        );
+        set_next(&mut self.entries, ends.back, link);
+        self.ends[list as usize] = Ends {
+            front: end_after(ends.front, ends.back, link),
+            back: link,
+            len: ends.len + 1,
+        };
+    }
+
+    /// The first key of a list, in constant time. `None` where the list has none.
+    pub fn front(&self, list: u32) -> Option<Key>
+        requires { list < length self.now.lists }
+        ensures { result ≡ first (queue self.now list) }
+    {
+        self.entries.key_at(self.ends[list as usize].front.get()?)
+    }
+
+    /// The key after this one in its list, in constant time. `None` for the last of a list, and for a key that stands in no list.
+    pub fn next(&self, key: Key) -> Option<Key>
+        ensures listed { IsNext self.now key result }
+        ensures absent { ¬ Stands self.now key → IsNone result }
+    {
+        self.entries
+            .key_at(self.entries.get(key)?.links.next.get()?)
+    }
+
+    /// Takes a key out of its list, in constant time. `false` exactly where it stands in none, and then nothing changes.
+    pub fn remove(&mut self, key: Key) -> bool
+        ensures found { IsTrue result ↔ Stands self.old key }
+        ensures removed { Removes self.old self.new key }
+        ensures absent { OnFalse result (self.new ≡ self.old) }
+        ensures lists { length self.new.lists ≡ length self.old.lists }
+        ensures processes { self.new.processes ≡ self.old.processes }
+    {
+        let Some(entry) = self.entries.take(key) else {
+            return false;
+        };
+        let Links { before, next } = entry.links;
+        set_next(&mut self.entries, before, next);
+        set_before(&mut self.entries, next, before);
+        let ends = self.ends[entry.list as usize];
+        self.ends[entry.list as usize] = Ends {
+            front: end_after(ends.front, before, next),
+            back: end_after(ends.back, next, before),
+            len: ends.len - 1,
+        };
+        true
+    }
+
+    /// Takes the first key out of a list, in constant time. `None` where the list has none, and then nothing changes.
+    pub fn pop_front(&mut self, list: u32) -> Option<Key>
+        requires { list < length self.old.lists }
+        ensures key { result ≡ first (queue self.old list) }
+        ensures rest { self.new ≡ with_queue self.old list (drop 1 (queue self.old list)) }
+    {
+        let key = self.front(list)?;
+        self.remove(key);
+        Some(key)
+    }
+
+    /// How many keys a list has, in constant time.
+    pub fn len(&self, list: u32) -> u32
+        requires { list < length self.now.lists }
+        ensures { result ≡ length (queue self.now list) }
+    {
+        self.ends[list as usize].len
+    }
+
+    /// The list in which a key stands, in constant time. `None` exactly where it stands in none.
+    pub fn list_of(&self, key: Key) -> Option<u32>
+        ensures { MatchOption result (¬ Stands self.now key) (λ list. Among key (queue self.now list)) }
+    {
+        Some(self.entries.get(key)?.list)
+    }
+
+    /// Whether a key of this process stands in some list, in constant time.
+    pub fn occupied(&self, process: u32) -> bool
+        ensures { IsTrue result ↔ IsOccupied self.now process }
+    {
+        self.entries.key_at(process).is_some()
+    }
+
+    /// What holds of any lists that a caller can hold: a process stands in at most one, once. It does nothing.
+    pub fn stands_once(&self)
+        ensures { StandsOnce self.now }
+    {
+        let _ = &self.ends;
+    }
+}
+
+#[cfg(test)]
+mod tests;
