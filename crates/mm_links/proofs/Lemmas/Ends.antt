@@ -21,7 +21,7 @@ Among-last_or [] q is = absurd (cc)
 Among-last_or (x ∷ xs) q is = Among-last x xs q is
 
 -- with one before, the first of a list stays
-first_with_next-last : (first : Option ℕ) (x : ℕ) (xs : List ℕ) (next : Option ℕ) → first_with_next first (last_or (Some x) xs) next ≡ first
+pub first_with_next-last : (first : Option ℕ) (x : ℕ) (xs : List ℕ) (next : Option ℕ) → first_with_next first (last_or (Some x) xs) next ≡ first
 first_with_next-last first x [] next = refl
 first_with_next-last first x (y ∷ ys) next = first_with_next-last first y ys next
 

@@ -3,7 +3,7 @@ use Rattle.std.proofs.Common.{◌≡◌, ℕ, ◌+◌, ◌-◌, List, [], ◌∷
 use Rattle.std.proofs.lemmas.Option.{none-some, same_Some}
 use Rattle.mm_arena.specs.declared.key.Key.{Key}
 use Rattle.mm_links.specs.Chain.{head_or, last_or, first_with_next}
-use Rattle.mm_links.proofs.Lemmas.Ends.{first_with_next-cut}
+use Rattle.mm_links.proofs.Lemmas.Ends.{first_with_next-cut, first_with_next-last}
 use Rattle.mm_queue.specs.declared.ends.Ends.{Ends}
 use Rattle.mm_queue.specs.Queues.{first}
 use Rattle.mm_queue.specs.private.Linked.{processes_of, ends_of}
@@ -18,14 +18,9 @@ last_or-append before (x ∷ xs) ys = last_or-append (Some x) xs ys
 
 -- ---- with a key put last
 
--- with one before, the first of a list stays
-front_stays : (front : Option ℕ) (p : ℕ) (ps : List ℕ) (next : Option ℕ) → first_with_next front (last_or (Some p) ps) next ≡ front
-front_stays front p [] next = refl
-front_stays front p (r ∷ ps) next = front_stays front r ps next
-
 front_pushed : (keys : List Key) (key : Key) → first_with_next (head_or (processes_of keys) None) (last_or None (processes_of keys)) (Some key.process) ≡ head_or (processes_of (keys ++ key ∷ [])) None
 front_pushed [] key = refl
-front_pushed (k ∷ keys) key = front_stays (Some k.process) k.process (processes_of keys) (Some key.process)
+front_pushed (k ∷ keys) key = first_with_next-last (Some k.process) k.process (processes_of keys) (Some key.process)
 
 back_pushed : (before : Option ℕ) (keys : List Key) (key : Key) → Some key.process ≡ last_or before (processes_of (keys ++ key ∷ []))
 back_pushed before [] key = refl
