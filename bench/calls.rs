@@ -19,6 +19,7 @@ const SECONDS: f64 = 2.0;
 unsafe extern "C" {
     safe fn mm_bench_nothing(number: u64) -> u64;
     safe fn mm_bench_rounds(resources: u32, mask: u32, others: u32, count: u64) -> u64;
+    safe fn mm_bench_hand_overs(waiters: u32, count: u64) -> u64;
     safe fn mm_bench_crosswise(count: u64) -> u64;
     safe fn mm_bench_rings(size: u32, is_rising: bool, settles: u32, is_closed: bool, count: u64) -> u64;
 }
@@ -95,6 +96,19 @@ fn measure_rounds_beside(others: u32) {
     .measure();
 }
 
+fn measure_hand_overs(waiters: u32) {
+    let count = 50;
+    Workload {
+        name: "release with so many waiters, and wait again",
+        size: waiters,
+        units: u64::from(waiters) * count,
+        unit: "waiter",
+        proved: &|is_whole| mm_bench_hand_overs(waiters, if is_whole { count } else { 0 }),
+        plain: &|is_whole| workloads::hand_overs(waiters, if is_whole { count } else { 0 }).unwrap(),
+    }
+    .measure();
+}
+
 fn measure_crosswise() {
     let count = 10_000;
     Workload {
@@ -152,6 +166,9 @@ fn main() {
     }
     for others in [64, 4_000] {
         measure_rounds_beside(others);
+    }
+    for waiters in [16, 4_095] {
+        measure_hand_overs(waiters);
     }
     measure_crosswise();
     for size in [2, 64, 4_096] {

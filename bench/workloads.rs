@@ -1,6 +1,6 @@
 //! The workloads of crates/mm_bench, step for step, over the plain table.
 
-use crate::plain::{Config, Key, Refusal, Table};
+use crate::plain::{Config, Key, Refusal, Released, Table};
 
 const STRIDE: u32 = 40_503;
 const MOST_PROCESSES: u32 = 4_096;
@@ -29,6 +29,29 @@ pub fn rounds(resources: u32, mask: u32, others: u32, count: u64) -> Result<u64,
     let mut resource = 0;
     for _ in 0..count {
         resource = take_sixteen(&mut table, resource, mask)?;
+    }
+    Ok(table.accepted())
+}
+
+fn pass_on(table: &mut Table, owner: Key) -> Result<Key, Refusal> {
+    let released = table.release(owner, 0)?;
+    table.acquire(owner, 0)?;
+    Ok(match released {
+        Released::To(next) => next,
+        Released::Free => owner,
+    })
+}
+
+pub fn hand_overs(waiters: u32, count: u64) -> Result<u64, Refusal> {
+    let mut table = open(MOST_PROCESSES, 1)?;
+    let mut owner = table.begin()?;
+    table.acquire(owner, 0)?;
+    for _ in 0..waiters {
+        let key = table.begin()?;
+        table.acquire(key, 0)?;
+    }
+    for _ in 0..count {
+        owner = pass_on(&mut table, owner)?;
     }
     Ok(table.accepted())
 }

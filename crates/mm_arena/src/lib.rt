@@ -10,8 +10,6 @@ mod law;
 mod memory;
 mod shelf;
 mod slot;
-#[cfg(test)]
-mod tests;
 
 pub use arena::{Arena, MAX_CAPACITY};
 pub use key::Key;

@@ -43,6 +43,7 @@ impl<T> Shelf<T> {
     }
 
     /// Stores a value under a key whose process is below the capacity, in constant time. Gives what its process had: a value, and the key that it was under.
+    #[inline]
     pub fn put(&mut self, key: Key, value: T) -> Option<(Key, T)>
         requires { key.process < length self.old }
         ensures was { result ≡ entry_at self.old key.process }
@@ -52,6 +53,7 @@ impl<T> Shelf<T> {
     }
 
     /// The value under this very key, in constant time. `None` exactly where its process has no value, or one under another generation.
+    #[inline]
     pub fn get(&self, key: Key) -> Option<&T>
         ensures { option_copied result ≡ value_at self.now key }
     {
@@ -84,6 +86,7 @@ impl<T> Shelf<T> {
     }
 
     /// Takes out the value under this very key, in constant time. `None` exactly where `get` gives `None`, and then nothing changes.
+    #[inline]
     pub fn take(&mut self, key: Key) -> Option<T>
         ensures value { result ≡ value_at self.old key }
         ensures entries { self.new ≡ taken self.old key }
@@ -96,6 +99,7 @@ impl<T> Shelf<T> {
     }
 
     /// The key under which a process has a value, in constant time. `None` exactly where it has none, or is not below the capacity.
+    #[inline]
     pub fn key_at(&self, process: u32) -> Option<Key>
         ensures { result ≡ option_map (λ entry. entry.0) (entry_at self.now process) }
     {
@@ -103,6 +107,3 @@ impl<T> Shelf<T> {
         Some(*key)
     }
 }
-
-#[cfg(test)]
-mod tests;

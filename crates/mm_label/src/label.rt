@@ -163,5 +163,7 @@ pub fn fresh(own: Label, holder: Label, process: u32, limit: u64) -> Option<Labe
     if highest >= limit {
         return None;
     }
-    Label::new(highest + 1, process)
+    Some(Label {
+        word: (highest + 1) * u64::from(PROCESS_RANGE) + u64::from(process),
+    })
 }

@@ -6,8 +6,6 @@
 
 mod label;
 mod laws;
-#[cfg(test)]
-mod tests;
 
 pub use label::{COUNTER_RANGE, Label, PROCESS_RANGE, fresh};
 pub use laws::{fresh_is_above, words_keep_the_order};

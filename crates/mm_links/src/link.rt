@@ -52,6 +52,3 @@ impl Link {
         Some(self.number)
     }
 }
-
-#[cfg(test)]
-mod tests;

@@ -8,7 +8,11 @@ pub mod Filter
 pub mod Find
 -- lists in which nothing stands twice, and how long they are
 pub mod NoRepeat
+-- lists in order of a number
+pub mod Order
 -- ranges of numbers
 pub mod Range
 -- what is read of a list after one place of it is written
 pub mod Set
+-- walks through lists
+pub mod Walk

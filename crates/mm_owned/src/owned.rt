@@ -21,6 +21,8 @@ struct Resource {
     links: Links,
 }
 
+const _: () = prove!(size_of::<Resource>() == 16);
+
 /// What is kept of a resource that nobody owns and that is in no list.
 const FREE: Resource = Resource {
     owner: Owner::NONE,
@@ -38,13 +40,13 @@ pub struct Owned {
 
 impl Model for Owned {
     ghost use Rattle.mm_owned.specs.Owned.{Ownership};
-    ghost use Rattle.mm_owned.specs.private.Linked.{seen, AreKept};
+    ghost use Rattle.mm_owned.specs.private.Linked.{seen, AreConsistent};
 
     ghost Value = { Ownership };
 
     ghost view = { λ o. seen o.firsts.items o.resources.items };
 
-    ghost invariant = { λ o. AreKept o.firsts.items o.resources.items };
+    ghost invariant = { λ o. AreConsistent o.firsts.items o.resources.items };
 }
 
 impl Owned {
@@ -169,6 +171,3 @@ fn set_next(first: &mut Link, resources: &mut [Resource], resource: Link, next: 
         Some(resource) => resources[resource as usize].links.next = next,
     }
 }
-
-#[cfg(test)]
-mod tests;

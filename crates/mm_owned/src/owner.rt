@@ -12,6 +12,8 @@ pub struct Owner {
     generation: u32,
 }
 
+const _: () = prove!(size_of::<Owner>() == 8);
+
 impl Model for Owner {
     ghost use Rattle.std.specs.Prelude.{Option};
     ghost use Rattle.mm_arena.specs.declared.key.Key.{Key};

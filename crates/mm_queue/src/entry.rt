@@ -14,6 +14,8 @@ pub(crate) struct Entry {
     pub(crate) links: Links,
 }
 
+const _: () = prove!(size_of::<Entry>() == 12);
+
 /// Sets what comes before a process, where there is one.
 #[inline]
 pub(crate) fn set_before(entries: &mut Shelf<Entry>, process: Link, before: Link)

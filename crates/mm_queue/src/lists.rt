@@ -20,13 +20,13 @@ pub struct Lists {
 
 impl Model for Lists {
     ghost use Rattle.mm_queue.specs.Queues.{Queues};
-    ghost use Rattle.mm_queue.specs.private.Linked.{seen, AreKept};
+    ghost use Rattle.mm_queue.specs.private.Linked.{seen, AreConsistent};
 
     ghost Value = { Queues };
 
     ghost view = { λ l. seen l.ends.items l.entries };
 
-    ghost invariant = { λ l. AreKept l.ends.items l.entries };
+    ghost invariant = { λ l. AreConsistent l.ends.items l.entries };
 }
 
 impl Lists {
@@ -49,6 +49,7 @@ impl Lists {
     }
 
     /// Puts a key last in a list, in constant time. Its process stands in no list yet.
+    #[inline]
     pub fn push_back(&mut self, list: u32, key: Key)
         requires list_in_range { list < length self.old.lists }
         requires process_in_range { key.process < self.old.processes }
@@ -76,6 +77,7 @@ impl Lists {
     }
 
     /// The first key of a list, in constant time. `None` where the list has none.
+    #[inline]
     pub fn front(&self, list: u32) -> Option<Key>
         requires { list < length self.now.lists }
         ensures { result ≡ first (queue self.now list) }
@@ -84,15 +86,22 @@ impl Lists {
     }
 
     /// The key after this one in its list, in constant time. `None` for the last of a list, and for a key that stands in no list.
+    #[inline]
     pub fn next(&self, key: Key) -> Option<Key>
         ensures listed { IsNext self.now key result }
         ensures absent { ¬ Stands self.now key → IsNone result }
     {
-        self.entries
-            .key_at(self.entries.get(key)?.links.next.get()?)
+        let process = self.entries.get(key)?.links.next.get()?;
+        let Key { generation, .. } = self.entries.key_at(process)?;
+        // Its process is that of the link, which is known before the key is read.
+        Some(Key {
+            process,
+            generation,
+        })
     }
 
     /// Takes a key out of its list, in constant time. `false` exactly where it stands in none, and then nothing changes.
+    #[inline]
     pub fn remove(&mut self, key: Key) -> bool
         ensures found { IsTrue result ↔ Stands self.old key }
         ensures removed { Removes self.old self.new key }
@@ -155,6 +164,3 @@ impl Lists {
         let _ = &self.ends;
     }
 }
-
-#[cfg(test)]
-mod tests;

@@ -4,7 +4,7 @@
 pub mod Records
 -- what holds of every `Table`
 pub mod Table
--- queues, found in the one list of waits
-pub mod Queues
+-- labels that are shown, and the label limit
+pub mod LabelLimit
 -- those that a settle goes over
 pub mod Waiters

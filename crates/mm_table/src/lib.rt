@@ -8,8 +8,6 @@
 
 mod records;
 mod table;
-#[cfg(test)]
-mod tests;
 
 pub use mm_rules::{
     Acquired, Config, Detected, Key, Label, Mode, Refusal, Released, Settled, State, Totals,

@@ -5,10 +5,10 @@
 //!
 //! - `call`: what every event tests first, and how an accepted one is counted.
 //! - `hand_over`: how a resource goes to the longest waiter.
-use crate::{Config, Key, Totals};
-use mm_arena::Arena;
+use crate::{Config, Totals};
 use mm_label::Label;
 use mm_owned::Owned;
+use mm_transactions::Transactions;
 use std::marker::Model;
 
 mod abort;
@@ -26,13 +26,6 @@ mod transmit;
 
 pub use settle::Waiter;
 
-/// A live transaction.
-#[derive(Clone, Copy, Debug)]
-struct Transaction {
-    waits_for: Option<u32>,
-    has_verdict: bool,
-}
-
 /// The labels of a process, which outlive its transactions.
 #[derive(Clone, Copy, Debug)]
 struct Labels {
@@ -40,23 +33,17 @@ struct Labels {
     public: Label,
 }
 
-/// A transaction that waits, and the resource that it waits for.
-#[derive(Clone, Copy, Debug)]
-struct WaitRecord {
-    key: Key,
-    resource: u32,
-}
-
 /// How a table is kept. Each event is one step by its definition; the laws of reached states are not known here.
 #[derive(Drop)]
 pub struct Records {
     config: Config,
-    transactions: Arena<Transaction>,
+    /// What each waits for, and the queue of each resource.
+    transactions: Transactions,
     labels: Vec<Labels>,
+    /// No public label has a greater counter.
+    greatest: u64,
     /// The owner of each resource, and the resources of each process.
     owned: Owned,
-    /// In order of arrival. There is room for each process.
-    waits: Vec<WaitRecord>,
     totals: Totals,
 }
 

@@ -70,7 +70,7 @@ impl Table {
     /// Hands the resource over: the longest waiter owns it from now on, and each other waiter keeps its place and gets a fresh
     /// label against the new owner; with no waiter it is free.
     ///
-    /// Refused as `CountsExhausted`, `Stale`, `NoResource`, `Waiting`, `NotOwner` or `LabelsExhausted`. `O(waiting transactions)`: the one list of waits is searched.
+    /// Refused as `CountsExhausted`, `Stale`, `NoResource`, `Waiting`, `NotOwner` or `LabelsExhausted`. `O(waiters of the resource)`.
     /// The rule is this project's.
     pub fn release(&mut self, key: Key, resource: u32) -> Result<Released, Refusal>
         ensures { Step (Release key resource) self.old result self.new }
@@ -82,7 +82,7 @@ impl Table {
     /// to be given again, under the next generation; at the last generation it is retired, and never given again.
     ///
     /// Refused as `CountsExhausted`, `Stale`, `Waiting` or `LabelsExhausted`; the last is tested for all of its resources before
-    /// anything changes. `O(waiting transactions)` for each resource that it owns. The rule is this project's.
+    /// anything changes. `O(its resources + their waiters)`. The rule is this project's.
     pub fn finish(&mut self, key: Key) -> Result<(), Refusal>
         ensures { Step (Finish key) self.old result self.new }
     {
@@ -111,7 +111,7 @@ impl Table {
     /// Ends a transaction with a verdict: takes back its wait, and then hands over all that it owns and frees its slot as `finish` does.
     ///
     /// Refused as `CountsExhausted`, `Stale`, `NoVerdict` or `LabelsExhausted`; a refused call keeps the wait and the verdict.
-    /// `O(waiting transactions)` for each resource that it owns.
+    /// `O(its resources + their waiters)`.
     /// That a convicted transaction gives way is Mitchell and Merritt's rule; how it hands over is this project's.
     pub fn abort(&mut self, key: Key) -> Result<(), Refusal>
         ensures { Step (Abort key) self.old result self.new }

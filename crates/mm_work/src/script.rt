@@ -18,8 +18,6 @@ mod input;
 mod line;
 mod output;
 mod reply;
-#[cfg(test)]
-mod tests;
 mod words;
 
 use engine::Session;

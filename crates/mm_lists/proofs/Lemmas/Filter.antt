@@ -1,5 +1,6 @@
 -- What a filter leaves of a list.
-use Rattle.std.proofs.Common.{◌≡◌, ◌≢◌, ◌⊎◌, ℕ, Bool, true, cond, List, [], ◌∷◌, filter, inl, inr, refl, sym, ap, ◌∙◌}
+use Rattle.std.proofs.Common.{◌≡◌, ◌≢◌, ◌⊎◌, ℕ, Bool, true, false, not, cond, List, [], ◌∷◌, ◌++◌, map, filter, inl, inr, refl, sym, ap, subst, ◌∙◌}
+use Rattle.std.proofs.lemmas.List.Elements.{filter-append}
 use Rattle.std.specs.List.{AllByRecursion}
 use Rattle.std.proofs.lemmas.Bool.{cases_Bool, cases_eq, eq-eqb, ne_eqb}
 use Rattle.mm_lists.specs.Members.{Among, NoRepeat, without}
@@ -38,6 +39,63 @@ filter_filter p q (y ∷ ys) keeps =
       | inl yes_y ↦ rw (keeps y (inl refl) yes_y, yes_y) (ap (λ zs. y ∷ zs) rest)
       | inr no_y ↦ elim (cases_Bool (q y)) [ inl kept ↦ rw (kept, no_y) rest | inr left ↦ rw (left, no_y) rest ]
     ]
+
+-- ---- two filters, and filters that keep all or nothing
+
+pub filter_none : {X : Type 0} (p : X → Bool) (xs : List X) → AllByRecursion (λ x. p x ≡ false) xs → filter p xs ≡ []
+filter_none p [] all = refl
+filter_none p (x ∷ xs) all = rw all.0 (filter_none p xs all.1)
+
+pub none_pass : {X : Type 0} (p : X → Bool) (xs : List X) → filter p xs ≡ [] → AllByRecursion (λ x. p x ≡ false) xs
+none_pass p [] none = tt
+none_pass p (x ∷ xs) none = elim (cases_Bool (p x)) [
+  | inl yes_x ↦ (let never : x ∷ filter p xs ≡ [] = rw yes_x at none in absurd (cc))
+  | inr no_x ↦ (no_x, none_pass p xs (rw no_x at none))
+]
+
+pub filter_swap : {X : Type 0} (p q : X → Bool) (xs : List X) → filter p (filter q xs) ≡ filter q (filter p xs)
+filter_swap p q [] = refl
+filter_swap p q (x ∷ xs) = elim (cases_Bool (p x)) [
+  | inl yes_p ↦ elim (cases_Bool (q x)) [ inl yes_q ↦ rw (yes_q, yes_p, yes_q) (ap (λ l. x ∷ l) (filter_swap p q xs)) | inr no_q ↦ rw (no_q, yes_p, no_q) (filter_swap p q xs) ]
+  | inr no_p ↦ elim (cases_Bool (q x)) [ inl yes_q ↦ rw (yes_q, no_p) (filter_swap p q xs) | inr no_q ↦ rw (no_q, no_p) (filter_swap p q xs) ]
+]
+
+-- where none passes, the opposite test keeps all
+pub filter_not : {X : Type 0} (p : X → Bool) (xs : List X) → AllByRecursion (λ x. p x ≡ false) xs → filter (λ x. not (p x)) xs ≡ xs
+filter_not p [] all = refl
+filter_not p (x ∷ xs) all = rw all.0 (ap (λ l. x ∷ l) (filter_not p xs all.1))
+
+pub filter_map : {X Y : Type 0} (f : X → Y) (p : Y → Bool) (xs : List X) → filter p (map f xs) ≡ map f (filter (λ x. p (f x)) xs)
+filter_map f p [] = refl
+filter_map f p (x ∷ xs) = elim (cases_Bool (p (f x))) [
+  | inl yes_x ↦ rw yes_x (ap (λ ys. f x ∷ ys) (filter_map f p xs))
+  | inr no_x ↦ rw no_x (filter_map f p xs)
+]
+
+-- ---- the only one that passes
+
+not_empty : {X : Type 0} (b : List X) (x : X) (a : List X) → b ++ x ∷ a ≡ [] → ⊥
+not_empty [] x a e = cc
+not_empty (y ∷ b) x a e = (let never : y ∷ (b ++ x ∷ a) ≡ [] = e in cc)
+
+-- all but that one pass the opposite test
+pub filter_only : {X : Type 0} (p : X → Bool) (x : X) (b a : List X) → p x ≡ true → filter p (b ++ x ∷ a) ≡ x ∷ [] → filter (λ y. not (p y)) (b ++ x ∷ a) ≡ b ++ a
+filter_only p x [] a passes one =
+    let whole : x ∷ filter p a ≡ x ∷ [] = rw passes at one in
+    let none : filter p a ≡ [] = cc in
+    rw passes (filter_not p a (none_pass p a none))
+filter_only p x (y ∷ b) a passes one = elim (cases_Bool (p y)) [
+  | inl yes_y ↦
+      let whole : y ∷ filter p (b ++ x ∷ a) ≡ x ∷ [] = rw yes_y at one in
+      let none : filter p (b ++ x ∷ a) ≡ [] = cc in
+      let never : filter p b ++ x ∷ filter p a ≡ [] = rw passes at (sym (filter-append p b (x ∷ a)) ∙ none) in
+      absurd (not_empty (filter p b) x (filter p a) never)
+  | inr no_y ↦ rw no_y (ap (λ l. y ∷ l) (filter_only p x b a passes (rw no_y at one)))
+]
+
+-- where it stands
+pub only_among : {X : Type 0} (p : X → Bool) (x : X) (xs : List X) → filter p xs ≡ x ∷ [] → Among x xs
+only_among p x xs one = (filter_gives p xs x (subst (Among x) (sym one) (inl refl))).0
 
 -- ---- a list without one number
 

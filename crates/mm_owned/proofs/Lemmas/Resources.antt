@@ -12,7 +12,7 @@ use Rattle.mm_links.specs.Links.{unlinked, before_of, next_of, with_before, with
 use Rattle.mm_owned.specs.declared.owned.Resource.{Resource}
 use Rattle.mm_owned.specs.Owned.{Ownership, unowned}
 use Rattle.mm_owned.specs.private.Owner.{no_process}
-use Rattle.mm_owned.specs.private.Linked.{links_of, owners_of, seen, AreLinked, AreKept}
+use Rattle.mm_owned.specs.private.Linked.{links_of, owners_of, seen, AreLinked, AreConsistent}
 use Rattle.mm_owned.proofs.Lemmas.Linked.{lists_seen, AreLinked-unowned}
 
 -- what is kept of a resource that nobody owns
@@ -20,7 +20,7 @@ abbrev pub no_owner : Resource
 no_owner = record { owner = None; links = unlinked }
 
 -- what a value says of its fields
-pub links_now : (s : Ownership) (firsts : List (Option ℕ)) (rs : List Resource) → seen firsts rs ≡ s → AreKept firsts rs → AreLinked s firsts (links_of rs)
+pub links_now : (s : Ownership) (firsts : List (Option ℕ)) (rs : List Resource) → seen firsts rs ≡ s → AreConsistent firsts rs → AreLinked s firsts (links_of rs)
 links_now s firsts rs is kept = subst (λ t. AreLinked t firsts (links_of rs)) is kept
 
 pub length-links_of : (rs : List Resource) → length (links_of rs) ≡ length rs
@@ -92,7 +92,7 @@ module _ (rs gone relinked back written : List Resource) (r : ℕ) (free : Resou
 
 -- the fields are kept, and a contract sees this
 pub record IsShown (s : Ownership) (firsts : List (Option ℕ)) (rs : List Resource) : Type 0 where
-  pub kept : AreKept firsts rs
+  pub kept : AreConsistent firsts rs
   pub is : seen firsts rs ≡ s
 
 pub shown_linked : (s : Ownership) (firsts : List (Option ℕ)) (rs : List Resource) → AreLinked s firsts (links_of rs) → owners_of rs ≡ s.owners → IsShown s firsts rs

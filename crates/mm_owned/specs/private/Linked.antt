@@ -35,5 +35,5 @@ pub record AreLinked (s : Ownership) (firsts : List (Option ℕ)) (links : List 
   pub matched : ListsMatchOwners s
 
 -- the fields keep what a contract sees of them
-abbrev pub AreKept : List (Option ℕ) → List Resource → Type 0
-AreKept firsts resources = AreLinked (seen firsts resources) firsts (links_of resources)
+abbrev pub AreConsistent : List (Option ℕ) → List Resource → Type 0
+AreConsistent firsts resources = AreLinked (seen firsts resources) firsts (links_of resources)

@@ -11,8 +11,3 @@ fn keeps_a_key_or_none(rt: HostRuntime) {
     }
     assert_eq!(rt; Owner::NONE.get(), None);
 }
-
-#[test]
-fn takes_eight_bytes(rt: HostRuntime) {
-    assert_eq!(rt; std::mem::size_of::<Owner>(), 8);
-}

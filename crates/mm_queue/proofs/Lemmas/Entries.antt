@@ -17,7 +17,7 @@ use Rattle.mm_links.proofs.Lemmas.Ends.{Among-last_or}
 use Rattle.mm_queue.specs.declared.entry.Entry.{Entry}
 use Rattle.mm_queue.specs.declared.ends.Ends.{Ends}
 use Rattle.mm_queue.specs.Queues.{Queues, queue, first, empty_queues, with_queue, Stands, IsOccupied}
-use Rattle.mm_queue.specs.private.Linked.{HasEntry, links_in, tag_in, links_of, tags_of, tag_at, processes_of, ends_of, seen, AreLinked, AreKept}
+use Rattle.mm_queue.specs.private.Linked.{HasEntry, links_in, tag_in, links_of, tags_of, tag_at, processes_of, ends_of, seen, AreLinked, AreConsistent}
 use Rattle.mm_queue.proofs.Lemmas.Ends.{ends_pushed, ends_removed, head_or-first, first-none}
 use Rattle.mm_queue.proofs.Lemmas.AreLinked.{tag_in_range, lists_seen, ends_are, short}
 use Rattle.mm_queue.proofs.Lemmas.Pushed.{old_tag, AreLinked-pushed}
@@ -110,11 +110,11 @@ module _ (s : Entries Entry) (process new : Option ℕ) (p : ℕ) (key : Key) (e
 
 -- ---- what the fields keep
 
-pub linked_now : (q : Queues) (ends : List Ends) (s : Entries Entry) → seen ends s ≡ q → AreKept ends s → AreLinked q ends (links_of s) (tags_of s)
+pub linked_now : (q : Queues) (ends : List Ends) (s : Entries Entry) → seen ends s ≡ q → AreConsistent ends s → AreLinked q ends (links_of s) (tags_of s)
 linked_now q ends s is kept = subst (λ t. AreLinked t ends (links_of s) (tags_of s)) is kept
 
 pub record IsShown (q : Queues) (ends : List Ends) (s : Entries Entry) : Type 0 where
-  pub kept : AreKept ends s
+  pub kept : AreConsistent ends s
   pub is : seen ends s ≡ q
 
 pub shown : (q : Queues) (ends : List Ends) (s : Entries Entry) → AreLinked q ends (links_of s) (tags_of s) → IsShown q ends s
@@ -187,6 +187,14 @@ module _ (q : Queues) (ends : List Ends) (s : Entries Entry) (linked : AreLinked
     pub next_read : (p : ℕ) → entry.links.next ≡ Some p → option_map (λ (x : Key × Entry). x.0) (entry_at s p) ≡ first after
     next_read p is =
         first_read list (before ++ key ∷ []) after p (whole ∙ sym (append_one before key after)) (sym next_is ∙ is)
+
+  -- a key is kept under its own process
+  pub its_process : (p : ℕ) (k : Key) → option_map (λ (x : Key × Entry). x.0) (entry_at s p) ≡ Some k → k.process ≡ p
+  its_process p k is = by (entry_at s p) refl is
+    where
+      by : (o : Option (Key × Entry)) → entry_at s p ≡ o → option_map (λ (x : Key × Entry). x.0) o ≡ Some k → k.process ≡ p
+      by None at none = absurd (none-some k none)
+      by (Some x) at some = ap (λ (j : Key). j.process) (sym (same_Some _ _ some)) ∙ linked.own p x.0 x.1.list (tag_of_entry s p x.0 x.1 at)
 
   -- how many keys a list has
   pub len_small : (list : ℕ) (e other : Ends) → list < length q.lists → e ≡ get_or ends list other → e.len ≤ 1048576

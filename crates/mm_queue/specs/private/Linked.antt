@@ -70,5 +70,5 @@ pub record AreLinked (q : Queues) (ends : List Ends) (links : List Links) (tags 
   pub small : q.processes ≤ 1048576
 
 -- the fields keep what a contract sees of them
-abbrev pub AreKept : List Ends → Entries Entry → Type 0
-AreKept ends s = AreLinked (seen ends s) ends (links_of s) (tags_of s)
+abbrev pub AreConsistent : List Ends → Entries Entry → Type 0
+AreConsistent ends s = AreLinked (seen ends s) ends (links_of s) (tags_of s)

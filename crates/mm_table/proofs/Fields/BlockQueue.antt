@@ -1,68 +1,72 @@
--- The waiters of a resource are blocked place by place: what is left to do leads to the same state.
-use Rattle.std.proofs.Common.{◌≡◌, ◌≢◌, ℕ, ◌+◌, ◌<◌, List, [], ◌∷◌, length, map, filter, drop, slice_index_or, nat_eq, IsTrue, refl, ap, sym, ◌∙◌, subst}
+-- The waiters of a resource are blocked on its new owner, one after the other.
+use Rattle.std.proofs.Common.{◌≡◌, ◌≢◌, ℕ, ◌<◌, List, [], ◌∷◌, ◌++◌, map, Option, Some, refl, ap, sym, ◌∙◌, subst, inl, inr, IsTrue}
 use Rattle.std.proofs.lemmas.Bool.{and_parts}
-use Rattle.std.specs.List.{list_all}
-use Rattle.mm_table.specs.declared.records.WaitRecord.{WaitRecord}
-use Rattle.mm_lists.specs.Members.{NoRepeat}
-use Rattle.mm_rules.specs.TableState.{TableState, Wait}
+use Rattle.std.specs.List.{list_all, AllByRecursion}
+use Rattle.mm_arena.specs.declared.key.Key.{Key}
+use Rattle.mm_lists.specs.Members.{Among, NoRepeat}
+use Rattle.mm_rules.specs.TableState.{TableState, Wait, waiters_of}
 use Rattle.mm_rules.specs.Change.{block, block_fits}
-use Rattle.mm_table.specs.private.Queues.{queue_from, fits_from}
 use Rattle.mm_rules.specs.private.Stages.{blocked_on, NoneIs}
-use Rattle.mm_table.specs.private.Records.{wait_of_record}
-use Rattle.mm_rules.proofs.States.Queues.{once_drop, not_among_queue, fits_after}
-use Rattle.mm_table.proofs.Fields.Queues.{queue_here, queue_past, next_at}
+use Rattle.mm_rules.proofs.States.Queues.{fits_after}
+use Rattle.mm_transactions.specs.Transactions.{first_key, IsNextWaiter}
+use Rattle.mm_table.proofs.Fields.Walk.{IsAt, Passes, passes, at_start, at_next}
 
--- s came from old by blocks of those before this place: the rest of them leads to the same state, and can be done
-pub record IsUnderWay (old s : TableState) (r h from place : ℕ) : Type 0 where
-  pub rest : blocked_on s h (queue_from s r place) ≡ blocked_on old h (queue_from old r from)
-  pub processes : s.config.processes ≡ old.config.processes
+-- those before `next` are blocked on h, and the others are left
+pub record IsUnderWay (old s : TableState) (r h : ℕ) (next : Option Key) : Type 0 where
+  pub left : List Wait
+  pub at : IsAt (waiters_of old r) next left
+  pub goes_on : blocked_on s h left ≡ blocked_on old h (waiters_of old r)
+  pub config : s.config ≡ old.config
   pub waits : s.waits ≡ old.waits
-  pub once : NoRepeat (map (λ w. w.key.process) s.waits)
-  pub fits : IsTrue (fits_from s r h place)
-  pub apart : NoneIs h (queue_from s r place)
+  pub fits : IsTrue (list_all (λ w. block_fits s w.key.process h) left)
+  pub apart : NoneIs h left
+  pub within : AllByRecursion (λ w. w.key.process < old.config.processes) left
+  pub once : NoRepeat (map (λ w. w.key.process) (waiters_of old r))
 
--- what is known at a place of the queue
-pub fits_here : (old s : TableState) (r h from i : ℕ) (ws : List WaitRecord) (w : WaitRecord) → IsUnderWay old s r h from i → s.waits ≡ map wait_of_record ws
-    → i < length ws → w ≡ slice_index_or ws i w → w.resource ≡ r → IsTrue (block_fits s w.key.process h)
-fits_here old s r h from i ws w way are within is for_r =
-    let queue = ap (λ l. filter (λ w. nat_eq w.resource r) (drop i l)) are ∙ queue_here ws i w r within is for_r in
-    (and_parts _ _ (subst (λ (l : List Wait). IsTrue (list_all (λ v. block_fits s v.key.process h) l)) queue way.fits)).0
+pub starts : (old : TableState) (r h : ℕ) (next : Option Key) → next ≡ first_key (waiters_of old r) → IsTrue (list_all (λ w. block_fits old w.key.process h) (waiters_of old r)) → NoneIs h (waiters_of old r)
+    → AllByRecursion (λ w. w.key.process < old.config.processes) (waiters_of old r) → NoRepeat (map (λ w. w.key.process) (waiters_of old r)) → IsUnderWay old old r h next
+starts old r h next first fits apart within once =
+    record { left = waiters_of old r; at = at_start (waiters_of old r) next first; goes_on = refl; config = refl; waits = refl; fits = fits; apart = apart; within = within; once = once }
 
-pub blocked_here : (old s : TableState) (r h from i : ℕ) (ws : List WaitRecord) (w : WaitRecord) → IsUnderWay old s r h from i → s.waits ≡ map wait_of_record ws
-    → i < length ws → w ≡ slice_index_or ws i w → w.resource ≡ r → IsUnderWay old (block s w.key.process h) r h from (i + 1)
-blocked_here old s r h from i ws w way are within is for_r =
-    let n = w.key.process in
-    let rest = queue_from s r (i + 1) in
-    let queue : queue_from s r i ≡ wait_of_record w ∷ rest =
-    ap (λ l. filter (λ w. nat_eq w.resource r) (drop i l)) are ∙ queue_here ws i w r within is for_r ∙ ap (λ l. wait_of_record w ∷ filter (λ w. nat_eq w.resource r) (drop (i + 1) l)) (sym are) in
-    let here : drop i s.waits ≡ wait_of_record w ∷ drop (i + 1) s.waits = ap (drop i) are ∙ next_at ws i w within is ∙ ap (λ l. wait_of_record w ∷ drop (i + 1) l) (sym are) in
-    let once = subst (λ (l : List Wait). NoRepeat (map (λ w. w.key.process) l)) here (once_drop s.waits i way.once) in
-    let none = not_among_queue r n (drop (i + 1) s.waits) once.0 in
-    let apart = subst (NoneIs h) queue way.apart in
-    let fits = and_parts _ _ (subst (λ (l : List Wait). IsTrue (list_all (λ v. block_fits s v.key.process h) l)) queue way.fits) in
-    record {
-      rest = ap (blocked_on s h) (sym queue) ∙ way.rest;
-      processes = way.processes;
-      waits = way.waits;
-      once = way.once;
-      fits = fits_after s n h apart.0 rest none ∙ fits.1;
-      apart = apart.1;
-    }
+-- nobody behind a waiter is of its process
+none_is : (n : ℕ) (ws : List Wait) → (Among n (map (λ w. w.key.process) ws) → ⊥) → NoneIs n ws
+none_is n [] none = tt
+none_is n (w ∷ ws) none = ((λ same. none (inl (sym same))), none_is n ws (λ later. none (inr later)))
 
-pub skipped_here : (old s : TableState) (r h from i : ℕ) (ws : List WaitRecord) (w : WaitRecord) → IsUnderWay old s r h from i → s.waits ≡ map wait_of_record ws
-    → i < length ws → w ≡ slice_index_or ws i w → w.resource ≢ r → IsUnderWay old s r h from (i + 1)
-skipped_here old s r h from i ws w way are within is for_other =
-    let queue : queue_from s r i ≡ queue_from s r (i + 1) =
-    ap (λ l. filter (λ w. nat_eq w.resource r) (drop i l)) are ∙ queue_past ws i w r within is for_other ∙ ap (λ l. filter (λ w. nat_eq w.resource r) (drop (i + 1) l)) (sym are) in
-    record {
-      rest = ap (blocked_on s h) (sym queue) ∙ way.rest;
-      processes = way.processes;
-      waits = way.waits;
-      once = way.once;
-      fits = subst (λ (l : List Wait). IsTrue (list_all (λ v. block_fits s v.key.process h) l)) queue way.fits;
-      apart = subst (NoneIs h) queue way.apart;
-    }
+pub none_behind : (passed : List Wait) (w : Wait) (others : List Wait) → NoRepeat (map (λ w. w.key.process) (passed ++ w ∷ others)) → NoneIs w.key.process others
+none_behind [] w others once = none_is w.key.process others once.0
+none_behind (p ∷ passed) w others once = none_behind passed w others once.1
 
-pub processes_kept : (ws : List WaitRecord) → map (λ w. w.key.process) (map wait_of_record ws) ≡ map (λ w. w.key.process) ws
-processes_kept [] = refl
-processes_kept (w ∷ ws) = ap (λ ns. w.key.process ∷ ns) (processes_kept ws)
+-- the one that is blocked next
+module _ (old s : TableState) (r h : ℕ) (key : Key) (way : IsUnderWay old s r h (Some key)) where
+  pub one : Passes (waiters_of old r) key way.left
+  one = passes (waiters_of old r) key way.left way.at
+
+  its_process : one.wait.key.process ≡ key.process
+  its_process = ap (λ (k : Key). k.process) one.key_is
+
+  pub at_another : (next : Option Key) → IsNextWaiter s.waits key next → IsAt (waiters_of old r) next one.others
+  at_another next is_next = at_next old.waits (waiters_of old r) r key next way.left refl way.at one (subst (λ (ws : List Wait). IsNextWaiter ws key next) way.waits is_next)
+
+  no_other : NoneIs key.process one.others
+  no_other =
+      subst (λ n. NoneIs n one.others) its_process
+      (none_behind way.at.passed one.wait one.others (subst (λ (l : List Wait). NoRepeat (map (λ w. w.key.process) l)) (way.at.whole ∙ ap (λ l. way.at.passed ++ l) one.left_is) way.once))
+
+  pub blocked : (next : Option Key) → IsNextWaiter s.waits key next → IsUnderWay old (block s key.process h) r h next
+  blocked next is_next =
+      let n = key.process in
+      let none = subst (NoneIs h) one.left_is way.apart in
+      let apart : n ≢ h = subst (λ (m : ℕ). m ≢ h) its_process none.0 in
+      let all = subst (λ (l : List Wait). IsTrue (list_all (λ w. block_fits s w.key.process h) l)) one.left_is way.fits in
+      record {
+        left = one.others;
+        at = at_another next is_next;
+        goes_on = ap (λ m. blocked_on (block s m h) h one.others) (sym its_process) ∙ ap (blocked_on s h) (sym one.left_is) ∙ way.goes_on;
+        config = way.config;
+        waits = way.waits;
+        fits = fits_after s n h apart one.others no_other ∙ (and_parts (block_fits s one.wait.key.process h) (list_all (λ w. block_fits s w.key.process h) one.others) all).1;
+        apart = none.1;
+        within = (subst (λ (l : List Wait). AllByRecursion (λ w. w.key.process < old.config.processes) l) one.left_is way.within).1;
+        once = way.once;
+      }

@@ -1,132 +1,155 @@
--- The first of a queue, where it stands among the waits, and what is left of the queue without it.
-use Rattle.std.proofs.Common.{◌≡◌, ◌≢◌, ℕ, zero, suc, ◌+◌, ◌<◌, ◌≤◌, true, false, not, List, [], ◌∷◌, length, map, filter, drop, slice_index_or, Option, Some, None, nat_eq, refl, ap, sym, ◌∙◌, inl, inr, arith, subst, add-one, slice_set, option_map, IsTrue}
-use Rattle.std.proofs.lemmas.List.Quantifiers.{position-Some}
+-- A resource goes to the longest waiter, and what is left of its queue.
+use Rattle.std.proofs.Common.{◌≡◌, ◌≢◌, ℕ, zero, suc, ◌<◌, ◌&&◌, Bool, true, false, not, is_some, List, [], ◌∷◌, map, filter, slice_index_or, slice_set, Option, Some, None, option_map, nat_eq, refl, ap, sym, ◌∙◌, subst, inl, arith, IsTrue, SomeIff}
 use Rattle.std.proofs.lemmas.Bool.{eq-eqb, ne_eqb}
-use Rattle.std.specs.List.{position, slice_get, list_all}
-use Rattle.std.proofs.lemmas.Option.{slice_get-map}
+use Rattle.mm_label.specs.Label.{Label}
+use Rattle.std.specs.List.{list_all, AllByRecursion}
 use Rattle.mm_arena.specs.declared.key.Key.{Key}
-use Rattle.mm_table.specs.declared.records.WaitRecord.{WaitRecord}
 use Rattle.mm_lists.specs.Members.{Among, NoRepeat}
-use Rattle.mm_rules.specs.TableState.{TableState, Wait, is_of, waiters_of}
+use Rattle.mm_lists.proofs.Lemmas.Among.{all_map, all_from}
+use Rattle.mm_lists.proofs.Lemmas.Filter.{filter_gives, filter_swap, filter_not}
+use Rattle.mm_lists.proofs.Lemmas.NoRepeat.{no_repeat_filter, found_by_number}
+use Rattle.mm_rules.specs.TableState.{TableState, Wait, is_of, is_live, is_waiting, waiters_of}
 use Rattle.mm_rules.specs.Change.{activate, block_fits, give_to, give_to_fits, hand_over, hand_over_fits}
 use Rattle.mm_rules.specs.Event.{release_answer}
 use Rattle.mm_rules.specs.declared.reply.Released.TheVariants.{To}
-use Rattle.mm_table.specs.private.Queues.{queue_from, fits_from}
 use Rattle.mm_rules.specs.private.Stages.{blocked_on, NoneIs}
-use Rattle.mm_table.specs.private.Records.{wait_of_record}
-use Rattle.mm_table.proofs.Fields.Queues.{queue, queue_first, next_at}
-use Rattle.mm_rules.proofs.States.Queues.{once_drop, not_among_queue}
-use Rattle.mm_table.proofs.Fields.BlockQueue.{processes_kept}
-use Rattle.mm_table.proofs.Fields.EndWait.{all_kept, got}
+use Rattle.mm_transactions.specs.Transactions.{first_key, IsNextWaiter, WaitsAreLawful}
+use Rattle.mm_table.specs.declared.records.Records.TheInside.{Inside}
+use Rattle.mm_table.specs.private.Records.{IsConsistent, state_of_records}
+use Rattle.mm_table.proofs.Fields.Walk.{IsAt, Passes, passes, at_start, at_next}
+use Rattle.mm_table.proofs.Fields.BlockQueue.{none_behind}
 
--- an element in range
-record Placed {X : Type 0} (xs : List X) (i : ℕ) : Type 0 where
-  element : X
-  is : element ≡ slice_index_or xs i element
+-- nobody waits for a resource whose queue has no first
+pub nobody : (ws : List Wait) → first_key ws ≡ None → ws ≡ []
+nobody [] none = refl
+nobody (w ∷ ws) none = (let never : Some w.key ≡ None = none in absurd (cc))
 
-placed : {X : Type 0} (xs : List X) (i : ℕ) → i < length xs → Placed xs i
-placed [] i within = absurd (omega arith)
-placed (x ∷ xs) zero within = record { element = x; is = refl }
-placed (x ∷ xs) (suc i) within = let later = placed xs i (omega arith) in record { element = later.element; is = later.is }
+-- no process waits twice for one resource
+pub once_queue : (s : TableState) (r : ℕ) → NoRepeat (map (λ w. w.key.process) s.waits) → NoRepeat (map (λ w. w.key.process) (waiters_of s r))
+once_queue s r once = no_repeat_filter (λ (w : Wait). w.key.process) (λ w. nat_eq w.resource r) s.waits once
 
-among_at : (ws : List WaitRecord) (i : ℕ) (w : WaitRecord) → slice_get ws i ≡ Some w → Among w.key.process (map (λ v. v.key.process) ws)
-among_at [] i w found = let never : None ≡ Some w = found in cc
-among_at (v ∷ ws) zero w found = let here : Some v ≡ Some w = found in let same : v ≡ w = cc in inl (ap (λ o. o.key.process) (sym same))
-among_at (v ∷ ws) (suc i) w found = inr (among_at ws i w found)
+-- what holds of all that wait holds of a queue
+pub queue_within : (P : Wait → Type 0) (s : TableState) (r : ℕ) → ((w : Wait) → Among w s.waits → P w) → AllByRecursion P (waiters_of s r)
+queue_within P s r each = all_from P (waiters_of s r) (λ w among. each w (filter_gives (λ v. nat_eq v.resource r) s.waits w among).0)
 
--- behind the place of the one that goes, nothing changes
-without_at : (ws : List WaitRecord) (i : ℕ) (w : WaitRecord) → slice_get ws i ≡ Some w → NoRepeat (map (λ v. v.key.process) ws)
-    → drop i (filter (λ v. not (is_of w.key.process v)) (map wait_of_record ws)) ≡ drop (suc i) (map wait_of_record ws)
-without_at [] i w found once = let never : None ≡ Some w = found in cc
-without_at (v ∷ ws) zero w found once =
-    let here : Some v ≡ Some w = found in
-    let same : v ≡ w = cc in
-    let mine : nat_eq v.key.process w.key.process ≡ true = eq-eqb v.key.process w.key.process (ap (λ o. o.key.process) same) in
-    rw mine (all_kept ws w.key.process (λ later. once.0 (let P : ℕ → Type 0 = λ n. Among n (map (λ o. o.key.process) ws) in subst P (ap (λ o. o.key.process) (sym same)) later)))
-without_at (v ∷ ws) (suc i) w found once =
-    let apart : v.key.process ≢ w.key.process = λ e. once.0 (let P : ℕ → Type 0 = λ n. Among n (map (λ o. o.key.process) ws) in subst P (sym e) (among_at ws i w found)) in
-    let other : nat_eq v.key.process w.key.process ≡ false = ne_eqb v.key.process w.key.process apart in
-    rw other (without_at ws i w found once.1)
+-- ---- the waits of a table
 
--- the first of the queue of r, at place i among the waits
-pub record First (s : TableState) (ws : List WaitRecord) (r i : ℕ) : Type 0 where
-  pub wait : WaitRecord
-  pub within : i < length ws
-  pub is : wait ≡ slice_index_or ws i wait
-  pub at_place : slice_get ws i ≡ Some wait
-  pub queue_is : waiters_of s r ≡ wait_of_record wait ∷ queue r (drop (i + 1) s.waits)
-  pub left : drop i (filter (λ v. not (is_of wait.key.process v)) s.waits) ≡ drop (i + 1) s.waits
-  pub apart : NoneIs wait.key.process (queue r (drop (i + 1) s.waits))
+-- who waits is live, waits once, and is one of the table's processes
+pub record HasLawfulWaits (s : TableState) : Type 0 where
+  pub live : (w : Wait) → Among w s.waits → IsTrue (is_live s w.key)
+  pub once : NoRepeat (map (λ w. w.key.process) s.waits)
+  pub within : (w : Wait) → Among w s.waits → w.key.process < s.config.processes
 
-first_placed : (s : TableState) (ws : List WaitRecord) (r i : ℕ) → map wait_of_record ws ≡ s.waits → NoRepeat (map (λ v. v.key.process) ws) → position (λ w. nat_eq w.resource r) ws ≡ Some i
-    → i < length ws → Placed ws i → First s ws r i
-first_placed s ws r i are once found within here =
-    let w = here.element in
-    let at_place = got ws i w within here.is in
-    let next : drop i s.waits ≡ wait_of_record w ∷ drop (i + 1) s.waits = ap (drop i) (sym are) ∙ next_at ws i w within here.is ∙ ap (λ l. wait_of_record w ∷ drop (i + 1) l) are in
-    let once_all = subst (λ (l : List Wait). NoRepeat (map (λ v. v.key.process) l)) are (subst NoRepeat (sym (processes_kept ws)) once) in
-    let once_here = subst (λ (l : List Wait). NoRepeat (map (λ v. v.key.process) l)) next (once_drop s.waits i once_all) in
-    let step : drop (suc i) (map wait_of_record ws) ≡ drop (i + 1) s.waits = ap (drop (suc i)) are ∙ ap (λ n. drop n s.waits) (sym (add-one i)) in
-    record {
-      wait = w;
-      within = within;
-      is = here.is;
-      at_place = at_place;
-      queue_is = ap (queue r) (sym are) ∙ queue_first ws r i w found here.is ∙ ap (λ l. wait_of_record w ∷ queue r (drop (i + 1) l)) are;
-      left = ap (λ l. drop i (filter (λ v. not (is_of w.key.process v)) l)) (sym are) ∙ without_at ws i w at_place once ∙ step;
-      apart = not_among_queue r w.key.process (drop (i + 1) s.waits) once_here.0;
-    }
-
--- any wait, where a default is wanted
-abbrev no_wait : WaitRecord
-no_wait = record { key = record { process = 0; generation = 0 }; resource = 0 }
-
-pub first : (s : TableState) (ws : List WaitRecord) (r i : ℕ) → map wait_of_record ws ≡ s.waits → NoRepeat (map (λ v. v.key.process) ws) → position (λ w. nat_eq w.resource r) ws ≡ Some i → First s ws r i
-first s ws r i are once found =
-    let within = (position-Some (λ (v : WaitRecord). nat_eq v.resource r) ws i no_wait found).0 in
-    first_placed s ws r i are once found within (placed ws i within)
-
-long_enough : (ws : List WaitRecord) (i : ℕ) (w : WaitRecord) → slice_get ws i ≡ Some w → NoRepeat (map (λ v. v.key.process) ws) → i ≤ length (filter (λ v. not (is_of w.key.process v)) (map wait_of_record ws))
-long_enough [] i w found once = let never : None ≡ Some w = found in cc
-long_enough (v ∷ ws) zero w found once = omega arith
-long_enough (v ∷ ws) (suc i) w found once =
-    let apart : v.key.process ≢ w.key.process = λ e. once.0 (let P : ℕ → Type 0 = λ n. Among n (map (λ o. o.key.process) ws) in subst P (sym e) (among_at ws i w found)) in
-    let other : nat_eq v.key.process w.key.process ≡ false = ne_eqb v.key.process w.key.process apart in
-    rw other (let rest = long_enough ws i w found once.1 in omega arith)
-
--- the first waiter for r has become its owner, and the rest of the queue is about to be blocked
-pub record IsHandedOver (s t : TableState) (r i : ℕ) (key : Key) : Type 0 where
-  pub answer : To key ≡ release_answer (waiters_of s r)
-  pub from : i ≤ length t.waits
-  pub fits : IsTrue (hand_over_fits s r) → IsTrue (fits_from t r key.process i)
-  pub apart : NoneIs key.process (queue_from t r i)
-  pub state : blocked_on t key.process (queue_from t r i) ≡ hand_over s r
+pub lawful_waits : (t : Inside) (s : TableState) → IsConsistent t → state_of_records t ≡ s → WaitsAreLawful t.transactions → HasLawfulWaits s
+lawful_waits t s fits is lawful = subst HasLawfulWaits is (record {
+  live = lawful.live;
+  once = lawful.once;
+  within = λ w among. omega (arith, (lawful.in_range w among).0, fits.sizes.slots);
+})
 
 -- s with this key as the owner of r, which waits no longer
 abbrev pub taken_over : TableState → ℕ → Key → TableState
 taken_over s r key = activate (record s { owners = slice_set s.owners r (Some key) }) key.process
 
-is_handed_over : (s : TableState) (ws : List WaitRecord) (r i : ℕ) → map wait_of_record ws ≡ s.waits → NoRepeat (map (λ v. v.key.process) ws) → (f : First s ws r i) → IsHandedOver s (taken_over s r f.wait.key) r i f.wait.key
-is_handed_over s ws r i are once f =
-    let key = f.wait.key in
-    let rest = queue r (drop (i + 1) s.waits) in
-    let left : queue_from (taken_over s r key) r i ≡ rest = ap (queue r) f.left in
-    record {
-      answer = ap release_answer (sym f.queue_is);
-      from = subst (λ (l : List Wait). i ≤ length (filter (λ v. not (is_of key.process v)) l)) are (long_enough ws i f.wait f.at_place once);
-      fits = λ all. subst (λ (l : List Wait). IsTrue (list_all (λ v. block_fits s v.key.process key.process) l)) (sym left) (subst (λ (l : List Wait). IsTrue (give_to_fits s l)) f.queue_is all);
-      apart = subst (NoneIs key.process) (sym left) f.apart;
-      state = ap (blocked_on (taken_over s r key) key.process) left ∙ ap (give_to s r) (sym f.queue_is);
-    }
+-- ---- the limit, by a walk through the queue
 
--- the same of the key that was found at the place
-pub handed_over : (s t : TableState) (ws : List WaitRecord) (r i : ℕ) (key : Key) → map wait_of_record ws ≡ s.waits → NoRepeat (map (λ v. v.key.process) ws) → (f : First s ws r i)
-    → option_map (λ w. w.key) (slice_get s.waits i) ≡ Some key → t ≡ taken_over s r key → IsHandedOver s t r i key
-handed_over s t ws r i key are once f at_place is =
-    let one : Some f.wait.key ≡ Some key =
-    ap (λ o. option_map (λ (w : Wait). w.key) (option_map wait_of_record o)) (sym f.at_place) ∙ ap (option_map (λ (w : Wait). w.key)) (sym (slice_get-map wait_of_record ws i)) ∙ ap (λ l. option_map (λ (w : Wait). w.key) (slice_get l i)) are ∙ at_place in
-    let same : f.wait.key ≡ key = cc in
-    subst (λ (u : TableState). IsHandedOver s u r i key) (sym is) (subst (λ (k : Key). IsHandedOver s (taken_over s r k) r i k) same (is_handed_over s ws r i are once f))
+-- those before `next` fit
+pub record FitsFrom (s : TableState) (r h : ℕ) (next : Option Key) : Type 0 where
+  pub left : List Wait
+  pub at : IsAt (waiters_of s r) next left
+  pub fits : hand_over_fits s r ≡ list_all (λ w. block_fits s w.key.process h) left
+  pub within : AllByRecursion (λ w. w.key.process < s.config.processes) left
+
+-- what `label_against` answered says whether it fits
+pub fits_by : (o : Option Label) (b : Bool) (v : Label) → SomeIff o (IsTrue b) v → is_some o ≡ true → b ≡ true
+fits_by None b v given found = let never : false ≡ true = found in cc
+fits_by (Some l) b v given found = given.0
+
+module _ (s : TableState) (r h : ℕ) (key : Key) (way : FitsFrom s r h (Some key)) where
+  pub next_one : Passes (waiters_of s r) key way.left
+  next_one = passes (waiters_of s r) key way.left way.at
+
+  its_number : next_one.wait.key.process ≡ key.process
+  its_number = ap (λ (k : Key). k.process) next_one.key_is
+
+  pub next_within : key.process < s.config.processes
+  next_within = subst (λ (n : ℕ). n < s.config.processes) its_number (subst (λ (l : List Wait). AllByRecursion (λ w. w.key.process < s.config.processes) l) next_one.left_is way.within).0
+
+  pub next_at : (next : Option Key) → IsNextWaiter s.waits key next → IsAt (waiters_of s r) next next_one.others
+  next_at next is_next = at_next s.waits (waiters_of s r) r key next way.left refl way.at next_one is_next
+
+  here : hand_over_fits s r ≡ (block_fits s key.process h && list_all (λ w. block_fits s w.key.process h) next_one.others)
+  here =
+      way.fits ∙ ap (list_all (λ (w : Wait). block_fits s w.key.process h)) next_one.left_is
+      ∙ ap (λ n. block_fits s n h && list_all (λ w. block_fits s w.key.process h) next_one.others) its_number
+
+  pub next_fits : (next : Option Key) → IsNextWaiter s.waits key next → block_fits s key.process h ≡ true → FitsFrom s r h next
+  next_fits next is_next fits = record {
+    left = next_one.others;
+    at = next_at next is_next;
+    fits = here ∙ rw fits refl;
+    within = (subst (λ (l : List Wait). AllByRecursion (λ w. w.key.process < s.config.processes) l) next_one.left_is way.within).1;
+  }
+
+-- the first waiter for r
+module _ (s : TableState) (r : ℕ) (key : Key) (first : Some key ≡ first_key (waiters_of s r)) (once : NoRepeat (map (λ w. w.key.process) s.waits)) where
+  pub one : Passes (waiters_of s r) key (waiters_of s r)
+  one = passes (waiters_of s r) key (waiters_of s r) (at_start (waiters_of s r) (Some key) first)
+
+  its_process : one.wait.key.process ≡ key.process
+  its_process = ap (λ (k : Key). k.process) one.key_is
+
+  -- it is among the waits
+  among : Among one.wait s.waits
+  among = (filter_gives (λ v. nat_eq v.resource r) s.waits one.wait (subst (Among one.wait) (sym one.left_is) (inl refl))).0
+
+  pub first_within : HasLawfulWaits s → key.process < s.config.processes
+  first_within lawful = subst (λ (n : ℕ). n < s.config.processes) its_process (lawful.within one.wait among)
+
+  pub first_lives : HasLawfulWaits s → IsTrue (is_live s key)
+  first_lives lawful = subst (λ (k : Key). IsTrue (is_live s k)) one.key_is (lawful.live one.wait among)
+
+  pub waiting : is_waiting s key.process ≡ true
+  waiting = ap (λ o. is_some (option_map (λ (w : Wait). w.resource) o)) (found_by_number (λ (w : Wait). w.key.process) s.waits one.wait key.process once among its_process)
+
+  pub answer : To key ≡ release_answer (waiters_of s r)
+  answer = ap To (sym one.key_is) ∙ ap release_answer (sym one.left_is)
+
+  pub apart : NoneIs key.process one.others
+  apart = subst (λ n. NoneIs n one.others) its_process (none_behind [] one.wait one.others (subst (λ (l : List Wait). NoRepeat (map (λ w. w.key.process) l)) one.left_is (once_queue s r once)))
+
+  -- the others stay in the queue
+  pub left : (t : TableState) → t ≡ taken_over s r key → waiters_of t r ≡ one.others
+  left t is =
+      let n = key.process in
+      let mine : is_of n one.wait ≡ true = eq-eqb one.wait.key.process n its_process in
+      let stay : filter (λ w. not (is_of n w)) one.others ≡ one.others =
+      filter_not (is_of n) one.others (all_map (λ (w : Wait). w.key.process ≢ n) (λ w. is_of n w ≡ false) (λ w other. ne_eqb w.key.process n other) one.others apart) in
+      ap (λ u. waiters_of u r) is ∙ filter_swap (λ w. nat_eq w.resource r) (λ w. not (is_of n w)) s.waits ∙ ap (filter (λ w. not (is_of n w))) one.left_is ∙ rw mine stay
+
+  pub others_apart : (t : TableState) → t ≡ taken_over s r key → NoneIs key.process (waiters_of t r)
+  others_apart t is = subst (NoneIs key.process) (sym (left t is)) apart
+
+  pub others_fit : (t : TableState) → t ≡ taken_over s r key → IsTrue (hand_over_fits s r) → IsTrue (list_all (λ w. block_fits t w.key.process key.process) (waiters_of t r))
+  others_fit t is fits =
+      let all : IsTrue (list_all (λ w. block_fits s w.key.process one.wait.key.process) one.others) = subst (λ (l : List Wait). IsTrue (give_to_fits s l)) one.left_is fits in
+      let its = subst (λ (n : ℕ). IsTrue (list_all (λ w. block_fits s w.key.process n) one.others)) its_process all in
+      subst (λ (l : List Wait). IsTrue (list_all (λ w. block_fits t w.key.process key.process) l)) (sym (left t is))
+      (subst (λ (u : TableState). IsTrue (list_all (λ w. block_fits u w.key.process key.process) one.others)) (sym is) its)
+
+  pub handed_over : (t : TableState) → t ≡ taken_over s r key → blocked_on t key.process (waiters_of t r) ≡ hand_over s r
+  handed_over t is =
+      ap (blocked_on t key.process) (left t is) ∙ ap (λ u. blocked_on u key.process one.others) is
+      ∙ ap (λ k. blocked_on (taken_over s r k) k.process one.others) (sym one.key_is) ∙ ap (give_to s r) (sym one.left_is)
+
+  -- the others are walked against it
+  pub fits_start : (next : Option Key) → IsNextWaiter s.waits key next → ((w : Wait) → Among w s.waits → w.key.process < s.config.processes) → FitsFrom s r key.process next
+  fits_start next is_next within = record {
+    left = one.others;
+    at = at_next s.waits (waiters_of s r) r key next (waiters_of s r) refl (at_start (waiters_of s r) (Some key) first) one is_next;
+    fits = ap (give_to_fits s) one.left_is ∙ ap (λ n. list_all (λ w. block_fits s w.key.process n) one.others) its_process;
+    within = (subst (λ (l : List Wait). AllByRecursion (λ w. w.key.process < s.config.processes) l) one.left_is (queue_within (λ w. w.key.process < s.config.processes) s r within)).1;
+  }
 
 -- ---- the owner's resource is freed before the first waiter owns it
 

@@ -5,14 +5,13 @@ use Rattle.std.proofs.lemmas.List.{length-map}
 use Rattle.std.specs.List.{range_with_len}
 use Rattle.std.specs.Option.{option_map_or}
 use Rattle.mm_arena.specs.declared.key.Key.{Key}
-use Rattle.mm_arena.specs.Slots.{Slots}
 use Rattle.mm_lists.specs.Members.{Among, without}
 use Rattle.mm_owned.specs.Owned.{Ownership, ListsMatchOwners, owner_at, list_at, head, given, freed}
 use Rattle.mm_owned.proofs.Lemmas.ListsMatchOwners.{in_range}
 use Rattle.mm_rules.specs.declared.config.Config.{Config}
 use Rattle.mm_table.specs.declared.records.Records.TheInside.{Inside}
-use Rattle.mm_table.specs.declared.records.Transaction.{Transaction}
 use Rattle.mm_table.specs.declared.records.Labels.{Labels}
+use Rattle.mm_transactions.specs.Transactions.{Transactions}
 use Rattle.mm_rules.specs.TableState.{TableState, owns, resources_of}
 use Rattle.mm_rules.specs.Change.{hand_over_fits, vacate_fits}
 use Rattle.mm_table.specs.private.Records.{AreSized, IsConsistent, state_of_records}
@@ -22,21 +21,23 @@ use Rattle.mm_lists.proofs.Lemmas.Range.{among_range}
 
 -- ---- sizes
 
-pub given_sized : {c : Config} {s : Slots Transaction} {ls : List Labels} {o : Ownership} (k : Key) (r : ℕ) → AreSized c s ls o → AreSized c s ls (given o k r)
+pub given_sized : {c : Config} {s : Transactions} {ls : List Labels} {o : Ownership} (k : Key) (r : ℕ) → AreSized c s ls o → AreSized c s ls (given o k r)
 given_sized {c} {s} {ls} {o} k r sizes = record {
   config = sizes.config;
   slots = sizes.slots;
   last_generation = sizes.last_generation;
+  queues = sizes.queues;
   labels = sizes.labels;
   lists = length-set o.lists k.process _ ∙ sizes.lists;
   owners = length-set o.owners r (Some k) ∙ sizes.owners;
 }
 
-pub freed_sized : {c : Config} {s : Slots Transaction} {ls : List Labels} {o : Ownership} (r : ℕ) → AreSized c s ls o → AreSized c s ls (freed o r)
+pub freed_sized : {c : Config} {s : Transactions} {ls : List Labels} {o : Ownership} (r : ℕ) → AreSized c s ls o → AreSized c s ls (freed o r)
 freed_sized {c} {s} {ls} {o} r sizes = record {
   config = sizes.config;
   slots = sizes.slots;
   last_generation = sizes.last_generation;
+  queues = sizes.queues;
   labels = sizes.labels;
   lists = length-map o.lists (without r) ∙ sizes.lists;
   owners = length-set o.owners r None ∙ sizes.owners;

@@ -1,23 +1,16 @@
 //! A transaction under a verdict takes back its wait, and ends.
-ghost use Rattle.std.specs.Prelude.{◌≡◌, ◌<◌, ◌^◌, IsTrue, position, nat_eq, OnOk};
+ghost use Rattle.std.specs.Prelude.{◌≡◌, ◌<◌, ◌^◌, IsTrue, OnOk};
 ghost use Rattle.mm_rules.specs.TableState.{is_live, has_verdict, is_waiting};
 ghost use Rattle.mm_rules.specs.Change.{vacate_fits, withdraw};
 ghost use Rattle.mm_rules.specs.Event.{Gives, allowed, aborted, abort_tests};
 ghost use Rattle.mm_rules.specs.Laws.{Laws};
 
-use super::{Records, WaitRecord};
+use super::Records;
 use crate::{Key, Refusal};
-
-/// The place of the wait of `process`.
-fn place_of(waits: &[WaitRecord], process: u32) -> Option<usize>
-    ensures { result ≡ position (λ w. nat_eq w.key.process process) waits.now }
-{
-    waits.iter().position(|wait| wait.key.process == process)
-}
 
 impl Records {
     /// Takes back the wait of a transaction with a verdict, hands over all that it owns, and frees its slot.
-    /// `O(waiting transactions)` for each resource that it owns.
+    /// `O(its resources + their waiters)`.
     pub fn abort(&mut self, key: Key) -> Result<(), Refusal>
         requires { Laws self.old }
         ensures { Gives (aborted self.old key) result self.new }
@@ -46,16 +39,15 @@ impl Records {
         Ok(())
     }
 
-    /// Takes back the wait and the verdict of a transaction that waits, and counts an abort. `O(waiting transactions)`.
+    /// Takes back the wait and the verdict of a transaction that waits, and counts an abort. Constant time.
     fn withdraw(&mut self, key: Key)
         requires live { IsTrue (is_live self.old key) }
         requires waiting { IsTrue (is_waiting self.old key.process) }
         requires count { self.old.totals.aborts < 2 ^ 62 }
         ensures { self.new ≡ withdraw self.old key.process }
     {
-        let place = place_of(&self.waits, key.process).unwrap();
-        self.end_wait(place);
-        self.transactions.get_mut(key).unwrap().has_verdict = false;
+        self.end_wait(key);
+        self.transactions.set_verdict(key, false);
         self.totals.aborts += 1;
     }
 }

@@ -1,11 +1,12 @@
 //! A resource is granted, or its owner is waited for with a new label.
-ghost use Rattle.std.specs.Prelude.{◌≡◌, ◌<◌, ◌+◌, ◌∷◌, ◌++◌, [], IsTrue, None, Some, slice_set, Ok, is_some, OnOk, SomeIff};
+ghost use Rattle.std.specs.Prelude.{◌≡◌, ◌<◌, ◌+◌, ◌^◌, ◌∷◌, ◌++◌, [], IsTrue, None, Some, slice_set, Ok, is_some, OnOk, SomeIff};
 ghost use Rattle.mm_rules.specs.TableState.{wait_of, owner_of, is_live};
 ghost use Rattle.mm_rules.specs.Change.{block, block_fits, label_against};
 ghost use Rattle.mm_rules.specs.Event.{Gives, allowed, resource_tests, acquired};
 ghost use Rattle.mm_rules.specs.private.Stages.{wait_tests};
+ghost use Rattle.mm_table.specs.private.LabelLimit.{AllLabelsFit};
 
-use super::{Records, WaitRecord};
+use super::Records;
 use crate::{Acquired, Key, Refusal};
 use mm_label::{Label, fresh};
 
@@ -33,9 +34,8 @@ impl Records {
     {
         let holder = self.owned.owner(resource).unwrap();
         self.may_wait(key.process, holder.process)?;
-        self.queue(key, resource);
+        self.count_wait(key, resource);
         let label = self.block(key.process, holder.process);
-        self.count();
         Ok(Acquired::Waits { holder, label })
     }
 
@@ -65,16 +65,28 @@ impl Records {
         self.owned.push(key, resource);
     }
 
-    /// Appends the wait of a live transaction that does not wait.
-    fn queue(&mut self, key: Key, resource: u32)
+    /// Counts an accepted event by which a live transaction that did not wait waits for a resource, last in its queue. The count is
+    /// the number of its arrival.
+    fn count_wait(&mut self, key: Key, resource: u32)
         requires live { IsTrue (is_live self.old key) }
         requires resource { resource < self.old.config.resources }
         requires idle { wait_of self.old key.process ≡ None }
-        ensures { self.new ≡ record self.old { waits = self.old.waits ++ record { key = key; resource = resource } ∷ [] } }
+        requires count { self.old.totals.accepted < 2 ^ 62 }
+        ensures { self.new ≡ record self.old {
+          waits = self.old.waits ++ record { key = key; resource = resource } ∷ [];
+          totals = record self.old.totals { accepted = self.old.totals.accepted + 1 };
+        } }
     {
-        let transaction = self.transactions.get_mut(key).unwrap();
-        transaction.waits_for = Some(resource);
-        self.waits.push_reserved(WaitRecord { key, resource });
+        self.totals.accepted += 1;
+        self.transactions
+            .start_waiting(key, resource, self.totals.accepted);
+    }
+
+    /// Whether the limit allows each label that one block can make. Where it does not, some may still fit.
+    pub(super) fn all_labels_fit(&self) -> bool
+        ensures { IsTrue result → AllLabelsFit self.now }
+    {
+        self.greatest < self.config.label_limit
     }
 
     /// The label that `process` gets by waiting for `holder`; `None` past the label limit.
@@ -97,6 +109,7 @@ impl Records {
         ensures state { self.new ≡ block self.old process holder }
     {
         let label = self.label_against(process, holder).unwrap();
+        self.greatest = self.greatest.max(label.counter());
         let blocked = &mut self.labels[process as usize];
         blocked.private = label;
         blocked.public = label;

@@ -3,7 +3,7 @@ ghost use Rattle.std.specs.Prelude.{◌≡◌, ◌≢◌, [], true, drop, slice_
 ghost use Rattle.mm_rules.specs.TableState.{key_of};
 ghost use Rattle.mm_rules.specs.Event.{Gives, begun};
 
-use super::{Records, Transaction};
+use super::Records;
 use crate::{Key, Refusal};
 
 impl Records {
@@ -28,13 +28,6 @@ impl Records {
             }))
             (λ refusal. (self.old.free ≡ []) × (refusal ≡ Refusal.Full) × (self.new ≡ self.old)) }
     {
-        let transaction = Transaction {
-            waits_for: None,
-            has_verdict: false,
-        };
-        let Ok(key) = self.transactions.insert(transaction) else {
-            return Err(Refusal::Full);
-        };
-        Ok(key)
+        self.transactions.begin().ok_or(Refusal::Full)
     }
 }

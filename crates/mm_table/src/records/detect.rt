@@ -48,8 +48,7 @@ impl Records {
         requires count { self.old.totals.verdicts < u64.MAX }
         ensures { self.new ≡ detect self.old key.process }
     {
-        let transaction = self.transactions.get_mut(key).unwrap();
-        transaction.has_verdict = true;
+        self.transactions.set_verdict(key, true);
         self.totals.verdicts += 1;
     }
 }

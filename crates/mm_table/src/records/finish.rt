@@ -9,8 +9,7 @@ use super::Records;
 use crate::{Key, Refusal};
 
 impl Records {
-    /// Hands over all that the transaction owns, and frees its slot.
-    /// `O(waiting transactions)` for each resource that it owns.
+    /// Hands over all that the transaction owns, and frees its slot. `O(its resources + their waiters)`.
     pub fn finish(&mut self, key: Key) -> Result<(), Refusal>
         requires { Laws self.old }
         ensures { Gives (finished self.old key) result self.new }
@@ -56,7 +55,7 @@ impl Records {
         requires { process < self.now.config.processes }
         ensures { result ≡ vacate_fits self.now process }
     {
-        if self.waits.is_empty() {
+        if self.all_labels_fit() {
             return true;
         }
         let mut next = self.owned.first(process);
@@ -89,6 +88,6 @@ impl Records {
         requires no_verdict { IsFalse (has_verdict self.old key.process) }
         ensures { self.new ≡ free_slot self.old key.process }
     {
-        self.transactions.remove(key);
+        self.transactions.end(key);
     }
 }

@@ -1,23 +1,16 @@
-//! A resource goes from its owner to the longest waiter, found in the one list of waits.
-ghost use Rattle.std.specs.Prelude.{◌≡◌, ◌<◌, IsTrue, None, Some, length, slice_get, slice_set, option_map, position, nat_eq, ◌≤◌};
-ghost use Rattle.mm_rules.specs.TableState.{waiters_of};
-ghost use Rattle.mm_rules.specs.Change.{activate, hand_over, hand_over_fits};
+//! A resource goes from its owner to the longest waiter.
+ghost use Rattle.std.specs.Prelude.{◌≡◌, ◌<◌, IsTrue, None, slice_set};
+ghost use Rattle.std.specs.List.{list_all};
+ghost use Rattle.mm_rules.specs.TableState.{waiters_of, is_live, is_waiting};
+ghost use Rattle.mm_rules.specs.Change.{activate, block_fits, hand_over, hand_over_fits};
 ghost use Rattle.mm_rules.specs.Event.{release_answer};
-ghost use Rattle.mm_table.specs.private.Queues.{queue_from, fits_from};
 ghost use Rattle.mm_rules.specs.private.Stages.{blocked_on, NoneIs};
 
-use super::{Records, WaitRecord};
+use super::Records;
 use crate::{Key, Released};
 
-/// The place of the longest waiter for a resource.
-fn first_place(waits: &[WaitRecord], resource: u32) -> Option<usize>
-    ensures { result ≡ position (λ w. nat_eq w.resource resource) waits.now }
-{
-    waits.iter().position(|wait| wait.resource == resource)
-}
-
 impl Records {
-    /// Hands a resource over, and returns what becomes of it.
+    /// Hands a resource over, and returns what becomes of it. `O(waiters of the resource)`.
     pub(super) fn hand_over(&mut self, resource: u32) -> Released
         requires resource { resource < self.old.config.resources }
         requires fits { IsTrue (hand_over_fits self.old resource) }
@@ -26,56 +19,49 @@ impl Records {
         ensures totals { self.new.totals ≡ self.old.totals }
     {
         self.free(resource);
-        let Some(place) = first_place(&self.waits, resource) else {
+        let Some(first) = self.transactions.first_waiter(resource) else {
             return Released::Free;
         };
-        let first = self.end_wait(place);
+        self.end_wait(first);
         self.grant(first, resource);
-        self.block_queue(resource, place, first.process);
+        self.block_queue(resource, first.process);
         Released::To(first)
     }
 
-    /// Whether the limit allows each label that the hand-over of `resource` makes.
+    /// Whether the limit allows each label that the hand-over of `resource` makes. Constant time while the greatest label
+    /// is below the limit; `O(waiters of the resource)` from there on.
     pub(super) fn hand_over_fits(&self, resource: u32) -> bool
+        requires { resource < self.now.config.resources }
         ensures { result ≡ hand_over_fits self.now resource }
     {
-        match first_place(&self.waits, resource) {
-            None => true,
-            Some(place) => {
-                let first = self.waits[place].key;
-                self.blocks_fit(resource, place + 1, first.process)
-            }
+        if self.all_labels_fit() {
+            return true;
         }
-    }
-
-    /// Whether the limit allows the labels of all that wait for `resource`, from this place among the waits on, against `holder`.
-    fn blocks_fit(&self, resource: u32, from: usize, holder: u32) -> bool
-        requires holder { holder < self.now.config.processes }
-        requires from { from ≤ length self.now.waits }
-        ensures { result ≡ fits_from self.now resource holder from }
-    {
-        for place in from..self.waits.len() {
-            let wait = self.waits[place];
-            if wait.resource == resource && self.label_against(wait.key.process, holder).is_none() {
+        let Some(first) = self.transactions.first_waiter(resource) else {
+            return true;
+        };
+        let mut next = self.transactions.next_waiter(first);
+        while let Some(key) = next {
+            if self.label_against(key.process, first.process).is_none() {
                 return false;
             }
+            next = self.transactions.next_waiter(key);
         }
         true
     }
 
-    /// Blocks on `holder` all that wait for `resource`, from this place among the waits on.
-    fn block_queue(&mut self, resource: u32, from: usize, holder: u32)
+    /// Blocks on `holder` all that wait for `resource`. `O(waiters of the resource)`.
+    fn block_queue(&mut self, resource: u32, holder: u32)
         requires holder { holder < self.old.config.processes }
-        requires from { from ≤ length self.old.waits }
-        requires fits { IsTrue (fits_from self.old resource holder from) }
-        requires apart { NoneIs holder (queue_from self.old resource from) }
-        ensures { self.new ≡ blocked_on self.old holder (queue_from self.old resource from) }
+        requires resource { resource < self.old.config.resources }
+        requires fits { IsTrue (list_all (λ w. block_fits self.old w.key.process holder) (waiters_of self.old resource)) }
+        requires apart { NoneIs holder (waiters_of self.old resource) }
+        ensures { self.new ≡ blocked_on self.old holder (waiters_of self.old resource) }
     {
-        for place in from..self.waits.len() {
-            let wait = self.waits[place];
-            if wait.resource == resource {
-                self.block(wait.key.process, holder);
-            }
+        let mut next = self.transactions.first_waiter(resource);
+        while let Some(key) = next {
+            self.block(key.process, holder);
+            next = self.transactions.next_waiter(key);
         }
     }
 
@@ -87,15 +73,12 @@ impl Records {
         self.owned.remove(resource);
     }
 
-    /// Takes away the wait at this place among the waits. Returns who waited.
-    pub(super) fn end_wait(&mut self, place: usize) -> Key
-        requires { place < length self.old.waits }
-        ensures key { option_map (λ w. w.key) (slice_get self.old.waits place) ≡ Some result }
-        ensures in_range { result.process < self.new.config.processes }
-        ensures state { self.new ≡ activate self.old result.process }
+    /// Takes away the wait of a live transaction that waits.
+    pub(super) fn end_wait(&mut self, key: Key)
+        requires live { IsTrue (is_live self.old key) }
+        requires waiting { IsTrue (is_waiting self.old key.process) }
+        ensures { self.new ≡ activate self.old key.process }
     {
-        let key = self.waits.remove(place).key;
-        self.transactions.get_mut(key).unwrap().waits_for = None;
-        key
+        self.transactions.stop_waiting(key);
     }
 }

@@ -6,9 +6,9 @@ ghost use Rattle.mm_table.specs.private.Records.{opening_labels};
 
 use super::{Labels, Records};
 use crate::{Config, Refusal, Totals};
-use mm_arena::Arena;
 use mm_label::Label;
 use mm_owned::Owned;
+use mm_transactions::Transactions;
 use std::alloc::{AllocError, Global};
 
 impl Labels {
@@ -43,7 +43,12 @@ impl Records {
         if !config.is_in_range() {
             return Err(Refusal::BadConfig);
         }
-        let Ok(transactions) = Arena::new(alloc, config.processes, config.generation_limit) else {
+        let Ok(transactions) = Transactions::new(
+            alloc,
+            config.processes,
+            config.resources,
+            config.generation_limit,
+        ) else {
             return Err(Refusal::Memory);
         };
         let Ok(labels) = labels_at_opening(alloc, config.processes) else {
@@ -52,15 +57,12 @@ impl Records {
         let Ok(owned) = Owned::new(alloc, config.processes, config.resources) else {
             return Err(Refusal::Memory);
         };
-        let Ok(waits) = Vec::with_capacity(alloc, config.processes as usize) else {
-            return Err(Refusal::Memory);
-        };
         Ok(Records {
             config,
             transactions,
             labels,
+            greatest: 0,
             owned,
-            waits,
             totals: Totals {
                 accepted: 0,
                 verdicts: 0,

@@ -44,7 +44,7 @@ impl Records {
         ensures key { IfSome result (λ key. IsTrue (is_live self.now key) × (key.process ≡ process) × (process < self.now.config.processes)) }
         ensures idle { IfNone result (wait_of self.now process ≡ None) }
     {
-        self.transactions.key_at(process)
+        self.transactions.tenant(process)
     }
 
     /// What was counted. Constant time.

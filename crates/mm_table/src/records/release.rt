@@ -7,7 +7,7 @@ use super::Records;
 use crate::{Key, Refusal, Released};
 
 impl Records {
-    /// Hands a resource over. `O(waiting transactions)`.
+    /// Hands a resource over. `O(waiters of the resource)`.
     pub fn release(&mut self, key: Key, resource: u32) -> Result<Released, Refusal>
         ensures { Gives (released self.old key resource) result self.new }
     {

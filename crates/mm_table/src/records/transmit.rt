@@ -3,6 +3,7 @@ ghost use Rattle.std.specs.Prelude.{◌≡◌, ◌<◌, IsTrue, slice_set};
 ghost use Rattle.mm_rules.specs.TableState.{is_live};
 ghost use Rattle.mm_rules.specs.Change.{greater_label};
 ghost use Rattle.mm_rules.specs.Event.{Gives, transmitted};
+ghost use Rattle.mm_table.specs.private.LabelLimit.{IsShown};
 
 use super::Records;
 use crate::{Key, Refusal, Transmitted};
@@ -35,9 +36,10 @@ impl Records {
         (own < shown).then_some(shown)
     }
 
-    /// Makes this the public label of `process`.
+    /// Makes this label, which some process shows, the public label of `process`.
     pub(super) fn show(&mut self, process: u32, label: Label)
-        requires { process < self.old.config.processes }
+        requires process { process < self.old.config.processes }
+        requires shown { IsShown self.old label }
         ensures { self.new ≡ record self.old { public = slice_set self.old.public process label } }
     {
         self.labels[process as usize].public = label;

@@ -13,16 +13,16 @@ use Rattle.mm_table.specs.TableState.{TableState}
 use Rattle.mm_work.specs.declared.script.line.Line.TheVariants as kind
 
 -- there is at least one part
-pub record Parts (bytes : List ℕ) : Type 0 where
+pub record HasFirstPart (bytes : List ℕ) : Type 0 where
   pub first : List ℕ
   pub others : List (List ℕ)
   pub are : parts_of bytes ≡ first ∷ others
 
-pub parts : (bytes : List ℕ) → Parts bytes
-parts [] = record { first = []; others = []; are = refl }
-parts (b ∷ bytes) = elim (nat_eq b 0x0a) as (λ t. nat_eq b 0x0a ≡ t → Parts (b ∷ bytes)) [
+pub first_part : (bytes : List ℕ) → HasFirstPart bytes
+first_part [] = record { first = []; others = []; are = refl }
+first_part (b ∷ bytes) = elim (nat_eq b 0x0a) as (λ t. nat_eq b 0x0a ≡ t → HasFirstPart (b ∷ bytes)) [
   | true ↦ λ e. record { first = []; others = parts_of bytes; are = simp e }
-  | false ↦ λ e. let rest = parts bytes in record { first = b ∷ rest.first; others = rest.others; are = simp (e, rest.are) }
+  | false ↦ λ e. let rest = first_part bytes in record { first = b ∷ rest.first; others = rest.others; are = simp (e, rest.are) }
 ] refl
 
 lines-cons : (line first : List ℕ) (others : List (List ℕ)) → lines_of_parts (line ∷ first ∷ others) ≡ line ∷ lines_of_parts (first ∷ others)
@@ -31,8 +31,8 @@ lines-cons (b ∷ bs) first others = refl
 
 -- a line that ends with a newline is the first one
 cut-at : (all : Bool) (line more : List ℕ) → parts_of (line ++ 0x0a ∷ more) ≡ line ∷ parts_of more → cut all (line ++ 0x0a ∷ more) ≡ line ∷ cut all more
-cut-at true line more e = let rest = parts more in ap lines_of_parts (e ∙ ap (λ ps. line ∷ ps) rest.are) ∙ (lines-cons line rest.first rest.others ∙ ap (λ ps. line ∷ lines_of_parts ps) (sym rest.are))
-cut-at false line more e = let rest = parts more in ap whole_parts (e ∙ ap (λ ps. line ∷ ps) rest.are) ∙ ap (λ ps. line ∷ whole_parts ps) (sym rest.are)
+cut-at true line more e = let rest = first_part more in ap lines_of_parts (e ∙ ap (λ ps. line ∷ ps) rest.are) ∙ (lines-cons line rest.first rest.others ∙ ap (λ ps. line ∷ lines_of_parts ps) (sym rest.are))
+cut-at false line more e = let rest = first_part more in ap whole_parts (e ∙ ap (λ ps. line ∷ ps) rest.are) ∙ ap (λ ps. line ∷ whole_parts ps) (sym rest.are)
 
 nat_eq-is : (a b : ℕ) → is b a ≡ true → a ≡ b
 nat_eq-is a b h = grind (arith, common_steps)
@@ -113,7 +113,7 @@ cut-is false bytes = refl
 -- an open line that is too long may lose bytes
 pub long_text : (all : Bool) (t : Option TableState) (a b more out : List ℕ) (m : ℕ) → IsOpen (a ++ b) → 128 < length a → Text t (cut all (a ++ more)) out m → Text t (cut all ((a ++ b) ++ more)) out m
 long_text all t a b more out m h long text =
-    let rest = parts more in
+    let rest = first_part more in
     let short : cut all (a ++ more) ≡ cut_parts all ((a ++ rest.first) ∷ rest.others) = cut-is all (a ++ more) ∙ ap (cut_parts all) (open_front a more (open_part a b h) rest.first rest.others rest.are) in
     let whole : cut all ((a ++ b) ++ more) ≡ cut_parts all (((a ++ b) ++ rest.first) ∷ rest.others) = cut-is all ((a ++ b) ++ more) ∙ ap (cut_parts all) (open_front (a ++ b) more h rest.first rest.others rest.are) in
     subst (λ ls. Text t ls out m) (sym whole)

@@ -282,15 +282,15 @@ pub within_all : (input : Input) → input.taken ≤ input_limit → within_limi
 within_all input h = let all : length (held input) - (input.taken - input_limit) ≡ length (held input) = omega arith in ap (λ k. take k (held input)) all ∙ take_all (length (held input)) (held input) (omega arith)
 
 -- at most the limit and one byte more are read
-abbrev pub ReadsFew : Option (List ℕ) → Option (List ℕ) → Type 0
-ReadsFew before after = (read : List ℕ) × Consumes before after read × (length read ≤ 16777217)
+abbrev pub ReadsBounded : Option (List ℕ) → Option (List ℕ) → Type 0
+ReadsBounded before after = (read : List ℕ) × Consumes before after read × (length read ≤ 16777217)
 
-pub few_before : (rb ra after wb wa : Option (List ℕ)) (input : Input) (session : Session) → Progress rb ra wb wa input session → Keeps ra after → ReadsFew rb after
-few_before rb ra after wb wa input session p kept =
+pub bounded_before : (rb ra after wb wa : Option (List ℕ)) (input : Input) (session : Session) → Progress rb ra wb wa input session → Keeps ra after → ReadsBounded rb after
+bounded_before rb ra after wb wa input session p kept =
     (p.allowed ++ [], Consumes-kept rb ra after (p.allowed ++ []) p.reached.consumed kept, omega (arith, p.reached.taken, p.ready.within_limit, length-append p.allowed []))
 
-pub few_read : (rb ra after wb wa : Option (List ℕ)) (input read : Input) (session : Session) (some : Bool) → Progress rb ra wb wa input session → Reads ra after input read some → ReadsFew rb after
-few_read rb ra after wb wa input read session some p r = (
+pub bounded_read : (rb ra after wb wa : Option (List ℕ)) (input read : Input) (session : Session) (some : Bool) → Progress rb ra wb wa input session → Reads ra after input read some → ReadsBounded rb after
+bounded_read rb ra after wb wa input read session some p r = (
   (p.allowed ++ []) ++ r.piece,
   Consumes-trans rb ra after (p.allowed ++ []) r.piece p.reached.consumed r.consumed,
   omega (arith, p.reached.taken, r.taken, r.one_past, length-append p.allowed [], length-append (p.allowed ++ []) r.piece),

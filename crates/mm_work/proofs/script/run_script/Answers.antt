@@ -5,7 +5,7 @@ use Rattle.mm_work.specs.declared.script.ScriptFault.TheVariants.{Read, Write}
 use Rattle.mm_work.specs.Script.{input_limit}
 use Rattle.mm_work.specs.private.Input.{held, within_limit}
 use Rattle.mm_work.specs.private.Session.{AnswersLines}
-use Rattle.mm_work.proofs.Lemmas.RunScript.{Ran, progress_first, progress_next, piece_answered, ran_progress_read, ran_piece_write, ran_piece_too_long, ran_finish, within_all, few_before, few_read}
+use Rattle.mm_work.proofs.Lemmas.RunScript.{Ran, progress_first, progress_next, piece_answered, ran_progress_read, ran_piece_write, ran_piece_too_long, ran_finish, within_all, bounded_before, bounded_read}
 use Rattle.mm_work.proofs.script.run_script.Goals as goal
 
 pub loop-session-init : goal.loop-session-init
@@ -57,13 +57,13 @@ returns-clause-ends g c =
     ran_finish _ _ _ _ _ _ _ c.read.new.self _ _ _ _ _ _ _ c.loop-session.invariant c.in_ok-read.ensures.ok c.if-branch.false c.within_limit-2.ensures finished.3 finished.4 finished.5 c.finish.ensures.fault
 
 pub returns-in_err-read-clause-limit : goal.returns-in_err-read-clause-limit
-returns-in_err-read-clause-limit g c = few_before _ _ _ _ _ _ _ c.loop-session.invariant c.in_err-read.ensures.err
+returns-in_err-read-clause-limit g c = bounded_before _ _ _ _ _ _ _ c.loop-session.invariant c.in_err-read.ensures.err
 
 pub returns-in_err-count-clause-limit : goal.returns-in_err-count-clause-limit
-returns-in_err-count-clause-limit g c = few_read _ _ _ _ _ _ c.read.new.self _ _ c.loop-session.invariant c.in_ok-read.ensures.ok
+returns-in_err-count-clause-limit g c = bounded_read _ _ _ _ _ _ c.read.new.self _ _ c.loop-session.invariant c.in_ok-read.ensures.ok
 
 pub returns-then-is_past_limit-clause-limit : goal.returns-then-is_past_limit-clause-limit
-returns-then-is_past_limit-clause-limit g c = few_read _ _ _ _ _ _ c.read.new.self _ _ c.loop-session.invariant c.in_ok-read.ensures.ok
+returns-then-is_past_limit-clause-limit g c = bounded_read _ _ _ _ _ _ c.read.new.self _ _ c.loop-session.invariant c.in_ok-read.ensures.ok
 
 pub returns-clause-limit : goal.returns-clause-limit
-returns-clause-limit g c = few_read _ _ _ _ _ _ c.read.new.self _ _ c.loop-session.invariant c.in_ok-read.ensures.ok
+returns-clause-limit g c = bounded_read _ _ _ _ _ _ c.read.new.self _ _ c.loop-session.invariant c.in_ok-read.ensures.ok

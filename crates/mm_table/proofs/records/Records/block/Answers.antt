@@ -11,6 +11,6 @@ returns-clause-state c =
     let old : TableState = state_of_records inside in
     let label = c.unwrap-label.result in
     let fresh = (rw c.unwrap-label.ensures at c.label_against.ensures).1 ∙ ap (λ s. label_against s c.args.process c.args.holder) (sym c.self.view_is) in
-    labels_written inside.config inside.transactions inside.labels.items inside.owned.owners inside.waits.items inside.totals c.args.process (record { private = label; public = label })
+    labels_written inside.config inside.transactions inside.labels.items inside.owned.owners inside.totals c.args.process (record { private = label; public = label })
     ∙ ap (λ l. record old { private = slice_set old.private c.args.process l; public = slice_set old.public c.args.process l }) fresh
     ∙ ap (λ s. block s c.args.process c.args.holder) c.self.view_is

@@ -1,62 +1,38 @@
-use Rattle.std.proofs.Common.{◌≡◌, ◌<◌, ◌+◌, ap, sym, ◌∙◌, refl, arith, length, map, subst, List}
-use Rattle.std.proofs.lemmas.List.{length-map}
-use Rattle.mm_arena.specs.Slots.{IsLive}
-use Rattle.mm_table.specs.declared.records.WaitRecord.{WaitRecord}
-use Rattle.mm_lists.specs.Members.{NoRepeat}
-use Rattle.mm_rules.specs.TableState.{TableState, Wait}
-use Rattle.mm_table.specs.private.Records.{wait_of_record}
-use Rattle.mm_table.proofs.Fields.BlockQueue.{IsUnderWay, fits_here, blocked_here, skipped_here, processes_kept}
-use Rattle.mm_table.proofs.Fields.Slots.{all_at, live_within}
+use Rattle.std.proofs.Common.{◌<◌, List, length, Some, ap, sym, subst, ◌∙◌, arith}
+use Rattle.mm_rules.specs.TableState.{TableState, Wait, waiters_of}
+use Rattle.mm_transactions.specs.Transactions.{first_key, IsNextWaiter}
+use Rattle.mm_table.proofs.Fields.Walk.{left_from, fewer_left}
+use Rattle.mm_table.proofs.Fields.BlockQueue.{IsUnderWay, starts, one, at_another, blocked}
+use Rattle.mm_table.proofs.Fields.HandOver.{lawful_waits, once_queue, queue_within}
 use Rattle.mm_table.proofs.records.Records.block_queue.Goals as goal
-use Rattle.mm_table.proofs.records.Records.block_queue.Goals.{then-wait-resource, else-wait-resource}
 
--- the lists of waits of the start and of now are as long
-as_long : (first now : List WaitRecord) (old s : TableState) → map wait_of_record first ≡ old.waits → s.waits ≡ old.waits → map wait_of_record now ≡ s.waits → length now ≡ length first
-as_long first now old s begun same here = sym (length-map now wait_of_record) ∙ ap length (here ∙ same ∙ sym begun) ∙ length-map first wait_of_record
+pub loop-next-init : goal.loop-next-init
+loop-next-init c =
+    let s = c.args.self.now in
+    let r = c.args.resource in
+    let lawful = lawful_waits c.self.inside s c.self.invariant c.self.view_is c.first_waiter-next.ensures.lawful in
+    starts s r c.args.holder c.first_waiter-next.result (c.first_waiter-next.ensures.first ∙ ap (λ t. first_key (waiters_of t r)) c.self.view_is) c.requires.fits c.requires.apart
+    (queue_within (λ w. w.key.process < s.config.processes) s r lawful.within) (once_queue s r lawful.once)
 
-pub loop-place-init : goal.loop-place-init
-loop-place-init c = record {
-  rest = refl;
-  processes = refl;
-  waits = refl;
-  once =
-      let waits = ap (λ s. s.waits) c.self.view_is in
-      subst (λ (l : List Wait). NoRepeat (map (λ w. w.key.process) l)) waits (subst NoRepeat (sym (processes_kept c.self.inside.waits.items)) c.self.invariant.waits.once);
-  fits = c.requires.fits;
-  apart = c.requires.apart;
-}
+way : (c : goal.After-next_waiter-next) → IsUnderWay c.args.self.now c.loop-next.self c.args.resource c.args.holder (Some c.in-Some.key)
+way c = subst (IsUnderWay c.args.self.now c.loop-next.self c.args.resource c.args.holder) c.in-Some.is c.loop-next.invariant
 
-pub block-requires-clause-process : goal.block-requires-clause-process
-block-requires-clause-process c =
-    let inside = c.self-in-loop-place.inside in
-    let long = as_long c.self.inside.waits.items inside.waits.items c.args.self.now c.loop-place.self (ap (λ s. s.waits) c.self.view_is) c.loop-place.invariant.waits (ap (λ s. s.waits) c.self-in-loop-place.view_is) in
-    let within : c.loop-place.place < length inside.waits.items = omega (arith, c.self.inside.waits.ok.0) in
-    let live = all_at (λ (w : WaitRecord). IsLive inside.transactions w.key) inside.waits.items c.loop-place.place c.index-wait.result.now c.self-in-loop-place.invariant.waits.live within c.index-wait.ensures in
-    let in_places = live_within inside.transactions c.index-wait.result.now.key live in
-    let sized = c.self-in-loop-place.invariant.sizes.slots in
-    let processes = ap (λ s. s.config.processes) c.self-in-loop-place.view_is in
-    omega arith
+is_next : (c : goal.After-next_waiter-next) → IsNextWaiter c.loop-next.self.waits c.in-Some.key c.next_waiter-next.result
+is_next c = subst (λ (ws : List Wait). IsNextWaiter ws c.in-Some.key c.next_waiter-next.result) (ap (λ s. s.waits) (c.self-in-Some.view_is ∙ c.block.ensures.state)) c.next_waiter-next.ensures.listed
 
-pub block-requires-clause-fits : goal.block-requires-clause-fits
-block-requires-clause-fits c =
-    let ws = c.self-in-loop-place.inside.waits.items in
-    let long = as_long c.self.inside.waits.items ws c.args.self.now c.loop-place.self (ap (λ s. s.waits) c.self.view_is) c.loop-place.invariant.waits (ap (λ s. s.waits) c.self-in-loop-place.view_is) in
-    let within : c.loop-place.place < length ws = omega (arith, c.self.inside.waits.ok.0) in
-    fits_here c.args.self.now c.loop-place.self c.args.resource c.args.holder c.args.from c.loop-place.place ws c.index-wait.result.now c.loop-place.invariant
-    (sym (ap (λ s. s.waits) c.self-in-loop-place.view_is)) within c.index-wait.ensures c.if-wait-resource.true
-
-pub loop-place-preserved : goal.loop-place-preserved
-loop-place-preserved c =
-    let ws = c.self-in-loop-place.inside.waits.items in
+pub loop-next-smaller : goal.loop-next-smaller
+loop-next-smaller c =
     let old = c.args.self.now in
-    let now = c.loop-place.self in
-    let wait = c.index-wait.result.now in
-    let long = as_long c.self.inside.waits.items ws old now (ap (λ s. s.waits) c.self.view_is) c.loop-place.invariant.waits (ap (λ s. s.waits) c.self-in-loop-place.view_is) in
-    let within : c.loop-place.place < length ws = omega (arith, c.self.inside.waits.ok.0) in
-    let are = sym (ap (λ s. s.waits) c.self-in-loop-place.view_is) in
-    elim c.if-wait-resource.branch [
-      | then-wait-resource w ↦ subst (λ (s : TableState). IsUnderWay old s c.args.resource c.args.holder c.args.from (c.loop-place.place + 1)) (sym (w.self-is ∙ w.block.ensures.state))
-          (blocked_here old now c.args.resource c.args.holder c.args.from c.loop-place.place ws wait c.loop-place.invariant are within c.index-wait.ensures w.if-wait-resource.true)
-      | else-wait-resource w ↦ subst (λ (s : TableState). IsUnderWay old s c.args.resource c.args.holder c.args.from (c.loop-place.place + 1)) (sym w.self-is)
-          (skipped_here old now c.args.resource c.args.holder c.args.from c.loop-place.place ws wait c.loop-place.invariant are within c.index-wait.ensures w.if-wait-resource.false)
-    ]
+    let r = c.args.resource in
+    let h = c.args.holder in
+    let key = c.in-Some.key in
+    omega (
+      arith,
+      ap (λ o. length (left_from (waiters_of old r) o)) c.in-Some.is,
+      fewer_left (waiters_of old r) key c.next_waiter-next.result (way c).left (way c).once (way c).at (one old c.loop-next.self r h key (way c)) (at_another old c.loop-next.self r h key (way c) c.next_waiter-next.result (is_next c)),
+    )
+
+pub loop-next-preserved : goal.loop-next-preserved
+loop-next-preserved c =
+    subst (λ (s : TableState). IsUnderWay c.args.self.now s c.args.resource c.args.holder c.next_waiter-next.result) (sym c.block.ensures.state)
+    (blocked c.args.self.now c.loop-next.self c.args.resource c.args.holder c.in-Some.key (way c) c.next_waiter-next.result (is_next c))

@@ -1,5 +1,11 @@
+use Rattle.std.proofs.Common.{length}
+use Rattle.mm_rules.specs.TableState.{waiters_of}
+use Rattle.mm_table.proofs.Fields.Walk.{left_from}
 use Rattle.mm_table.proofs.Fields.BlockQueue.{IsUnderWay}
 use Rattle.mm_table.proofs.records.Records.block_queue.Given as goal
 
-abbrev pub invariant-loop-place : goal.invariant-loop-place
-invariant-loop-place l = IsUnderWay l.fn.self l.self l.resource l.holder l.from l.place
+abbrev pub invariant-loop-next : goal.invariant-loop-next
+invariant-loop-next l = IsUnderWay l.fn.self l.self l.resource l.holder l.next
+
+abbrev pub decreases-loop-next : goal.decreases-loop-next
+decreases-loop-next l = length (left_from (waiters_of l.fn.self l.resource) l.next)

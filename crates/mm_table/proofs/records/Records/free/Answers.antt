@@ -4,6 +4,6 @@ use Rattle.mm_table.proofs.records.Records.free.Goals as goal
 pub invariant_of-self : goal.invariant_of-self
 invariant_of-self c = record {
   sizes = rw c.remove.ensures (freed_sized c.args.resource c.self.invariant.sizes);
-  waits = c.self.invariant.waits;
-  capacity = c.self.invariant.capacity;
+  arrivals = c.self.invariant.arrivals;
+  counters = c.self.invariant.counters;
 }

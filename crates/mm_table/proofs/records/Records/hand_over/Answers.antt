@@ -1,54 +1,60 @@
-use Rattle.std.proofs.Common.{◌≡◌, [], ap, sym, ◌∙◌, nat_eq, slice_get}
-use Rattle.std.specs.List.{position}
-use Rattle.std.specs.Option.{option_map}
-use Rattle.mm_table.specs.declared.records.WaitRecord.{WaitRecord}
-use Rattle.mm_rules.specs.TableState.{TableState}
-use Rattle.mm_rules.specs.Change.{give_to}
-use Rattle.mm_rules.specs.Event.{release_answer}
-use Rattle.mm_table.proofs.Fields.Queues.{queue, queue_empty}
-use Rattle.mm_table.proofs.Fields.HandOver.{First, first, IsHandedOver, handed_over, freed_then_owned}
+use Rattle.std.proofs.Common.{◌≡◌, Some, map, ap, sym, subst, ◌∙◌, arith}
+use Rattle.mm_lists.specs.Members.{NoRepeat}
+use Rattle.mm_rules.specs.TableState.{TableState, waiters_of}
 use Rattle.mm_rules.proofs.States.Totals.{hand_over_totals}
+use Rattle.mm_transactions.specs.Transactions.{first_key}
+use Rattle.mm_table.proofs.Fields.HandOver.{HasLawfulWaits, lawful_waits, taken_over, first_within, first_lives, waiting, others_apart, others_fit, handed_over, freed_then_owned}
 use Rattle.mm_table.proofs.records.Records.hand_over.Goals as goal
-use Rattle.mm_table.proofs.records.Records.hand_over.Goals.{In_default}
 
-no_waiter : (c : In_default) → queue c.args.resource c.args.self.now.waits ≡ []
-no_waiter c =
-    let none = ap (position (λ (w : WaitRecord). nat_eq w.resource c.args.resource)) (sym c.deref.ensures.value) ∙ sym c.in_default.ensures in
-    ap (λ t. queue c.args.resource t.waits) (sym (c.self.view_is ∙ c.free.ensures)) ∙ queue_empty c.self.inside.waits.items c.args.resource none
+-- who waits once the owner has lost the resource
+lawful : (c : goal.After-end_wait-arg-1) → HasLawfulWaits c.free.new.self
+lawful c = lawful_waits c.self.inside c.free.new.self c.self.invariant c.self.view_is c.first_waiter.ensures.lawful
 
-pub returns-in_default-clause-answer : goal.returns-in_default-clause-answer
-returns-in_default-clause-answer c = ap release_answer (sym (no_waiter c))
+first : (c : goal.After-end_wait-arg-1) → Some c.in-Some.first ≡ first_key (waiters_of c.free.new.self c.args.resource)
+first c = sym c.in-Some.is ∙ c.first_waiter.ensures.first ∙ ap (λ t. first_key (waiters_of t c.args.resource)) c.self.view_is
 
-pub returns-in_default-clause-state : goal.returns-in_default-clause-state
-returns-in_default-clause-state c = c.free.ensures ∙ ap (give_to c.args.self.now c.args.resource) (sym (no_waiter c))
+pub end_wait-requires-clause-live : goal.end_wait-requires-clause-live
+end_wait-requires-clause-live c = first_lives c.free.new.self c.args.resource c.in-Some.first (first c) (lawful c).once (lawful c)
 
-the_first : (c : goal.After-block_queue-arg-1) → First c.args.self.now c.self.inside.waits.items c.args.resource c.in-Some.place
-the_first c =
-    let found = ap (position (λ (w : WaitRecord). nat_eq w.resource c.args.resource)) (sym c.deref.ensures.value) ∙ sym c.in-Some.ensures in
-    first c.args.self.now c.self.inside.waits.items c.args.resource c.in-Some.place (ap (λ t. t.waits) (c.self.view_is ∙ c.free.ensures)) c.self.invariant.waits.once found
+pub end_wait-requires-clause-waiting : goal.end_wait-requires-clause-waiting
+end_wait-requires-clause-waiting c = waiting c.free.new.self c.args.resource c.in-Some.first (first c) (lawful c).once
 
-taken : (c : goal.After-block_queue-arg-1) → IsHandedOver c.args.self.now c.grant.new.self c.args.resource c.in-Some.place c.end_wait-first.result
-taken c =
-    let old = c.args.self.now in
-    let key = c.end_wait-first.result in
-    handed_over old c.grant.new.self c.self.inside.waits.items c.args.resource c.in-Some.place key (ap (λ t. t.waits) (c.self.view_is ∙ c.free.ensures)) c.self.invariant.waits.once (the_first c)
-    (ap (λ (s : TableState). option_map (λ w. w.key) (slice_get s.waits c.in-Some.place)) (sym c.free.ensures) ∙ c.end_wait-first.ensures.key)
-    (freed_then_owned old c.free.new.self c.end_wait-first.new.self c.grant.new.self c.args.resource key c.free.ensures c.end_wait-first.ensures.state c.grant.ensures)
+pub grant-requires-clause-key : goal.grant-requires-clause-key
+grant-requires-clause-key c =
+    let lawful = lawful_waits c.self.inside c.free.new.self c.self.invariant c.self.view_is c.first_waiter.ensures.lawful in
+    let first = sym c.in-Some.is ∙ c.first_waiter.ensures.first ∙ ap (λ t. first_key (waiters_of t c.args.resource)) c.self.view_is in
+    omega (arith, first_within c.free.new.self c.args.resource c.in-Some.first first lawful.once lawful, ap (λ s. s.config.processes) c.end_wait.ensures)
 
-pub block_queue-requires-clause-from : goal.block_queue-requires-clause-from
-block_queue-requires-clause-from c = (taken c).from
+pub block_queue-requires-clause-holder : goal.block_queue-requires-clause-holder
+block_queue-requires-clause-holder c =
+    let lawful = lawful_waits c.self.inside c.free.new.self c.self.invariant c.self.view_is c.first_waiter.ensures.lawful in
+    let first = sym c.in-Some.is ∙ c.first_waiter.ensures.first ∙ ap (λ t. first_key (waiters_of t c.args.resource)) c.self.view_is in
+    omega (arith, first_within c.free.new.self c.args.resource c.in-Some.first first lawful.once lawful, ap (λ s. s.config.processes) c.end_wait.ensures, ap (λ s. s.config.processes) c.grant.ensures)
+
+-- the first waiter has become the owner
+owned : (c : goal.After-block_queue-arg-1) → c.grant.new.self ≡ taken_over c.args.self.now c.args.resource c.in-Some.first
+owned c =
+    freed_then_owned c.args.self.now c.free.new.self c.end_wait.new.self c.grant.new.self c.args.resource c.in-Some.first c.free.ensures c.end_wait.ensures c.grant.ensures
+
+first_before : (c : goal.After-block_queue-arg-1) → Some c.in-Some.first ≡ first_key (waiters_of c.args.self.now c.args.resource)
+first_before c = sym c.in-Some.is ∙ c.first_waiter.ensures.first ∙ ap (λ t. first_key (waiters_of t c.args.resource)) (c.self.view_is ∙ c.free.ensures)
+
+once_before : (c : goal.After-block_queue-arg-1) → NoRepeat (map (λ w. w.key.process) c.args.self.now.waits)
+once_before c =
+    subst (λ (s : TableState). NoRepeat (map (λ w. w.key.process) s.waits)) c.free.ensures (lawful_waits c.self.inside c.free.new.self c.self.invariant c.self.view_is c.first_waiter.ensures.lawful).once
 
 pub block_queue-requires-clause-fits : goal.block_queue-requires-clause-fits
-block_queue-requires-clause-fits c = (taken c).fits c.requires.fits
+block_queue-requires-clause-fits c = others_fit c.args.self.now c.args.resource c.in-Some.first (first_before c) (once_before c) c.grant.new.self (owned c) c.requires.fits
 
 pub block_queue-requires-clause-apart : goal.block_queue-requires-clause-apart
-block_queue-requires-clause-apart c = (taken c).apart
-
-pub returns-clause-answer : goal.returns-clause-answer
-returns-clause-answer c = (taken c.before).answer
+block_queue-requires-clause-apart c = others_apart c.args.self.now c.args.resource c.in-Some.first (first_before c) (once_before c) c.grant.new.self (owned c)
 
 pub returns-clause-state : goal.returns-clause-state
-returns-clause-state c = c.block_queue.ensures ∙ (taken c.before).state
+returns-clause-state c =
+    let b = c.before in
+    c.block_queue.ensures ∙ handed_over c.args.self.now c.args.resource c.in-Some.first (first_before b) (once_before b) c.grant.new.self (owned b)
 
 pub returns-clause-totals : goal.returns-clause-totals
-returns-clause-totals c = ap (λ s. s.totals) (c.block_queue.ensures ∙ (taken c.before).state) ∙ hand_over_totals c.args.self.now c.args.resource
+returns-clause-totals c =
+    let b = c.before in
+    ap (λ s. s.totals) (c.block_queue.ensures ∙ handed_over c.args.self.now c.args.resource c.in-Some.first (first_before b) (once_before b) c.grant.new.self (owned b)) ∙ hand_over_totals c.args.self.now c.args.resource

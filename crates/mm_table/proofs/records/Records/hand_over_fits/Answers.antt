@@ -1,25 +1,59 @@
-use Rattle.std.proofs.Common.{◌+◌, ap, sym, ◌∙◌, nat_eq}
-use Rattle.std.proofs.lemmas.List.{get_or_default}
-use Rattle.std.specs.List.{position}
-use Rattle.mm_table.specs.declared.records.WaitRecord.{WaitRecord}
-use Rattle.mm_rules.specs.Change.{give_to_fits}
-use Rattle.mm_table.specs.private.Queues.{fits_from}
-use Rattle.mm_table.proofs.Fields.Queues.{queue, queue_empty}
-use Rattle.mm_table.proofs.Fields.HandOver.{first}
+use Rattle.std.proofs.Common.{◌≡◌, List, length, Some, ap, sym, subst, ◌∙◌, arith}
+use Rattle.mm_rules.specs.TableState.{Wait, waiters_of}
+use Rattle.mm_rules.specs.Change.{block_fits, label_against}
+use Rattle.mm_transactions.specs.Transactions.{first_key, IsNextWaiter}
+use Rattle.mm_table.proofs.Fields.Labels.{hand_over_then_fits}
+use Rattle.mm_table.proofs.Fields.Walk.{left_from, fewer_left}
+use Rattle.mm_table.proofs.Fields.HandOver.{HasLawfulWaits, lawful_waits, once_queue, FitsFrom, fits_start, next_one, next_within, next_at, next_fits, fits_by, first_within}
 use Rattle.mm_table.proofs.records.Records.hand_over_fits.Goals as goal
 
-pub returns-in-None : goal.returns-in-None
-returns-in-None c =
-    let r = c.args.resource in
-    let none = ap (position (λ (w : WaitRecord). nat_eq w.resource r)) (sym c.deref.ensures.value) ∙ sym c.in-None.ensures in
-    let empty = ap (λ t. queue r t.waits) (sym c.self.view_is) ∙ queue_empty c.self.inside.waits.items r none in
-    sym (ap (give_to_fits c.args.self.now) empty)
+pub returns-then-all_labels_fit : goal.returns-then-all_labels_fit
+returns-then-all_labels_fit c = sym (hand_over_then_fits c.args.self.now c.args.resource (c.all_labels_fit.ensures c.if-all_labels_fit.true))
 
-pub returns-in-Some : goal.returns-in-Some
-returns-in-Some c =
+lawful : (c : goal.After-next_waiter-next) → HasLawfulWaits c.args.self.now
+lawful c = lawful_waits c.self.inside c.args.self.now c.self.invariant c.self.view_is c.first_waiter.ensures.lawful
+
+first : (c : goal.After-next_waiter-next) → Some c.in-Some.first ≡ first_key (waiters_of c.args.self.now c.args.resource)
+first c = sym c.in-Some.is ∙ c.first_waiter.ensures.first ∙ ap (λ t. first_key (waiters_of t c.args.resource)) c.self.view_is
+
+pub loop-next-init : goal.loop-next-init
+loop-next-init c =
+    fits_start c.args.self.now c.args.resource c.in-Some.first (first c) (lawful c).once c.next_waiter-next.result
+    (subst (λ (ws : List Wait). IsNextWaiter ws c.in-Some.first c.next_waiter-next.result) (ap (λ t. t.waits) c.self.view_is) c.next_waiter-next.ensures.listed) (lawful c).within
+
+pub label_against-requires-clause-process : goal.label_against-requires-clause-process
+label_against-requires-clause-process c =
+    next_within c.args.self.now c.args.resource c.in-Some.first.process c.in-Some-next.key (subst (FitsFrom c.args.self.now c.args.resource c.in-Some.first.process) c.in-Some-next.is c.loop-next.invariant)
+
+pub label_against-requires-clause-holder : goal.label_against-requires-clause-holder
+label_against-requires-clause-holder c =
+    let lawful = lawful_waits c.self.inside c.args.self.now c.self.invariant c.self.view_is c.first_waiter.ensures.lawful in
+    let first : Some c.in-Some.first ≡ first_key (waiters_of c.args.self.now c.args.resource) = sym c.in-Some.is ∙ c.first_waiter.ensures.first ∙ ap (λ t. first_key (waiters_of t c.args.resource)) c.self.view_is in
+    first_within c.args.self.now c.args.resource c.in-Some.first first lawful.once lawful
+
+way : (c : goal.After-next_waiter-next-in-Some-next) → FitsFrom c.args.self.now c.args.resource c.in-Some.first.process (Some c.in-Some-next.key)
+way c = subst (FitsFrom c.args.self.now c.args.resource c.in-Some.first.process) c.in-Some-next.is c.loop-next.invariant
+
+is_next : (c : goal.After-next_waiter-next-in-Some-next) → IsNextWaiter c.args.self.now.waits c.in-Some-next.key c.next_waiter-next-in-Some-next.result
+is_next c = subst (λ (ws : List Wait). IsNextWaiter ws c.in-Some-next.key c.next_waiter-next-in-Some-next.result) (ap (λ s. s.waits) c.self.view_is) c.next_waiter-next-in-Some-next.ensures.listed
+
+pub loop-next-smaller : goal.loop-next-smaller
+loop-next-smaller c =
     let s = c.args.self.now in
     let r = c.args.resource in
-    let found = ap (position (λ (w : WaitRecord). nat_eq w.resource r)) (sym c.deref.ensures.value) ∙ sym c.in-Some.ensures in
-    let f = first s c.self.inside.waits.items r c.in-Some.place (ap (λ t. t.waits) c.self.view_is) c.self.invariant.waits.once found in
-    let same = c.index.ensures ∙ get_or_default c.self.inside.waits.items c.in-Some.place c.index.result.now f.wait f.within ∙ sym f.is in
-    c.blocks_fit.ensures ∙ ap (λ (w : WaitRecord). fits_from s r w.key.process (c.in-Some.place + 1)) same ∙ ap (give_to_fits s) (sym f.queue_is)
+    let h = c.in-Some.first.process in
+    let key = c.in-Some-next.key in
+    let lawful = lawful_waits c.self.inside s c.self.invariant c.self.view_is c.first_waiter.ensures.lawful in
+    omega (
+      arith,
+      ap (λ o. length (left_from (waiters_of s r) o)) c.in-Some-next.is,
+      fewer_left (waiters_of s r) key c.next_waiter-next-in-Some-next.result (way c).left (once_queue s r lawful.once) (way c).at (next_one s r h key (way c)) (next_at s r h key (way c) c.next_waiter-next-in-Some-next.result (is_next c)),
+    )
+
+pub loop-next-preserved : goal.loop-next-preserved
+loop-next-preserved c =
+    let s = c.args.self.now in
+    let h = c.in-Some.first.process in
+    let key = c.in-Some-next.key in
+    next_fits s c.args.resource h key (way c) c.next_waiter-next-in-Some-next.result (is_next c)
+    (fits_by c.label_against.result (block_fits s key.process h) (label_against s key.process h) c.label_against.ensures c.if-is_none.ensures)

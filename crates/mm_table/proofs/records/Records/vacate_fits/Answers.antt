@@ -5,10 +5,7 @@ use Rattle.mm_owned.proofs.Lemmas.ListsMatchOwners.{in_range}
 use Rattle.mm_owned.proofs.Lemmas.Walk.{rest_from, Among-head, Among-next, rest_from-head, rest_from-next}
 use Rattle.mm_rules.specs.Change.{hand_over_fits}
 use Rattle.mm_table.proofs.Fields.Ownership.{listed, some_past, all_fit}
-use Rattle.std.specs.Vec.{vec_len}
-use Rattle.std.proofs.lemmas.Bool.{eqb-true}
-use Rattle.mm_table.proofs.Fields.Queues.{none_kept}
-use Rattle.mm_rules.proofs.States.HandOverAll.{none_waits_fits}
+use Rattle.mm_table.proofs.Fields.Labels.{vacate_then_fits}
 use Rattle.mm_table.proofs.records.Records.vacate_fits.Goals as goal
 
 pub loop-next-init : goal.loop-next-init
@@ -23,6 +20,10 @@ pub returns-then-not-hand_over_fits : goal.returns-then-not-hand_over_fits
 returns-then-not-hand_over_fits c =
     let lists = listed c.self.inside c.args.self.now c.self.invariant c.self.view_is c.first-next.ensures.matched in
     sym (some_past c.args.self.now c.self.inside.owned lists c.args.process c.in-Some.resource (c.loop-next.invariant.0 c.in-Some.resource c.in-Some.is) (sym c.hand_over_fits.ensures ∙ c.if-not-hand_over_fits.true))
+
+pub hand_over_fits-requires : goal.hand_over_fits-requires
+hand_over_fits-requires c =
+    (listed c.self.inside c.args.self.now c.self.invariant c.self.view_is c.first-next.ensures.matched).within c.args.process c.in-Some.resource (c.loop-next.invariant.0 c.in-Some.resource c.in-Some.is)
 
 pub next-next-requires : goal.next-next-requires
 next-next-requires c =
@@ -63,9 +64,5 @@ returns c =
       | inr left ↦ absurd (subst (Among q) (ap (rest_from list) c.in_default.is) left)
     ]))
 
-pub returns-then-is_empty : goal.returns-then-is_empty
-returns-then-is_empty c =
-    let waits = c.self.inside.waits in
-    let empty : vec_len waits ≡ 0 = eqb-true (vec_len waits) 0 (sym c.is_empty.ensures ∙ c.if-is_empty.true) in
-    let none : length waits.items ≡ 0 = omega (arith, waits.ok.0) in
-    sym (none_waits_fits c.args.self.now c.args.process (sym (ap (λ s. s.waits) c.self.view_is) ∙ none_kept waits.items none))
+pub returns-then-all_labels_fit : goal.returns-then-all_labels_fit
+returns-then-all_labels_fit c = sym (vacate_then_fits c.args.self.now c.args.process (c.all_labels_fit.ensures c.if-all_labels_fit.true))

@@ -1,0 +1,10 @@
+//! One module for each library, and `shelf` for the shelves of mm_arena.
+
+mod arena;
+mod label;
+mod links;
+mod owned;
+mod queue;
+mod shelf;
+mod table;
+mod work;

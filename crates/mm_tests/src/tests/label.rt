@@ -1,0 +1,72 @@
+ghost use Rattle.std.specs.Prelude.{IsTrue, IfSome, ◌<◌, ◌≡◌};
+ghost use Rattle.mm_label.specs.Label.{counter_range, process_range, label_le, label_lt};
+
+use mm_label::{Label, fresh};
+use std::test::Fail;
+
+// What a caller knows of a comparison: the caller of README.md.
+fn greater(a: Label, b: Label) -> Label
+    ensures at_least_a { IsTrue (label_le a result) }
+    ensures at_least_b { IsTrue (label_le b result) }
+{
+    if a < b { b } else { a }
+}
+
+// What a caller knows of a fresh label.
+fn passed_on(own: Label, holder: Label, process: u32, limit: u64) -> Option<Label>
+    requires limit_in_range { limit < counter_range }
+    requires process_in_range { process < process_range }
+    ensures above_own { IfSome result (λ label. IsTrue (label_lt own label)) }
+    ensures above_holder { IfSome result (λ label. IsTrue (label_lt holder label)) }
+    ensures of_process { IfSome result (λ label. label.process ≡ process) }
+{
+    fresh(own, holder, process, limit)
+}
+
+#[test]
+fn words_of_labels(rt: HostRuntime) -> Result<(), Fail> {
+    let table = [
+        (0, 0, 0),
+        (0, 3, 3),
+        (1, 0, 65536),
+        (2, 1, 131073),
+        (2, 3, 131075),
+        (17592186044415, 4095, 1152921504606785535),
+    ];
+    for (counter, process, word) in table {
+        let label = Label::new(counter, process).ok_or("in range")?;
+        assert_eq!(rt; label.word(), word, "the word of {label}");
+        let kept = Label::of_word(word);
+        assert_eq!(rt;
+            (kept.counter(), kept.process()),
+            (counter, process),
+            "of {word}"
+        );
+    }
+    Ok(())
+}
+
+#[test]
+fn new_refuses_what_is_out_of_range(rt: HostRuntime) {
+    assert!(rt; Label::new((1 << 48) - 1, 65535).is_some());
+    assert_eq!(rt; Label::new(1 << 48, 0), None);
+    assert_eq!(rt; Label::new(0, 65536), None);
+}
+
+#[test]
+fn prints_counter_and_process(rt: HostRuntime) -> Result<(), Fail> {
+    let label = Label::of_word(131075);
+    let text = format!(in rt.alloc(); "{label}")?;
+    assert_eq!(rt; text.as_str(), "2.3");
+    Ok(())
+}
+
+#[test]
+fn fresh_is_refused_above_the_limit(rt: HostRuntime) {
+    let own = Label::of_word(131075);
+    let holder = Label::of_word(65536);
+    let parts = |label: Label| (label.counter(), label.process());
+    assert_eq!(rt; passed_on(own, holder, 7, 3).map(parts), Some((3, 7)));
+    assert_eq!(rt; passed_on(holder, own, 7, 2), None);
+    assert_eq!(rt; greater(own, holder), own);
+}

@@ -1,0 +1,56 @@
+ghost use Rattle.std.specs.Prelude.{◌<◌, ◌↔◌, length, IsTrue};
+ghost use Rattle.mm_lists.specs.Members.{Among};
+ghost use Rattle.mm_owned.specs.Owned.{list_at};
+
+use mm_arena::Key;
+use mm_owned::Owned;
+use std::test::Fail;
+
+// A walk through a list.
+fn is_in_list(owned: &Owned, process: u32, resource: u32) -> bool
+    requires { process < length owned.now.lists }
+    ensures { IsTrue result ↔ Among resource (list_at owned.now process) }
+{
+    let mut next = owned.first(process);
+    while let Some(other) = next {
+        if other == resource {
+            return true;
+        }
+        next = owned.next(other);
+    }
+    false
+}
+
+#[test]
+fn keeps_each_list_in_order(rt: HostRuntime) -> Result<(), Fail> {
+    let mut owned = Owned::new(rt.alloc(), 2, 3)?;
+    let earlier = Key {
+        process: 1,
+        generation: 7,
+    };
+    let later = Key {
+        process: 0,
+        generation: 2,
+    };
+    owned.push(earlier, 0);
+    owned.push(earlier, 2);
+    owned.push(earlier, 1);
+    assert_eq!(rt; owned.first(1), Some(1));
+    assert_eq!(rt; owned.next(1), Some(2));
+    assert_eq!(rt; owned.next(2), Some(0));
+    assert_eq!(rt; owned.next(0), None);
+    assert!(rt; is_in_list(&owned, 1, 0));
+    assert_eq!(rt; owned.owner(2), Some(earlier));
+    owned.remove(2);
+    assert!(rt; !is_in_list(&owned, 1, 2));
+    assert_eq!(rt; owned.owner(2), None);
+    assert_eq!(rt; owned.next(1), Some(0));
+    assert_eq!(rt; owned.next(2), None);
+    owned.push(later, 2);
+    owned.remove(1);
+    assert_eq!(rt; owned.first(1), Some(0));
+    assert_eq!(rt; owned.first(0), Some(2));
+    assert_eq!(rt; owned.owner(2), Some(later));
+    assert_eq!(rt; owned.owner(0), Some(earlier));
+    Ok(())
+}

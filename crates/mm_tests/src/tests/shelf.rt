@@ -1,0 +1,41 @@
+ghost use Rattle.std.specs.Prelude.{◌≡◌};
+
+use mm_arena::{Key, Shelf};
+use std::test::Fail;
+
+fn key(process: u32, generation: u32) -> Key
+    ensures { result ≡ record { process = process; generation = generation } }
+{
+    Key {
+        process,
+        generation,
+    }
+}
+
+// The example of README.md.
+#[test]
+fn keeps_a_value_under_its_key(rt: HostRuntime) -> Result<(), Fail> {
+    let mut shelf = Shelf::<u64>::new(rt.alloc(), 2)?;
+    assert_eq!(rt; shelf.put(key(0, 1), 7), None);
+    assert_eq!(rt; shelf.get(key(0, 1)).copied(), Some(7));
+    assert_eq!(rt; shelf.get(key(0, 2)).copied(), None);
+    assert_eq!(rt; shelf.put(key(0, 2), 8), Some((key(0, 1), 7)));
+    assert_eq!(rt; shelf.take(key(0, 1)), None);
+    assert_eq!(rt; shelf.key_at(0), Some(key(0, 2)));
+    assert_eq!(rt; shelf.take(key(0, 2)), Some(8));
+    assert_eq!(rt; shelf.get(key(0, 2)).copied(), None);
+    Ok(())
+}
+
+// The values are not `Copy`, and what is left is dropped with the shelf.
+#[test]
+fn writes_a_text_where_it_stands(rt: HostRuntime) -> Result<(), Fail> {
+    let mut shelf = Shelf::<String>::new(rt.alloc(), 1)?;
+    let hello = format!(in rt.alloc(); "hello")?;
+    assert!(rt; shelf.put(key(0, 1), hello).is_none());
+    shelf.get_mut(key(0, 1)).ok_or("absent")?.push('!')?;
+    assert_eq!(rt; shelf.get(key(0, 1)).ok_or("absent")?.as_str(), "hello!");
+    assert!(rt; shelf.get_mut(key(0, 2)).is_none());
+    assert!(rt; shelf.get(key(1, 1)).is_none());
+    Ok(())
+}

@@ -1,0 +1,156 @@
+//! What no clause says: which faults come, and that a flush is made.
+
+mod faults;
+mod ring;
+
+use faults::{FailingReader, FailingWriter, Newlines, WhenFull};
+use mm_work::{ScriptFault, run_script};
+use std::io::ErrorKind;
+use std::test::Fail;
+
+/// The first script that a reader sees, and its replies.
+const SCRIPT: &str =
+    "table 4 4 100 9\nbegin\nbegin\nacquire 0.1 0\nacquire 1.1 1\nacquire 0.1 1\nacquire 1.1 0\nstate 0.1\nstate 1.1\n";
+
+const REPLIES: &str =
+    "ok\nkey 0.1\nkey 1.1\ngranted\ngranted\nwaits 1.1 1.0\nwaits 0.1 2.1\nwaiting 1 1.0 1.0\nwaiting 0 2.1 2.1\n";
+
+/// After two whole lines and a half of the third a read fails: the two are answered, and nothing is read or written after it.
+#[test]
+fn read_fails(rt: HostRuntime) -> Result<(), Fail> {
+    let two = "no table\nmalformed\n";
+    let one = "no table\n";
+    for (piece, calls, written, left) in [
+        (64, 0, "", 13),
+        (64, 1, two, 0),
+        (4, 1, "", 9),
+        (4, 2, one, 5),
+        (4, 3, two, 1),
+        (1, 13, two, 0),
+    ] {
+        for kind in [ErrorKind::Other, ErrorKind::Interrupted] {
+            let bytes = b"begin\nfly\nbeg".as_slice();
+            let mut reader = FailingReader {
+                bytes,
+                piece,
+                calls,
+                kind,
+            };
+            let mut output = Vec::new(rt.alloc());
+            let outcome = run_script(rt.alloc(), &mut reader, &mut output);
+            assert_eq!(rt;
+                outcome,
+                Err(ScriptFault::Read),
+                "{piece} bytes, {calls} calls"
+            );
+            assert_eq!(rt;
+                output.as_slice(),
+                written.as_bytes(),
+                "{piece} bytes, {calls} calls"
+            );
+            assert_eq!(rt; reader.bytes.len(), left, "{piece} bytes, {calls} calls");
+        }
+    }
+    Ok(())
+}
+
+/// A read fails in the middle of a line: the lines before it are answered, and it is not.
+#[test]
+fn read_fails_within_a_line(rt: HostRuntime) -> Result<(), Fail> {
+    for (piece, calls) in [(64, 1), (7, 4), (1, 23)] {
+        let mut reader = FailingReader {
+            bytes: b"table 1 1 9 9\nbegin\nbeg".as_slice(),
+            piece,
+            calls,
+            kind: ErrorKind::Other,
+        };
+        let mut output = Vec::new(rt.alloc());
+        let outcome = run_script(rt.alloc(), &mut reader, &mut output);
+        assert_eq!(rt; outcome, Err(ScriptFault::Read), "{piece} bytes a call");
+        assert_eq!(rt;
+            output.as_slice(),
+            b"ok\nkey 0.1\n".as_slice(),
+            "{piece} bytes a call"
+        );
+        assert!(rt; reader.bytes.is_empty(), "{piece} bytes a call");
+    }
+    Ok(())
+}
+
+/// A writer takes some bytes a call, and fails or takes none when it is full, or fails at the flush:
+/// no write and no flush comes after it. Where nothing fails there is one flush.
+#[test]
+fn write_fails(rt: HostRuntime) -> Result<(), Fail> {
+    for (piece, room, when_full, flush_fails, taken, outcome, flushes) in [
+        (
+            4,
+            4,
+            WhenFull::Fails,
+            true,
+            "ok\nk",
+            Err(ScriptFault::Write),
+            0,
+        ),
+        (
+            3,
+            3,
+            WhenFull::TakesNone,
+            true,
+            "ok\n",
+            Err(ScriptFault::Write),
+            0,
+        ),
+        (
+            4096,
+            4096,
+            WhenFull::Fails,
+            true,
+            REPLIES,
+            Err(ScriptFault::Write),
+            1,
+        ),
+        (1, 4096, WhenFull::Fails, false, REPLIES, Ok(0), 1),
+    ] {
+        let mut input = SCRIPT.as_bytes();
+        let mut writer = FailingWriter {
+            taken: Vec::new(rt.alloc()),
+            piece,
+            room,
+            when_full,
+            flushes: 0,
+            flush_fails,
+        };
+        let ended = run_script(rt.alloc(), &mut input, &mut writer);
+        assert_eq!(rt; ended, outcome, "{piece} bytes a call");
+        assert_eq!(rt; writer.taken.as_slice(), taken.as_bytes());
+        assert_eq!(rt; writer.flushes, flushes, "{piece} bytes a call");
+    }
+    Ok(())
+}
+
+/// Newlines alone have no reply; one more than the limit is too long.
+#[test]
+fn newlines_alone(rt: HostRuntime) -> Result<(), Fail> {
+    for (left, outcome) in [(16_777_216, Ok(0)), (16_777_217, Err(ScriptFault::TooLong))] {
+        let mut reader = Newlines { left };
+        let mut output = Vec::new(rt.alloc());
+        assert_eq!(rt; run_script(rt.alloc(), &mut reader, &mut output), outcome);
+        assert_eq!(rt; reader.left, 0);
+        assert!(rt; output.is_empty());
+    }
+    Ok(())
+}
+
+/// A fault is printed as these words.
+#[test]
+fn faults_are_printed(rt: HostRuntime) -> Result<(), Fail> {
+    for (fault, text) in [
+        (ScriptFault::Read, "read fault"),
+        (ScriptFault::Write, "write fault"),
+        (ScriptFault::TooLong, "input too long"),
+    ] {
+        let printed = format!(in rt.alloc(); "{fault}")?;
+        assert_eq!(rt; printed.as_str(), text);
+    }
+    Ok(())
+}

@@ -1,0 +1,63 @@
+//! Who waits for what, and the queue of each resource.
+ghost use Rattle.std.specs.Prelude.{◌≡◌, ◌≢◌, ◌<◌, ◌++◌, ◌∷◌, [], None, not, filter, IsTrue, IsNone};
+ghost use Rattle.mm_rules.specs.TableState.{waited_for};
+ghost use Rattle.mm_transactions.specs.Transactions.{is_live, queue_of, first_key, without_wait, Waits, IsNextWaiter, WaitsAreLawful};
+
+use crate::Transactions;
+use mm_arena::Key;
+use mm_links::Link;
+
+impl Transactions {
+    /// A live transaction that does not wait starts to wait for a resource, last in its queue, in constant time. `arrival` is greater
+    /// than at each earlier one.
+    #[inline]
+    pub fn start_waiting(&mut self, key: Key, resource: u32, arrival: u64)
+        requires live { IsTrue (is_live self.old key) }
+        requires resource { resource < self.old.resources }
+        requires idle { waited_for self.old.waits key.process ≡ None }
+        requires latest { self.old.latest < arrival }
+        ensures { self.new ≡ record self.old { waits = self.old.waits ++ record { key = key; resource = resource } ∷ []; latest = arrival } }
+    {
+        let entry = self.slots.get_mut(key).unwrap();
+        entry.waits_for = Link::to(resource);
+        entry.arrival = arrival;
+        self.queues.push_back(resource, key);
+        self.latest = arrival;
+        self.waiting += 1;
+    }
+
+    /// A live transaction that waits stops waiting, in constant time. The others keep their places.
+    #[inline]
+    pub fn stop_waiting(&mut self, key: Key)
+        requires live { IsTrue (is_live self.old key) }
+        requires waiting { waited_for self.old.waits key.process ≢ None }
+        ensures { self.new ≡ without_wait self.old key.process }
+    {
+        self.slots.get_mut(key).unwrap().waits_for = Link::NONE;
+        self.queues.remove(key);
+        self.waiting -= 1;
+    }
+
+    /// The longest waiter for a resource, in constant time. `None` where nobody waits for it.
+    #[inline]
+    pub fn first_waiter(&self, resource: u32) -> Option<Key>
+        requires { resource < self.now.resources }
+        ensures first { result ≡ first_key (queue_of self.now.waits resource) }
+        ensures lawful { WaitsAreLawful self.now }
+    {
+        if self.waiting == 0 {
+            return None;
+        }
+        self.queues.front(resource)
+    }
+
+    /// Who waits next after this one for the same resource, in constant time. `None` for the last of a queue, and for a key that does
+    /// not wait.
+    #[inline]
+    pub fn next_waiter(&self, key: Key) -> Option<Key>
+        ensures listed { IsNextWaiter self.now.waits key result }
+        ensures absent { ¬ Waits self.now key → IsNone result }
+    {
+        self.queues.next(key)
+    }
+}
