@@ -106,4 +106,15 @@ impl<T> Shelf<T> {
         let (key, _) = self.entries.get(process as usize)?.as_ref()?;
         Some(*key)
     }
+
+    /// The value that a process has, under whatever key, in constant time. `None` exactly where it has none, or is not below the capacity.
+    #[inline]
+    pub fn of_process(&self, process: u32) -> Option<&T>
+        ensures { option_copied result ≡ option_map (λ entry. entry.1) (entry_at self.now process) }
+    {
+        match self.entries.get(process as usize) {
+            Some(Some((_, value))) => Some(value),
+            _ => None,
+        }
+    }
 }

@@ -1,4 +1,5 @@
 -- What a contract sees of a `Lists`.
+use Rattle.std.specs.Option.{option_map}
 use Rattle.std.specs.Prelude.{◌≡◌, ℕ, ◌<◌, List, [], ◌∷◌, ◌++◌, map, Option, None, Some, replicate, slice_index_or, slice_set}
 use Rattle.mm_arena.specs.declared.key.Key.{Key}
 use Rattle.mm_lists.specs.Members.{Among, NoRepeat}
@@ -37,6 +38,11 @@ IsOccupied q process = (key : Key) × (key.process ≡ process) × Stands q key
 abbrev pub IsNext : Queues → Key → Option Key → Type 0
 IsNext q key next =
     (list : ℕ) (before after : List Key) → queue q list ≡ before ++ key ∷ after → next ≡ first after
+
+-- wherever a key of this process stands in a list, `next` is the process of the one that follows it
+abbrev pub IsNextProcess : Queues → ℕ → Option ℕ → Type 0
+IsNextProcess q process next =
+    (list : ℕ) (before : List Key) (key : Key) (after : List Key) → queue q list ≡ before ++ key ∷ after → key.process ≡ process → next ≡ option_map (λ k. k.process) (first after)
 
 -- wherever the key stood in a list, it is gone from there, and nothing else has changed
 abbrev pub Removes : Queues → Queues → Key → Type 0

@@ -2,7 +2,7 @@
 ghost use Rattle.std.specs.Prelude.{◌≡◌, ◌<◌, ◌≤◌, ◌↔◌, ◌++◌, ◌∷◌, [], length, drop, IsTrue, IsNone, IfOk, MatchOption};
 ghost use Rattle.std.specs.Bool.{OnFalse};
 ghost use Rattle.mm_queue.specs.Members.{Among};
-ghost use Rattle.mm_queue.specs.Queues.{queue, first, empty_queues, with_queue, Stands, IsOccupied, IsNext, Removes, StandsOnce};
+ghost use Rattle.mm_queue.specs.Queues.{queue, first, empty_queues, with_queue, Stands, IsOccupied, IsNext, IsNextProcess, Removes, StandsOnce};
 
 use crate::ends::{Ends, end_after};
 use crate::entry::{Entry, set_before, set_next};
@@ -98,6 +98,17 @@ impl Lists {
             process,
             generation,
         })
+    }
+
+    /// The process whose key comes after that of this process in its list, in constant time. `None` for the last of a list, and for
+    /// a process that stands in no list.
+    #[inline]
+    pub fn next_process(&self, process: u32) -> Option<u32>
+        ensures listed { IsNextProcess self.now process result }
+        ensures absent { ¬ IsOccupied self.now process → IsNone result }
+    {
+        let Links { next, .. } = self.entries.of_process(process)?.links;
+        next.get()
     }
 
     /// Takes a key out of its list, in constant time. `false` exactly where it stands in none, and then nothing changes.

@@ -1,6 +1,7 @@
 -- What a contract sees of a `Transactions`.
 use Rattle.std.specs.Prelude.{◌≡◌, ℕ, ◌+◌, ◌<◌, ◌++◌, Bool, true, false, not, ◌&&◌, List, [], ◌∷◌, length, map, filter, drop, replicate, Option, None, Some, if◌then◌else◌, nat_eq, nat_lt, slice_index, slice_index_or, slice_set, IsTrue}
 use Rattle.std.specs.List.{range_with_len}
+use Rattle.std.specs.Option.{option_map}
 use Rattle.mm_arena.specs.declared.key.Key.{Key}
 use Rattle.mm_lists.specs.Members.{Among, NoRepeat}
 use Rattle.mm_rules.specs.TableState.{Wait, is_of, waited_for}
@@ -77,14 +78,10 @@ first_key (w ∷ ws) = Some w.key
 abbrev pub without_wait : Transactions → ℕ → Transactions
 without_wait t n = record t { waits = filter (λ w. not (is_of n w)) t.waits }
 
--- a transaction waits under this key
-abbrev pub Waits : Transactions → Key → Type 0
-Waits t key = (w : Wait) × Among w t.waits × (w.key ≡ key)
-
--- wherever the key stands in a queue, this follows it
-abbrev pub IsNextWaiter : List Wait → Key → Option Key → Type 0
-IsNextWaiter ws key next =
-    (r : ℕ) (before : List Wait) (w : Wait) (after : List Wait) → queue_of ws r ≡ before ++ w ∷ after → w.key ≡ key → next ≡ first_key after
+-- wherever a wait of this process stands in a queue, `next` is the process of the one that follows it
+abbrev pub IsNextWaiter : List Wait → ℕ → Option ℕ → Type 0
+IsNextWaiter ws process next =
+    (r : ℕ) (before : List Wait) (w : Wait) (after : List Wait) → queue_of ws r ≡ before ++ w ∷ after → w.key.process ≡ process → next ≡ option_map (λ k. k.process) (first_key after)
 
 -- who waits is live, waits once, and for a resource that there is
 pub record WaitsAreLawful (t : Transactions) : Type 0 where

@@ -1,7 +1,7 @@
 //! Who waits for what, and the queue of each resource.
 ghost use Rattle.std.specs.Prelude.{◌≡◌, ◌≢◌, ◌<◌, ◌++◌, ◌∷◌, [], None, not, filter, IsTrue, IsNone};
 ghost use Rattle.mm_rules.specs.TableState.{waited_for};
-ghost use Rattle.mm_transactions.specs.Transactions.{is_live, queue_of, first_key, without_wait, Waits, IsNextWaiter, WaitsAreLawful};
+ghost use Rattle.mm_transactions.specs.Transactions.{is_live, queue_of, first_key, without_wait, IsNextWaiter, WaitsAreLawful};
 
 use crate::Transactions;
 use mm_arena::Key;
@@ -51,13 +51,13 @@ impl Transactions {
         self.queues.front(resource)
     }
 
-    /// Who waits next after this one for the same resource, in constant time. `None` for the last of a queue, and for a key that does
-    /// not wait.
+    /// The process that waits next after this one for the same resource, in constant time. `None` for the last of a queue, and for
+    /// a process that does not wait.
     #[inline]
-    pub fn next_waiter(&self, key: Key) -> Option<Key>
-        ensures listed { IsNextWaiter self.now.waits key result }
-        ensures absent { ¬ Waits self.now key → IsNone result }
+    pub fn next_waiter(&self, process: u32) -> Option<u32>
+        ensures listed { IsNextWaiter self.now.waits process result }
+        ensures absent { waited_for self.now.waits process ≡ None → IsNone result }
     {
-        self.queues.next(key)
+        self.queues.next_process(process)
     }
 }

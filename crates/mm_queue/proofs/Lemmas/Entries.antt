@@ -77,6 +77,11 @@ append_one : (before : List Key) (key : Key) (after : List Key) → (before ++ k
 append_one [] key after = refl
 append_one (k ∷ before) key after = ap (λ ks. k ∷ ks) (append_one before key after)
 
+-- an entry, of its key and of its value
+entry_is : (o : Option (Key × Entry)) (key : Key) (e : Entry) → option_map (λ (x : Key × Entry). x.0) o ≡ Some key → option_map (λ (x : Key × Entry). x.1) o ≡ Some e → o ≡ Some (key, e)
+entry_is None key e its_key its_value = absurd (none-some key its_key)
+entry_is (Some x) key e its_key its_value = ap Some (λ i. (same_Some x.0 key its_key i, same_Some x.1 e its_value i))
+
 -- ---- what one write leaves
 
 key_there : (o : Option (Key × Entry)) (key : Key) (p : ℕ) → option_map (λ (x : Key × Entry). x.0) o ≡ Some key → option_map (λ (x : Key × Entry). x.0.process) o ≡ Some p → key.process ≡ p
@@ -123,6 +128,10 @@ shown q ends s linked =
     let processes : length s ≡ q.processes = sym (length-map s links_in) ∙ linked.many_links in
     let is : seen ends s ≡ q = λ i. record { lists = lists i; processes = processes i } in
     record { kept = subst (λ t. AreLinked t ends (links_of s) (tags_of s)) (sym is) linked; is = is }
+
+process_after : (after : List Key) → head_or (processes_of after) None ≡ option_map (λ k. k.process) (first after)
+process_after [] = refl
+process_after (k ∷ after) = refl
 
 module _ (q : Queues) (ends : List Ends) (s : Entries Entry) (linked : AreLinked q ends (links_of s) (tags_of s)) where
   -- the tag of a value that is found
@@ -181,12 +190,36 @@ module _ (q : Queues) (ends : List Ends) (s : Entries Entry) (linked : AreLinked
         ap (λ (l : Links). l.next)
         (links_are q ends (links_of s) (tags_of s) linked list before key after whole entry.links (links_read s key.process key entry (entry_read s key entry found)))
 
+    -- its link leads to the process of the key that follows
+    pub links_next : entry.links.next ≡ option_map (λ k. k.process) (first after)
+    links_next = next_is ∙ process_after after
+
     pub next_read_none : entry.links.next ≡ None → first after ≡ None
     next_read_none none = first-none after (sym next_is ∙ none)
 
     pub next_read : (p : ℕ) → entry.links.next ≡ Some p → option_map (λ (x : Key × Entry). x.0) (entry_at s p) ≡ first after
     next_read p is =
         first_read list (before ++ key ∷ []) after p (whole ∙ sym (append_one before key after)) (sym next_is ∙ is)
+
+  -- what is read of a process is the value of the key that stands there
+  pub value_there : (list : ℕ) (k : Key) (p : ℕ) (e : Entry) → Among k (queue q list) → k.process ≡ p → option_map (λ (x : Key × Entry). x.1) (entry_at s p) ≡ Some e → value_at s k ≡ Some e
+  value_there list k p e among own is =
+      value_read s k e (ap (entry_at s) own ∙ entry_is (entry_at s p) k e (key_read list k p among own) is)
+
+  pub value_none : (list : ℕ) (k : Key) (p : ℕ) → Among k (queue q list) → k.process ≡ p → option_map (λ (x : Key × Entry). x.1) (entry_at s p) ≡ None → ⊥
+  value_none list k p among own none = by (entry_at s p) (key_read list k p among own) none
+    where
+      by : (o : Option (Key × Entry)) → option_map (λ (x : Key × Entry). x.0) o ≡ Some k → option_map (λ (x : Key × Entry). x.1) o ≡ None → ⊥
+      by None key_is value_is = none-some k key_is
+      by (Some x) key_is value_is = none-some x.1 (sym value_is)
+
+  -- a process that has a value stands in a list
+  pub occupied_by : (p : ℕ) (e : Entry) → option_map (λ (x : Key × Entry). x.1) (entry_at s p) ≡ Some e → IsOccupied q p
+  occupied_by p e is = by (entry_at s p) refl is
+    where
+      by : (o : Option (Key × Entry)) → entry_at s p ≡ o → option_map (λ (x : Key × Entry). x.1) o ≡ Some e → IsOccupied q p
+      by None at none = absurd (none-some e none)
+      by (Some x) at some = occupied_tag p (Some x) at x refl
 
   -- a key is kept under its own process
   pub its_process : (p : ℕ) (k : Key) → option_map (λ (x : Key × Entry). x.0) (entry_at s p) ≡ Some k → k.process ≡ p

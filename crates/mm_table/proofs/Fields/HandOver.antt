@@ -54,7 +54,7 @@ taken_over s r key = activate (record s { owners = slice_set s.owners r (Some ke
 -- ---- the limit, by a walk through the queue
 
 -- those before `next` fit
-pub record FitsFrom (s : TableState) (r h : ℕ) (next : Option Key) : Type 0 where
+pub record FitsFrom (s : TableState) (r h : ℕ) (next : Option ℕ) : Type 0 where
   pub left : List Wait
   pub at : IsAt (waiters_of s r) next left
   pub fits : hand_over_fits s r ≡ list_all (λ w. block_fits s w.key.process h) left
@@ -65,25 +65,22 @@ pub fits_by : (o : Option Label) (b : Bool) (v : Label) → SomeIff o (IsTrue b)
 fits_by None b v given found = let never : false ≡ true = found in cc
 fits_by (Some l) b v given found = given.0
 
-module _ (s : TableState) (r h : ℕ) (key : Key) (way : FitsFrom s r h (Some key)) where
-  pub next_one : Passes (waiters_of s r) key way.left
-  next_one = passes (waiters_of s r) key way.left way.at
+module _ (s : TableState) (r h n : ℕ) (way : FitsFrom s r h (Some n)) where
+  pub next_one : Passes (waiters_of s r) n way.left
+  next_one = passes (waiters_of s r) n way.left way.at
 
-  its_number : next_one.wait.key.process ≡ key.process
-  its_number = ap (λ (k : Key). k.process) next_one.key_is
+  pub next_within : n < s.config.processes
+  next_within = subst (λ (m : ℕ). m < s.config.processes) next_one.process_is (subst (λ (l : List Wait). AllByRecursion (λ w. w.key.process < s.config.processes) l) next_one.left_is way.within).0
 
-  pub next_within : key.process < s.config.processes
-  next_within = subst (λ (n : ℕ). n < s.config.processes) its_number (subst (λ (l : List Wait). AllByRecursion (λ w. w.key.process < s.config.processes) l) next_one.left_is way.within).0
+  pub next_at : (next : Option ℕ) → IsNextWaiter s.waits n next → IsAt (waiters_of s r) next next_one.others
+  next_at next is_next = at_next s.waits (waiters_of s r) r n next way.left refl way.at next_one is_next
 
-  pub next_at : (next : Option Key) → IsNextWaiter s.waits key next → IsAt (waiters_of s r) next next_one.others
-  next_at next is_next = at_next s.waits (waiters_of s r) r key next way.left refl way.at next_one is_next
-
-  here : hand_over_fits s r ≡ (block_fits s key.process h && list_all (λ w. block_fits s w.key.process h) next_one.others)
+  here : hand_over_fits s r ≡ (block_fits s n h && list_all (λ w. block_fits s w.key.process h) next_one.others)
   here =
       way.fits ∙ ap (list_all (λ (w : Wait). block_fits s w.key.process h)) next_one.left_is
-      ∙ ap (λ n. block_fits s n h && list_all (λ w. block_fits s w.key.process h) next_one.others) its_number
+      ∙ ap (λ m. block_fits s m h && list_all (λ w. block_fits s w.key.process h) next_one.others) next_one.process_is
 
-  pub next_fits : (next : Option Key) → IsNextWaiter s.waits key next → block_fits s key.process h ≡ true → FitsFrom s r h next
+  pub next_fits : (next : Option ℕ) → IsNextWaiter s.waits n next → block_fits s n h ≡ true → FitsFrom s r h next
   next_fits next is_next fits = record {
     left = next_one.others;
     at = next_at next is_next;
@@ -91,17 +88,28 @@ module _ (s : TableState) (r h : ℕ) (key : Key) (way : FitsFrom s r h (Some ke
     within = (subst (λ (l : List Wait). AllByRecursion (λ w. w.key.process < s.config.processes) l) next_one.left_is way.within).1;
   }
 
+-- the key of the first of a queue
+pub record Leads (key : Key) (queue : List Wait) : Type 0 where
+  pub wait : Wait
+  pub others : List Wait
+  pub queue_is : queue ≡ wait ∷ others
+  pub key_is : wait.key ≡ key
+
+leads : (key : Key) (queue : List Wait) → Some key ≡ first_key queue → Leads key queue
+leads key [] first = (let never : Some key ≡ None = first in absurd (cc))
+leads key (w ∷ others) first = record { wait = w; others = others; queue_is = refl; key_is = (let same : Some key ≡ Some w.key = first in cc) }
+
 -- the first waiter for r
 module _ (s : TableState) (r : ℕ) (key : Key) (first : Some key ≡ first_key (waiters_of s r)) (once : NoRepeat (map (λ w. w.key.process) s.waits)) where
-  pub one : Passes (waiters_of s r) key (waiters_of s r)
-  one = passes (waiters_of s r) key (waiters_of s r) (at_start (waiters_of s r) (Some key) first)
+  pub one : Leads key (waiters_of s r)
+  one = leads key (waiters_of s r) first
 
   its_process : one.wait.key.process ≡ key.process
   its_process = ap (λ (k : Key). k.process) one.key_is
 
   -- it is among the waits
   among : Among one.wait s.waits
-  among = (filter_gives (λ v. nat_eq v.resource r) s.waits one.wait (subst (Among one.wait) (sym one.left_is) (inl refl))).0
+  among = (filter_gives (λ v. nat_eq v.resource r) s.waits one.wait (subst (Among one.wait) (sym one.queue_is) (inl refl))).0
 
   pub first_within : HasLawfulWaits s → key.process < s.config.processes
   first_within lawful = subst (λ (n : ℕ). n < s.config.processes) its_process (lawful.within one.wait among)
@@ -113,10 +121,10 @@ module _ (s : TableState) (r : ℕ) (key : Key) (first : Some key ≡ first_key 
   waiting = ap (λ o. is_some (option_map (λ (w : Wait). w.resource) o)) (found_by_number (λ (w : Wait). w.key.process) s.waits one.wait key.process once among its_process)
 
   pub answer : To key ≡ release_answer (waiters_of s r)
-  answer = ap To (sym one.key_is) ∙ ap release_answer (sym one.left_is)
+  answer = ap To (sym one.key_is) ∙ ap release_answer (sym one.queue_is)
 
   pub apart : NoneIs key.process one.others
-  apart = subst (λ n. NoneIs n one.others) its_process (none_behind [] one.wait one.others (subst (λ (l : List Wait). NoRepeat (map (λ w. w.key.process) l)) one.left_is (once_queue s r once)))
+  apart = subst (λ n. NoneIs n one.others) its_process (none_behind [] one.wait one.others (subst (λ (l : List Wait). NoRepeat (map (λ w. w.key.process) l)) one.queue_is (once_queue s r once)))
 
   -- the others stay in the queue
   pub left : (t : TableState) → t ≡ taken_over s r key → waiters_of t r ≡ one.others
@@ -125,14 +133,14 @@ module _ (s : TableState) (r : ℕ) (key : Key) (first : Some key ≡ first_key 
       let mine : is_of n one.wait ≡ true = eq-eqb one.wait.key.process n its_process in
       let stay : filter (λ w. not (is_of n w)) one.others ≡ one.others =
       filter_not (is_of n) one.others (all_map (λ (w : Wait). w.key.process ≢ n) (λ w. is_of n w ≡ false) (λ w other. ne_eqb w.key.process n other) one.others apart) in
-      ap (λ u. waiters_of u r) is ∙ filter_swap (λ w. nat_eq w.resource r) (λ w. not (is_of n w)) s.waits ∙ ap (filter (λ w. not (is_of n w))) one.left_is ∙ rw mine stay
+      ap (λ u. waiters_of u r) is ∙ filter_swap (λ w. nat_eq w.resource r) (λ w. not (is_of n w)) s.waits ∙ ap (filter (λ w. not (is_of n w))) one.queue_is ∙ rw mine stay
 
   pub others_apart : (t : TableState) → t ≡ taken_over s r key → NoneIs key.process (waiters_of t r)
   others_apart t is = subst (NoneIs key.process) (sym (left t is)) apart
 
   pub others_fit : (t : TableState) → t ≡ taken_over s r key → IsTrue (hand_over_fits s r) → IsTrue (list_all (λ w. block_fits t w.key.process key.process) (waiters_of t r))
   others_fit t is fits =
-      let all : IsTrue (list_all (λ w. block_fits s w.key.process one.wait.key.process) one.others) = subst (λ (l : List Wait). IsTrue (give_to_fits s l)) one.left_is fits in
+      let all : IsTrue (list_all (λ w. block_fits s w.key.process one.wait.key.process) one.others) = subst (λ (l : List Wait). IsTrue (give_to_fits s l)) one.queue_is fits in
       let its = subst (λ (n : ℕ). IsTrue (list_all (λ w. block_fits s w.key.process n) one.others)) its_process all in
       subst (λ (l : List Wait). IsTrue (list_all (λ w. block_fits t w.key.process key.process) l)) (sym (left t is))
       (subst (λ (u : TableState). IsTrue (list_all (λ w. block_fits u w.key.process key.process) one.others)) (sym is) its)
@@ -140,16 +148,19 @@ module _ (s : TableState) (r : ℕ) (key : Key) (first : Some key ≡ first_key 
   pub handed_over : (t : TableState) → t ≡ taken_over s r key → blocked_on t key.process (waiters_of t r) ≡ hand_over s r
   handed_over t is =
       ap (blocked_on t key.process) (left t is) ∙ ap (λ u. blocked_on u key.process one.others) is
-      ∙ ap (λ k. blocked_on (taken_over s r k) k.process one.others) (sym one.key_is) ∙ ap (give_to s r) (sym one.left_is)
+      ∙ ap (λ k. blocked_on (taken_over s r k) k.process one.others) (sym one.key_is) ∙ ap (give_to s r) (sym one.queue_is)
 
   -- the others are walked against it
-  pub fits_start : (next : Option Key) → IsNextWaiter s.waits key next → ((w : Wait) → Among w s.waits → w.key.process < s.config.processes) → FitsFrom s r key.process next
-  fits_start next is_next within = record {
-    left = one.others;
-    at = at_next s.waits (waiters_of s r) r key next (waiters_of s r) refl (at_start (waiters_of s r) (Some key) first) one is_next;
-    fits = ap (give_to_fits s) one.left_is ∙ ap (λ n. list_all (λ w. block_fits s w.key.process n) one.others) its_process;
-    within = (subst (λ (l : List Wait). AllByRecursion (λ w. w.key.process < s.config.processes) l) one.left_is (queue_within (λ w. w.key.process < s.config.processes) s r within)).1;
-  }
+  pub fits_start : (next : Option ℕ) → IsNextWaiter s.waits key.process next → ((w : Wait) → Among w s.waits → w.key.process < s.config.processes) → FitsFrom s r key.process next
+  fits_start next is_next within =
+      let at = at_start (waiters_of s r) (Some key.process) (ap (option_map (λ (k : Key). k.process)) first) in
+      let passed : Passes (waiters_of s r) key.process (waiters_of s r) = record { wait = one.wait; others = one.others; left_is = one.queue_is; process_is = its_process } in
+      record {
+        left = one.others;
+        at = at_next s.waits (waiters_of s r) r key.process next (waiters_of s r) refl at passed is_next;
+        fits = ap (give_to_fits s) one.queue_is ∙ ap (λ n. list_all (λ w. block_fits s w.key.process n) one.others) its_process;
+        within = (subst (λ (l : List Wait). AllByRecursion (λ w. w.key.process < s.config.processes) l) one.queue_is (queue_within (λ w. w.key.process < s.config.processes) s r within)).1;
+      }
 
 -- ---- the owner's resource is freed before the first waiter owns it
 

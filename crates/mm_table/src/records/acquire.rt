@@ -1,10 +1,10 @@
 //! A resource is granted, or its owner is waited for with a new label.
-ghost use Rattle.std.specs.Prelude.{◌≡◌, ◌<◌, ◌+◌, ◌^◌, ◌∷◌, ◌++◌, [], IsTrue, None, Some, slice_set, Ok, is_some, OnOk, SomeIff};
-ghost use Rattle.mm_rules.specs.TableState.{wait_of, owner_of, is_live};
+ghost use Rattle.std.specs.Prelude.{◌≡◌, ◌<◌, ◌≤◌, ◌+◌, ◌^◌, ◌∷◌, ◌++◌, [], IsTrue, None, Some, slice_set, Ok, is_some, OnOk, SomeIff};
+ghost use Rattle.mm_rules.specs.TableState.{wait_of, owner_of, public_of, is_live};
 ghost use Rattle.mm_rules.specs.Change.{block, block_fits, label_against};
 ghost use Rattle.mm_rules.specs.Event.{Gives, allowed, resource_tests, acquired};
 ghost use Rattle.mm_rules.specs.private.Stages.{wait_tests};
-ghost use Rattle.mm_table.specs.private.LabelLimit.{AllLabelsFit};
+ghost use Rattle.mm_table.specs.private.LabelLimit.{label_under, labelled, AllLabelsFit};
 
 use super::Records;
 use crate::{Acquired, Key, Refusal};
@@ -89,26 +89,49 @@ impl Records {
         self.greatest < self.config.label_limit
     }
 
+    /// The public label of a process.
+    pub(super) fn public(&self, process: u32) -> Label
+        requires { process < self.now.config.processes }
+        ensures { result ≡ public_of self.now process }
+    {
+        self.labels[process as usize].public
+    }
+
     /// The label that `process` gets by waiting for `holder`; `None` past the label limit.
     pub(super) fn label_against(&self, process: u32, holder: u32) -> Option<Label>
         requires process { process < self.now.config.processes }
         requires holder { holder < self.now.config.processes }
         ensures { SomeIff result (IsTrue (block_fits self.now process holder)) (label_against self.now process holder) }
     {
-        let own = self.labels[process as usize].public;
-        let shown = self.labels[holder as usize].public;
-        fresh(own, shown, process, self.config.label_limit)
+        fresh(
+            self.public(process),
+            self.public(holder),
+            process,
+            self.config.label_limit,
+        )
     }
 
     /// Gives `process` both its new labels, by which it waits for `holder`.
-    pub(super) fn block(&mut self, process: u32, holder: u32) -> Label
+    fn block(&mut self, process: u32, holder: u32) -> Label
         requires process { process < self.old.config.processes }
         requires holder { holder < self.old.config.processes }
         requires fits { IsTrue (block_fits self.old process holder) }
         ensures label { result ≡ label_against self.old process holder }
         ensures state { self.new ≡ block self.old process holder }
     {
-        let label = self.label_against(process, holder).unwrap();
+        let shown = self.public(holder);
+        self.block_under(process, shown)
+    }
+
+    /// Gives `process` both its new labels, by which it waits for one that shows this label.
+    pub(super) fn block_under(&mut self, process: u32, shown: Label) -> Label
+        requires process { process < self.old.config.processes }
+        requires fits { (label_under self.old process shown).counter ≤ self.old.config.label_limit }
+        ensures label { result ≡ label_under self.old process shown }
+        ensures state { self.new ≡ labelled self.old process (label_under self.old process shown) }
+    {
+        let own = self.public(process);
+        let label = fresh(own, shown, process, self.config.label_limit).unwrap();
         self.greatest = self.greatest.max(label.counter());
         let blocked = &mut self.labels[process as usize];
         blocked.private = label;

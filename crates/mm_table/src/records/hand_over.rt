@@ -40,12 +40,12 @@ impl Records {
         let Some(first) = self.transactions.first_waiter(resource) else {
             return true;
         };
-        let mut next = self.transactions.next_waiter(first);
-        while let Some(key) = next {
-            if self.label_against(key.process, first.process).is_none() {
+        let mut next = self.transactions.next_waiter(first.process);
+        while let Some(process) = next {
+            if self.label_against(process, first.process).is_none() {
                 return false;
             }
-            next = self.transactions.next_waiter(key);
+            next = self.transactions.next_waiter(process);
         }
         true
     }
@@ -58,10 +58,14 @@ impl Records {
         requires apart { NoneIs holder (waiters_of self.old resource) }
         ensures { self.new ≡ blocked_on self.old holder (waiters_of self.old resource) }
     {
-        let mut next = self.transactions.first_waiter(resource);
-        while let Some(key) = next {
-            self.block(key.process, holder);
-            next = self.transactions.next_waiter(key);
+        let Some(first) = self.transactions.first_waiter(resource) else {
+            return;
+        };
+        let shown = self.public(holder);
+        let mut next = Some(first.process);
+        while let Some(process) = next {
+            self.block_under(process, shown);
+            next = self.transactions.next_waiter(process);
         }
     }
 

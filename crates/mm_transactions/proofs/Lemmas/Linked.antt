@@ -1,15 +1,16 @@
 -- The queues when a wait starts and when one stops, whatever the waits are read off.
-use Rattle.std.proofs.Common.{◌≡◌, ◌≢◌, ℕ, ◌<◌, ◌≤◌, Bool, true, false, not, List, [], ◌∷◌, ◌++◌, length, map, filter, nat_eq, Option, replicate, refl, sym, ap, subst, ◌∙◌, inl, inr, arith, append-nil, length-set, get_or-set_same, get_or-set_other}
+use Rattle.std.proofs.Common.{◌≡◌, ◌≢◌, ℕ, ◌<◌, ◌≤◌, Bool, true, false, not, List, [], ◌∷◌, ◌++◌, length, map, filter, nat_eq, find, if◌then◌else◌, Option, Some, None, replicate, refl, sym, ap, subst, ◌∙◌, inl, inr, arith, append-nil, length-set, get_or-set_same, get_or-set_other}
 use Rattle.std.proofs.lemmas.Bool.{cases_eq, cases_lt, eq-eqb, ne_eqb}
 use Rattle.std.proofs.lemmas.List.{map-append, length-replicate, get_or-replicate, get_or_past}
 use Rattle.std.proofs.lemmas.List.Elements.{filter-append}
+use Rattle.std.specs.Option.{option_map}
 use Rattle.mm_arena.specs.declared.key.Key.{Key}
 use Rattle.mm_lists.specs.Members.{Among}
-use Rattle.mm_lists.proofs.Lemmas.Among.{all_at, among_map_gives}
+use Rattle.mm_lists.proofs.Lemmas.Among.{all_at}
 use Rattle.mm_lists.proofs.Lemmas.Cut.{cut_at}
-use Rattle.mm_lists.proofs.Lemmas.Filter.{filter_gives, filter_swap, filter_not, filter_only, only_among, none_pass, filter_map}
-use Rattle.mm_queue.specs.Queues.{Queues, queue, with_queue, first, Stands, IsOccupied, IsNext, Removes}
-use Rattle.mm_rules.specs.TableState.{Wait, is_of}
+use Rattle.mm_lists.proofs.Lemmas.Filter.{filter_swap, filter_not, filter_only, only_among, none_pass, filter_map}
+use Rattle.mm_queue.specs.Queues.{Queues, queue, with_queue, first, IsOccupied, IsNextProcess, Removes}
+use Rattle.mm_rules.specs.TableState.{Wait, is_of, waited_for}
 use Rattle.mm_transactions.specs.Transactions.{queue_of, first_key, IsNextWaiter}
 use Rattle.mm_transactions.specs.private.Layout.{keys_for, IsLinked}
 
@@ -107,21 +108,30 @@ linked_opening r n s inside = get_or-replicate r s [] [] (omega (arith, length-r
 
 -- ---- what is read of a queue
 
--- a key that stands in a list waits
-pub standing_waits : (q : Queues) (ws : List Wait) (k : Key) → IsLinked q ws → Stands q k → (w : Wait) × Among w ws × (w.key ≡ k)
-standing_waits q ws k linked stands =
-    let r = stands.0 in
-    let of_it = among_map_gives key (queue_of ws r) k (subst (Among k) (linked r (in_lists q r k stands.1)) stands.1) in
-    (of_it.0, (filter_gives (is_for r) ws of_it.0 of_it.1).0, sym of_it.2)
+-- who waits for nothing has no wait
+idle_none : (n : ℕ) (ws : List Wait) → waited_for ws n ≡ None → filter (is_of n) ws ≡ []
+idle_none n [] idle = refl
+idle_none n (w ∷ ws) idle = by (is_of n w) refl (idle_none n ws)
+  where
+    tested : Bool → Option ℕ
+    tested b = option_map (λ (v : Wait). v.resource) (if b then Some w else find (is_of n) ws)
+
+    by : (b : Bool) → is_of n w ≡ b → (waited_for ws n ≡ None → filter (is_of n) ws ≡ []) → filter (is_of n) (w ∷ ws) ≡ []
+    by true its rest = (let never : Some w.resource ≡ None = ap tested (sym its) ∙ idle in absurd (cc))
+    by false other rest = rw other (rest (ap tested (sym other) ∙ idle))
+
+-- and stands in no queue
+pub idle_stands_nowhere : (q : Queues) (ws : List Wait) (n : ℕ) → IsLinked q ws → waited_for ws n ≡ None → IsOccupied q n → ⊥
+idle_stands_nowhere q ws n linked idle = not_occupied q ws n linked (idle_none n ws idle)
 
 pub first_is : (ws : List Wait) → first (map key ws) ≡ first_key ws
 first_is [] = refl
 first_is (w ∷ ws) = refl
 
--- what follows a key in its list is the next waiter
-pub next_is : (q : Queues) (ws : List Wait) (k : Key) (next : Option Key) → IsLinked q ws → ((r : ℕ) → length q.lists ≤ r → queue_of ws r ≡ []) → IsNext q k next → IsNextWaiter ws k next
-next_is q ws k next linked none is r before w after split own = elim (cases_lt r (length q.lists)) [
-  | inl within ↦ is r (map key before) (map key after) (linked r within ∙ ap (map key) split ∙ map-append key before (w ∷ after) ∙ ap (λ j. map key before ++ j ∷ map key after) own) ∙ first_is after
+-- what follows a process in its list is the next waiter
+pub next_is : (q : Queues) (ws : List Wait) (n : ℕ) (next : Option ℕ) → IsLinked q ws → ((r : ℕ) → length q.lists ≤ r → queue_of ws r ≡ []) → IsNextProcess q n next → IsNextWaiter ws n next
+next_is q ws n next linked none is r before w after split own = elim (cases_lt r (length q.lists)) [
+  | inl within ↦ is r (map key before) w.key (map key after) (linked r within ∙ ap (map key) split ∙ map-append key before (w ∷ after)) own ∙ ap (option_map (λ (k : Key). k.process)) (first_is after)
   | inr past ↦ absurd (never before (sym split ∙ none r past))
 ]
   where

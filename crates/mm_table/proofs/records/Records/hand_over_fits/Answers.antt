@@ -19,11 +19,11 @@ first c = sym c.in-Some.is ∙ c.first_waiter.ensures.first ∙ ap (λ t. first_
 pub loop-next-init : goal.loop-next-init
 loop-next-init c =
     fits_start c.args.self.now c.args.resource c.in-Some.first (first c) (lawful c).once c.next_waiter-next.result
-    (subst (λ (ws : List Wait). IsNextWaiter ws c.in-Some.first c.next_waiter-next.result) (ap (λ t. t.waits) c.self.view_is) c.next_waiter-next.ensures.listed) (lawful c).within
+    (subst (λ (ws : List Wait). IsNextWaiter ws c.in-Some.first.process c.next_waiter-next.result) (ap (λ t. t.waits) c.self.view_is) c.next_waiter-next.ensures.listed) (lawful c).within
 
 pub label_against-requires-clause-process : goal.label_against-requires-clause-process
 label_against-requires-clause-process c =
-    next_within c.args.self.now c.args.resource c.in-Some.first.process c.in-Some-next.key (subst (FitsFrom c.args.self.now c.args.resource c.in-Some.first.process) c.in-Some-next.is c.loop-next.invariant)
+    next_within c.args.self.now c.args.resource c.in-Some.first.process c.in-Some-next.process (subst (FitsFrom c.args.self.now c.args.resource c.in-Some.first.process) c.in-Some-next.is c.loop-next.invariant)
 
 pub label_against-requires-clause-holder : goal.label_against-requires-clause-holder
 label_against-requires-clause-holder c =
@@ -31,29 +31,29 @@ label_against-requires-clause-holder c =
     let first : Some c.in-Some.first ≡ first_key (waiters_of c.args.self.now c.args.resource) = sym c.in-Some.is ∙ c.first_waiter.ensures.first ∙ ap (λ t. first_key (waiters_of t c.args.resource)) c.self.view_is in
     first_within c.args.self.now c.args.resource c.in-Some.first first lawful.once lawful
 
-way : (c : goal.After-next_waiter-next-in-Some-next) → FitsFrom c.args.self.now c.args.resource c.in-Some.first.process (Some c.in-Some-next.key)
+way : (c : goal.After-next_waiter-next-in-Some-next) → FitsFrom c.args.self.now c.args.resource c.in-Some.first.process (Some c.in-Some-next.process)
 way c = subst (FitsFrom c.args.self.now c.args.resource c.in-Some.first.process) c.in-Some-next.is c.loop-next.invariant
 
-is_next : (c : goal.After-next_waiter-next-in-Some-next) → IsNextWaiter c.args.self.now.waits c.in-Some-next.key c.next_waiter-next-in-Some-next.result
-is_next c = subst (λ (ws : List Wait). IsNextWaiter ws c.in-Some-next.key c.next_waiter-next-in-Some-next.result) (ap (λ s. s.waits) c.self.view_is) c.next_waiter-next-in-Some-next.ensures.listed
+is_next : (c : goal.After-next_waiter-next-in-Some-next) → IsNextWaiter c.args.self.now.waits c.in-Some-next.process c.next_waiter-next-in-Some-next.result
+is_next c = subst (λ (ws : List Wait). IsNextWaiter ws c.in-Some-next.process c.next_waiter-next-in-Some-next.result) (ap (λ s. s.waits) c.self.view_is) c.next_waiter-next-in-Some-next.ensures.listed
 
 pub loop-next-smaller : goal.loop-next-smaller
 loop-next-smaller c =
     let s = c.args.self.now in
     let r = c.args.resource in
     let h = c.in-Some.first.process in
-    let key = c.in-Some-next.key in
+    let n = c.in-Some-next.process in
     let lawful = lawful_waits c.self.inside s c.self.invariant c.self.view_is c.first_waiter.ensures.lawful in
     omega (
       arith,
       ap (λ o. length (left_from (waiters_of s r) o)) c.in-Some-next.is,
-      fewer_left (waiters_of s r) key c.next_waiter-next-in-Some-next.result (way c).left (once_queue s r lawful.once) (way c).at (next_one s r h key (way c)) (next_at s r h key (way c) c.next_waiter-next-in-Some-next.result (is_next c)),
+      fewer_left (waiters_of s r) n c.next_waiter-next-in-Some-next.result (way c).left (once_queue s r lawful.once) (way c).at (next_one s r h n (way c)) (next_at s r h n (way c) c.next_waiter-next-in-Some-next.result (is_next c)),
     )
 
 pub loop-next-preserved : goal.loop-next-preserved
 loop-next-preserved c =
     let s = c.args.self.now in
     let h = c.in-Some.first.process in
-    let key = c.in-Some-next.key in
-    next_fits s c.args.resource h key (way c) c.next_waiter-next-in-Some-next.result (is_next c)
-    (fits_by c.label_against.result (block_fits s key.process h) (label_against s key.process h) c.label_against.ensures c.if-is_none.ensures)
+    let n = c.in-Some-next.process in
+    next_fits s c.args.resource h n (way c) c.next_waiter-next-in-Some-next.result (is_next c)
+    (fits_by c.label_against.result (block_fits s n h) (label_against s n h) c.label_against.ensures c.if-is_none.ensures)
