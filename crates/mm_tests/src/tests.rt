@@ -5,6 +5,7 @@ mod label;
 mod links;
 mod owned;
 mod queue;
+mod same;
 mod shelf;
 mod table;
 mod work;

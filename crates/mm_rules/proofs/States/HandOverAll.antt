@@ -1,14 +1,13 @@
 -- All that a process owns is handed over, in whatever order its resources come.
-use Rattle.std.proofs.Common.{◌≡◌, ◌≢◌, ℕ, ◌<◌, ◌≤◌, Bool, true, false, List, [], ◌∷◌, length, filter, fold, nat_eq, is_some, IsTrue, IsFalse, Some, None, inl, inr, refl, sym, ap, ◌∙◌, arith, subst}
+use Rattle.std.proofs.Common.{◌≡◌, ◌≢◌, ℕ, ◌<◌, ◌≤◌, Bool, true, false, List, [], ◌∷◌, length, filter, fold, is_some, IsTrue, IsFalse, Some, None, inl, inr, refl, sym, ap, ◌∙◌, arith, subst}
 use Rattle.std.specs.List.{range_with_len}
 use Rattle.std.proofs.lemmas.Bool.{cases_eq, cases_Bool, eq-eqb}
 use Rattle.mm_arena.specs.declared.key.Key.{Key}
 use Rattle.mm_lists.specs.Members.{NoRepeat, Among}
 use Rattle.mm_rules.specs.TableState.{TableState, is_live, has_verdict, owner_of, owns, wait_of, resources_of}
-use Rattle.mm_rules.specs.Change.{hand_over, hand_over_fits, give_to_fits, vacate_fits}
+use Rattle.mm_rules.specs.Change.{hand_over, vacate_fits}
 use Rattle.mm_rules.specs.Laws.{Laws}
 use Rattle.mm_lists.proofs.Lemmas.Filter.{filter_gives, filter_keeps}
-use Rattle.mm_lists.proofs.Lemmas.Among.{list_all_from}
 use Rattle.mm_lists.proofs.Lemmas.Range.{no_repeat_filter_range}
 use Rattle.mm_rules.proofs.States.HandOverLaws.{MayHandOver}
 use Rattle.mm_rules.proofs.States.HandOver.{HandedOver, hand_over_keeps}
@@ -140,7 +139,3 @@ module _ (s : TableState) (k : Key) (laws : Laws s) (active : wait_of s k.proces
     | inl verdict ↦ let never : false ≡ true = sym (ap is_some done.active) ∙ done.keeps.laws.lawful.well_formed.verdicts k.process verdict in cc
     | inr none ↦ none
   ]
-
--- where nobody waits, each hand-over fits
-pub none_waits_fits : (s : TableState) (n : ℕ) → s.waits ≡ [] → vacate_fits s n ≡ true
-none_waits_fits s n none = list_all_from (hand_over_fits s) (resources_of s n) (λ r among. ap (λ ws. give_to_fits s (filter (λ w. nat_eq w.resource r) ws)) none)

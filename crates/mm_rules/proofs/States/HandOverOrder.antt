@@ -1,5 +1,5 @@
 -- Resources may be handed over in any order: their queues have no process in common, and a new owner's labels stay.
-use Rattle.std.proofs.Common.{◌≡◌, ◌≢◌, ℕ, false, not, nat_eq, List, [], ◌∷◌, ◌++◌, Option, Some, None, map, filter, fold, slice_set, refl, sym, ap, ◌∙◌, inl, inr, cond, get_or-set_other, subst, ◌⊎◌}
+use Rattle.std.proofs.Common.{◌≡◌, ◌≢◌, ℕ, false, not, nat_eq, List, [], ◌∷◌, ◌++◌, Option, Some, None, map, filter, fold, slice_set, refl, sym, ap, ◌∙◌, inl, inr, cond, get_or-set_other, subst}
 use Rattle.std.proofs.lemmas.List.{set_comm}
 use Rattle.std.proofs.lemmas.Bool.{cases_Bool, ne_eqb, eqb-true}
 use Rattle.std.specs.List.{AllByRecursion}

@@ -1,10 +1,9 @@
 -- The live key of a process.
-use Rattle.std.proofs.Common.{◌≡◌, ◌<◌, ℕ, length, arith, IfSome, IfNone, false, slice_index, slice_index_or, Option, Some, None, nat_eq, IsTrue, refl, ap, sym, subst, inl, inr}
-use Rattle.std.proofs.lemmas.Bool.{cases_Bool, and_parts, and_from, eq-eqb}
+use Rattle.std.proofs.Common.{◌≡◌, ℕ, IfNone, false, slice_index, slice_index_or, Option, Some, None, nat_eq, IsTrue, refl, ap, sym, subst, inl, inr}
+use Rattle.std.proofs.lemmas.Bool.{cases_Bool, and_from, eq-eqb}
 use Rattle.mm_arena.specs.declared.key.Key.{Key}
 use Rattle.mm_rules.specs.TableState.{TableState, key_of, is_live}
 use Rattle.mm_rules.specs.Event.{tenant_of}
-use Rattle.mm_lists.proofs.Lemmas.Set.{true_within}
 
 -- the live key of a process is live
 tenant_lives : (s : TableState) (n : ℕ) (k : Key) → Some k ≡ tenant_of s n → IsTrue (is_live s k) × (k.process ≡ n)
@@ -17,15 +16,6 @@ tenant_lives s n k found =
           (subst (λ (j : Key). IsTrue (is_live s j)) same lives, ap (λ (j : Key). j.process) (sym same))
       | inr free ↦ let never : Some k ≡ None = rw free at found in absurd (cc)
     ]
-
--- what the live key of a process tells, where it has one
-pub key_told : (s : TableState) (n : ℕ) (o : Option Key) → length s.live ≡ s.config.processes → o ≡ tenant_of s n
-    → IfSome o (λ key. IsTrue (is_live s key) × (key.process ≡ n) × (n < s.config.processes))
-key_told s n None sized is = tt
-key_told s n (Some key) sized is =
-    let lives : IsTrue (is_live s key) × (key.process ≡ n) = tenant_lives s n key is in
-    let live : IsTrue (slice_index_or s.live n false) = subst (λ (m : ℕ). IsTrue (slice_index_or s.live m false)) lives.1 (and_parts _ _ lives.0).0 in
-    (lives.0, lives.1, omega (arith, true_within s.live n live))
 
 pub none_told : (X : Type 0) (o : Option Key) → (o ≡ None → X) → IfNone o X
 none_told X None told = told refl

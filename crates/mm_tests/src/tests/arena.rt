@@ -1,7 +1,10 @@
 ghost use Rattle.std.specs.Prelude.{◌≡◌, ◌≢◌, ◌+◌, Some, IfOk, OnOk};
 ghost use Rattle.mm_arena.specs.Slots.{lookup, live_count};
 
+use crate::tests::same::same;
 use mm_arena::{Arena, Key, MAX_CAPACITY, Memory};
+use std::alloc::{AllocError, Global};
+use std::process::Abort;
 use std::test::Fail;
 
 // What a caller knows of two inserts.
@@ -27,27 +30,57 @@ fn key(process: u32, generation: u32) -> Key {
 #[test]
 fn gives_each_generation_once(rt: HostRuntime) -> Result<(), Fail> {
     let mut arena = Arena::<u64>::new(rt.alloc(), 1, 2)?;
-    assert_eq!(rt; arena.insert(7), Ok(key(0, 1)));
-    assert_eq!(rt; arena.insert(8), Err(8));
-    assert_eq!(rt; arena.remove(key(0, 1)), Some(7));
-    assert_eq!(rt; arena.insert(8), Ok(key(0, 2)));
-    assert_eq!(rt; arena.get(key(0, 1)), None);
-    assert_eq!(rt; arena.remove(key(0, 2)), Some(8));
-    assert_eq!(rt; arena.insert(9), Err(9));
-    assert_eq!(rt; arena.key_at(0), None);
+    same(&rt, arena.insert(7), Ok(key(0, 1)));
+    same(&rt, arena.insert(8), Err(8));
+    same(&rt, arena.remove(key(0, 1)), Some(7));
+    same(&rt, arena.insert(8), Ok(key(0, 2)));
+    same(&rt, arena.get(key(0, 1)), None);
+    same(&rt, arena.remove(key(0, 2)), Some(8));
+    same(&rt, arena.insert(9), Err(9));
+    same(&rt, arena.key_at(0), None);
     Ok(())
 }
 
 #[test]
 fn gives_the_slot_freed_last_first(rt: HostRuntime) -> Result<(), Fail> {
     let mut arena = Arena::new(rt.alloc(), 3, 9)?;
-    assert_eq!(rt; store_pair(&mut arena, 10, 11), Ok((key(0, 1), key(1, 1))));
-    assert_eq!(rt; arena.remove(key(0, 1)), Some(10));
-    assert_eq!(rt; arena.remove(key(0, 1)), None);
-    assert_eq!(rt; arena.remove(key(1, 1)), Some(11));
-    assert_eq!(rt; store_pair(&mut arena, 12, 13), Ok((key(1, 2), key(0, 2))));
-    assert_eq!(rt; arena.insert(14), Ok(key(2, 1)));
-    assert_eq!(rt; arena.remove(key(3, 1)), None);
+    same(
+        &rt,
+        store_pair(&mut arena, 10, 11),
+        Ok((key(0, 1), key(1, 1))),
+    );
+    same(&rt, arena.remove(key(0, 1)), Some(10));
+    same(&rt, arena.remove(key(0, 1)), None);
+    same(&rt, arena.remove(key(1, 1)), Some(11));
+    same(
+        &rt,
+        store_pair(&mut arena, 12, 13),
+        Ok((key(1, 2), key(0, 2))),
+    );
+    same(&rt, arena.insert(14), Ok(key(2, 1)));
+    same(&rt, arena.remove(key(3, 1)), None);
+    Ok(())
+}
+
+/// Inserts a text, writes at its end, and gives its key.
+fn insert_hello(rt: &impl Abort, alloc: Global, arena: &mut Arena<String>) -> Result<Key, Fail> {
+    let hello = format!(in alloc; "hello")?;
+    let first = arena.insert(hello).map_err(|_| "full")?;
+    arena.get_mut(first).ok_or("not live")?.push('!')?;
+    assert!(rt; arena.contains(first));
+    same(rt, arena.get(first).ok_or("not live")?.as_str(), "hello!");
+    Ok(first)
+}
+
+/// Inserts a second text, which is left in the arena.
+fn insert_kept(
+    rt: &impl Abort,
+    alloc: Global,
+    arena: &mut Arena<String>,
+) -> Result<(), AllocError> {
+    let kept = format!(in alloc; "kept")?;
+    assert!(rt; arena.insert(kept).is_ok());
+    same(rt, arena.live(), 2);
     Ok(())
 }
 
@@ -55,36 +88,45 @@ fn gives_the_slot_freed_last_first(rt: HostRuntime) -> Result<(), Fail> {
 #[test]
 fn keeps_texts(rt: HostRuntime) -> Result<(), Fail> {
     let mut arena = Arena::<String>::new(rt.alloc(), 2, 1)?;
-    let hello = format!(in rt.alloc(); "hello")?;
-    let first = arena.insert(hello).map_err(|_| "full")?;
-    arena.get_mut(first).ok_or("not live")?.push('!')?;
-    assert!(rt; arena.contains(first));
-    assert_eq!(rt; arena.get(first).ok_or("not live")?.as_str(), "hello!");
-    let kept = format!(in rt.alloc(); "kept")?;
-    assert!(rt; arena.insert(kept).is_ok());
-    assert_eq!(rt; arena.live(), 2);
+    let first = insert_hello(&rt, rt.alloc(), &mut arena)?;
+    insert_kept(&rt, rt.alloc(), &mut arena)?;
     let removed = arena.remove(first).ok_or("not live")?;
-    assert_eq!(rt; removed.as_str(), "hello!");
+    same(&rt, removed.as_str(), "hello!");
     assert!(rt; arena.get_mut(first).is_none());
     Ok(())
+}
+
+/// Inserts the number of each process under its first key.
+fn fill(rt: &impl Abort, arena: &mut Arena<u32>) {
+    for process in 0..MAX_CAPACITY {
+        same(rt, arena.insert(process), Ok(key(process, 1)));
+    }
+}
+
+/// Removes what `fill` inserted.
+fn clear(rt: &impl Abort, arena: &mut Arena<u32>) {
+    for process in 0..MAX_CAPACITY {
+        same(rt, arena.remove(key(process, 1)), Some(process));
+    }
+}
+
+/// Inserts the number of each process under its second key: the slot freed last comes first.
+fn fill_again(rt: &impl Abort, arena: &mut Arena<u32>) {
+    for process in (0..MAX_CAPACITY).rev() {
+        same(rt, arena.insert(process), Ok(key(process, 2)));
+    }
 }
 
 #[test]
 fn fills_the_largest_capacity_twice(rt: HostRuntime) -> Result<(), Fail> {
     let mut arena = Arena::new(rt.alloc(), MAX_CAPACITY, u32::MAX)?;
-    'first: for process in 0..MAX_CAPACITY {
-        assert_eq!(rt; arena.insert(process), Ok(key(process, 1)));
-    }
-    assert_eq!(rt; arena.insert(0), Err(0));
-    assert_eq!(rt; arena.live(), MAX_CAPACITY);
-    'removed: for process in 0..MAX_CAPACITY {
-        assert_eq!(rt; arena.remove(key(process, 1)), Some(process));
-    }
-    assert_eq!(rt; arena.live(), 0);
-    'again: for process in (0..MAX_CAPACITY).rev() {
-        assert_eq!(rt; arena.insert(process), Ok(key(process, 2)));
-    }
-    assert_eq!(rt; arena.insert(0), Err(0));
+    fill(&rt, &mut arena);
+    same(&rt, arena.insert(0), Err(0));
+    same(&rt, arena.live(), MAX_CAPACITY);
+    clear(&rt, &mut arena);
+    same(&rt, arena.live(), 0);
+    fill_again(&rt, &mut arena);
+    same(&rt, arena.insert(0), Err(0));
     Ok(())
 }
 

@@ -2,6 +2,7 @@ ghost use Rattle.std.specs.Prelude.{◌<◌, ◌↔◌, length, IsTrue};
 ghost use Rattle.mm_lists.specs.Members.{Among};
 ghost use Rattle.mm_owned.specs.Owned.{list_at};
 
+use crate::tests::same::same;
 use mm_arena::Key;
 use mm_owned::Owned;
 use std::test::Fail;
@@ -35,22 +36,22 @@ fn keeps_each_list_in_order(rt: HostRuntime) -> Result<(), Fail> {
     owned.push(earlier, 0);
     owned.push(earlier, 2);
     owned.push(earlier, 1);
-    assert_eq!(rt; owned.first(1), Some(1));
-    assert_eq!(rt; owned.next(1), Some(2));
-    assert_eq!(rt; owned.next(2), Some(0));
-    assert_eq!(rt; owned.next(0), None);
+    same(&rt, owned.first(1), Some(1));
+    same(&rt, owned.next(1), Some(2));
+    same(&rt, owned.next(2), Some(0));
+    same(&rt, owned.next(0), None);
     assert!(rt; is_in_list(&owned, 1, 0));
-    assert_eq!(rt; owned.owner(2), Some(earlier));
+    same(&rt, owned.owner(2), Some(earlier));
     owned.remove(2);
     assert!(rt; !is_in_list(&owned, 1, 2));
-    assert_eq!(rt; owned.owner(2), None);
-    assert_eq!(rt; owned.next(1), Some(0));
-    assert_eq!(rt; owned.next(2), None);
+    same(&rt, owned.owner(2), None);
+    same(&rt, owned.next(1), Some(0));
+    same(&rt, owned.next(2), None);
     owned.push(later, 2);
     owned.remove(1);
-    assert_eq!(rt; owned.first(1), Some(0));
-    assert_eq!(rt; owned.first(0), Some(2));
-    assert_eq!(rt; owned.owner(2), Some(later));
-    assert_eq!(rt; owned.owner(0), Some(earlier));
+    same(&rt, owned.first(1), Some(0));
+    same(&rt, owned.first(0), Some(2));
+    same(&rt, owned.owner(2), Some(later));
+    same(&rt, owned.owner(0), Some(earlier));
     Ok(())
 }

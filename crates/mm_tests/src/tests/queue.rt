@@ -1,5 +1,6 @@
 ghost use Rattle.std.specs.Prelude.{◌≡◌, ◌<◌, length};
 
+use crate::tests::same::same;
 use mm_arena::Key;
 use mm_queue::Lists;
 use std::test::Fail;
@@ -33,18 +34,18 @@ fn keeps_each_list_in_order(rt: HostRuntime) -> Result<(), Fail> {
     push(&mut lists, 0, key(3, 1));
     push(&mut lists, 1, key(0, 2));
     push(&mut lists, 0, key(2, 1));
-    assert_eq!(rt; lists.front(0), Some(key(1, 1)));
-    assert_eq!(rt; lists.next(key(1, 1)), Some(key(3, 1)));
-    assert_eq!(rt; lists.len(0), 3);
+    same(&rt, lists.front(0), Some(key(1, 1)));
+    same(&rt, lists.next(key(1, 1)), Some(key(3, 1)));
+    same(&rt, lists.len(0), 3);
     assert!(rt; lists.remove(key(3, 1)));
-    assert_eq!(rt; lists.next(key(1, 1)), Some(key(2, 1)));
+    same(&rt, lists.next(key(1, 1)), Some(key(2, 1)));
     assert!(rt; !lists.remove(key(3, 1)));
     assert!(rt; !lists.remove(key(2, 9)));
-    assert_eq!(rt; lists.list_of(key(2, 1)), Some(0));
+    same(&rt, lists.list_of(key(2, 1)), Some(0));
     assert!(rt; !lists.occupied(3));
-    assert_eq!(rt; lists.pop_front(0), Some(key(1, 1)));
-    assert_eq!(rt; lists.len(0), 1);
-    assert_eq!(rt; lists.pop_front(1), Some(key(0, 2)));
-    assert_eq!(rt; lists.front(1), None);
+    same(&rt, lists.pop_front(0), Some(key(1, 1)));
+    same(&rt, lists.len(0), 1);
+    same(&rt, lists.pop_front(1), Some(key(0, 2)));
+    same(&rt, lists.front(1), None);
     Ok(())
 }

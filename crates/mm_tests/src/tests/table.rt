@@ -1,8 +1,34 @@
+mod steps;
+
+use crate::tests::same::same;
 use mm_table::{
     Acquired, Config, Detected, Key, Label, Mode, Refusal, Settled, State, Table, Totals,
     Transmitted,
 };
+use std::alloc::{AllocError, Global};
+use std::process::Abort;
 use std::test::Fail;
+use steps::{Step, make};
+
+/// The first transaction of each process.
+const FIRST: [Key; 4] = [
+    Key {
+        process: 0,
+        generation: 1,
+    },
+    Key {
+        process: 1,
+        generation: 1,
+    },
+    Key {
+        process: 2,
+        generation: 1,
+    },
+    Key {
+        process: 3,
+        generation: 1,
+    },
+];
 
 fn config(processes: u32, resources: u32) -> Config {
     Config {
@@ -13,13 +39,17 @@ fn config(processes: u32, resources: u32) -> Config {
     }
 }
 
-/// Begins two transactions, each of which takes the resource of its own number.
-fn begin_two(table: &mut Table) -> Result<(Key, Key), Refusal> {
-    let first = table.begin()?;
-    let second = table.begin()?;
-    table.acquire(first, 0)?;
-    table.acquire(second, 1)?;
-    Ok((first, second))
+/// Ends the test unless two keys, with a space between them, are printed so.
+fn are_printed(
+    rt: &impl Abort,
+    alloc: Global,
+    first: Key,
+    second: Key,
+    expected: &str,
+) -> Result<(), AllocError> {
+    let printed = format!(in alloc; "{first} {second}")?;
+    same(rt, printed.as_str(), expected);
+    Ok(())
 }
 
 #[test]
@@ -27,30 +57,48 @@ fn keys_are_printed_with_their_generations(rt: HostRuntime) -> Result<(), Fail> 
     let mut table = Table::open(rt.alloc(), config(4, 4))?;
     let first = table.begin()?;
     let second = table.begin()?;
-    let printed = format!(in rt.alloc(); "{first} {second}")?;
-    assert_eq!(rt; printed.as_str(), "0.1 1.1");
-    assert_eq!(rt; table.acquire(first, 0)?, Acquired::Granted);
-    assert_eq!(rt; table.acquire(second, 1)?, Acquired::Granted);
+    are_printed(&rt, rt.alloc(), first, second, "0.1 1.1")?;
+    same(&rt, table.acquire(first, 0), Ok(Acquired::Granted));
+    same(&rt, table.acquire(second, 1), Ok(Acquired::Granted));
     Ok(())
 }
 
 #[test]
 fn the_second_that_asks_waits(rt: HostRuntime) -> Result<(), Fail> {
-    let mut table = Table::open(rt.alloc(), config(4, 4))?;
-    let (first, second) = begin_two(&mut table)?;
+    let [first, second, ..] = FIRST;
     let label = Label::new(1, 0).ok_or("in range")?;
-    let answer = Acquired::Waits {
+    let waits = Acquired::Waits {
         holder: second,
         label,
     };
-    assert_eq!(rt; table.acquire(first, 1)?, answer);
     let state = State {
         mode: Mode::Waiting(1),
         private: label,
         public: label,
     };
-    assert_eq!(rt; table.state(first)?, state);
-    assert_eq!(rt; table.acquire(first, 2), Err(Refusal::Waiting));
+    let mut table = Table::open(rt.alloc(), config(4, 4))?;
+    make(
+        &rt,
+        &mut table,
+        &[
+            Step::Begin(Ok(first)),
+            Step::Begin(Ok(second)),
+            Step::Acquire(first, 0, Ok(Acquired::Granted)),
+            Step::Acquire(second, 1, Ok(Acquired::Granted)),
+            Step::Acquire(first, 1, Ok(waits)),
+            Step::State(first, Ok(state)),
+            Step::Acquire(first, 2, Err(Refusal::Waiting)),
+        ],
+    );
+    Ok(())
+}
+
+/// Begins as many transactions as the largest table has processes, each of which asks for its last resource.
+fn fill(table: &mut Table) -> Result<(), Refusal> {
+    for _ in 0..Config::MOST_PROCESSES {
+        let key = table.begin()?;
+        table.acquire(key, 65535)?;
+    }
     Ok(())
 }
 
@@ -65,11 +113,8 @@ fn the_largest_table_opens_and_fills(rt: HostRuntime) -> Result<(), Fail> {
             generation_limit: u32::MAX,
         },
     )?;
-    for _ in 0..Config::MOST_PROCESSES {
-        let key = table.begin()?;
-        table.acquire(key, 65535)?;
-    }
-    assert_eq!(rt; table.begin(), Err(Refusal::Full));
+    fill(&mut table)?;
+    same(&rt, table.begin(), Err(Refusal::Full));
     Ok(())
 }
 
@@ -99,41 +144,60 @@ fn make_ring(table: &mut Table, count: u32) -> Result<(), Refusal> {
     Ok(())
 }
 
-/// What the transaction of a process does, and the counters and the processes of its private and its public label.
-fn told(table: &Table, process: u32) -> Option<(Mode, u64, u32, u64, u32)> {
-    let state = table.state(table.tenant(process)?).ok()?;
-    Some((
-        state.mode,
-        state.private.counter(),
-        state.private.process(),
-        state.public.counter(),
-        state.public.process(),
-    ))
-}
-
 #[test]
 fn a_ring_of_three_settles(rt: HostRuntime) -> Result<(), Fail> {
+    let [first, second, third, ..] = FIRST;
+    let own = Label::new(1, 0).ok_or("in range")?;
+    let seconds = Label::new(1, 1).ok_or("in range")?;
+    let greatest = Label::new(2, 2).ok_or("in range")?;
     let mut table = Table::open(rt.alloc(), config(4, 4))?;
     make_ring(&mut table, 3)?;
-    let answer = Settled {
-        raises: 3,
-        verdicts: 1,
-    };
-    assert_eq!(rt; table.settle()?, answer);
-    assert_eq!(rt; told(&table, 0), Some((Mode::Waiting(1), 1, 0, 2, 2)));
-    assert_eq!(rt; told(&table, 1), Some((Mode::Waiting(2), 1, 1, 2, 2)));
-    assert_eq!(rt; told(&table, 2), Some((Mode::Convicted(0), 2, 2, 2, 2)));
-    let totals = Totals {
-        accepted: 10,
-        verdicts: 1,
-        aborts: 0,
-    };
-    assert_eq!(rt; table.totals(), totals);
-    let nothing = Settled {
-        raises: 0,
-        verdicts: 0,
-    };
-    assert_eq!(rt; table.settle()?, nothing);
+    make(
+        &rt,
+        &mut table,
+        &[
+            Step::Settle(Ok(Settled {
+                raises: 3,
+                verdicts: 1,
+            })),
+            Step::Tenant(0, Some(first)),
+            Step::State(
+                first,
+                Ok(State {
+                    mode: Mode::Waiting(1),
+                    private: own,
+                    public: greatest,
+                }),
+            ),
+            Step::Tenant(1, Some(second)),
+            Step::State(
+                second,
+                Ok(State {
+                    mode: Mode::Waiting(2),
+                    private: seconds,
+                    public: greatest,
+                }),
+            ),
+            Step::Tenant(2, Some(third)),
+            Step::State(
+                third,
+                Ok(State {
+                    mode: Mode::Convicted(0),
+                    private: greatest,
+                    public: greatest,
+                }),
+            ),
+            Step::Totals(Totals {
+                accepted: 10,
+                verdicts: 1,
+                aborts: 0,
+            }),
+            Step::Settle(Ok(Settled {
+                raises: 0,
+                verdicts: 0,
+            })),
+        ],
+    );
     Ok(())
 }
 
@@ -145,45 +209,83 @@ fn a_ring_of_four_settles(rt: HostRuntime) -> Result<(), Fail> {
         raises: 6,
         verdicts: 1,
     };
-    assert_eq!(rt; table.settle()?, answer);
+    same(&rt, table.settle(), Ok(answer));
     Ok(())
 }
 
 /// Two wait for each other; the one whose label comes round gives way to the other.
 #[test]
 fn the_convicted_one_gives_way(rt: HostRuntime) -> Result<(), Fail> {
+    let [first, second, ..] = FIRST;
+    let own = Label::new(1, 0).ok_or("in range")?;
+    let greatest = Label::new(2, 1).ok_or("in range")?;
     let mut table = Table::open(rt.alloc(), config(4, 4))?;
     make_ring(&mut table, 2)?;
-    let first = table.tenant(0).ok_or("live")?;
-    let second = table.tenant(1).ok_or("live")?;
-    let label = Label::new(2, 1).ok_or("in range")?;
-    assert_eq!(rt; table.detect(second)?, Detected::Clear);
-    assert_eq!(rt; table.abort(second), Err(Refusal::NoVerdict));
-    assert_eq!(rt; table.transmit(first)?, Transmitted::Raised(label));
-    assert_eq!(rt; table.detect(second)?, Detected::Deadlock(label));
-    assert_eq!(rt; table.finish(second), Err(Refusal::Waiting));
-    table.abort(second)?;
-    assert_eq!(rt; table.owner(1)?, Some(first));
-    assert_eq!(rt; told(&table, 0), Some((Mode::Active, 1, 0, 2, 1)));
-    assert_eq!(rt; table.state(second), Err(Refusal::Stale));
+    make(
+        &rt,
+        &mut table,
+        &[
+            Step::Tenant(0, Some(first)),
+            Step::Tenant(1, Some(second)),
+            Step::Detect(second, Ok(Detected::Clear)),
+            Step::Abort(second, Err(Refusal::NoVerdict)),
+            Step::Transmit(first, Ok(Transmitted::Raised(greatest))),
+            Step::Detect(second, Ok(Detected::Deadlock(greatest))),
+            Step::Finish(second, Err(Refusal::Waiting)),
+            Step::Abort(second, Ok(())),
+            Step::Owner(1, Ok(Some(first))),
+            Step::Tenant(0, Some(first)),
+            Step::State(
+                first,
+                Ok(State {
+                    mode: Mode::Active,
+                    private: own,
+                    public: greatest,
+                }),
+            ),
+            Step::State(second, Err(Refusal::Stale)),
+        ],
+    );
+    Ok(())
+}
+
+/// Begins four transactions: the first takes both resources, the second waits for resource 1, and the others wait for resource 0.
+fn make_three_wait(table: &mut Table) -> Result<(), Refusal> {
+    let [first, second, third, fourth] = FIRST;
+    for _ in FIRST {
+        table.begin()?;
+    }
+    for (key, resource) in [(first, 0), (first, 1), (second, 1), (third, 0), (fourth, 0)] {
+        table.acquire(key, resource)?;
+    }
     Ok(())
 }
 
 /// One that finishes hands over each of its resources to the longest waiter.
 #[test]
 fn a_finish_hands_over(rt: HostRuntime) -> Result<(), Fail> {
+    let [first, second, third, fourth] = FIRST;
+    let label = Label::new(2, 3).ok_or("in range")?;
     let mut table = Table::open(rt.alloc(), config(4, 2))?;
-    let first = table.begin()?;
-    let others = [table.begin()?, table.begin()?, table.begin()?];
-    table.acquire(first, 0)?;
-    table.acquire(first, 1)?;
-    for (key, resource) in [(others[0], 1), (others[1], 0), (others[2], 0)] {
-        table.acquire(key, resource)?;
-    }
-    table.finish(first)?;
-    assert_eq!(rt; table.owner(0)?, Some(others[1]));
-    assert_eq!(rt; table.owner(1)?, Some(others[0]));
-    assert_eq!(rt; told(&table, 3), Some((Mode::Waiting(0), 2, 3, 2, 3)));
-    assert_eq!(rt; table.finish(first), Err(Refusal::Stale));
+    make_three_wait(&mut table)?;
+    make(
+        &rt,
+        &mut table,
+        &[
+            Step::Finish(first, Ok(())),
+            Step::Owner(0, Ok(Some(third))),
+            Step::Owner(1, Ok(Some(second))),
+            Step::Tenant(3, Some(fourth)),
+            Step::State(
+                fourth,
+                Ok(State {
+                    mode: Mode::Waiting(0),
+                    private: label,
+                    public: label,
+                }),
+            ),
+            Step::Finish(first, Err(Refusal::Stale)),
+        ],
+    );
     Ok(())
 }

@@ -3,7 +3,7 @@
 mod faults;
 mod ring;
 
-use faults::{FailingReader, FailingWriter, Newlines, WhenFull};
+use faults::{FailingReader, FailingWriter, Newlines, WhenFull, read_is_at_fault, write_ends};
 use mm_work::{ScriptFault, run_script};
 use std::io::ErrorKind;
 use std::test::Fail;
@@ -29,25 +29,13 @@ fn read_fails(rt: HostRuntime) -> Result<(), Fail> {
         (1, 13, two, 0),
     ] {
         for kind in [ErrorKind::Other, ErrorKind::Interrupted] {
-            let bytes = b"begin\nfly\nbeg".as_slice();
             let mut reader = FailingReader {
-                bytes,
+                bytes: b"begin\nfly\nbeg".as_slice(),
                 piece,
                 calls,
                 kind,
             };
-            let mut output = Vec::new(rt.alloc());
-            let outcome = run_script(rt.alloc(), &mut reader, &mut output);
-            assert_eq!(rt;
-                outcome,
-                Err(ScriptFault::Read),
-                "{piece} bytes, {calls} calls"
-            );
-            assert_eq!(rt;
-                output.as_slice(),
-                written.as_bytes(),
-                "{piece} bytes, {calls} calls"
-            );
+            read_is_at_fault(&rt, rt.alloc(), &mut reader, written.as_bytes());
             assert_eq!(rt; reader.bytes.len(), left, "{piece} bytes, {calls} calls");
         }
     }
@@ -64,14 +52,7 @@ fn read_fails_within_a_line(rt: HostRuntime) -> Result<(), Fail> {
             calls,
             kind: ErrorKind::Other,
         };
-        let mut output = Vec::new(rt.alloc());
-        let outcome = run_script(rt.alloc(), &mut reader, &mut output);
-        assert_eq!(rt; outcome, Err(ScriptFault::Read), "{piece} bytes a call");
-        assert_eq!(rt;
-            output.as_slice(),
-            b"ok\nkey 0.1\n".as_slice(),
-            "{piece} bytes a call"
-        );
+        read_is_at_fault(&rt, rt.alloc(), &mut reader, b"ok\nkey 0.1\n".as_slice());
         assert!(rt; reader.bytes.is_empty(), "{piece} bytes a call");
     }
     Ok(())
@@ -111,7 +92,6 @@ fn write_fails(rt: HostRuntime) -> Result<(), Fail> {
         ),
         (1, 4096, WhenFull::Fails, false, REPLIES, Ok(0), 1),
     ] {
-        let mut input = SCRIPT.as_bytes();
         let mut writer = FailingWriter {
             taken: Vec::new(rt.alloc()),
             piece,
@@ -120,9 +100,14 @@ fn write_fails(rt: HostRuntime) -> Result<(), Fail> {
             flushes: 0,
             flush_fails,
         };
-        let ended = run_script(rt.alloc(), &mut input, &mut writer);
-        assert_eq!(rt; ended, outcome, "{piece} bytes a call");
-        assert_eq!(rt; writer.taken.as_slice(), taken.as_bytes());
+        write_ends(
+            &rt,
+            rt.alloc(),
+            SCRIPT.as_bytes(),
+            &mut writer,
+            taken.as_bytes(),
+            outcome,
+        );
         assert_eq!(rt; writer.flushes, flushes, "{piece} bytes a call");
     }
     Ok(())

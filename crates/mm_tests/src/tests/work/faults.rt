@@ -1,7 +1,10 @@
-//! A reader and a writer that fail at a chosen call, and a reader of newlines.
+//! A reader and a writer that fail at a chosen call, what comes of a script of each, and a reader of newlines.
 
+use mm_work::{ScriptFault, run_script};
+use std::alloc::Global;
 use std::io;
 use std::io::{ErrorKind, Read, Write};
+use std::process::Abort;
 
 /// Gives its bytes in pieces, and fails once, after some calls.
 #[derive(Drop)]
@@ -27,6 +30,24 @@ impl Read for FailingReader<'_> {
         self.bytes = rest;
         Ok(count)
     }
+}
+
+/// Answers the script of a reader, and ends the test unless the fault is that of a read and the replies are these.
+pub fn read_is_at_fault(
+    rt: &impl Abort,
+    alloc: Global,
+    reader: &mut FailingReader,
+    replies: &[u8],
+) {
+    let FailingReader { piece, calls, .. } = *reader;
+    let mut output = Vec::new(alloc);
+    let outcome = run_script(alloc, reader, &mut output);
+    assert_eq!(rt;
+        outcome,
+        Err(ScriptFault::Read),
+        "{piece} bytes, {calls} calls"
+    );
+    assert_eq!(rt; output.as_slice(), replies, "{piece} bytes, {calls} calls");
 }
 
 /// What a writer does that has no room left.
@@ -72,6 +93,22 @@ impl Write for FailingWriter {
         }
         Ok(())
     }
+}
+
+/// Answers a script to a writer, and ends the test unless it ends so and the writer took just these bytes.
+pub fn write_ends(
+    rt: &impl Abort,
+    alloc: Global,
+    script: &[u8],
+    writer: &mut FailingWriter,
+    taken: &[u8],
+    outcome: Result<u64, ScriptFault>,
+) {
+    let FailingWriter { piece, room, .. } = *writer;
+    let mut input = script;
+    let ended = run_script(alloc, &mut input, writer);
+    assert_eq!(rt; ended, outcome, "{piece} bytes a call, {room} in all");
+    assert_eq!(rt; writer.taken.as_slice(), taken);
 }
 
 /// Gives newlines alone, so many.

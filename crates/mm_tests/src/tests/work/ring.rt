@@ -1,7 +1,7 @@
 //! A script each read and each write of which fails in turn: three transactions that wait in a ring.
 
-use super::faults::{FailingReader, FailingWriter, WhenFull};
-use mm_work::{ScriptFault, run_script};
+use super::faults::{FailingReader, FailingWriter, WhenFull, read_is_at_fault, write_ends};
+use mm_work::ScriptFault;
 use std::alloc::{AllocError, Global};
 use std::io::ErrorKind;
 use std::test::Fail;
@@ -60,19 +60,8 @@ fn each_read_fails(rt: HostRuntime) -> Result<(), Fail> {
                 calls,
                 kind: ErrorKind::Other,
             };
-            let mut output = Vec::new(rt.alloc());
-            let outcome = run_script(rt.alloc(), &mut reader, &mut output);
-            assert_eq!(rt;
-                outcome,
-                Err(ScriptFault::Read),
-                "{piece} bytes, {calls} calls"
-            );
             let replies = replies_within(rt.alloc(), read)?;
-            assert_eq!(rt;
-                output.as_slice(),
-                replies.as_slice(),
-                "{piece} bytes, {calls} calls"
-            );
+            read_is_at_fault(&rt, rt.alloc(), &mut reader, replies.as_slice());
             if read >= script.len() {
                 break;
             }
@@ -89,7 +78,6 @@ fn each_write_fails(rt: HostRuntime) -> Result<(), Fail> {
     for piece in [1_usize, 5, 100] {
         for when_full in [WhenFull::Fails, WhenFull::TakesNone] {
             for room in 0..replies.len() {
-                let mut input = script.as_slice();
                 let mut writer = FailingWriter {
                     taken: Vec::new(rt.alloc()),
                     piece,
@@ -98,15 +86,13 @@ fn each_write_fails(rt: HostRuntime) -> Result<(), Fail> {
                     flushes: 0,
                     flush_fails: false,
                 };
-                let outcome = run_script(rt.alloc(), &mut input, &mut writer);
-                assert_eq!(rt;
-                    outcome,
+                write_ends(
+                    &rt,
+                    rt.alloc(),
+                    script.as_slice(),
+                    &mut writer,
+                    replies.as_slice().split_at(room).0,
                     Err(ScriptFault::Write),
-                    "{piece} bytes a call, {room} in all"
-                );
-                assert_eq!(rt;
-                    writer.taken.as_slice(),
-                    replies.as_slice().split_at(room).0
                 );
                 assert_eq!(rt; writer.flushes, 0);
             }
