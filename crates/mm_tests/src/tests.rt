@@ -3,6 +3,7 @@
 mod arena;
 mod label;
 mod links;
+mod marks;
 mod owned;
 mod queue;
 mod same;

@@ -1,0 +1,4 @@
+-- one bit of the words is written
+pub mod Written
+-- the first bit at or above a place
+pub mod First

@@ -1,0 +1,16 @@
+-- Sets of numbers below a bound, as lists of Bool.
+use Rattle.std.specs.Prelude.{◌≡◌, ◌≤◌, ◌<◌, ℕ, Bool, true, false, List, slice_index_or}
+
+-- n is a member
+abbrev pub has : List Bool → ℕ → Bool
+has set n = slice_index_or set n false
+
+-- no number at or above this place is a member
+abbrev pub HasNoneFrom : List Bool → ℕ → Type 0
+HasNoneFrom set from = (k : ℕ) → from ≤ k → has set k ≡ false
+
+-- n is the first member at or above this place
+pub record IsNext (set : List Bool) (from n : ℕ) : Type 0 where
+  pub at_least : from ≤ n
+  pub member : has set n ≡ true
+  pub first : (k : ℕ) → from ≤ k → k < n → has set k ≡ false
