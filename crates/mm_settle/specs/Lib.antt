@@ -1,0 +1,2 @@
+-- private: what private functions of mm_table cite; no public clause cites these
+pub mod private

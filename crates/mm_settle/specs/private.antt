@@ -1,0 +1,4 @@
+pub mod Marked
+pub mod Pass
+pub mod Detects
+pub mod Changed
