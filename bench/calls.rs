@@ -1,11 +1,16 @@
-//! Times workloads over the proved table and over the plain one, and prints a table of both.
+//! Times workloads over the proved table and over tables in plain Rust, and prints a table of them.
 //!
 //! The proved table is called through the static library of crates/mm_bench. Each workload is a loop inside the library, beside
-//! the table, as the plain one is a loop beside its table, so that both compilers can inline. Each number is the least of many short
-//! rounds, in which the two tables take turns, less what the same loop costs that only opens and prepares its tables.
+//! the table, as those in Rust are loops beside their tables, so that both compilers can inline. Each number is the least of many
+//! short rounds, in which the tables take turns, less what the same loop costs that only opens and prepares its tables.
 
+mod lock_table;
 #[allow(dead_code)] // no workload makes all of its calls
 mod plain;
+#[cfg(reference)]
+#[allow(dead_code, unused_imports)]
+#[path = "out/reference.rs"]
+mod reference;
 mod workloads;
 
 use std::hint::black_box;
@@ -19,52 +24,71 @@ const SECONDS: f64 = 2.0;
 unsafe extern "C" {
     safe fn mm_bench_nothing(number: u64) -> u64;
     safe fn mm_bench_rounds(resources: u32, mask: u32, others: u32, count: u64) -> u64;
+    safe fn mm_bench_random(count: u64) -> u64;
     safe fn mm_bench_hand_overs(waiters: u32, count: u64) -> u64;
     safe fn mm_bench_crosswise(count: u64) -> u64;
     safe fn mm_bench_rings(size: u32, is_rising: bool, settles: u32, is_closed: bool, count: u64) -> u64;
+    safe fn mm_bench_chain(size: u32, settles: u32) -> u64;
 }
 
-/// A workload over both tables; its argument tells whether what is timed is done, or only what prepares it.
+/// A loop over one table; its argument says whether what is timed is done, or only what prepares it.
+type Run<'a> = &'a dyn Fn(bool) -> u64;
+
+/// A workload over each table.
 struct Workload<'a> {
     name: &'a str,
     size: u32,
     /// What the time is divided by, and its name.
     units: u64,
     unit: &'a str,
-    proved: &'a dyn Fn(bool) -> u64,
-    plain: &'a dyn Fn(bool) -> u64,
+    /// The proved table first.
+    runs: &'a [Run<'a>],
+}
+
+/// A loop over each table in Rust, behind the one over the proved table.
+macro_rules! runs {
+    ($proved:expr, $work:ident, $is_whole:ident, $($argument:expr),*) => {
+        &[
+            &|$is_whole| $proved,
+            &|$is_whole| workloads::$work::<plain::Table>($($argument),*).unwrap(),
+            #[cfg(reference)]
+            &|$is_whole| workloads::$work::<reference::Table>($($argument),*).unwrap(),
+        ]
+    };
 }
 
 /// How long one run takes, in nanoseconds.
-fn time(work: &dyn Fn(bool) -> u64, is_whole: bool) -> f64 {
+fn time(work: Run, is_whole: bool) -> f64 {
     let start = Instant::now();
     black_box(work(black_box(is_whole)));
     start.elapsed().as_nanos() as f64
 }
 
 impl Workload<'_> {
-    /// Times both tables, and prints one line.
+    /// Times each table, and prints one line.
     fn measure(&self) {
-        let accepted = (self.proved)(true);
-        assert_eq!(accepted, (self.plain)(true), "the tables differ at {}", self.name);
+        let accepted = self.runs[0](true);
         assert!(accepted > 0, "a call was refused at {}", self.name);
-        let mut least = [f64::INFINITY; 4];
+        for run in self.runs {
+            assert_eq!(accepted, run(true), "the tables differ at {}", self.name);
+        }
+        let mut least = vec![[f64::INFINITY; 2]; self.runs.len()];
         let start = Instant::now();
         for round in 0..MOST_ROUNDS {
             if round >= LEAST_ROUNDS && start.elapsed().as_secs_f64() > SECONDS {
                 break;
             }
-            let tried = [
-                time(self.proved, true),
-                time(self.proved, false),
-                time(self.plain, true),
-                time(self.plain, false),
-            ];
-            least = std::array::from_fn(|at| least[at].min(tried[at]));
+            for (run, least) in self.runs.iter().zip(&mut least) {
+                least[0] = least[0].min(time(run, true));
+                least[1] = least[1].min(time(run, false));
+            }
         }
-        let proved = (least[0] - least[1]) / self.units as f64;
-        let plain = (least[2] - least[3]) / self.units as f64;
-        println!("{:<46} {:>6} {:>11.2} {:>11.2} {:>6.2}  ns a {}", self.name, self.size, proved, plain, proved / plain, self.unit);
+        let costs: Vec<f64> = least.iter().map(|[whole, prepared]| (whole - prepared) / self.units as f64).collect();
+        print!("{:<46} {:>6} {:>11.2}", self.name, self.size, costs[0]);
+        for cost in &costs[1..] {
+            print!(" {:>11.2} {:>6.2}", cost, costs[0] / cost);
+        }
+        println!("  ns a {}", self.unit);
     }
 }
 
@@ -76,8 +100,7 @@ fn measure_rounds(resources: u32) {
         size: resources,
         units: 18 * count,
         unit: "call",
-        proved: &|is_whole| mm_bench_rounds(resources, mask, 0, if is_whole { count } else { 0 }),
-        plain: &|is_whole| workloads::rounds(resources, mask, 0, if is_whole { count } else { 0 }).unwrap(),
+        runs: runs!(mm_bench_rounds(resources, mask, 0, if is_whole { count } else { 0 }), rounds, is_whole, resources, mask, 0, if is_whole { count } else { 0 }),
     }
     .measure();
 }
@@ -90,8 +113,19 @@ fn measure_rounds_beside(others: u32) {
         size: others,
         units: 18 * count,
         unit: "call",
-        proved: &|is_whole| mm_bench_rounds(resources, mask, others, if is_whole { count } else { 0 }),
-        plain: &|is_whole| workloads::rounds(resources, mask, others, if is_whole { count } else { 0 }).unwrap(),
+        runs: runs!(mm_bench_rounds(resources, mask, others, if is_whole { count } else { 0 }), rounds, is_whole, resources, mask, others, if is_whole { count } else { 0 }),
+    }
+    .measure();
+}
+
+fn measure_random() {
+    let count = 20_000;
+    Workload {
+        name: "release and acquire, of so many by chance",
+        size: 65_536,
+        units: 2 * count,
+        unit: "call",
+        runs: runs!(mm_bench_random(if is_whole { count } else { 0 }), random, is_whole, if is_whole { count } else { 0 }),
     }
     .measure();
 }
@@ -103,8 +137,7 @@ fn measure_hand_overs(waiters: u32) {
         size: waiters,
         units: u64::from(waiters) * count,
         unit: "waiter",
-        proved: &|is_whole| mm_bench_hand_overs(waiters, if is_whole { count } else { 0 }),
-        plain: &|is_whole| workloads::hand_overs(waiters, if is_whole { count } else { 0 }).unwrap(),
+        runs: runs!(mm_bench_hand_overs(waiters, if is_whole { count } else { 0 }), hand_overs, is_whole, waiters, if is_whole { count } else { 0 }),
     }
     .measure();
 }
@@ -116,8 +149,7 @@ fn measure_crosswise() {
         size: 2,
         units: count,
         unit: "deadlock",
-        proved: &|is_whole| mm_bench_crosswise(if is_whole { count } else { 0 }),
-        plain: &|is_whole| workloads::crosswise(if is_whole { count } else { 0 }).unwrap(),
+        runs: runs!(mm_bench_crosswise(if is_whole { count } else { 0 }), crosswise, is_whole, if is_whole { count } else { 0 }),
     }
     .measure();
 }
@@ -129,8 +161,18 @@ fn measure_rings(size: u32, is_rising: bool) {
         size,
         units: count,
         unit: "ring",
-        proved: &|is_whole| mm_bench_rings(size, is_rising, 1, is_whole, count),
-        plain: &|is_whole| workloads::rings(size, is_rising, 1, is_whole, count).unwrap(),
+        runs: runs!(mm_bench_rings(size, is_rising, 1, is_whole, count), rings, is_whole, size, is_rising, 1, is_whole, count),
+    }
+    .measure();
+}
+
+fn measure_chain(size: u32) {
+    Workload {
+        name: "chain from its head, settled",
+        size,
+        units: 1,
+        unit: "settle",
+        runs: runs!(mm_bench_chain(size, u32::from(is_whole)), chain, is_whole, size, u32::from(is_whole)),
     }
     .measure();
 }
@@ -142,8 +184,7 @@ fn measure_idle_settles(size: u32) {
         size,
         units: u64::from(count),
         unit: "settle",
-        proved: &|is_whole| mm_bench_rings(size, true, if is_whole { count + 1 } else { 1 }, false, 1),
-        plain: &|is_whole| workloads::rings(size, true, if is_whole { count + 1 } else { 1 }, false, 1).unwrap(),
+        runs: runs!(mm_bench_rings(size, true, if is_whole { count + 1 } else { 1 }, false, 1), rings, is_whole, size, true, if is_whole { count + 1 } else { 1 }, false, 1),
     }
     .measure();
 }
@@ -156,18 +197,20 @@ fn measure_nothing() {
             time(&|_| (0..count).fold(0, |sum, _| mm_bench_nothing(sum)), true)
         })
         .fold(f64::INFINITY, f64::min);
-    println!("{:<46} {:>6} {:>11.2} {:>11} {:>6}  ns a call", "a call through C that does nothing", "", least / count as f64, "", "");
+    println!("{:<46} {:>6} {:>11.2}", "a call through C that does nothing", "", least / count as f64);
 }
 
 fn main() {
-    println!("{:<46} {:>6} {:>11} {:>11} {:>6}", "workload", "size", "proved", "plain", "ratio");
+    print!("{:<46} {:>6} {:>11} {:>11} {:>6}", "workload", "size", "proved", "plain", "ratio");
+    println!("{}", if cfg!(reference) { format!(" {:>11} {:>6}", "reference", "ratio") } else { String::new() });
     for resources in [16, 1_024, 65_536] {
         measure_rounds(resources);
     }
     for others in [64, 4_000] {
         measure_rounds_beside(others);
     }
-    for waiters in [16, 4_095] {
+    measure_random();
+    for waiters in [16, 256, 4_095] {
         measure_hand_overs(waiters);
     }
     measure_crosswise();
@@ -175,6 +218,7 @@ fn main() {
         measure_rings(size, false);
         measure_rings(size, true);
     }
+    measure_chain(4_096);
     measure_idle_settles(4_096);
     measure_nothing();
 }

@@ -1,15 +1,16 @@
-//! The workloads of crates/mm_bench, step for step, over the plain table.
+//! The workloads of crates/mm_bench, step for step, over any table in Rust.
 
-use crate::plain::{Config, Key, Refusal, Released, Table};
+use crate::lock_table::{Key, LockTable, Refused};
 
 const STRIDE: u32 = 40_503;
 const MOST_PROCESSES: u32 = 4_096;
+const MOST_RESOURCES: u32 = 65_536;
 
-fn open(processes: u32, resources: u32) -> Result<Table, Refusal> {
-    Table::open(Config { processes, resources, label_limit: 17_592_186_044_415, generation_limit: u32::MAX })
+fn accepted<T: LockTable>(table: &T) -> u64 {
+    table.totals().0
 }
 
-fn take_sixteen(table: &mut Table, first: u32, mask: u32) -> Result<u32, Refusal> {
+fn take_sixteen<T: LockTable>(table: &mut T, first: u32, mask: u32) -> Result<u32, Refused> {
     let key = table.begin()?;
     let mut resource = first;
     for _ in 0..16 {
@@ -20,8 +21,8 @@ fn take_sixteen(table: &mut Table, first: u32, mask: u32) -> Result<u32, Refusal
     Ok(resource)
 }
 
-pub fn rounds(resources: u32, mask: u32, others: u32, count: u64) -> Result<u64, Refusal> {
-    let mut table = open(MOST_PROCESSES, resources)?;
+pub fn rounds<T: LockTable>(resources: u32, mask: u32, others: u32, count: u64) -> Result<u64, Refused> {
+    let mut table = T::open(MOST_PROCESSES, resources)?;
     for _ in 0..others {
         let key = table.begin()?;
         table.acquire(key, resources - 1)?;
@@ -30,20 +31,43 @@ pub fn rounds(resources: u32, mask: u32, others: u32, count: u64) -> Result<u64,
     for _ in 0..count {
         resource = take_sixteen(&mut table, resource, mask)?;
     }
-    Ok(table.accepted())
+    Ok(accepted(&table))
 }
 
-fn pass_on(table: &mut Table, owner: Key) -> Result<Key, Refusal> {
-    let released = table.release(owner, 0)?;
+/// The next number of a sequence that looks like chance; 0 has no next.
+fn next_number(number: u32) -> u32 {
+    let number = number ^ number << 13;
+    let number = number ^ number >> 17;
+    number ^ number << 5
+}
+
+pub fn random<T: LockTable>(count: u64) -> Result<u64, Refused> {
+    let mut table = T::open(MOST_PROCESSES, MOST_RESOURCES)?;
+    for _ in 0..MOST_PROCESSES {
+        table.begin()?;
+    }
+    for resource in 0..MOST_RESOURCES {
+        table.acquire(Key { process: resource % MOST_PROCESSES, generation: 1 }, resource)?;
+    }
+    let mut number = 1;
+    for _ in 0..count {
+        number = next_number(number);
+        let resource = number % MOST_RESOURCES;
+        let key = Key { process: resource % MOST_PROCESSES, generation: 1 };
+        table.release(key, resource)?;
+        table.acquire(key, resource)?;
+    }
+    Ok(accepted(&table))
+}
+
+fn pass_on<T: LockTable>(table: &mut T, owner: Key) -> Result<Key, Refused> {
+    let next = table.release(owner, 0)?;
     table.acquire(owner, 0)?;
-    Ok(match released {
-        Released::To(next) => next,
-        Released::Free => owner,
-    })
+    Ok(next.unwrap_or(owner))
 }
 
-pub fn hand_overs(waiters: u32, count: u64) -> Result<u64, Refusal> {
-    let mut table = open(MOST_PROCESSES, 1)?;
+pub fn hand_overs<T: LockTable>(waiters: u32, count: u64) -> Result<u64, Refused> {
+    let mut table = T::open(MOST_PROCESSES, 1)?;
     let mut owner = table.begin()?;
     table.acquire(owner, 0)?;
     for _ in 0..waiters {
@@ -53,10 +77,10 @@ pub fn hand_overs(waiters: u32, count: u64) -> Result<u64, Refusal> {
     for _ in 0..count {
         owner = pass_on(&mut table, owner)?;
     }
-    Ok(table.accepted())
+    Ok(accepted(&table))
 }
 
-fn wait_crosswise(table: &mut Table) -> Result<(), Refusal> {
+fn wait_crosswise<T: LockTable>(table: &mut T) -> Result<(), Refused> {
     let first = table.begin()?;
     let second = table.begin()?;
     table.acquire(first, 0)?;
@@ -69,38 +93,37 @@ fn wait_crosswise(table: &mut Table) -> Result<(), Refusal> {
     table.finish(first)
 }
 
-pub fn crosswise(count: u64) -> Result<u64, Refusal> {
-    let mut table = open(1_024, 1_024)?;
+pub fn crosswise<T: LockTable>(count: u64) -> Result<u64, Refused> {
+    let mut table = T::open(1_024, 1_024)?;
     for _ in 0..count {
         wait_crosswise(&mut table)?;
     }
-    Ok(table.accepted())
+    Ok(accepted(&table))
 }
 
 fn process_at(place: u32, size: u32, is_rising: bool) -> u32 {
     if is_rising { place } else { size - 1 - place }
 }
 
-fn wait(table: &mut Table, size: u32, is_rising: bool, from: u32, to: u32) -> Result<(), Refusal> {
+fn wait<T: LockTable>(table: &mut T, size: u32, is_rising: bool, from: u32, to: u32) -> Result<(), Refused> {
     let key = Key { process: process_at(from, size, is_rising), generation: 1 };
-    table.acquire(key, process_at(to, size, is_rising))?;
-    Ok(())
+    table.acquire(key, process_at(to, size, is_rising))
 }
 
-fn row(size: u32, is_rising: bool) -> Result<Table, Refusal> {
-    let mut table = open(size, size)?;
+fn owners<T: LockTable>(size: u32) -> Result<T, Refused> {
+    let mut table = T::open(size, size)?;
     for process in 0..size {
         let key = table.begin()?;
         table.acquire(key, process)?;
     }
-    for place in (1..size).rev() {
-        wait(&mut table, size, is_rising, place - 1, place)?;
-    }
     Ok(table)
 }
 
-fn ring(size: u32, is_rising: bool, settles: u32, is_closed: bool) -> Result<u64, Refusal> {
-    let mut table = row(size, is_rising)?;
+fn ring<T: LockTable>(size: u32, is_rising: bool, settles: u32, is_closed: bool) -> Result<u64, Refused> {
+    let mut table: T = owners(size)?;
+    for place in (1..size).rev() {
+        wait(&mut table, size, is_rising, place - 1, place)?;
+    }
     for _ in 0..settles {
         table.settle()?;
     }
@@ -108,13 +131,25 @@ fn ring(size: u32, is_rising: bool, settles: u32, is_closed: bool) -> Result<u64
         wait(&mut table, size, is_rising, size - 1, 0)?;
         table.settle()?;
     }
-    Ok(table.accepted() + table.verdicts())
+    let (accepted, verdicts) = table.totals();
+    Ok(accepted + verdicts)
 }
 
-pub fn rings(size: u32, is_rising: bool, settles: u32, is_closed: bool, count: u64) -> Result<u64, Refusal> {
+pub fn rings<T: LockTable>(size: u32, is_rising: bool, settles: u32, is_closed: bool, count: u64) -> Result<u64, Refused> {
     let mut accepted = 0;
     for _ in 0..count {
-        accepted += ring(size, is_rising, settles, is_closed)?;
+        accepted += ring::<T>(size, is_rising, settles, is_closed)?;
     }
     Ok(accepted)
+}
+
+pub fn chain<T: LockTable>(size: u32, settles: u32) -> Result<u64, Refused> {
+    let mut table: T = owners(size)?;
+    for place in 1..size {
+        wait(&mut table, size, true, place - 1, place)?;
+    }
+    for _ in 0..settles {
+        table.settle()?;
+    }
+    Ok(accepted(&table))
 }

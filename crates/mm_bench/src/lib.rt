@@ -10,6 +10,7 @@ use mm_table::{Config, Refusal, Table};
 use std::alloc::Global;
 
 mod queues;
+mod random;
 mod rings;
 mod rounds;
 

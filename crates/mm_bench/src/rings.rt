@@ -22,13 +22,19 @@ fn wait(table: &mut Table, size: u32, is_rising: bool, from: u32, to: u32) -> Re
     Ok(())
 }
 
-/// A row of `size` transactions. The waits come from the end on, so that no label is below its holder's.
-fn row(alloc: Global, size: u32, is_rising: bool) -> Result<Table, Refusal> {
+/// `size` transactions, each of which owns the resource of its own number.
+fn owners(alloc: Global, size: u32) -> Result<Table, Refusal> {
     let mut table = open(alloc, size, size)?;
     for process in 0..size {
         let key = table.begin()?;
         table.acquire(key, process)?;
     }
+    Ok(table)
+}
+
+/// A row of `size` transactions. The waits come from the end on, so that no label is below its holder's.
+fn row(alloc: Global, size: u32, is_rising: bool) -> Result<Table, Refusal> {
+    let mut table = owners(alloc, size)?;
     for place in (1..size).rev() {
         wait(&mut table, size, is_rising, place - 1, place)?;
     }
@@ -72,4 +78,22 @@ pub extern "C" fn mm_bench_rings(
         accepted = accepted.wrapping_add(more);
     }
     accepted
+}
+
+/// A row whose waits come from its head on, so that each label is below its holder's, settled so many times.
+fn chain(alloc: Global, size: u32, settles: u32) -> Result<u64, Refusal> {
+    let mut table = owners(alloc, size)?;
+    for place in 1..size {
+        wait(&mut table, size, true, place - 1, place)?;
+    }
+    for _ in 0..settles {
+        table.settle()?;
+    }
+    Ok(table.totals().accepted)
+}
+
+/// A row of `size` transactions whose waits come from its head on, settled so many times.
+#[unsafe(no_mangle)]
+pub extern "C" fn mm_bench_chain(alloc: Global, size: u32, settles: u32) -> u64 {
+    chain(alloc, size, settles).unwrap_or(0)
 }

@@ -61,6 +61,7 @@ impl Table {
     ///
     /// Refused as `CountsExhausted`, `Stale`, `NoResource`, `Waiting`, `AlreadyOwns` or `LabelsExhausted`. Constant time.
     /// That a block makes a label greater than both is Mitchell and Merritt's rule; the formula is this project's.
+    #[inline]
     pub fn acquire(&mut self, key: Key, resource: u32) -> Result<Acquired, Refusal>
         ensures { Step (Acquire key resource) self.old result self.new }
     {

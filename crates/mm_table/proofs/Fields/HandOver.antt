@@ -2,6 +2,7 @@
 use Rattle.std.proofs.Common.{◌≡◌, ◌≢◌, ℕ, zero, suc, ◌<◌, ◌&&◌, Bool, true, false, not, is_some, List, [], ◌∷◌, map, filter, slice_index_or, slice_set, Option, Some, None, option_map, nat_eq, refl, ap, sym, ◌∙◌, subst, inl, arith, IsTrue, SomeIff}
 use Rattle.std.proofs.lemmas.Bool.{eq-eqb, ne_eqb}
 use Rattle.mm_label.specs.Label.{Label}
+use Rattle.std.specs.Option.{IsSome}
 use Rattle.std.specs.List.{list_all, AllByRecursion}
 use Rattle.mm_arena.specs.declared.key.Key.{Key}
 use Rattle.mm_lists.specs.Members.{Among, NoRepeat}
@@ -23,6 +24,11 @@ use Rattle.mm_table.proofs.Fields.BlockQueue.{none_behind}
 pub nobody : (ws : List Wait) → first_key ws ≡ None → ws ≡ []
 nobody [] none = refl
 nobody (w ∷ ws) none = (let never : Some w.key ≡ None = none in absurd (cc))
+
+-- where somebody waits there is a first
+pub somebody : (ws : List Wait) → ws ≢ [] → IsSome (first_key ws)
+somebody [] some = absurd (some refl)
+somebody (w ∷ ws) some = refl
 
 -- no process waits twice for one resource
 pub once_queue : (s : TableState) (r : ℕ) → NoRepeat (map (λ w. w.key.process) s.waits) → NoRepeat (map (λ w. w.key.process) (waiters_of s r))

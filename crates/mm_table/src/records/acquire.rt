@@ -12,6 +12,7 @@ use mm_label::{Label, fresh};
 
 impl Records {
     /// The key takes a free resource, or waits for its owner. Constant time.
+    #[inline(always)]
     pub fn acquire(&mut self, key: Key, resource: u32) -> Result<Acquired, Refusal>
         ensures { Gives (acquired self.old key resource) result self.new }
     {

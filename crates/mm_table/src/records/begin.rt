@@ -8,6 +8,7 @@ use crate::{Key, Refusal};
 
 impl Records {
     /// A new transaction in the first free slot. Constant time.
+    #[inline(always)]
     pub fn begin(&mut self) -> Result<Key, Refusal>
         ensures { Gives (begun self.old) result self.new }
     {

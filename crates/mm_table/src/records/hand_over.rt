@@ -1,5 +1,5 @@
 //! A resource goes from its owner to the longest waiter.
-ghost use Rattle.std.specs.Prelude.{◌≡◌, ◌<◌, IsTrue, None, slice_set};
+ghost use Rattle.std.specs.Prelude.{◌≡◌, ◌≢◌, ◌<◌, [], IsTrue, None, slice_set};
 ghost use Rattle.std.specs.List.{list_all};
 ghost use Rattle.mm_rules.specs.TableState.{waiters_of, is_live, is_waiting};
 ghost use Rattle.mm_rules.specs.Change.{activate, block_fits, hand_over, hand_over_fits};
@@ -11,6 +11,7 @@ use crate::{Key, Released};
 
 impl Records {
     /// Hands a resource over, and returns what becomes of it. `O(waiters of the resource)`.
+    #[inline(always)]
     pub(super) fn hand_over(&mut self, resource: u32) -> Released
         requires resource { resource < self.old.config.resources }
         requires fits { IsTrue (hand_over_fits self.old resource) }
@@ -18,10 +19,25 @@ impl Records {
         ensures state { self.new ≡ hand_over self.old resource }
         ensures totals { self.new.totals ≡ self.old.totals }
     {
+        if self.transactions.first_waiter(resource).is_some() {
+            return self.hand_over_awaited(resource);
+        }
         self.free(resource);
-        let Some(first) = self.transactions.first_waiter(resource) else {
-            return Released::Free;
-        };
+        Released::Free
+    }
+
+    /// Hands over a resource that somebody waits for. It stands apart, so that one that nobody waits for is freed in few instructions.
+    #[inline(never)]
+    fn hand_over_awaited(&mut self, resource: u32) -> Released
+        requires resource { resource < self.old.config.resources }
+        requires awaited { waiters_of self.old resource ≢ [] }
+        requires fits { IsTrue (hand_over_fits self.old resource) }
+        ensures answer { result ≡ release_answer (waiters_of self.old resource) }
+        ensures state { self.new ≡ hand_over self.old resource }
+        ensures totals { self.new.totals ≡ self.old.totals }
+    {
+        self.free(resource);
+        let first = self.transactions.first_waiter(resource).unwrap();
         self.end_wait(first);
         self.grant(first, resource);
         self.block_queue(resource, first.process);

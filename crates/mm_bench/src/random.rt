@@ -1,0 +1,44 @@
+//! Calls on resources of a large table, one here and one there.
+use crate::open;
+use mm_table::{Config, Key, Refusal};
+use std::alloc::Global;
+
+/// The next number of a sequence that looks like chance; 0 has no next.
+fn next_number(number: u32) -> u32 {
+    let number = number ^ number << 13;
+    let number = number ^ number >> 17;
+    number ^ number << 5
+}
+
+/// The transaction that owns a resource.
+fn owner_of(resource: u32) -> Key {
+    Key {
+        process: resource % Config::MOST_PROCESSES,
+        generation: 1,
+    }
+}
+
+fn random(alloc: Global, count: u64) -> Result<u64, Refusal> {
+    let mut table = open(alloc, Config::MOST_PROCESSES, Config::MOST_RESOURCES)?;
+    for _ in 0..Config::MOST_PROCESSES {
+        table.begin()?;
+    }
+    for resource in 0..Config::MOST_RESOURCES {
+        table.acquire(owner_of(resource), resource)?;
+    }
+    let mut number = 1;
+    for _ in 0..count {
+        number = next_number(number);
+        let resource = number % Config::MOST_RESOURCES;
+        let key = owner_of(resource);
+        table.release(key, resource)?;
+        table.acquire(key, resource)?;
+    }
+    Ok(table.totals().accepted)
+}
+
+/// As many transactions as there can be own all resources. `count` times one of these, as by chance, is released and acquired again.
+#[unsafe(no_mangle)]
+pub extern "C" fn mm_bench_random(alloc: Global, count: u64) -> u64 {
+    random(alloc, count).unwrap_or(0)
+}
