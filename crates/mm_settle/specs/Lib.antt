@@ -1,2 +1,3 @@
+pub mod Touched
 -- private: what private functions of mm_table cite; no public clause cites these
 pub mod private

@@ -130,7 +130,7 @@ changes_withdraw s n old new kept = record {
   ];
 }
 
-waited_front : (ws : List Wait) (w : Wait) (k : ℕ) → w.key.process ≢ k → waited_for (ws ++ w ∷ []) k ≡ waited_for ws k
+pub waited_front : (ws : List Wait) (w : Wait) (k : ℕ) → w.key.process ≢ k → waited_for (ws ++ w ∷ []) k ≡ waited_for ws k
 waited_front [] w k apart = rw (ne_eqb w.key.process k apart) refl
 waited_front (v ∷ ws) w k apart = elim (cases_Bool (nat_eq v.key.process k)) [
   | inl here ↦ rw here refl
@@ -168,7 +168,7 @@ changes_owner s r o old new kept none = record {
 -- ---- a hand-over: those that are blocked again are among the changed, and the new owner need not be
 
 -- whoever waits for r is in its queue
-in_queue : (s : TableState) (r k : ℕ) → wait_of s k ≡ Some r → (w : Wait) × Among w (waiters_of s r) × (w.key.process ≡ k)
+pub in_queue : (s : TableState) (r k : ℕ) → wait_of s k ≡ Some r → (w : Wait) × Among w (waiters_of s r) × (w.key.process ≡ k)
 in_queue s r k waits =
     let here = waits_here s k r waits in
     (here.wait, filter_keeps (λ w. nat_eq w.resource r) s.waits here.wait here.among (eq-eqb here.wait.resource r here.resource), here.process)

@@ -115,7 +115,7 @@ module _ (s : TableState) (n k : ℕ) (apart : k ≢ n) (other : holder_of s k �
 
 -- ---- who rose
 
-not_below_itself : (l : Label) → label_lt l l ≡ false
+pub not_below_itself : (l : Label) → label_lt l l ≡ false
 not_below_itself l = not-true (label_lt l l) (label_le_same l)
 
 private_is_not : (own before now : Label) → IsTrue (label_le own before) → label_lt before now ≡ true → label_eq own now ≡ false

@@ -1,0 +1,23 @@
+-- Whom an event changed: the processes whose labels, wait, holder or verdict are other than before.
+use Rattle.std.specs.Prelude.{◌≡◌, ◌⊎◌, ℕ, Bool, true, false, List, length}
+use Rattle.mm_marks.specs.Marks.{has}
+use Rattle.mm_rules.specs.TableState.{TableState, private_of, public_of, has_verdict, holder_of, wait_of}
+
+-- process n is as it was
+pub record IsUnchanged (s t : TableState) (n : ℕ) : Type 0 where
+  pub private : private_of t n ≡ private_of s n
+  pub public : public_of t n ≡ public_of s n
+  pub wait : wait_of t n ≡ wait_of s n
+  pub holder : holder_of t n ≡ holder_of s n
+  pub verdict : has_verdict t n ≡ has_verdict s n
+
+-- process n is not as it was
+abbrev pub IsChanged : TableState → TableState → ℕ → Type 0
+IsChanged s t n = IsUnchanged s t n → ⊥
+
+-- whoever changed was added to the set, and nobody else
+pub record Touches (s t : TableState) (old new : List Bool) : Type 0 where
+  pub kept : (n : ℕ) → has old n ≡ true → has new n ≡ true
+  pub others : (n : ℕ) → has new n ≡ false → IsUnchanged s t n
+  pub changed : (n : ℕ) → has new n ≡ true → (has old n ≡ true) ⊎ IsChanged s t n
+  pub sized : length new ≡ length old
