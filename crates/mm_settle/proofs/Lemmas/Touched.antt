@@ -151,7 +151,7 @@ blocks_else s h (w ∷ ws) k apart =
     unchanged_then s (block s w.key.process h) (blocked_on (block s w.key.process h) h ws) k (block_else s w.key.process h k (apart w (inl refl)))
     (blocks_else (block s w.key.process h) h ws k (λ v later. apart v (inr later)))
 
-blocks_waits : (s : TableState) (h : ℕ) (ws : List Wait) → (blocked_on s h ws).waits ≡ s.waits
+pub blocks_waits : (s : TableState) (h : ℕ) (ws : List Wait) → (blocked_on s h ws).waits ≡ s.waits
 blocks_waits s h [] = refl
 blocks_waits s h (w ∷ ws) = blocks_waits (block s w.key.process h) h ws
 
@@ -209,7 +209,7 @@ pub record AddsAll (ws : List Wait) (old new : List Bool) : Type 0 where
   pub sized : length new ≡ length old
 
 -- who waits for r waits for it
-waits_for : (s : TableState) (r : ℕ) (w : Wait) → Laws s → Among w (waiters_of s r) → wait_of s w.key.process ≡ Some r
+pub waits_for : (s : TableState) (r : ℕ) (w : Wait) → Laws s → Among w (waiters_of s r) → wait_of s w.key.process ≡ Some r
 waits_for s r w laws among =
     let of_it = filter_gives (λ v. nat_eq v.resource r) s.waits w among in
     ap (option_map (λ (v : Wait). v.resource)) (found_by_number (λ (v : Wait). v.key.process) s.waits w w.key.process laws.lawful.well_formed.waits_once of_it.0 refl)
@@ -231,7 +231,7 @@ owner_else s r k o apart = record {
     by (Some q) other = ap (option_map (λ (k : Key). k.process)) (get_or-set_other s.owners r q o None (λ e. other (ap Some e)))
 
 -- whoever does not stop waiting is as it was
-activate_else : (s : TableState) (n k : ℕ) → k ≢ n → IsUnchanged s (activate s n) k
+pub activate_else : (s : TableState) (n k : ℕ) → k ≢ n → IsUnchanged s (activate s n) k
 activate_else s n k apart =
     let same = waits_else s n k apart in
     record {
@@ -279,6 +279,10 @@ module _ (s : TableState) (r : ℕ) (laws : Laws s) where
             let up : (public_of s w.key.process).counter < (public_of (give_to s r (first ∷ others)) w.key.process).counter = blocks_rise owned n others w (have_labels others queued) later in
             absurd (omega (arith, up, ap (λ (l : Label). l.counter) same.public))
       ]
+
+  -- whoever does not wait for r is as it was
+  pub hand_over_else : (k : ℕ) → wait_of s k ≢ Some r → IsUnchanged s (hand_over s r) k
+  hand_over_else k waits_not = else_by (waiters_of s r) refl k (λ w among e. waits_not (ap (wait_of s) e ∙ waits_for s r w laws among))
 
   pub touches_hand_over : (old new : List Bool) → AddsAll (waiters_of s r) old new → Touches s (hand_over s r) old new
   touches_hand_over old new adds = record {
