@@ -1,7 +1,7 @@
 //! A resource is granted, or its owner is waited for with a new label.
-ghost use Rattle.std.specs.Prelude.{◌≡◌, ◌<◌, ◌≤◌, ◌+◌, ◌^◌, ◌∷◌, ◌++◌, [], IsTrue, None, Some, slice_set, Ok, is_some, OnOk, SomeIff};
+ghost use Rattle.std.specs.Prelude.{◌≡◌, ◌<◌, ◌≤◌, ◌+◌, ◌^◌, ◌∷◌, ◌++◌, [], IsTrue, None, Some, slice_set, Ok, Err, is_some, MatchResult, SomeIff};
 ghost use Rattle.mm_rules.specs.TableState.{wait_of, owner_of, public_of, is_live};
-ghost use Rattle.mm_rules.specs.Change.{block, block_fits, label_against};
+ghost use Rattle.mm_rules.specs.Change.{block_fits, label_against};
 ghost use Rattle.mm_rules.specs.Event.{Gives, allowed, resource_tests, acquired};
 ghost use Rattle.mm_rules.specs.private.Stages.{wait_tests};
 ghost use Rattle.mm_table.specs.private.LabelLimit.{label_under, labelled, AllLabelsFit};
@@ -34,26 +34,25 @@ impl Records {
         ensures { Gives (acquired self.old key resource) result self.new }
     {
         let holder = self.owned.owner(resource).unwrap();
-        self.may_wait(key.process, holder.process)?;
+        let label = self.may_wait(key.process, holder.process)?;
         self.count_wait(key, resource);
-        let label = self.block(key.process, holder.process);
+        self.relabel(key.process, label);
         Ok(Acquired::Waits { holder, label })
     }
 
-    /// The last tests of `acquire`, of a resource that `holder` owns.
-    fn may_wait(&self, process: u32, holder: u32) -> Result<(), Refusal>
+    /// The last tests of `acquire`, of a resource that `holder` owns. Returns the label by which the process will wait.
+    fn may_wait(&self, process: u32, holder: u32) -> Result<Label, Refusal>
         requires process { process < self.now.config.processes }
         requires holder { holder < self.now.config.processes }
-        ensures tests { result ≡ allowed (wait_tests self.now process holder) }
-        ensures fits { OnOk result (IsTrue (block_fits self.now process holder)) }
+        ensures { MatchResult result
+            (λ label. (allowed (wait_tests self.now process holder) ≡ Ok tt) × (label ≡ label_against self.now process holder))
+            (λ refusal. allowed (wait_tests self.now process holder) ≡ Err refusal) }
     {
         if holder == process {
             return Err(Refusal::AlreadyOwns);
         }
-        if self.label_against(process, holder).is_none() {
-            return Err(Refusal::LabelsExhausted);
-        }
-        Ok(())
+        self.label_against(process, holder)
+            .ok_or(Refusal::LabelsExhausted)
     }
 
     /// Makes the key the owner of a free resource.
@@ -112,31 +111,25 @@ impl Records {
         )
     }
 
-    /// Gives `process` both its new labels, by which it waits for `holder`.
-    fn block(&mut self, process: u32, holder: u32) -> Label
-        requires process { process < self.old.config.processes }
-        requires holder { holder < self.old.config.processes }
-        requires fits { IsTrue (block_fits self.old process holder) }
-        ensures label { result ≡ label_against self.old process holder }
-        ensures state { self.new ≡ block self.old process holder }
-    {
-        let shown = self.public(holder);
-        self.block_under(process, shown)
-    }
-
     /// Gives `process` both its new labels, by which it waits for one that shows this label.
-    pub(super) fn block_under(&mut self, process: u32, shown: Label) -> Label
+    pub(super) fn block_under(&mut self, process: u32, shown: Label)
         requires process { process < self.old.config.processes }
         requires fits { (label_under self.old process shown).counter ≤ self.old.config.label_limit }
-        ensures label { result ≡ label_under self.old process shown }
-        ensures state { self.new ≡ labelled self.old process (label_under self.old process shown) }
+        ensures { self.new ≡ labelled self.old process (label_under self.old process shown) }
     {
         let own = self.public(process);
         let label = fresh(own, shown, process, self.config.label_limit).unwrap();
+        self.relabel(process, label);
+    }
+
+    /// Both labels of a process are this one from now on.
+    fn relabel(&mut self, process: u32, label: Label)
+        requires { process < self.old.config.processes }
+        ensures { self.new ≡ labelled self.old process label }
+    {
         self.greatest = self.greatest.max(label.counter());
         let blocked = &mut self.labels[process as usize];
         blocked.private = label;
         blocked.public = label;
-        label
     }
 }

@@ -27,7 +27,7 @@ way : (c : goal.After-next_waiter-next) → IsUnderWay c.args.self.now c.loop-ne
 way c = subst (IsUnderWay c.args.self.now c.loop-next.self c.args.resource c.args.holder) c.in-Some-next.is c.loop-next.invariant
 
 is_next : (c : goal.After-next_waiter-next) → IsNextWaiter c.loop-next.self.waits c.in-Some-next.process c.next_waiter-next.result
-is_next c = subst (λ (ws : List Wait). IsNextWaiter ws c.in-Some-next.process c.next_waiter-next.result) (ap (λ s. s.waits) (c.self-in-Some-next.view_is ∙ c.block_under.ensures.state)) c.next_waiter-next.ensures.listed
+is_next c = subst (λ (ws : List Wait). IsNextWaiter ws c.in-Some-next.process c.next_waiter-next.result) (ap (λ s. s.waits) (c.self-in-Some-next.view_is ∙ c.block_under.ensures)) c.next_waiter-next.ensures.listed
 
 pub loop-next-smaller : goal.loop-next-smaller
 loop-next-smaller c =
@@ -46,5 +46,5 @@ loop-next-preserved c =
     let s = c.loop-next.self in
     let n = c.in-Some-next.process in
     let shown : public_of s c.args.holder ≡ c.public-shown.result = (way c).shown ∙ sym c.public-shown.ensures in
-    subst (λ (t : TableState). IsUnderWay c.args.self.now t c.args.resource c.args.holder c.next_waiter-next.result) (ap (λ l. labelled s n (label_under s n l)) shown ∙ sym c.block_under.ensures.state)
+    subst (λ (t : TableState). IsUnderWay c.args.self.now t c.args.resource c.args.holder c.next_waiter-next.result) (ap (λ l. labelled s n (label_under s n l)) shown ∙ sym c.block_under.ensures)
     (blocked c.args.self.now s c.args.resource c.args.holder n (way c) c.next_waiter-next.result (is_next c))

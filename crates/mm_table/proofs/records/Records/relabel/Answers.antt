@@ -1,0 +1,10 @@
+use Rattle.std.proofs.Common.{ap, ◌∙◌}
+use Rattle.mm_table.specs.private.LabelLimit.{labelled}
+use Rattle.mm_table.proofs.Fields.Labels.{labels_written}
+use Rattle.mm_table.proofs.records.Records.relabel.Goals as goal
+
+pub returns : goal.returns
+returns c =
+    let inside = c.self.inside in
+    labels_written inside.config inside.transactions inside.labels.items inside.owned.owners inside.totals c.args.process (record { private = c.args.label; public = c.args.label })
+    ∙ ap (λ s. labelled s c.args.process c.args.label) c.self.view_is
