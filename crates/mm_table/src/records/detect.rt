@@ -32,7 +32,7 @@ impl Records {
         ensures { result ≡ can_detect self.now key.process }
     {
         let labels = self.labels[key.process as usize];
-        if self.has_verdict(key) || labels.private != labels.public {
+        if labels.private != labels.public || self.has_verdict(key) {
             return false;
         }
         match self.holder_label(key) {
