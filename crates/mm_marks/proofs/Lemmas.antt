@@ -2,3 +2,5 @@
 pub mod Written
 -- the first bit at or above a place
 pub mod First
+-- walks from member to member
+pub mod Walks

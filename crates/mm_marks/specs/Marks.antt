@@ -1,5 +1,6 @@
 -- Sets of numbers below a bound, as lists of Bool.
-use Rattle.std.specs.Prelude.{◌≡◌, ◌≤◌, ◌<◌, ℕ, Bool, true, false, List, slice_index_or}
+use Rattle.std.specs.Prelude.{◌≡◌, ◌≤◌, ◌<◌, ℕ, Bool, true, false, List, length, filter, slice_index_or}
+use Rattle.std.specs.List.{range_with_len}
 
 -- n is a member
 abbrev pub has : List Bool → ℕ → Bool
@@ -14,3 +15,7 @@ pub record IsNext (set : List Bool) (from n : ℕ) : Type 0 where
   pub at_least : from ≤ n
   pub member : has set n ≡ true
   pub first : (k : ℕ) → from ≤ k → k < n → has set k ≡ false
+
+-- the members, by rising number
+abbrev pub members : List Bool → List ℕ
+members set = filter (has set) (range_with_len 0 (length set))

@@ -38,8 +38,7 @@ pub mod Sweep
 pub mod SweepRaises
 pub mod DetectAll
 pub mod Settle
--- settle as a loop: one process after the other, sweep after sweep, and the whole
-pub mod Turns
+-- settle as a loop: sweep after sweep, and the whole
 pub mod SweepLoop
 pub mod SettleStep
 -- what the counts become, and the live key of a process

@@ -1,4 +1,7 @@
+pub mod Added
 pub mod Marked
 pub mod Pass
 pub mod Detects
 pub mod Changed
+pub mod Settling
+pub mod Vacating

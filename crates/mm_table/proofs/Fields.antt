@@ -8,9 +8,8 @@ pub mod Ownership
 pub mod Opening
 -- a queue that is walked, one that is blocked, a resource that is handed over
 pub mod Walk
+pub mod Adding
 pub mod BlockQueue
 pub mod HandOver
--- those that a settle goes over
-pub mod Waiters
 -- tables, by any event
 pub mod Table

@@ -6,5 +6,3 @@ pub mod Records
 pub mod Table
 -- labels that are shown, and the label limit
 pub mod LabelLimit
--- those that a settle goes over
-pub mod Waiters

@@ -1,10 +1,11 @@
 //! How a table is kept.
 //!
 //! By what a caller does: `open`, `begin`, `acquire`, `release`, `finish`, `abort`, `transmit`, `detect`, `settle`, `read`. Each of
-//! these files has the event with its tests and the changes that it is made of. Two serve several of them:
+//! these files has the event with its tests and the changes that it is made of. The others serve these:
 //!
 //! - `call`: what every event tests first, and how an accepted one is counted.
 //! - `hand_over`: how a resource goes to the longest waiter.
+//! - `sweep`, `waiters`: the sweeps of a settle, and who is looked at next after a raise.
 use crate::{Config, Totals};
 use mm_label::Label;
 use mm_owned::Owned;
@@ -22,9 +23,9 @@ mod open;
 mod read;
 mod release;
 mod settle;
+mod sweep;
 mod transmit;
-
-pub use settle::Waiter;
+mod waiters;
 
 /// The labels of a process, which outlive its transactions.
 #[derive(Clone, Copy, Debug)]

@@ -1,11 +1,14 @@
-ghost use Rattle.std.specs.Prelude.{◌≡◌};
+ghost use Rattle.std.specs.Prelude.{◌≡◌, ◌≤◌, ◌||◌, ℕ, false, length, replicate, IfOk, IfErr, vec_capacity};
+ghost use Rattle.mm_marks.specs.Marks.{has, members};
 ghost use Rattle.mm_rules.specs.Event.{Opens, Step, Begin, Acquire, Release, Finish, Transmit, Detect, Abort, Settle, state_of, owner_told, tenant_of};
 ghost use Rattle.mm_rules.specs.Laws.{Laws, HasSoundVerdicts};
+ghost use Rattle.mm_settle.specs.Touched.{changed_processes};
 
-use crate::records::{Records, Waiter};
+use crate::records::Records;
 use crate::{
     Acquired, Config, Detected, Key, Refusal, Released, Settled, State, Totals, Transmitted,
 };
+use mm_marks::Marks;
 use std::alloc::Global;
 use std::marker::Model;
 
@@ -17,8 +20,14 @@ use std::marker::Model;
 #[derive(Drop)]
 pub struct Table {
     records: Records,
-    /// What `settle` writes down for itself. There is room for each process; between calls what it holds means nothing.
-    waiters: Vec<Waiter>,
+    /// Whoever may transmit or newly detect is one of these, or waits for one of these.
+    changed: Marks,
+    /// Whom the call under way changed, where it lists them. Between calls it is empty.
+    touched: Marks,
+    /// Those to which a settle has still to come. What it has between calls means nothing.
+    pending: Marks,
+    /// Those that may still detect in a settle. What it has between calls means nothing.
+    checks: Marks,
 }
 
 impl Model for Table {
@@ -37,15 +46,17 @@ impl Table {
     ///
     /// Refused as `BadConfig` exactly where a number is out of its range, and as `Memory` only where a request for memory was
     /// refused. This is the one call that takes memory: for the transactions, for the labels, for what is kept of each resource,
-    /// for the first resource of each process, for the waits, and for the list that `settle` goes over.
+    /// for the first resource of each process, for the waits, and for four sets of processes in bits.
     pub fn open(alloc: Global, config: Config) -> Result<Table, Refusal>
         ensures { Opens config result }
     {
-        let records = Records::open(alloc, config)?;
-        let Ok(waiters) = Vec::with_capacity(alloc, config.processes as usize) else {
-            return Err(Refusal::Memory);
-        };
-        Ok(Table { records, waiters })
+        Ok(Table {
+            records: Records::open(alloc, config)?,
+            changed: empty_set(alloc, config.processes)?,
+            touched: empty_set(alloc, config.processes)?,
+            pending: empty_set(alloc, config.processes)?,
+            checks: empty_set(alloc, config.processes)?,
+        })
     }
 
     /// Starts a transaction in the first free process, and returns its key. The labels of the process stay as they are.
@@ -65,7 +76,7 @@ impl Table {
     pub fn acquire(&mut self, key: Key, resource: u32) -> Result<Acquired, Refusal>
         ensures { Step (Acquire key resource) self.old result self.new }
     {
-        self.records.acquire(key, resource)
+        self.records.acquire(key, resource, &mut self.changed)
     }
 
     /// Hands the resource over: the longest waiter owns it from now on, and each other waiter keeps its place and gets a fresh
@@ -76,7 +87,30 @@ impl Table {
     pub fn release(&mut self, key: Key, resource: u32) -> Result<Released, Refusal>
         ensures { Step (Release key resource) self.old result self.new }
     {
-        self.records.release(key, resource)
+        self.records.release(key, resource, &mut self.changed)
+    }
+
+    /// `release`, which also lists whom to wake: in `wake` stand then, in place of what it held, all processes whose labels, wait,
+    /// holder or verdict the call changed, each once, by rising number. These are the new owner and the waiters behind it, with their
+    /// new labels; none where the call is refused. `wake` has room for each process, and no memory is taken.
+    ///
+    /// A caller goes on from each of them by its key (`tenant`) and what it does now (`state`): one that is active was given the resource.
+    ///
+    /// Refused as `release` is. `O(waiters of the resource)`.
+    pub fn release_waking(
+        &mut self,
+        key: Key,
+        resource: u32,
+        wake: &mut Vec<u32>,
+    ) -> Result<Released, Refusal>
+        requires room { self.old.config.processes ≤ vec_capacity wake.old }
+        ensures step { Step (Release key resource) self.old result self.new }
+        ensures woken { wake.new.items ≡ changed_processes self.old self.new }
+        ensures room { vec_capacity wake.new ≡ vec_capacity wake.old }
+    {
+        let answer = self.records.release(key, resource, &mut self.touched);
+        move_listing(&mut self.touched, &mut self.changed, wake);
+        answer
     }
 
     /// Ends the transaction: hands over all that it owns, each resource as `release` does, and frees its slot. The slot is the next
@@ -87,7 +121,21 @@ impl Table {
     pub fn finish(&mut self, key: Key) -> Result<(), Refusal>
         ensures { Step (Finish key) self.old result self.new }
     {
-        self.records.finish(key)
+        self.records.finish(key, &mut self.changed)
+    }
+
+    /// `finish`, which also lists whom to wake, as `release_waking` does: those that waited for what the transaction owned.
+    ///
+    /// Refused as `finish` is. `O(its resources + their waiters)`.
+    pub fn finish_waking(&mut self, key: Key, wake: &mut Vec<u32>) -> Result<(), Refusal>
+        requires room { self.old.config.processes ≤ vec_capacity wake.old }
+        ensures step { Step (Finish key) self.old result self.new }
+        ensures woken { wake.new.items ≡ changed_processes self.old self.new }
+        ensures room { vec_capacity wake.new ≡ vec_capacity wake.old }
+    {
+        let answer = self.records.finish(key, &mut self.touched);
+        move_listing(&mut self.touched, &mut self.changed, wake);
+        answer
     }
 
     /// The waiting transaction takes over its holder's public label where that is greater; its private label stays.
@@ -96,7 +144,7 @@ impl Table {
     pub fn transmit(&mut self, key: Key) -> Result<Transmitted, Refusal>
         ensures { Step (Transmit key) self.old result self.new }
     {
-        self.records.transmit(key)
+        self.records.transmit(key, &mut self.changed)
     }
 
     /// Gives the waiting transaction a verdict where its private label, its public one and its holder's public one are one label.
@@ -117,21 +165,64 @@ impl Table {
     pub fn abort(&mut self, key: Key) -> Result<(), Refusal>
         ensures { Step (Abort key) self.old result self.new }
     {
-        self.records.abort(key)
+        self.records.abort(key, &mut self.changed)
+    }
+
+    /// `abort`, which also lists whom to wake, as `release_waking` does: those that waited for what the transaction owned, and the
+    /// process of the transaction itself, whose wait and verdict are gone.
+    ///
+    /// Refused as `abort` is. `O(its resources + their waiters)`.
+    pub fn abort_waking(&mut self, key: Key, wake: &mut Vec<u32>) -> Result<(), Refusal>
+        requires room { self.old.config.processes ≤ vec_capacity wake.old }
+        ensures step { Step (Abort key) self.old result self.new }
+        ensures woken { wake.new.items ≡ changed_processes self.old self.new }
+        ensures room { vec_capacity wake.new ≡ vec_capacity wake.old }
+    {
+        let answer = self.records.abort(key, &mut self.touched);
+        move_listing(&mut self.touched, &mut self.changed, wake);
+        answer
     }
 
     /// Each waiting transaction in turn, by rising process number, transmits where it can; this is done again until a whole sweep
     /// raises nothing. Then each of them detects where it can. One accepted event; the reply counts the raises and the verdicts.
     /// The table is then at rest: one verdict stands on each cycle of waits, and nothing is left to transmit or to detect.
     ///
-    /// Refused as `CountsExhausted`. Time by one pass over the processes, and one over those that wait for each sweep and for the
-    /// detects. Each sweep but the last raises a label, and a settle raises no more than waiting transactions times processes: the
+    /// Refused as `CountsExhausted`. It looks at those alone whose labels or waits changed since the last settle and at those that
+    /// wait for them, and again at those that wait for whoever it raises: `O(changed + raised, each with its resources and their
+    /// waiters)`, and constant time where nothing changed. A settle raises no more than waiting transactions times processes: the
     /// first settle of a long chain of waits that was built from its head comes near half of that. The two rules are Mitchell and
     /// Merritt's; to call them in sweeps is this project's way.
     pub fn settle(&mut self) -> Result<Settled, Refusal>
         ensures { Step Settle self.old result self.new }
     {
-        self.records.settle(&mut self.waiters)
+        let answer = self.records.settle(
+            &mut self.changed,
+            &mut self.pending,
+            &mut self.checks,
+            &mut self.touched,
+        );
+        self.touched.clear();
+        answer
+    }
+
+    /// `settle`, which also lists whom to wake, as `release_waking` does: those whose public labels it raised, and those to whom it gave
+    /// a verdict; these are the ones that `state` shows as convicted.
+    ///
+    /// Refused as `settle` is. It costs what `settle` costs.
+    pub fn settle_waking(&mut self, wake: &mut Vec<u32>) -> Result<Settled, Refusal>
+        requires room { self.old.config.processes ≤ vec_capacity wake.old }
+        ensures step { Step Settle self.old result self.new }
+        ensures woken { wake.new.items ≡ changed_processes self.old self.new }
+        ensures room { vec_capacity wake.new ≡ vec_capacity wake.old }
+    {
+        let answer = self.records.settle(
+            &mut self.changed,
+            &mut self.pending,
+            &mut self.checks,
+            &mut self.touched,
+        );
+        self.touched.take_all(wake);
+        answer
     }
 
     /// What the transaction does, and its two labels.
@@ -184,4 +275,29 @@ impl Table {
     {
         let _ = &self.records;
     }
+}
+
+/// The empty set of processes.
+fn empty_set(alloc: Global, processes: u32) -> Result<Marks, Refusal>
+    ensures set { IfOk result (λ set. set ≡ replicate processes false) }
+    ensures refusal { IfErr result (λ refusal. refusal ≡ Refusal.Memory) }
+{
+    let Ok(set) = Marks::new(alloc, processes) else {
+        return Err(Refusal::Memory);
+    };
+    Ok(set)
+}
+
+/// Moves all members of a set into another one, and lists them by rising number.
+fn move_listing(from: &mut Marks, to: &mut Marks, list: &mut Vec<u32>)
+    requires sized { length to.old ≡ length from.old }
+    requires room { length from.old ≤ vec_capacity list.old }
+    ensures listed { list.new.items ≡ members from.old }
+    ensures emptied { from.new ≡ replicate (length from.old) false }
+    ensures union { (k : ℕ) → has to.new k ≡ (has to.old k || has from.old k) }
+    ensures sized { length to.new ≡ length to.old }
+    ensures room { vec_capacity list.new ≡ vec_capacity list.old }
+{
+    to.add_all(from);
+    from.take_all(list);
 }

@@ -1,19 +1,13 @@
 -- A settle is its sweeps, its detects and a count.
-use Rattle.std.proofs.Common.{◌≡◌, nat_le, ◌+◌, ◌<◌, ◌^◌, ℕ, Bool, true, false, List, [], ◌∷◌, fold, count_by, Ok, MatchBool, refl, sym, ap, ◌∙◌}
+use Rattle.std.proofs.Common.{◌≡◌, nat_le, ◌+◌, ◌<◌, ◌^◌, ℕ, Bool, true, false, [], ◌∷◌, fold, count_by, Ok, MatchBool, refl, ap, ◌∙◌}
 use Rattle.std.proofs.lemmas.Bool.{or_parts, leb-false}
 use Rattle.mm_rules.specs.declared.reply.Settled.{Settled}
-use Rattle.mm_lists.specs.Members.{NoRepeat}
-use Rattle.mm_rules.specs.TableState.{TableState, is_waiting, waiting_processes}
+use Rattle.mm_rules.specs.TableState.{TableState, waiting_processes}
 use Rattle.mm_rules.specs.Change.{can_detect, detect, swept}
 use Rattle.mm_rules.specs.Event.{counts_exhausted, Settle, Step, Gives, outcome}
 use Rattle.mm_rules.specs.declared.refusal.Refusal.TheVariants.{CountsExhausted}
 use Rattle.mm_rules.specs.private.Stages.{IsSwept}
-use Rattle.mm_lists.proofs.Lemmas.Range.{no_repeat_filter_range}
 use Rattle.mm_rules.proofs.States.Outcome.{counting}
-use Rattle.mm_rules.proofs.States.Sweep.{same_waiting, swept_same_waits}
-
-pub waiting_once : (s : TableState) → NoRepeat (waiting_processes s)
-waiting_once s = no_repeat_filter_range (is_waiting s) 0 s.config.processes
 
 pub below_limit : (s : TableState) → counts_exhausted s ≡ false → (s.totals.accepted < 2 ^ 62) × (s.totals.verdicts < 2 ^ 62)
 below_limit s free =
@@ -31,15 +25,15 @@ gives_by : (b : Bool) (old rested new : TableState) (answer said : Settled) → 
 gives_by true old rested new answer said never is state = absurd (cc)
 gives_by false old rested new answer said free is state = (ap Ok is, state)
 
-pub settle_gives : (old mid new : TableState) (waiting : List ℕ) (raises verdicts : ℕ) → counts_exhausted old ≡ false → waiting ≡ waiting_processes old
-    → IsSwept old raises mid → verdicts ≡ count_by (can_detect mid) waiting
-    → new ≡ counting (fold detect mid waiting) ((fold detect mid waiting).totals.accepted + 1)
+pub settle_gives : (old mid new : TableState) (raises verdicts : ℕ) → counts_exhausted old ≡ false → IsSwept old raises mid
+    → verdicts ≡ count_by (can_detect mid) (waiting_processes mid)
+    → new ≡ counting (fold detect mid (waiting_processes mid)) ((fold detect mid (waiting_processes mid)).totals.accepted + 1)
     → Step Settle old (Ok (record { raises = raises; verdicts = verdicts })) new
-settle_gives old mid new waiting raises verdicts free all swept_all counted state =
+settle_gives old mid new raises verdicts free swept_all counted state =
     let last : TableState = swept old swept_all.sweeps in
-    let waiting_now : waiting ≡ waiting_processes last = all ∙ sym (same_waiting old last (swept_same_waits old swept_all.sweeps)) in
-    let verdicts_are : verdicts ≡ count_by (can_detect last) (waiting_processes last) = counted ∙ ap (λ (t : TableState). count_by (can_detect t) waiting) swept_all.state ∙ ap (count_by (can_detect last)) waiting_now in
-    let rested : fold detect mid waiting ≡ fold detect last (waiting_processes last) = ap (λ t. fold detect t waiting) swept_all.state ∙ ap (fold detect last) waiting_now in
+    let is : mid ≡ last = swept_all.state in
+    let verdicts_are : verdicts ≡ count_by (can_detect last) (waiting_processes last) = counted ∙ ap (λ (t : TableState). count_by (can_detect t) (waiting_processes t)) is in
+    let rested : fold detect mid (waiting_processes mid) ≡ fold detect last (waiting_processes last) = ap (λ t. fold detect t (waiting_processes t)) is in
     step_by (counts_exhausted old) _ _ free (
       swept_all.sweeps,
       swept_all.settles,

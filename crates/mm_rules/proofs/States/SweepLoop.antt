@@ -1,11 +1,11 @@
 -- The loop of sweeps: where it stands, that it ends, and what it leads to.
-use Rattle.std.proofs.Common.{◌≡◌, ◌+◌, ◌-◌, ◌*◌, ◌<◌, ◌≤◌, ℕ, suc, List, fold, sym, ap, ◌∙◌, arith, inl, inr}
+use Rattle.std.proofs.Common.{◌≡◌, ◌+◌, ◌-◌, ◌*◌, ◌<◌, ◌≤◌, ℕ, suc, sym, ap, ◌∙◌, arith, inl, inr}
 use Rattle.std.proofs.lemmas.Bool.{cases_eq}
 use Rattle.mm_rules.specs.TableState.{TableState, waiting_processes}
-use Rattle.mm_rules.specs.Change.{transmit, raises_along, sweep_raises, swept, total_raises}
+use Rattle.mm_rules.specs.Change.{sweep, sweep_raises, swept, total_raises}
 use Rattle.mm_rules.specs.Laws.{Laws, most_raises}
 use Rattle.mm_rules.specs.private.Stages.{IsSwept}
-use Rattle.mm_rules.proofs.States.Sweep.{same_waiting, swept_same_waits, raised_nothing}
+use Rattle.mm_rules.proofs.States.Sweep.{swept_same_waits, raised_nothing}
 use Rattle.mm_rules.proofs.States.SweepRaises.{sweep_raises_bound, most_raises_bound}
 
 -- s came from old by some sweeps, each of which raised something, and which raised so many labels
@@ -15,20 +15,13 @@ pub record IsSweeping (old : TableState) (raises : ℕ) (s : TableState) : Type 
   pub raised : raises ≡ total_raises old sweeps
   pub state : s ≡ swept old sweeps
 
-module _ (old : TableState) (raises : ℕ) (s : TableState) (waiting : List ℕ) (more : ℕ) (new : TableState)
-    (laws : Laws old) (all : waiting ≡ waiting_processes old) (way : IsSweeping old raises s)
-    (raised : more ≡ raises_along s waiting) (state : new ≡ fold transmit s waiting) where
-  before : TableState
-  before = swept old way.sweeps
-
-  waiting_now : waiting ≡ waiting_processes (swept old way.sweeps)
-  waiting_now = all ∙ sym (same_waiting old (swept old way.sweeps) (swept_same_waits old way.sweeps))
-
+module _ (old : TableState) (raises : ℕ) (s : TableState) (more : ℕ) (new : TableState)
+    (laws : Laws old) (way : IsSweeping old raises s) (raised : more ≡ sweep_raises s) (state : new ≡ sweep s) where
   raised_now : more ≡ sweep_raises (swept old way.sweeps)
-  raised_now = raised ∙ ap (λ t. raises_along t waiting) way.state ∙ ap (raises_along (swept old way.sweeps)) waiting_now
+  raised_now = raised ∙ ap sweep_raises way.state
 
   swept_now : new ≡ swept old (suc way.sweeps)
-  swept_now = state ∙ ap (λ t. fold transmit t waiting) way.state ∙ ap (fold transmit (swept old way.sweeps)) waiting_now
+  swept_now = state ∙ ap sweep way.state
 
   total_now : raises + more ≡ total_raises old (suc way.sweeps)
   total_now = omega (arith, way.raised, raised_now)
@@ -63,3 +56,10 @@ module _ (old : TableState) (raises : ℕ) (s : TableState) (waiting : List ℕ)
         raised = way.raised;
         state = swept_now ∙ same;
       }
+
+-- sweeps leave the configuration
+pub sweeping_config : (old : TableState) (raises : ℕ) (s : TableState) → IsSweeping old raises s → s.config ≡ old.config
+sweeping_config old raises s way = ap (λ (t : TableState). t.config) way.state ∙ (swept_same_waits old way.sweeps).config
+
+pub swept_config : (old : TableState) (raises : ℕ) (new : TableState) → IsSwept old raises new → new.config ≡ old.config
+swept_config old raises new all = ap (λ (t : TableState). t.config) all.state ∙ (swept_same_waits old all.sweeps).config

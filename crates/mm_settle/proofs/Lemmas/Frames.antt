@@ -163,3 +163,16 @@ module _ (s : TableState) (n : ℕ) (laws : Laws s) where
 
   pub risen_detects_not : can_transmit s n ≡ true → can_detect (transmit s n) n ≡ false
   risen_detects_not can = (rises can).1
+
+-- whoever transmits shows a greater label than before
+pub raised_shows : (s : TableState) (n : ℕ) → Laws s → can_transmit s n ≡ true → label_lt (public_of s n) (public_of (transmit s n) n) ≡ true
+raised_shows s n laws can = elim (transmit_cases s laws n) [
+  | inl still ↦ let never : true ≡ false = sym can ∙ ap is_some still.0 in absurd (cc)
+  | inr raised ↦
+      let h = raised.0 in
+      let formed = laws.lawful.well_formed in
+      let inside : n < s.config.processes = (holder_within s formed n h raised.1.waits).0 in
+      let now : public_of (transmit s n) n ≡ public_of s h
+      = ap (λ t. public_of t n) (transmit_shown s laws n h raised.1) ∙ get_or-set_same s.public n (public_of s h) (opening_label n) (omega (arith, formed.sizes.public)) in
+      ap (label_lt (public_of s n)) now ∙ raised.1.lower
+]

@@ -1,27 +1,28 @@
 -- Whom each event changed.
-use Rattle.std.proofs.Common.{◌≡◌, ◌≢◌, ◌⊎◌, ◌&&◌, ◌<◌, ◌≤◌, ◌++◌, not, is_some, ℕ, Bool, true, false, List, [], ◌∷◌, length, slice_set, Option, Some, None, option_map, option_and_then, nat_eq, subst, inl, inr, refl, sym, ap, ◌∙◌, arith, length-set, get_or-set_other, get_or-set_same}
+use Rattle.std.proofs.Common.{◌≡◌, ◌≢◌, ◌<◌, ◌≤◌, ℕ, Bool, true, false, List, [], ◌∷◌, length, slice_set, Option, Some, None, option_map, option_and_then, nat_eq, subst, inl, inr, refl, sym, ap, ◌∙◌, arith, length-set, get_or-set_other, get_or-set_same}
 use Rattle.std.specs.Option.{option_map_or}
-use Rattle.std.proofs.lemmas.Bool.{cases_eq, not-true, and_parts, eqb-true}
-use Rattle.mm_label.specs.Label.{Label, label_lt, label_eq, opening_label}
+use Rattle.std.proofs.lemmas.Bool.{cases_eq, eqb-true}
+use Rattle.mm_label.specs.Label.{Label, label_lt, opening_label}
 use Rattle.mm_arena.specs.declared.key.Key.{Key}
 use Rattle.mm_lists.proofs.Lemmas.Filter.{filter_gives}
 use Rattle.mm_lists.proofs.Lemmas.NoRepeat.{found_by_number}
 use Rattle.mm_lists.specs.Members.{Among}
-use Rattle.mm_rules.specs.TableState.{TableState, Wait, private_of, public_of, has_verdict, holder_of, owner_of, wait_of, waited_for, waiters_of}
+use Rattle.mm_rules.specs.TableState.{TableState, Wait, public_of, has_verdict, owner_of, wait_of, waited_for, waiters_of}
 use Rattle.mm_rules.specs.Change.{greater_label, can_transmit, transmit, can_detect, detect, block, label_against, activate, give_to, hand_over}
 use Rattle.mm_rules.specs.private.Stages.{blocked_on}
-use Rattle.mm_rules.specs.Event.{acquire_change}
 use Rattle.mm_rules.specs.Laws.{Laws}
-use Rattle.mm_rules.proofs.States.Lookups.{holder_within, waiter_within}
-use Rattle.mm_rules.proofs.States.Transmit.{shown, transmit_cases, transmit_shown}
+use Rattle.mm_rules.proofs.States.Lookups.{waiter_within}
+use Rattle.mm_rules.proofs.States.Transmit.{shown}
 use Rattle.mm_rules.proofs.States.Activate.{waits_no_longer, waits_else}
 use Rattle.mm_rules.proofs.States.Detect.{convicted, detect_convicts}
 use Rattle.mm_marks.specs.Marks.{has}
 use Rattle.mm_settle.specs.Touched.{IsUnchanged, IsChanged, Touches}
+use Rattle.mm_settle.specs.private.Added.{Adds, AddsAll}
 use Rattle.mm_settle.specs.private.Changed.{ChangesOnly}
-use Rattle.mm_settle.proofs.Lemmas.Frames.{transmit_holder, transmit_private, transmit_verdict, transmit_public, not_below_itself, detects_from}
+use Rattle.mm_settle.proofs.Lemmas.Frames.{transmit_holder, transmit_private, transmit_verdict, transmit_public, not_below_itself, raised_shows}
+use Rattle.mm_settle.proofs.Lemmas.Checks.{due_had_none, due_has_one}
 use Rattle.mm_settle.proofs.Lemmas.Changed.{not_kept}
-use Rattle.mm_settle.proofs.Lemmas.Events.{in_queue, waited_front}
+use Rattle.mm_settle.proofs.Lemmas.Events.{in_queue}
 
 pub unchanged : (s : TableState) (n : ℕ) → IsUnchanged s s n
 unchanged s n = record { private = refl; public = refl; wait = refl; holder = refl; verdict = refl }
@@ -62,12 +63,6 @@ touches_changes s t old new touched = record {
 pub touches_nobody : (s t : TableState) (set : List Bool) → ((n : ℕ) → IsUnchanged s t n) → Touches s t set set
 touches_nobody s t set same = record { kept = λ n was. was; others = λ n out. same n; changed = λ n here. inl here; sized = refl }
 
--- n alone was touched
-pub record Adds (n : ℕ) (old new : List Bool) : Type 0 where
-  pub here : has new n ≡ true
-  pub others : (k : ℕ) → k ≢ n → has new k ≡ has old k
-  pub sized : length new ≡ length old
-
 pub touches_one : (s t : TableState) (n : ℕ) (old new : List Bool) → Adds n old new → ((k : ℕ) → k ≢ n → IsUnchanged s t k) → IsChanged s t n → Touches s t old new
 touches_one s t n old new adds same changed = record {
   kept = λ k was. elim (cases_eq k n) [ inl e ↦ ap (has new) e ∙ adds.here | inr apart ↦ adds.others k apart ∙ was ];
@@ -81,25 +76,12 @@ touches_one s t n old new adds same changed = record {
 
 -- ---- a transmit
 
-transmit_wait : (s : TableState) (n k : ℕ) → wait_of (transmit s n) k ≡ wait_of s k
+pub transmit_wait : (s : TableState) (n k : ℕ) → wait_of (transmit s n) k ≡ wait_of s k
 transmit_wait s n k = by (greater_label s n)
   where
     by : (o : Option Label) → wait_of (option_map_or (shown s n) o s) k ≡ wait_of s k
     by None = refl
     by (Some l) = refl
-
--- whoever transmits shows a greater label than before
-raised_shows : (s : TableState) (n : ℕ) → Laws s → can_transmit s n ≡ true → label_lt (public_of s n) (public_of (transmit s n) n) ≡ true
-raised_shows s n laws can = elim (transmit_cases s laws n) [
-  | inl still ↦ let never : true ≡ false = sym can ∙ ap is_some still.0 in absurd (cc)
-  | inr raised ↦
-      let h = raised.0 in
-      let formed = laws.lawful.well_formed in
-      let inside : n < s.config.processes = (holder_within s formed n h raised.1.waits).0 in
-      let now : public_of (transmit s n) n ≡ public_of s h
-      = ap (λ t. public_of t n) (transmit_shown s laws n h raised.1) ∙ get_or-set_same s.public n (public_of s h) (opening_label n) (omega (arith, formed.sizes.public)) in
-      ap (label_lt (public_of s n)) now ∙ raised.1.lower
-]
 
 -- a greater public label is a change
 pub greater_is_changed : (s t : TableState) (n : ℕ) → label_lt (public_of s n) (public_of t n) ≡ true → IsChanged s t n
@@ -126,17 +108,14 @@ touches_detect s n old new within can adds =
     rw (detect_convicts s n can) (touches_one s (convicted s n) n old new adds
     (λ k apart. record { private = refl; public = refl; wait = refl; holder = refl; verdict = get_or-set_other s.verdicts n k true false apart })
     (λ same.
-    let stands : has_verdict (convicted s n) n ≡ true = get_or-set_same s.verdicts n true false within in
-    let due : detects_from s n (holder_of s n) ≡ true = can in
-    let own = (and_parts (not (has_verdict s n) && label_eq (private_of s n) (public_of s n)) (option_map_or (λ h. label_eq (public_of s n) (public_of s h)) (holder_of s n) false) due).0 in
-    let none : has_verdict s n ≡ false = not-true (has_verdict s n) (and_parts (not (has_verdict s n)) (label_eq (private_of s n) (public_of s n)) own).0 in
-    let never : true ≡ false = sym stands ∙ same.verdict ∙ none in
+    let stands : has_verdict (convicted s n) n ≡ true = rw (detect_convicts s n can) at (due_has_one s n within can) in
+    let never : true ≡ false = sym stands ∙ same.verdict ∙ due_had_none s n can in
     cc))
 
 -- ---- blocks
 
 -- whoever is not blocked is as it was
-block_else : (s : TableState) (n h k : ℕ) → k ≢ n → IsUnchanged s (block s n h) k
+pub block_else : (s : TableState) (n h k : ℕ) → k ≢ n → IsUnchanged s (block s n h) k
 block_else s n h k apart = record {
   private = get_or-set_other s.private n k (label_against s n h) (opening_label k) apart;
   public = get_or-set_other s.public n k (label_against s n h) (opening_label k) apart;
@@ -156,7 +135,7 @@ blocks_waits s h [] = refl
 blocks_waits s h (w ∷ ws) = blocks_waits (block s w.key.process h) h ws
 
 -- the counter of its public label rises
-block_rises : (s : TableState) (n h : ℕ) → n < length s.public → (public_of s n).counter < (public_of (block s n h) n).counter
+pub block_rises : (s : TableState) (n h : ℕ) → n < length s.public → (public_of s n).counter < (public_of (block s n h) n).counter
 block_rises s n h within =
     let now = ap (λ (l : Label). l.counter) (get_or-set_same s.public n (label_against s n h) (opening_label n) within) in
     omega (arith, now)
@@ -201,13 +180,6 @@ blocks_rise s h (v ∷ ws) w have (inr later) =
 
 -- ---- a hand-over
 
--- those of a queue were added
-pub record AddsAll (ws : List Wait) (old new : List Bool) : Type 0 where
-  pub kept : (n : ℕ) → has old n ≡ true → has new n ≡ true
-  pub added : (w : Wait) → Among w ws → has new w.key.process ≡ true
-  pub only : (n : ℕ) → has new n ≡ true → (has old n ≡ true) ⊎ ((w : Wait) × Among w ws × (w.key.process ≡ n))
-  pub sized : length new ≡ length old
-
 -- who waits for r waits for it
 pub waits_for : (s : TableState) (r : ℕ) (w : Wait) → Laws s → Among w (waiters_of s r) → wait_of s w.key.process ≡ Some r
 waits_for s r w laws among =
@@ -216,7 +188,7 @@ waits_for s r w laws among =
     ∙ ap Some (eqb-true w.resource r of_it.1)
 
 -- whoever does not wait for r is as it was once r has another owner
-owner_else : (s : TableState) (r k : ℕ) (o : Option Key) → wait_of s k ≢ Some r → IsUnchanged s (record s { owners = slice_set s.owners r o }) k
+pub owner_else : (s : TableState) (r k : ℕ) (o : Option Key) → wait_of s k ≢ Some r → IsUnchanged s (record s { owners = slice_set s.owners r o }) k
 owner_else s r k o apart = record {
   private = refl;
   public = refl;
@@ -294,24 +266,3 @@ module _ (s : TableState) (r : ℕ) (laws : Laws s) where
     ];
     sized = adds.sized;
   }
-
--- ---- an acquire that waits
-
-queue_else : (s : TableState) (w : Wait) (k : ℕ) → k ≢ w.key.process → IsUnchanged s (record s { waits = s.waits ++ w ∷ [] }) k
-queue_else s w k apart =
-    let same = waited_front s.waits w k (λ e. apart (sym e)) in
-    record {
-      private = refl;
-      public = refl;
-      wait = same;
-      holder = ap (λ o. option_map (λ (k : Key). k.process) (option_and_then (owner_of s) o)) same;
-      verdict = refl;
-    }
-
-pub touches_wait : (s : TableState) (k h : Key) (r : ℕ) (old new : List Bool) → k.process < length s.public → Adds k.process old new → Touches s (acquire_change s k r (Some h)) old new
-touches_wait s k h r old new within adds =
-    let w : Wait = record { key = k; resource = r } in
-    let queued = record s { waits = s.waits ++ w ∷ [] } in
-    touches_one s (block queued k.process h.process) k.process old new adds
-    (λ n apart. unchanged_then s queued (block queued k.process h.process) n (queue_else s w n apart) (block_else queued k.process h.process n apart))
-    (λ same. omega (arith, block_rises queued k.process h.process within, ap (λ (l : Label). l.counter) same.public))

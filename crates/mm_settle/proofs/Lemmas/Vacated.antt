@@ -10,7 +10,9 @@ use Rattle.mm_rules.specs.Laws.{Laws}
 use Rattle.mm_rules.proofs.States.Lookups.{no_holder}
 use Rattle.mm_rules.proofs.States.Activate.{waits_no_longer, waits_else}
 use Rattle.mm_settle.specs.Touched.{IsUnchanged, Touches}
-use Rattle.mm_settle.proofs.Lemmas.Touched.{AddsAll, unchanged, unchanged_then, touches_then, touches_hand_over, hand_over_else, blocks_waits, waits_for, Adds, touches_one, activate_else}
+use Rattle.mm_settle.specs.private.Added.{Adds, AddsAll}
+use Rattle.mm_settle.specs.private.Vacating.{HeldAreUnchanged, IsVacating}
+use Rattle.mm_settle.proofs.Lemmas.Touched.{unchanged, unchanged_then, touches_then, touches_nobody, touches_hand_over, hand_over_else, blocks_waits, waits_for, touches_one, activate_else}
 use Rattle.mm_settle.proofs.Lemmas.Events.{in_queue}
 
 -- who was as before until now and is not as it was, or the other way round, is changed by both together
@@ -45,10 +47,6 @@ waits_or None r = inr (λ e. cc)
 waits_or (Some q) r = elim (cases_eq q r) [ inl e ↦ inl (ap Some e) | inr apart ↦ inr (λ e. apart (cc)) ]
 
 -- ---- a transaction's end: its resources are handed over, one after the other
-
--- those that n still holds up are as they were at s
-abbrev pub HeldAreUnchanged : TableState → TableState → ℕ → Type 0
-HeldAreUnchanged s t n = (k : ℕ) → holder_of t k ≡ Some n → IsUnchanged s t k
 
 pub held_at_first : (s : TableState) (n : ℕ) → HeldAreUnchanged s s n
 held_at_first s n k holds = unchanged s k
@@ -119,11 +117,9 @@ free_slot_else s n k = by (nat_lt (slice_index s.generations n) s.config.generat
     by true = record { private = refl; public = refl; wait = refl; holder = refl; verdict = refl }
     by false = record { private = refl; public = refl; wait = refl; holder = refl; verdict = refl }
 
--- who takes its wait back is changed, and nobody else
-pub touches_withdraw : (s : TableState) (n r : ℕ) (old new : List Bool) → wait_of s n ≡ Some r → Adds n old new → Touches s (withdraw s n) old new
-touches_withdraw s n r old new waits adds =
-    touches_one s (withdraw s n) n old new adds
-    (λ k apart.
+-- whoever does not take its wait back is as it was
+withdraw_else : (s : TableState) (n k : ℕ) → k ≢ n → IsUnchanged s (withdraw s n) k
+withdraw_else s n k apart =
     let still = activate_else s n k apart in
     record {
       private = refl;
@@ -131,7 +127,49 @@ touches_withdraw s n r old new waits adds =
       wait = still.wait;
       holder = still.holder;
       verdict = get_or-set_other s.verdicts n k false false apart;
-    })
-    (λ same.
+    }
+
+-- who takes its wait back is changed, and nobody else
+pub touches_withdraw : (s : TableState) (n r : ℕ) (old new : List Bool) → wait_of s n ≡ Some r → Adds n old new → Touches s (withdraw s n) old new
+touches_withdraw s n r old new waits adds =
+    touches_one s (withdraw s n) n old new adds (withdraw_else s n) (λ same.
     let never : None ≡ Some r = sym (waits_no_longer s n) ∙ same.wait ∙ waits in
     cc)
+
+-- ---- a transaction's end, from its start on
+
+pub vacating_starts : (s : TableState) (n : ℕ) (set : List Bool) → IsVacating s n s set set
+vacating_starts s n set = record {
+  touches = touches_nobody s s set (unchanged s);
+  held = held_at_first s n;
+  idle = λ k active. unchanged s k;
+}
+
+-- one more of its resources is handed over
+pub vacating_next : (s t : TableState) (n r : ℕ) (key : Key) (a b c : List Bool) → Laws t → r < length t.owners → owner_of t r ≡ Some key → key.process ≡ n → wait_of t n ≡ None
+    → IsVacating s n t a b → AddsAll (waiters_of t r) b c → IsVacating s n (hand_over t r) a c
+vacating_next s t n r key a b c laws within owned its active way adds = record {
+  touches = touches_next s t n r key laws owned its way.held a b c way.touches adds;
+  held = held_next s t n r key laws owned its way.held (gone t n r laws within active);
+  idle = λ k idle_before.
+      let same = way.idle k idle_before in
+      unchanged_then s t (hand_over t r) k same (hand_over_else t r laws k (λ waits.
+      let never : None ≡ Some r = sym idle_before ∙ sym same.wait ∙ waits in
+      absurd (cc)));
+}
+
+-- and at last its slot is freed
+pub vacating_ends : (s t : TableState) (n : ℕ) (a b : List Bool) → IsVacating s n t a b → IsVacating s n (free_slot t n) a b
+vacating_ends s t n a b way = record {
+  touches = touches_apart s t (free_slot t n) a b b way.touches (touches_nobody t (free_slot t n) b (free_slot_else t n)) (λ k. inr (free_slot_else t n k));
+  held = λ k holds_now. unchanged_then s t (free_slot t n) k (way.held k (sym (free_slot_else t n k).holder ∙ holds_now)) (free_slot_else t n k);
+  idle = λ k active. unchanged_then s t (free_slot t n) k (way.idle k active) (free_slot_else t n k);
+}
+
+-- an abort: its wait goes, and then all that it owns
+pub abort_touches : (s u : TableState) (n r : ℕ) (a b c : List Bool) → wait_of s n ≡ Some r → Adds n a b → IsVacating (withdraw s n) n u b c → Touches s u a c
+abort_touches s u n r a b c waits adds way =
+    touches_apart s (withdraw s n) u a b c (touches_withdraw s n r a b waits adds) way.touches (λ k. elim (cases_eq k n) [
+      | inl e ↦ inr (way.idle k (ap (wait_of (withdraw s n)) e ∙ waits_no_longer s n))
+      | inr apart ↦ inl (withdraw_else s n k apart)
+    ])

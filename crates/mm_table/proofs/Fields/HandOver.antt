@@ -15,6 +15,8 @@ use Rattle.mm_rules.specs.Event.{release_answer}
 use Rattle.mm_rules.specs.declared.reply.Released.TheVariants.{To}
 use Rattle.mm_rules.specs.private.Stages.{blocked_on, NoneIs}
 use Rattle.mm_transactions.specs.Transactions.{first_key, IsNextWaiter, WaitsAreLawful}
+use Rattle.mm_settle.specs.private.Added.{Adds, AddsAll}
+use Rattle.mm_settle.proofs.Lemmas.Added.{adds_first}
 use Rattle.mm_table.specs.declared.records.Records.TheInside.{Inside}
 use Rattle.mm_table.specs.private.Records.{IsConsistent, state_of_records}
 use Rattle.mm_table.proofs.Fields.Walk.{IsAt, Passes, passes, at_start, at_next}
@@ -52,6 +54,12 @@ lawful_waits t s fits is lawful = subst HasLawfulWaits is (record {
   once = lawful.once;
   within = λ w among. omega (arith, (lawful.in_range w among).0, fits.sizes.slots);
 })
+
+-- the waits are as before once r is free
+pub same_waits : (s free : TableState) (r : ℕ) → free ≡ record s { owners = slice_set s.owners r None } → HasLawfulWaits free → HasLawfulWaits s
+same_waits s free r is lawful =
+    let now : HasLawfulWaits (record s { owners = slice_set s.owners r None }) = subst HasLawfulWaits is lawful in
+    record { live = now.live; once = now.once; within = now.within }
 
 -- s with this key as the owner of r, which waits no longer
 abbrev pub taken_over : TableState → ℕ → Key → TableState
@@ -155,6 +163,12 @@ module _ (s : TableState) (r : ℕ) (key : Key) (first : Some key ≡ first_key 
   handed_over t is =
       ap (blocked_on t key.process) (left t is) ∙ ap (λ u. blocked_on u key.process one.others) is
       ∙ ap (λ k. blocked_on (taken_over s r k) k.process one.others) (sym one.key_is) ∙ ap (give_to s r) (sym one.queue_is)
+
+  -- it was added to a set, and then all others were
+  pub added_all : (t : TableState) → t ≡ taken_over s r key → (a b c : List Bool) → Adds key.process a b → AddsAll (waiters_of t r) b c → AddsAll (waiters_of s r) a c
+  added_all t is a b c first others =
+      subst (λ (ws : List Wait). AddsAll ws a c) (sym one.queue_is)
+      (adds_first one.wait one.others a b c key.process its_process first (subst (λ (ws : List Wait). AddsAll ws b c) (left t is) others))
 
   -- the others are walked against it
   pub fits_start : (next : Option ℕ) → IsNextWaiter s.waits key.process next → ((w : Wait) → Among w s.waits → w.key.process < s.config.processes) → FitsFrom s r key.process next

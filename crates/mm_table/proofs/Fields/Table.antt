@@ -1,15 +1,90 @@
 -- Each event keeps what holds of every table.
-use Rattle.std.proofs.Common.{ap, arith, Result}
+use Rattle.std.proofs.Common.{◌≡◌, ◌||◌, ℕ, Bool, false, List, length, Result, Ok, Err, replicate, inl, inr, refl, ap, sym, ◌∙◌, arith}
+use Rattle.std.proofs.lemmas.Bool.{cases_lt}
+use Rattle.std.proofs.lemmas.List.{get_or_past, get_or-replicate, length-replicate}
+use Rattle.mm_marks.specs.Marks.{has, members}
+use Rattle.mm_rules.specs.declared.config.Config.{Config}
 use Rattle.mm_rules.specs.declared.refusal.Refusal.{Refusal}
-use Rattle.mm_table.specs.declared.table.Table.TheInside.{Inside}
-use Rattle.mm_rules.specs.TableState.{TableState}
-use Rattle.mm_rules.specs.Event.{Event, Answer, Step}
-use Rattle.mm_table.specs.private.Table.{IsLawfulTable}
+use Rattle.mm_rules.specs.TableState.{TableState, opening}
+use Rattle.mm_rules.specs.Event.{Event, Answer, Step, decided}
 use Rattle.mm_rules.proofs.States.EventsKeepLaws.{event_keeps}
 use Rattle.mm_rules.proofs.States.Config.{event_config}
+use Rattle.mm_settle.specs.Touched.{Touches, changed_processes}
+use Rattle.mm_settle.specs.private.Changed.{AreChanged}
+use Rattle.mm_settle.specs.private.Marked.{AreSized}
+use Rattle.mm_settle.proofs.Lemmas.Changed.{changes_keep, none_changed}
+use Rattle.mm_settle.proofs.Lemmas.Frames.{idle_transmits_not, idle_detects_not}
+use Rattle.mm_settle.proofs.Lemmas.Told.{told, touches_union}
+use Rattle.mm_settle.proofs.Lemmas.Touched.{touches_changes}
+use Rattle.mm_table.specs.declared.table.Table.TheInside.{Inside}
+use Rattle.mm_table.specs.private.Table.{IsLawfulTable}
 
-pub step_keeps_table : (e : Event) (old : Inside) (new : TableState) (reply : Result (Answer e) Refusal) → Step e old.records reply new → IsLawfulTable old → IsLawfulTable (record old { records = new })
-step_keeps_table e old new reply step kept = record {
-  laws = (event_keeps e old.records new reply step kept.laws).laws;
-  room = omega (arith, kept.room, ap (λ c. c.processes) (event_config e old.records new reply step));
-}
+-- ---- an accepted event is counted, a refused one changes nothing
+
+pub counted_changed : {A : Type 0} (v : Result (Unit {0}) Refusal) (old : TableState) (answer : A) (t : TableState) (set : List Bool) → AreChanged old set → AreChanged t set
+    → AreChanged (decided v old answer t).state set
+counted_changed (Err refusal) old answer t set was are = was
+counted_changed (Ok u) old answer t set was are = record { transmits = are.transmits; detects = are.detects }
+
+-- who begins changes nobody
+pub begun_changed : (s : TableState) (free : List ℕ) (live set : List Bool) → AreChanged s set → AreChanged (record s { free = free; live = live }) set
+begun_changed s free live set are = record { transmits = are.transmits; detects = are.detects }
+
+-- nobody is in an empty set
+pub emptied : (set : List Bool) (size : ℕ) → set ≡ replicate size false → (k : ℕ) → has set k ≡ false
+emptied set size is k = ap (λ ms. has ms k) is ∙ elim (cases_lt k size) [
+  | inl inside ↦ get_or-replicate size k false false inside
+  | inr past ↦ get_or_past (replicate size false) k false (omega (arith, length-replicate size false))
+]
+
+-- nobody can transmit or detect at first
+pub opened_changed : (c : Config) (set : List Bool) → AreChanged (opening c) set
+opened_changed c set = none_changed (opening c) set (λ k. idle_transmits_not (opening c) k refl) (λ k. idle_detects_not (opening c) k refl)
+
+-- ---- events
+
+module _ (e : Event) (old : Inside) (new : TableState) (reply : Result (Answer e) Refusal) (step : Step e old.records reply new) (kept : IsLawfulTable old) where
+  processes : new.config.processes ≡ old.records.config.processes
+  processes = ap (λ c. c.processes) (event_config e old.records new reply step)
+
+  -- whoever may transmit or newly detect afterwards is among these
+  pub step_keeps_table : (changed touched : List Bool) → AreChanged new changed → length changed ≡ length old.changed → length touched ≡ length old.touched → ((k : ℕ) → has touched k ≡ false)
+      → IsLawfulTable (record old { records = new; changed = changed; touched = touched })
+  step_keeps_table changed touched are changed_sized touched_sized none = record {
+    laws = (event_keeps e old.records new reply step kept.laws).laws;
+    changed = are;
+    sized = record {
+      changed_sized = changed_sized ∙ kept.sized.changed_sized ∙ sym processes;
+      pending_sized = kept.sized.pending_sized ∙ sym processes;
+      checks_sized = kept.sized.checks_sized ∙ sym processes;
+    };
+    touched_sized = touched_sized ∙ kept.touched_sized ∙ sym processes;
+    touched_none = none;
+  }
+
+  -- those that the event changed were added to the changed
+  pub touch_keeps_table : (changed : List Bool) → Touches old.records new old.changed changed → IsLawfulTable (record old { records = new; changed = changed })
+  touch_keeps_table changed touches =
+      step_keeps_table changed old.touched (changes_keep old.records new old.changed changed (touches_changes old.records new old.changed changed touches) kept.changed) touches.sized refl kept.touched_none
+
+  -- they were listed first
+  pub listing_keeps_table : (touched changed left : List Bool) → Touches old.records new old.touched touched → ((k : ℕ) → has changed k ≡ (has old.changed k || has touched k))
+      → length changed ≡ length old.changed → left ≡ replicate (length touched) false → IsLawfulTable (record old { records = new; changed = changed; touched = left })
+  listing_keeps_table touched changed left touches union sized is =
+      step_keeps_table changed left (touches_union old.records new old.touched touched old.changed changed touches kept.changed union) sized
+      (ap length is ∙ length-replicate (length touched) false ∙ touches.sized) (emptied left (length touched) is)
+
+  -- they are the list
+  pub listed : (touched : List Bool) (list : List ℕ) → Touches old.records new old.touched touched → list ≡ members touched → list ≡ changed_processes old.records new
+  listed touched list touches is = is ∙ told old.records new old.touched touched touches kept.touched_none kept.touched_sized
+
+  -- a settle
+  pub settled_keeps_table : (changed touched left pending checks : List Bool) → AreChanged new changed → AreSized new changed pending checks → Touches old.records new old.touched touched
+      → left ≡ replicate (length touched) false → IsLawfulTable (record { records = new; changed = changed; touched = left; pending = pending; checks = checks })
+  settled_keeps_table changed touched left pending checks are sized touches is = record {
+    laws = (event_keeps e old.records new reply step kept.laws).laws;
+    changed = are;
+    sized = sized;
+    touched_sized = ap length is ∙ length-replicate (length touched) false ∙ touches.sized ∙ kept.touched_sized ∙ sym processes;
+    touched_none = emptied left (length touched) is;
+  }

@@ -5,7 +5,7 @@ use Rattle.mm_lists.proofs.Lemmas.Walk.{first_number, rest_from, rest_from-part}
 use Rattle.mm_rules.specs.TableState.{Wait}
 use Rattle.mm_transactions.specs.Transactions.{queue_of, first_key, IsNextWaiter}
 
-abbrev process : Wait → ℕ
+abbrev pub process : Wait → ℕ
 process w = w.key.process
 
 -- what is left of a queue from this process on
@@ -36,7 +36,7 @@ pub passes : (queue : List Wait) (n : ℕ) (left : List Wait) → IsAt queue (So
 passes queue n [] at = (let never : Some n ≡ None = at.first in absurd (cc))
 passes queue n (w ∷ others) at = record { wait = w; others = others; left_is = refl; process_is = (let same : Some n ≡ Some w.key.process = at.first in cc) }
 
-append_one : (xs : List Wait) (w : Wait) (ys : List Wait) → xs ++ w ∷ ys ≡ (xs ++ w ∷ []) ++ ys
+pub append_one : (xs : List Wait) (w : Wait) (ys : List Wait) → xs ++ w ∷ ys ≡ (xs ++ w ∷ []) ++ ys
 append_one [] w ys = refl
 append_one (x ∷ xs) w ys = ap (λ zs. x ∷ zs) (append_one xs w ys)
 

@@ -1,23 +1,28 @@
 //! A transaction under a verdict takes back its wait, and ends.
-ghost use Rattle.std.specs.Prelude.{◌≡◌, ◌<◌, ◌^◌, IsTrue, OnOk};
+ghost use Rattle.std.specs.Prelude.{◌≡◌, ◌<◌, ◌^◌, IsTrue, OnOk, length};
 ghost use Rattle.mm_rules.specs.TableState.{is_live, has_verdict, is_waiting};
 ghost use Rattle.mm_rules.specs.Change.{vacate_fits, withdraw};
 ghost use Rattle.mm_rules.specs.Event.{Gives, allowed, aborted, abort_tests};
 ghost use Rattle.mm_rules.specs.Laws.{Laws};
+ghost use Rattle.mm_settle.specs.Touched.{Touches};
 
 use super::Records;
 use crate::{Key, Refusal};
+use mm_marks::Marks;
 
 impl Records {
-    /// Takes back the wait of a transaction with a verdict, hands over all that it owns, and frees its slot.
-    /// `O(its resources + their waiters)`.
-    pub fn abort(&mut self, key: Key) -> Result<(), Refusal>
-        requires { Laws self.old }
-        ensures { Gives (aborted self.old key) result self.new }
+    /// Takes back the wait of a transaction with a verdict, hands over all that it owns, frees its slot, and adds those that this
+    /// changes to the touched. `O(its resources + their waiters)`.
+    pub fn abort(&mut self, key: Key, touched: &mut Marks) -> Result<(), Refusal>
+        requires laws { Laws self.old }
+        requires sized { length touched.old ≡ self.old.config.processes }
+        ensures step { Gives (aborted self.old key) result self.new }
+        ensures touched { Touches self.old self.new touched.old touched.new }
     {
         self.may_abort(key)?;
         self.withdraw(key);
-        self.vacate(key);
+        touched.add(key.process);
+        self.vacate(key, touched);
         self.count();
         Ok(())
     }

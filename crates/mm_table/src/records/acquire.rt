@@ -1,24 +1,35 @@
 //! A resource is granted, or its owner is waited for with a new label.
-ghost use Rattle.std.specs.Prelude.{◌≡◌, ◌<◌, ◌≤◌, ◌+◌, ◌^◌, ◌∷◌, ◌++◌, [], IsTrue, None, Some, slice_set, Ok, Err, is_some, MatchResult, SomeIff};
+ghost use Rattle.std.specs.Prelude.{◌≡◌, ◌<◌, ◌≤◌, ◌+◌, ◌^◌, ◌∷◌, ◌++◌, [], IsTrue, None, Some, length, slice_set, Ok, Err, is_some, MatchResult, SomeIff};
 ghost use Rattle.mm_rules.specs.TableState.{wait_of, owner_of, public_of, is_live};
 ghost use Rattle.mm_rules.specs.Change.{block_fits, label_against};
 ghost use Rattle.mm_rules.specs.Event.{Gives, allowed, resource_tests, acquired};
+ghost use Rattle.mm_rules.specs.Laws.{Laws};
 ghost use Rattle.mm_rules.specs.private.Stages.{wait_tests};
+ghost use Rattle.mm_settle.specs.Touched.{Touches};
 ghost use Rattle.mm_table.specs.private.LabelLimit.{label_under, labelled, AllLabelsFit};
 
 use super::Records;
 use crate::{Acquired, Key, Refusal};
 use mm_label::{Label, fresh};
+use mm_marks::Marks;
 
 impl Records {
-    /// The key takes a free resource, or waits for its owner. Constant time.
+    /// The key takes a free resource, or waits for its owner and is then added to the touched. Constant time.
     #[inline(always)]
-    pub fn acquire(&mut self, key: Key, resource: u32) -> Result<Acquired, Refusal>
-        ensures { Gives (acquired self.old key resource) result self.new }
+    pub fn acquire(
+        &mut self,
+        key: Key,
+        resource: u32,
+        touched: &mut Marks,
+    ) -> Result<Acquired, Refusal>
+        requires laws { Laws self.old }
+        requires sized { length touched.old ≡ self.old.config.processes }
+        ensures step { Gives (acquired self.old key resource) result self.new }
+        ensures touched { Touches self.old self.new touched.old touched.new }
     {
         self.may_use(key, resource)?;
         if self.owned.owner(resource).is_some() {
-            self.acquire_owned(key, resource)
+            self.acquire_owned(key, resource, touched)
         } else {
             self.grant(key, resource);
             self.count();
@@ -28,15 +39,25 @@ impl Records {
 
     /// `acquire` of an owned resource by a transaction that may use it. It stands apart, so that a grant is short.
     #[inline(never)]
-    fn acquire_owned(&mut self, key: Key, resource: u32) -> Result<Acquired, Refusal>
+    fn acquire_owned(
+        &mut self,
+        key: Key,
+        resource: u32,
+        touched: &mut Marks,
+    ) -> Result<Acquired, Refusal>
+        requires laws { Laws self.old }
+        requires process { key.process < self.old.config.processes }
         requires tests { allowed (resource_tests self.old key resource) ≡ Ok tt }
         requires owned { IsTrue (is_some (owner_of self.old resource)) }
-        ensures { Gives (acquired self.old key resource) result self.new }
+        requires sized { length touched.old ≡ self.old.config.processes }
+        ensures step { Gives (acquired self.old key resource) result self.new }
+        ensures touched { Touches self.old self.new touched.old touched.new }
     {
         let holder = self.owned.owner(resource).unwrap();
         let label = self.may_wait(key.process, holder.process)?;
         self.count_wait(key, resource);
         self.relabel(key.process, label);
+        touched.add(key.process);
         Ok(Acquired::Waits { holder, label })
     }
 

@@ -1,11 +1,16 @@
 //! A waiting transaction whose label came round gets a verdict.
-ghost use Rattle.std.specs.Prelude.{◌≡◌, ◌<◌, IsTrue};
+ghost use Rattle.std.specs.Prelude.{◌≡◌, ◌<◌, ◌^◌, IsTrue, ℕ, false, length};
+ghost use Rattle.mm_marks.specs.Marks.{has};
 ghost use Rattle.mm_rules.specs.TableState.{is_live};
 ghost use Rattle.mm_rules.specs.Change.{can_detect, detect};
 ghost use Rattle.mm_rules.specs.Event.{Gives, detected};
+ghost use Rattle.mm_rules.specs.Laws.{Laws};
+ghost use Rattle.mm_settle.specs.private.Detects.{IsDetected};
+ghost use Rattle.mm_settle.specs.private.Settling.{IsSettling};
 
 use super::Records;
 use crate::{Detected, Key, Refusal};
+use mm_marks::Marks;
 
 impl Records {
     /// The waiting transaction gets a verdict where its own label came round to its holder. Constant time.
@@ -50,5 +55,46 @@ impl Records {
     {
         self.transactions.set_verdict(key, true);
         self.totals.verdicts += 1;
+    }
+
+    /// `process` gets a verdict where its label came round to its holder, and is then added to the touched. Returns whether it did.
+    fn detect_at(&mut self, process: u32, touched: &mut Marks) -> bool
+        requires laws { Laws self.old }
+        requires count { self.old.totals.verdicts < u64.MAX }
+        requires touched { length touched.old ≡ self.old.config.processes }
+        ensures convicted { result ≡ can_detect self.old process }
+        ensures state { self.new ≡ detect self.old process }
+        ensures touched { IsSettling self.old self.new touched.old touched.new }
+    {
+        let Some(key) = self.tenant(process) else {
+            return false;
+        };
+        let can = self.can_detect(key);
+        if can {
+            self.convict(key);
+            touched.add(process);
+        }
+        can
+    }
+
+    /// Each that is left to check detects where it can, by rising number. Returns how many verdicts are new.
+    pub(super) fn detect_all(&mut self, checks: &mut Marks, touched: &mut Marks) -> u64
+        requires laws { Laws self.old }
+        requires sized { length checks.old ≡ self.old.config.processes }
+        requires detects { (k : ℕ) → has checks.old k ≡ false → can_detect self.old k ≡ false }
+        requires count { self.old.totals.verdicts < 2 ^ 62 }
+        requires touched { length touched.old ≡ self.old.config.processes }
+        ensures detected { IsDetected self.old result checks.new self.new }
+        ensures touched { IsSettling self.old self.new touched.old touched.new }
+    {
+        let mut verdicts = 0;
+        let mut from = 0;
+        while let Some(process) = checks.take_next(from) {
+            if self.detect_at(process, touched) {
+                verdicts += 1;
+            }
+            from = process + 1;
+        }
+        verdicts
     }
 }

@@ -1,21 +1,27 @@
 //! A transaction ends: all that it owns is handed over, and its slot is freed.
-ghost use Rattle.std.specs.Prelude.{◌≡◌, ◌<◌, IsTrue, None, IsFalse, fold, OnOk};
+ghost use Rattle.std.specs.Prelude.{◌≡◌, ◌<◌, IsTrue, None, IsFalse, fold, length, OnOk};
 ghost use Rattle.mm_rules.specs.TableState.{wait_of, is_live, has_verdict, resources_of};
 ghost use Rattle.mm_rules.specs.Change.{hand_over, free_slot, vacate, vacate_fits};
 ghost use Rattle.mm_rules.specs.Event.{Gives, allowed, finished, finish_tests};
 ghost use Rattle.mm_rules.specs.Laws.{Laws};
+ghost use Rattle.mm_settle.specs.Touched.{Touches};
+ghost use Rattle.mm_settle.specs.private.Vacating.{IsVacating};
 
 use super::Records;
 use crate::{Key, Refusal};
+use mm_marks::Marks;
 
 impl Records {
-    /// Hands over all that the transaction owns, and frees its slot. `O(its resources + their waiters)`.
-    pub fn finish(&mut self, key: Key) -> Result<(), Refusal>
-        requires { Laws self.old }
-        ensures { Gives (finished self.old key) result self.new }
+    /// Hands over all that the transaction owns, frees its slot, and adds those that this changes to the touched.
+    /// `O(its resources + their waiters)`.
+    pub fn finish(&mut self, key: Key, touched: &mut Marks) -> Result<(), Refusal>
+        requires laws { Laws self.old }
+        requires sized { length touched.old ≡ self.old.config.processes }
+        ensures step { Gives (finished self.old key) result self.new }
+        ensures touched { Touches self.old self.new touched.old touched.new }
     {
         self.may_finish(key)?;
-        self.vacate(key);
+        self.vacate(key, touched);
         self.count();
         Ok(())
     }
@@ -38,15 +44,17 @@ impl Records {
     }
 
     /// Hands over all that a live transaction owns, and frees its slot. The order in which it hands over makes no difference.
-    pub(super) fn vacate(&mut self, key: Key)
+    pub(super) fn vacate(&mut self, key: Key, touched: &mut Marks)
         requires laws { Laws self.old }
         requires live { IsTrue (is_live self.old key) }
         requires active { wait_of self.old key.process ≡ None }
         requires fits { IsTrue (vacate_fits self.old key.process) }
+        requires sized { length touched.old ≡ self.old.config.processes }
         ensures state { self.new ≡ vacate self.old key.process }
         ensures totals { self.new.totals ≡ self.old.totals }
+        ensures touched { IsVacating self.old key.process self.new touched.old touched.new }
     {
-        self.hand_over_all(key.process);
+        self.hand_over_all(key.process, touched);
         self.free_slot(key);
     }
 
@@ -68,16 +76,18 @@ impl Records {
         true
     }
 
-    /// Hands over all that `process` owns.
-    fn hand_over_all(&mut self, process: u32)
+    /// Hands over all that `process` owns, and adds all that waited for it to the touched.
+    fn hand_over_all(&mut self, process: u32, touched: &mut Marks)
         requires laws { Laws self.old }
         requires process { process < self.old.config.processes }
         requires active { wait_of self.old process ≡ None }
         requires fits { IsTrue (vacate_fits self.old process) }
-        ensures { self.new ≡ fold hand_over self.old (resources_of self.old process) }
+        requires sized { length touched.old ≡ self.old.config.processes }
+        ensures state { self.new ≡ fold hand_over self.old (resources_of self.old process) }
+        ensures touched { IsVacating self.old process self.new touched.old touched.new }
     {
         while let Some(resource) = self.owned.first(process) {
-            self.hand_over(resource);
+            self.hand_over(resource, touched);
         }
     }
 

@@ -1,26 +1,31 @@
 //! A resource goes from its owner to the longest waiter.
-ghost use Rattle.std.specs.Prelude.{◌≡◌, ◌≢◌, ◌<◌, [], IsTrue, None, slice_set};
+ghost use Rattle.std.specs.Prelude.{◌≡◌, ◌≢◌, ◌<◌, [], IsTrue, None, length, slice_set};
 ghost use Rattle.std.specs.List.{list_all};
 ghost use Rattle.mm_rules.specs.TableState.{waiters_of, is_live, is_waiting};
 ghost use Rattle.mm_rules.specs.Change.{activate, block_fits, hand_over, hand_over_fits};
 ghost use Rattle.mm_rules.specs.Event.{release_answer};
 ghost use Rattle.mm_rules.specs.private.Stages.{blocked_on, NoneIs};
+ghost use Rattle.mm_settle.specs.private.Added.{AddsAll};
 
 use super::Records;
 use crate::{Key, Released};
+use mm_marks::Marks;
 
 impl Records {
-    /// Hands a resource over, and returns what becomes of it. `O(waiters of the resource)`.
+    /// Hands a resource over, adds all that waited for it to the touched, and returns what becomes of it.
+    /// `O(waiters of the resource)`.
     #[inline(always)]
-    pub(super) fn hand_over(&mut self, resource: u32) -> Released
+    pub(super) fn hand_over(&mut self, resource: u32, touched: &mut Marks) -> Released
         requires resource { resource < self.old.config.resources }
         requires fits { IsTrue (hand_over_fits self.old resource) }
+        requires sized { length touched.old ≡ self.old.config.processes }
         ensures answer { result ≡ release_answer (waiters_of self.old resource) }
         ensures state { self.new ≡ hand_over self.old resource }
         ensures totals { self.new.totals ≡ self.old.totals }
+        ensures touched { AddsAll (waiters_of self.old resource) touched.old touched.new }
     {
         if self.transactions.first_waiter(resource).is_some() {
-            return self.hand_over_awaited(resource);
+            return self.hand_over_awaited(resource, touched);
         }
         self.free(resource);
         Released::Free
@@ -28,19 +33,22 @@ impl Records {
 
     /// Hands over a resource that somebody waits for. It stands apart, so that one that nobody waits for is freed in few instructions.
     #[inline(never)]
-    fn hand_over_awaited(&mut self, resource: u32) -> Released
+    fn hand_over_awaited(&mut self, resource: u32, touched: &mut Marks) -> Released
         requires resource { resource < self.old.config.resources }
         requires awaited { waiters_of self.old resource ≢ [] }
         requires fits { IsTrue (hand_over_fits self.old resource) }
+        requires sized { length touched.old ≡ self.old.config.processes }
         ensures answer { result ≡ release_answer (waiters_of self.old resource) }
         ensures state { self.new ≡ hand_over self.old resource }
         ensures totals { self.new.totals ≡ self.old.totals }
+        ensures touched { AddsAll (waiters_of self.old resource) touched.old touched.new }
     {
         self.free(resource);
         let first = self.transactions.first_waiter(resource).unwrap();
         self.end_wait(first);
         self.grant(first, resource);
-        self.block_queue(resource, first.process);
+        touched.add(first.process);
+        self.block_queue(resource, first.process, touched);
         Released::To(first)
     }
 
@@ -66,13 +74,15 @@ impl Records {
         true
     }
 
-    /// Blocks on `holder` all that wait for `resource`. `O(waiters of the resource)`.
-    fn block_queue(&mut self, resource: u32, holder: u32)
+    /// Blocks on `holder` all that wait for `resource`, and adds them to the touched. `O(waiters of the resource)`.
+    fn block_queue(&mut self, resource: u32, holder: u32, touched: &mut Marks)
         requires holder { holder < self.old.config.processes }
         requires resource { resource < self.old.config.resources }
         requires fits { IsTrue (list_all (λ w. block_fits self.old w.key.process holder) (waiters_of self.old resource)) }
         requires apart { NoneIs holder (waiters_of self.old resource) }
-        ensures { self.new ≡ blocked_on self.old holder (waiters_of self.old resource) }
+        requires sized { length touched.old ≡ self.old.config.processes }
+        ensures state { self.new ≡ blocked_on self.old holder (waiters_of self.old resource) }
+        ensures touched { AddsAll (waiters_of self.old resource) touched.old touched.new }
     {
         let Some(first) = self.transactions.first_waiter(resource) else {
             return;
@@ -81,6 +91,7 @@ impl Records {
         let mut next = Some(first.process);
         while let Some(process) = next {
             self.block_under(process, shown);
+            touched.add(process);
             next = self.transactions.next_waiter(process);
         }
     }

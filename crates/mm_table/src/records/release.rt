@@ -1,18 +1,29 @@
 //! A transaction releases one resource.
-ghost use Rattle.std.specs.Prelude.{◌≡◌, ◌<◌, IsTrue, OnOk};
+ghost use Rattle.std.specs.Prelude.{◌≡◌, ◌<◌, IsTrue, OnOk, length};
 ghost use Rattle.mm_rules.specs.Change.{hand_over_fits};
 ghost use Rattle.mm_rules.specs.Event.{Gives, allowed, released, release_tests};
+ghost use Rattle.mm_rules.specs.Laws.{Laws};
+ghost use Rattle.mm_settle.specs.Touched.{Touches};
 
 use super::Records;
 use crate::{Key, Refusal, Released};
+use mm_marks::Marks;
 
 impl Records {
-    /// Hands a resource over. `O(waiters of the resource)`.
-    pub fn release(&mut self, key: Key, resource: u32) -> Result<Released, Refusal>
-        ensures { Gives (released self.old key resource) result self.new }
+    /// Hands a resource over, and adds those that this changes to the touched. `O(waiters of the resource)`.
+    pub fn release(
+        &mut self,
+        key: Key,
+        resource: u32,
+        touched: &mut Marks,
+    ) -> Result<Released, Refusal>
+        requires laws { Laws self.old }
+        requires sized { length touched.old ≡ self.old.config.processes }
+        ensures step { Gives (released self.old key resource) result self.new }
+        ensures touched { Touches self.old self.new touched.old touched.new }
     {
         self.may_release(key, resource)?;
-        let answer = self.hand_over(resource);
+        let answer = self.hand_over(resource, touched);
         self.count();
         Ok(answer)
     }

@@ -1,23 +1,31 @@
 //! A waiting transaction takes over its holder's greater label.
-ghost use Rattle.std.specs.Prelude.{◌≡◌, ◌<◌, IsTrue, slice_set};
+ghost use Rattle.std.specs.Prelude.{◌≡◌, ◌<◌, IsTrue, length, slice_set};
 ghost use Rattle.mm_rules.specs.TableState.{is_live};
 ghost use Rattle.mm_rules.specs.Change.{greater_label};
 ghost use Rattle.mm_rules.specs.Event.{Gives, transmitted};
+ghost use Rattle.mm_rules.specs.Laws.{Laws};
+ghost use Rattle.mm_settle.specs.Touched.{Touches};
 ghost use Rattle.mm_table.specs.private.LabelLimit.{IsShown};
 
 use super::Records;
 use crate::{Key, Refusal, Transmitted};
 use mm_label::Label;
+use mm_marks::Marks;
 
 impl Records {
-    /// The waiting transaction takes over its holder's public label where that is greater. Constant time.
-    pub fn transmit(&mut self, key: Key) -> Result<Transmitted, Refusal>
-        ensures { Gives (transmitted self.old key) result self.new }
+    /// The waiting transaction takes over its holder's public label where that is greater, and is then added to the touched.
+    /// Constant time.
+    pub fn transmit(&mut self, key: Key, touched: &mut Marks) -> Result<Transmitted, Refusal>
+        requires laws { Laws self.old }
+        requires sized { length touched.old ≡ self.old.config.processes }
+        ensures step { Gives (transmitted self.old key) result self.new }
+        ensures touched { Touches self.old self.new touched.old touched.new }
     {
         self.may_call_waiting(key)?;
         let answer = match self.greater_label(key) {
             Some(label) => {
                 self.show(key.process, label);
+                touched.add(key.process);
                 Transmitted::Raised(label)
             }
             None => Transmitted::Still,

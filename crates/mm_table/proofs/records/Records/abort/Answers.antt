@@ -1,18 +1,41 @@
-use Rattle.std.proofs.Common.{ap, sym, subst, ◌∙◌, IsTrue}
+use Rattle.std.proofs.Common.{◌≡◌, ℕ, true, false, Option, Some, None, is_some, refl, ap, sym, subst, ◌∙◌, arith, IsTrue}
 use Rattle.mm_rules.specs.TableState.{TableState, wait_of}
-use Rattle.mm_rules.specs.Change.{vacate_fits}
+use Rattle.mm_rules.specs.Change.{vacate_fits, withdraw}
 use Rattle.mm_rules.specs.Laws.{Laws}
 use Rattle.mm_rules.proofs.States.Activate.{waits_no_longer}
 use Rattle.mm_rules.proofs.States.GiveUp.{withdraw_keeps}
 use Rattle.mm_rules.proofs.States.Abort.{fits_still}
+use Rattle.mm_rules.proofs.States.Lookups.{waiting_is_some, live_within}
+use Rattle.mm_settle.specs.Touched.{Touches}
+use Rattle.mm_settle.specs.private.Vacating.{IsVacating}
+use Rattle.mm_settle.proofs.Lemmas.Added.{adds_set}
+use Rattle.mm_settle.proofs.Lemmas.Told.{touches_counted}
+use Rattle.mm_settle.proofs.Lemmas.Vacated.{abort_touches}
 use Rattle.mm_table.proofs.records.Records.abort.Goals as goal
 
 pub vacate-requires-clause-laws : goal.vacate-requires-clause-laws
-vacate-requires-clause-laws c = subst Laws (sym c.withdraw.ensures) (withdraw_keeps c.args.self.now c.args.key.process c.requires c.in_ok-may_abort.ensures.verdict).laws
+vacate-requires-clause-laws c = subst Laws (sym c.withdraw.ensures) (withdraw_keeps c.args.self.now c.args.key.process c.requires.laws c.in_ok-may_abort.ensures.verdict).laws
 
 pub vacate-requires-clause-active : goal.vacate-requires-clause-active
 vacate-requires-clause-active c = ap (λ s. wait_of s c.args.key.process) c.withdraw.ensures ∙ waits_no_longer c.args.self.now c.args.key.process
 
 pub vacate-requires-clause-fits : goal.vacate-requires-clause-fits
 vacate-requires-clause-fits c =
-    subst (λ (s : TableState). IsTrue (vacate_fits s c.args.key.process)) (sym c.withdraw.ensures) (fits_still c.args.self.now c.args.key.process c.requires c.in_ok-may_abort.ensures.fits)
+    subst (λ (s : TableState). IsTrue (vacate_fits s c.args.key.process)) (sym c.withdraw.ensures) (fits_still c.args.self.now c.args.key.process c.requires.laws c.in_ok-may_abort.ensures.fits)
+
+resource : (o : Option ℕ) → is_some o ≡ true → (r : ℕ) × (o ≡ Some r)
+resource None waits = (let never : false ≡ true = waits in absurd (cc))
+resource (Some r) waits = (r, refl)
+
+pub returns-clause-touched : goal.returns-clause-touched
+returns-clause-touched c =
+    let s = c.args.self.now in
+    let n = c.args.key.process in
+    let old = c.args.touched.now in
+    let mid = c.add.new.self in
+    let new = c.vacate.new.touched in
+    let u = c.vacate.new.self in
+    let waits = resource (wait_of s n) (waiting_is_some s n _ (c.requires.laws.convicted n c.in_ok-may_abort.ensures.verdict).1.waits) in
+    let vacated : IsVacating (withdraw s n) n u mid new = subst (λ (t : TableState). IsVacating t n u mid new) c.withdraw.ensures c.vacate.ensures.touched in
+    subst (λ (t : TableState). Touches s t old new) (sym c.count.ensures)
+    (touches_counted s u old new _ (abort_touches s u n waits.0 old mid new waits.1 (adds_set old mid n (omega (arith, live_within s c.args.key c.requires.laws.lawful.well_formed.sizes c.in_ok-may_abort.ensures.live, c.requires.sized)) c.add.ensures) vacated))

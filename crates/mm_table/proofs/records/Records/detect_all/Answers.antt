@@ -1,27 +1,43 @@
-use Rattle.std.proofs.Common.{◌≡◌, ◌+◌, ◌<◌, ℕ, Bool, length, get_or, if◌then◌else◌, ap, sym, ◌∙◌, arith}
-use Rattle.std.proofs.lemmas.List.{get_or-map, length-map}
-use Rattle.mm_table.specs.declared.records.settle.Waiter.{Waiter}
-use Rattle.mm_rules.specs.Change.{can_detect, detect}
-use Rattle.mm_table.specs.private.Waiters.{processes_of}
-use Rattle.mm_rules.proofs.States.Turns.{detect_next}
+use Rattle.std.proofs.Common.{◌≡◌, ◌+◌, ℕ, Bool, List, if◌then◌else◌, ap, sym, subst, arith}
+use Rattle.mm_settle.specs.private.Detects.{IsDetected}
+use Rattle.mm_settle.proofs.Lemmas.Checks.{detects_start, detects_turn, detects_end, check_within}
+use Rattle.mm_settle.proofs.Lemmas.Settling.{settling_starts, settling_then}
 use Rattle.mm_table.proofs.records.Records.detect_all.Goals as goal
 use Rattle.mm_table.proofs.records.Records.detect_all.Goals.{then-detect_at, else-detect_at}
 
-pub loop-waiter-preserved : goal.loop-waiter-preserved
-loop-waiter-preserved c =
-    let ws = c.args.waiters.now in
-    let i = c.loop-waiter.waiter-index in
-    let now = c.loop-waiter.self in
-    let n = get_or (processes_of ws) i 0 in
-    let no_waiter : Waiter = record { process = 0; holder = 0 } in
-    let same : n ≡ (get_or ws i no_waiter).process = get_or-map (λ (w : Waiter). w.process) ws i no_waiter 0 c.loop-waiter-test.true in
-    let within : i < length (processes_of ws) = simp length-map c.loop-waiter-test.true in
+pub loop-process-init : goal.loop-process-init
+loop-process-init c = record {
+  way = detects_start c.args.self.now c.args.checks.now c.requires.laws c.requires.sized c.requires.detects;
+  settling = settling_starts c.args.self.now c.args.touched.now;
+}
+
+pub overflow_add-from : goal.overflow_add-from
+overflow_add-from c =
+    omega (
+      arith,
+      c.requires.laws.lawful.well_formed.config.processes.1,
+      check_within c.args.self.now c.loop-process.from c.loop-process.verdicts c.loop-process.checks c.loop-process.self c.loop-process.invariant.way
+          c.in-Some.process c.in-Some.ensures.member.0,
+    )
+
+pub loop-process-preserved : goal.loop-process-preserved
+loop-process-preserved c =
     let one : Bool → ℕ = λ b. if b then 1 else 0 in
-    let turn : c.detect_at.result ≡ can_detect now n = c.detect_at.ensures.convicted ∙ ap (can_detect now) (sym same) in
-    let more : c.if-detect_at.verdicts ≡ c.loop-waiter.verdicts + one (can_detect now n) =
+    let more : c.if-detect_at.verdicts ≡ c.loop-process.verdicts + one c.detect_at.result =
     elim c.if-detect_at.branch [
-      | then-detect_at w ↦ omega (arith, w.verdicts-is, ap one (sym w.if-detect_at.true ∙ turn))
-      | else-detect_at w ↦ omega (arith, w.verdicts-is, ap one (sym w.if-detect_at.false ∙ turn))
+      | then-detect_at w ↦ omega (arith, w.verdicts-is, ap one w.if-detect_at.true)
+      | else-detect_at w ↦ omega (arith, w.verdicts-is, ap one w.if-detect_at.false)
     ] in
-    detect_next c.args.self.now (processes_of ws) i 0 c.loop-waiter.verdicts c.if-detect_at.verdicts now c.detect_at.new.self
-    c.loop-waiter.invariant within more (c.detect_at.ensures.state ∙ ap (detect now) (sym same))
+    record {
+      way = detects_turn c.args.self.now c.loop-process.from c.loop-process.verdicts c.loop-process.checks c.loop-process.self c.loop-process.invariant.way
+          c.in-Some.process c.in-Some.ensures.member.0 c.detect_at.result c.if-detect_at.verdicts c.take_next.new.self c.detect_at.new.self
+          c.detect_at.ensures.convicted more c.in-Some.ensures.member.1 c.detect_at.ensures.state;
+      settling = settling_then c.args.self.now c.loop-process.self c.detect_at.new.self c.args.touched.now c.loop-process.touched c.detect_at.new.touched
+          c.loop-process.invariant.settling c.detect_at.ensures.touched;
+    }
+
+pub returns-clause-detected : goal.returns-clause-detected
+returns-clause-detected c =
+    subst (λ (p : List Bool). IsDetected c.args.self.now c.loop-process.verdicts p c.loop-process.self) (sym c.in_default.ensures.none.1)
+    (detects_end c.args.self.now c.loop-process.from c.loop-process.verdicts c.loop-process.checks c.loop-process.self
+    c.loop-process.invariant.way c.in_default.ensures.none.0)

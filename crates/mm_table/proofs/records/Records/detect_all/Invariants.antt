@@ -1,6 +1,13 @@
-use Rattle.mm_table.specs.private.Waiters.{processes_of}
-use Rattle.mm_rules.proofs.States.Turns.{IsMidDetects}
+use Rattle.std.proofs.Common.{◌-◌}
+use Rattle.mm_settle.specs.private.Detects.{IsDetecting}
+use Rattle.mm_settle.specs.private.Settling.{IsSettling}
 use Rattle.mm_table.proofs.records.Records.detect_all.Given as goal
 
-abbrev pub invariant-loop-waiter : goal.invariant-loop-waiter
-invariant-loop-waiter l = IsMidDetects l.fn.self (processes_of l.waiters) l.waiter-index l.verdicts l.self
+abbrev pub invariant-loop-process : goal.invariant-loop-process
+invariant-loop-process l = record {
+  way : IsDetecting l.fn.self l.from l.verdicts l.checks l.self;
+  settling : IsSettling l.fn.self l.self l.fn.touched l.touched;
+}
+
+abbrev pub decreases-loop-process : goal.decreases-loop-process
+decreases-loop-process l = l.fn.self.config.processes - l.from

@@ -3,8 +3,9 @@ use Rattle.std.specs.Option.{IsSome}
 use Rattle.mm_lists.specs.Members.{NoRepeat}
 use Rattle.mm_rules.specs.TableState.{TableState, waiters_of}
 use Rattle.mm_rules.proofs.States.Totals.{hand_over_totals}
+use Rattle.mm_settle.proofs.Lemmas.Added.{adds_set}
 use Rattle.mm_transactions.specs.Transactions.{first_key}
-use Rattle.mm_table.proofs.Fields.HandOver.{somebody, HasLawfulWaits, lawful_waits, taken_over, first_within, first_lives, waiting, others_apart, others_fit, handed_over, freed_then_owned}
+use Rattle.mm_table.proofs.Fields.HandOver.{somebody, same_waits, added_all, HasLawfulWaits, lawful_waits, taken_over, first_within, first_lives, waiting, others_apart, others_fit, handed_over, freed_then_owned}
 use Rattle.mm_table.proofs.records.Records.hand_over_awaited.Goals as goal
 
 -- who waits once the owner has lost the resource
@@ -37,14 +38,18 @@ block_queue-requires-clause-holder c =
     omega (arith, first_within c.free.new.self c.args.resource c.unwrap-first.result first lawful.once lawful, ap (λ s. s.config.processes) c.end_wait.ensures, ap (λ s. s.config.processes) c.grant.ensures)
 
 -- the first waiter has become the owner
-owned : (c : goal.After-block_queue-arg-1) → c.grant.new.self ≡ taken_over c.args.self.now c.args.resource c.unwrap-first.result
+owned : (c : goal.After-block_queue-arg-2-1) → c.grant.new.self ≡ taken_over c.args.self.now c.args.resource c.unwrap-first.result
 owned c =
     freed_then_owned c.args.self.now c.free.new.self c.end_wait.new.self c.grant.new.self c.args.resource c.unwrap-first.result c.free.ensures c.end_wait.ensures c.grant.ensures
 
-first_before : (c : goal.After-block_queue-arg-1) → Some c.unwrap-first.result ≡ first_key (waiters_of c.args.self.now c.args.resource)
+first_before : (c : goal.After-block_queue-arg-2-1) → Some c.unwrap-first.result ≡ first_key (waiters_of c.args.self.now c.args.resource)
 first_before c = sym c.unwrap-first.ensures ∙ c.first_waiter.ensures.first ∙ ap (λ t. first_key (waiters_of t c.args.resource)) (c.self.view_is ∙ c.free.ensures)
 
-once_before : (c : goal.After-block_queue-arg-1) → NoRepeat (map (λ w. w.key.process) c.args.self.now.waits)
+lawful_before : (c : goal.After-block_queue-arg-2-1) → HasLawfulWaits c.args.self.now
+lawful_before c =
+    same_waits c.args.self.now c.free.new.self c.args.resource c.free.ensures (lawful_waits c.self.inside c.free.new.self c.self.invariant c.self.view_is c.first_waiter.ensures.lawful)
+
+once_before : (c : goal.After-block_queue-arg-2-1) → NoRepeat (map (λ w. w.key.process) c.args.self.now.waits)
 once_before c =
     subst (λ (s : TableState). NoRepeat (map (λ w. w.key.process) s.waits)) c.free.ensures (lawful_waits c.self.inside c.free.new.self c.self.invariant c.self.view_is c.first_waiter.ensures.lawful).once
 
@@ -57,9 +62,24 @@ block_queue-requires-clause-apart c = others_apart c.args.self.now c.args.resour
 pub returns-clause-state : goal.returns-clause-state
 returns-clause-state c =
     let b = c.before in
-    c.block_queue.ensures ∙ handed_over c.args.self.now c.args.resource c.unwrap-first.result (first_before b) (once_before b) c.grant.new.self (owned b)
+    c.block_queue.ensures.state ∙ handed_over c.args.self.now c.args.resource c.unwrap-first.result (first_before b) (once_before b) c.grant.new.self (owned b)
 
 pub returns-clause-totals : goal.returns-clause-totals
 returns-clause-totals c =
     let b = c.before in
-    ap (λ s. s.totals) (c.block_queue.ensures ∙ handed_over c.args.self.now c.args.resource c.unwrap-first.result (first_before b) (once_before b) c.grant.new.self (owned b)) ∙ hand_over_totals c.args.self.now c.args.resource
+    ap (λ s. s.totals) (c.block_queue.ensures.state ∙ handed_over c.args.self.now c.args.resource c.unwrap-first.result (first_before b) (once_before b) c.grant.new.self (owned b)) ∙ hand_over_totals c.args.self.now c.args.resource
+
+pub add-requires : goal.add-requires
+add-requires c =
+    let lawful = lawful_waits c.self.inside c.free.new.self c.self.invariant c.self.view_is c.first_waiter.ensures.lawful in
+    let first = sym c.unwrap-first.ensures ∙ c.first_waiter.ensures.first ∙ ap (λ t. first_key (waiters_of t c.args.resource)) c.self.view_is in
+    omega (arith, first_within c.free.new.self c.args.resource c.unwrap-first.result first lawful.once lawful, ap (λ s. s.config.processes) c.free.ensures, c.requires.sized)
+
+pub returns-clause-touched : goal.returns-clause-touched
+returns-clause-touched c =
+    let b = c.before in
+    let s = c.args.self.now in
+    let r = c.args.resource in
+    let key = c.unwrap-first.result in
+    added_all s r key (first_before b) (once_before b) c.grant.new.self (owned b) c.args.touched.now c.add.new.self c.block_queue.new.touched
+    (adds_set c.args.touched.now c.add.new.self key.process (omega (arith, first_within s r key (first_before b) (once_before b) (lawful_before b), c.requires.sized)) c.add.ensures) c.block_queue.ensures.touched

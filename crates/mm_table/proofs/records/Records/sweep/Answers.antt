@@ -1,31 +1,35 @@
-use Rattle.std.proofs.Common.{◌≡◌, ◌+◌, ◌<◌, ℕ, Bool, length, get_or, if◌then◌else◌, ap, sym, ◌∙◌, arith}
-use Rattle.std.proofs.lemmas.List.{get_or-map, length-map}
-use Rattle.mm_table.specs.declared.records.settle.Waiter.{Waiter}
-use Rattle.mm_rules.specs.Change.{can_transmit, transmit}
-use Rattle.mm_table.specs.private.Waiters.{processes_of}
-use Rattle.mm_rules.proofs.States.Turns.{transmit_next}
-use Rattle.mm_table.proofs.Fields.Waiters.{all_still_wait}
+use Rattle.std.proofs.Common.{◌≡◌, ◌+◌, ℕ, Bool, List, if◌then◌else◌, ap, sym, subst, arith}
+use Rattle.mm_settle.specs.private.Pass.{IsPassed}
+use Rattle.mm_settle.proofs.Lemmas.Passes.{pass_starts, pass_ends}
+use Rattle.mm_settle.proofs.Lemmas.Settling.{settling_starts, settling_then}
+use Rattle.mm_settle.proofs.Lemmas.Turns.{pass_turn}
 use Rattle.mm_table.proofs.records.Records.sweep.Goals as goal
-use Rattle.mm_table.proofs.records.Records.sweep.Goals.{then-transmit_by, else-transmit_by}
+use Rattle.mm_table.proofs.records.Records.sweep.Goals.{then-turn, else-turn}
 
-pub loop-waiter-preserved : goal.loop-waiter-preserved
-loop-waiter-preserved c =
-    let ws = c.args.waiters.now in
-    let i = c.loop-waiter.waiter-index in
-    let now = c.loop-waiter.self in
-    let n = get_or (processes_of ws) i 0 in
-    let no_waiter : Waiter = record { process = 0; holder = 0 } in
-    let same : n ≡ (get_or ws i no_waiter).process = get_or-map (λ (w : Waiter). w.process) ws i no_waiter 0 c.loop-waiter-test.true in
-    let within : i < length (processes_of ws) = simp length-map c.loop-waiter-test.true in
+pub loop-process-init : goal.loop-process-init
+loop-process-init c = record {
+  way = pass_starts c.args.self.now c.args.pending.now c.args.checks.now c.requires.marked;
+  settling = settling_starts c.args.self.now c.args.touched.now;
+}
+
+pub loop-process-preserved : goal.loop-process-preserved
+loop-process-preserved c =
     let one : Bool → ℕ = λ b. if b then 1 else 0 in
-    let turn : c.transmit_by.result ≡ can_transmit now n = c.transmit_by.ensures.raised ∙ ap (can_transmit now) (sym same) in
-    let more : c.if-transmit_by.raises ≡ c.loop-waiter.raises + one (can_transmit now n) =
-    elim c.if-transmit_by.branch [
-      | then-transmit_by w ↦ omega (arith, w.raises-is, ap one (sym w.if-transmit_by.true ∙ turn))
-      | else-transmit_by w ↦ omega (arith, w.raises-is, ap one (sym w.if-transmit_by.false ∙ turn))
+    let more : c.if-turn.raises ≡ c.loop-process.raises + one c.turn.result =
+    elim c.if-turn.branch [
+      | then-turn w ↦ omega (arith, w.raises-is, ap one w.if-turn.true)
+      | else-turn w ↦ omega (arith, w.raises-is, ap one w.if-turn.false)
     ] in
     record {
-      way = transmit_next c.args.self.now (processes_of ws) i 0 c.loop-waiter.raises c.if-transmit_by.raises now c.transmit_by.new.self
-          c.loop-waiter.invariant.way within more (c.transmit_by.ensures.state ∙ ap (transmit now) (sym same));
-      held = all_still_wait now c.transmit_by.new.self n ws (c.transmit_by.ensures.state ∙ ap (transmit now) (sym same)) c.loop-waiter.invariant.held;
+      way = pass_turn c.args.self.now c.loop-process.from c.loop-process.raises c.loop-process.pending c.loop-process.checks c.loop-process.self
+          c.loop-process.invariant.way c.in-Some.process c.in-Some.ensures.member.0 c.take_next.new.self c.turn.result c.if-turn.raises
+          c.turn.new.pending c.turn.new.checks c.turn.new.self c.in-Some.ensures.member.1 c.turn.ensures.raised more c.turn.ensures.state c.turn.ensures.sets;
+      settling = settling_then c.args.self.now c.loop-process.self c.turn.new.self c.args.touched.now c.loop-process.touched c.turn.new.touched
+          c.loop-process.invariant.settling c.turn.ensures.touched;
     }
+
+pub returns-clause-passed : goal.returns-clause-passed
+returns-clause-passed c =
+    subst (λ (p : List Bool). IsPassed c.args.self.now c.loop-process.raises p c.loop-process.checks c.loop-process.self) (sym c.in_default.ensures.none.1)
+    (pass_ends c.args.self.now c.loop-process.from c.loop-process.raises c.loop-process.pending c.loop-process.checks c.loop-process.self
+    c.loop-process.invariant.way c.in_default.ensures.none.0)

@@ -1,10 +1,13 @@
-use Rattle.std.specs.List.{AllByRecursion}
-use Rattle.mm_table.specs.private.Waiters.{IsWaiter, processes_of}
-use Rattle.mm_rules.proofs.States.Turns.{IsMidSweep}
+use Rattle.std.proofs.Common.{◌-◌}
+use Rattle.mm_settle.specs.private.Pass.{IsPassing}
+use Rattle.mm_settle.specs.private.Settling.{IsSettling}
 use Rattle.mm_table.proofs.records.Records.sweep.Given as goal
 
-abbrev pub invariant-loop-waiter : goal.invariant-loop-waiter
-invariant-loop-waiter l = record {
-  way : IsMidSweep l.fn.self (processes_of l.waiters) l.waiter-index l.raises l.self;
-  held : AllByRecursion (IsWaiter l.self) l.waiters;
+abbrev pub invariant-loop-process : goal.invariant-loop-process
+invariant-loop-process l = record {
+  way : IsPassing l.fn.self l.from l.raises l.pending l.checks l.self;
+  settling : IsSettling l.fn.self l.self l.fn.touched l.touched;
 }
+
+abbrev pub decreases-loop-process : goal.decreases-loop-process
+decreases-loop-process l = l.fn.self.config.processes - l.from

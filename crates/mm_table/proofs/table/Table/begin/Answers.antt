@@ -1,6 +1,15 @@
+use Rattle.std.proofs.Common.{sym, subst, refl}
+use Rattle.mm_rules.specs.TableState.{TableState}
 use Rattle.mm_rules.specs.Event.{Begin}
-use Rattle.mm_table.proofs.Fields.Table.{step_keeps_table}
+use Rattle.mm_settle.specs.private.Changed.{AreChanged}
+use Rattle.mm_table.proofs.Fields.Table.{begun_changed, counted_changed, step_keeps_table}
 use Rattle.mm_table.proofs.table.Table.begin.Goals as goal
 
 pub invariant_of-self : goal.invariant_of-self
-invariant_of-self c = step_keeps_table Begin c.self.inside c.begin.new.self c.begin.result c.begin.ensures c.self.invariant
+invariant_of-self c =
+    let old = c.self.inside in
+    let s = old.records in
+    step_keeps_table Begin old c.begin.new.self c.begin.result c.begin.ensures c.self.invariant old.changed old.touched
+    (subst (λ (t : TableState). AreChanged t old.changed) (sym c.begin.ensures.1)
+    (counted_changed _ s _ _ old.changed c.self.invariant.changed (begun_changed s _ _ old.changed c.self.invariant.changed)))
+    refl refl c.self.invariant.touched_none

@@ -1,12 +1,25 @@
-use Rattle.std.proofs.Common.{sym, subst, ap, arith}
+use Rattle.std.proofs.Common.{◌≡◌, Bool, List, length, replicate, false, sym, subst, ap, ◌∙◌}
+use Rattle.std.proofs.lemmas.List.{length-replicate}
+use Rattle.mm_rules.specs.TableState.{TableState}
 use Rattle.mm_rules.specs.Laws.{Laws}
 use Rattle.mm_rules.proofs.States.Opening.{opening_lawful}
+use Rattle.mm_settle.specs.private.Changed.{AreChanged}
+use Rattle.mm_table.proofs.Fields.Table.{emptied, opened_changed}
 use Rattle.mm_table.proofs.table.Table.open.Goals as goal
 
 pub invariant_of-result : goal.invariant_of-result
 invariant_of-result c =
-    let opened = c.in_ok-records.ensures in
+    let opened = c.in_ok-open.ensures in
+    let processes = c.args.config.processes in
+    let sized : (set : List Bool) → set ≡ replicate processes false → length set ≡ c.in_ok-open.field-0.config.processes = λ set is. ap length is ∙ length-replicate processes false ∙ sym (ap (λ s. s.config.processes) opened.1) in
     record {
       laws = subst Laws (sym opened.1) (opening_lawful c.args.config opened.0);
-      room = omega (arith, c.in-Ok.ensures.exact, ap (λ s. s.config.processes) opened.1);
+      changed = subst (λ (s : TableState). AreChanged s c.in_ok-empty_set.field-0) (sym opened.1) (opened_changed c.args.config c.in_ok-empty_set.field-0);
+      sized = record {
+        changed_sized = sized c.in_ok-empty_set.field-0 c.in_ok-empty_set.ensures.set;
+        pending_sized = sized c.in_ok-empty_set-3.field-0 c.in_ok-empty_set-3.ensures.set;
+        checks_sized = sized c.in_ok-empty_set-4.field-0 c.in_ok-empty_set-4.ensures.set;
+      };
+      touched_sized = sized c.in_ok-empty_set-2.field-0 c.in_ok-empty_set-2.ensures.set;
+      touched_none = emptied c.in_ok-empty_set-2.field-0 processes c.in_ok-empty_set-2.ensures.set;
     }

@@ -1,0 +1,12 @@
+use Rattle.std.proofs.Common.{sym, subst}
+use Rattle.mm_rules.specs.TableState.{TableState}
+use Rattle.mm_settle.specs.Touched.{Touches}
+use Rattle.mm_settle.proofs.Lemmas.Told.{touches_counted}
+use Rattle.mm_table.proofs.records.Records.finish.Goals as goal
+
+pub returns-clause-touched : goal.returns-clause-touched
+returns-clause-touched c =
+    let s = c.args.self.now in
+    let old = c.args.touched.now in
+    let new = c.vacate.new.touched in
+    subst (λ (t : TableState). Touches s t old new) (sym c.count.ensures) (touches_counted s c.vacate.new.self old new _ c.vacate.ensures.touched.touches)

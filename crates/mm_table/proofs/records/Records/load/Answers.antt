@@ -1,0 +1,25 @@
+use Rattle.std.proofs.Common.{◌<◌, inr, length, ap, ◌∙◌, arith, length-set}
+use Rattle.mm_lists.proofs.Lemmas.Set.{true_within}
+use Rattle.mm_settle.proofs.Lemmas.Changed.{loading_starts, loading_turn}
+use Rattle.mm_table.proofs.records.Records.load.Goals as goal
+
+pub loop-process-init : goal.loop-process-init
+loop-process-init c = record {
+  way = loading_starts c.args.self.now c.args.changed.now c.args.pending.now c.requires.changed;
+  changed_sized = c.requires.changed_sized;
+  pending_sized = c.requires.pending_sized;
+  within = omega arith;
+}
+
+pub loop-process-preserved : goal.loop-process-preserved
+loop-process-preserved c =
+    let n = c.in-Some.process in
+    let cleared = c.in-Some.ensures.member.1 in
+    let inside : n < c.args.self.now.config.processes = omega (arith, true_within c.loop-process.changed n c.in-Some.ensures.member.0.member, c.loop-process.invariant.changed_sized) in
+    record {
+      way = loading_turn c.args.self.now c.loop-process.from c.loop-process.changed c.loop-process.pending c.load_one.new.pending c.loop-process.invariant.way n
+          c.in-Some.ensures.member.0 (inr c.load_one.ensures.process) c.load_one.ensures.waiters c.take_next.new.self cleared;
+      changed_sized = ap length cleared ∙ length-set c.loop-process.changed n _ ∙ c.loop-process.invariant.changed_sized;
+      pending_sized = c.load_one.ensures.waiters.sized ∙ c.loop-process.invariant.pending_sized;
+      within = omega arith;
+    }

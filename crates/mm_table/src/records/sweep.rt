@@ -1,0 +1,110 @@
+//! Sweeps of transmits, which look at those alone that may transmit.
+ghost use Rattle.std.specs.Prelude.{◌≡◌, ◌<◌, IfSome, IfNone, None, length};
+ghost use Rattle.mm_rules.specs.TableState.{holder_of};
+ghost use Rattle.mm_rules.specs.Change.{can_transmit, transmit};
+ghost use Rattle.mm_rules.specs.Laws.{Laws};
+ghost use Rattle.mm_rules.specs.private.Stages.{IsSwept};
+ghost use Rattle.mm_settle.specs.private.Marked.{AreMarked, IsNoneMarked};
+ghost use Rattle.mm_settle.specs.private.Pass.{IsTurn, IsPassed};
+ghost use Rattle.mm_settle.specs.private.Settling.{IsSettling};
+
+use super::Records;
+use mm_marks::Marks;
+
+impl Records {
+    /// The holder of a process; `None` where it does not wait, or is not one of the table's.
+    fn holder_at(&self, process: u32) -> Option<u32>
+        ensures holder { result ≡ holder_of self.now process }
+        ensures in_range { IfSome result (λ holder. (holder < self.now.config.processes) × (process < self.now.config.processes)) }
+    {
+        let key = self.tenant(process)?;
+        self.holder(key)
+    }
+
+    /// The process takes over its holder's public label where it has a holder and that is greater. Returns whether it did.
+    fn transmit_at(&mut self, process: u32) -> bool
+        ensures raised { result ≡ can_transmit self.old process }
+        ensures state { self.new ≡ transmit self.old process }
+    {
+        let Some(holder) = self.holder_at(process) else {
+            return false;
+        };
+        let shown = self.labels[holder as usize].public;
+        let raised = self.labels[process as usize].public < shown;
+        if raised {
+            self.show(process, shown);
+        }
+        raised
+    }
+
+    /// One turn of a sweep: where the process transmits, it is touched and those that wait for it are pending; else it is left to
+    /// check. Returns whether it did.
+    fn turn(
+        &mut self,
+        process: u32,
+        pending: &mut Marks,
+        checks: &mut Marks,
+        touched: &mut Marks,
+    ) -> bool
+        requires laws { Laws self.old }
+        requires process { process < self.old.config.processes }
+        requires pending { length pending.old ≡ self.old.config.processes }
+        requires checks { length checks.old ≡ self.old.config.processes }
+        requires touched { length touched.old ≡ self.old.config.processes }
+        ensures raised { result ≡ can_transmit self.old process }
+        ensures state { self.new ≡ transmit self.old process }
+        ensures sets { IsTurn self.old process result pending.old checks.old pending.new checks.new }
+        ensures touched { IsSettling self.old self.new touched.old touched.new }
+    {
+        let raised = self.transmit_at(process);
+        if raised {
+            touched.add(process);
+            self.add_waiters(process, pending);
+        } else {
+            checks.add(process);
+        }
+        raised
+    }
+
+    /// One sweep: each of the pending in turn, by rising number. Returns how many labels were raised.
+    fn sweep(&mut self, pending: &mut Marks, checks: &mut Marks, touched: &mut Marks) -> u64
+        requires marked { AreMarked self.old pending.old checks.old }
+        requires touched { length touched.old ≡ self.old.config.processes }
+        ensures passed { IsPassed self.old result pending.new checks.new self.new }
+        ensures touched { IsSettling self.old self.new touched.old touched.new }
+    {
+        let mut raises = 0;
+        let mut from = 0;
+        while let Some(process) = pending.take_next(from) {
+            if self.turn(process, pending, checks, touched) {
+                raises += 1;
+            }
+            from = process + 1;
+        }
+        raises
+    }
+
+    /// Sweeps until one raises nothing. Returns how many labels were raised.
+    pub(super) fn sweep_all(
+        &mut self,
+        pending: &mut Marks,
+        checks: &mut Marks,
+        touched: &mut Marks,
+    ) -> u64
+        requires marked { AreMarked self.old pending.old checks.old }
+        requires touched { length touched.old ≡ self.old.config.processes }
+        ensures swept { IsSwept self.old result self.new }
+        ensures none { IsNoneMarked pending.new }
+        ensures marked { AreMarked self.new pending.new checks.new }
+        ensures touched { IsSettling self.old self.new touched.old touched.new }
+    {
+        let mut raises = 0;
+        loop {
+            let more = self.sweep(pending, checks, touched);
+            if more == 0 {
+                return raises;
+            }
+            raises += more;
+        }
+    }
+}

@@ -1,0 +1,39 @@
+//! Who waits for what a process owns.
+ghost use Rattle.std.specs.Prelude.{◌≡◌, ◌<◌, length};
+ghost use Rattle.mm_rules.specs.TableState.{waiters_of};
+ghost use Rattle.mm_settle.specs.private.Added.{AddsAll};
+ghost use Rattle.mm_settle.specs.private.Marked.{AddsWaiters};
+
+use super::Records;
+use mm_marks::Marks;
+
+impl Records {
+    /// Adds all that wait for what `holder` owns. `O(its resources + their waiters)`.
+    pub(super) fn add_waiters(&self, holder: u32, marks: &mut Marks)
+        requires holder { holder < self.now.config.processes }
+        requires sized { length marks.old ≡ self.now.config.processes }
+        ensures { AddsWaiters self.now holder marks.old marks.new }
+    {
+        let mut next = self.owned.first(holder);
+        while let Some(resource) = next {
+            self.add_queue(resource, marks);
+            next = self.owned.next(resource);
+        }
+    }
+
+    /// Adds all that wait for `resource`. `O(waiters of the resource)`.
+    fn add_queue(&self, resource: u32, marks: &mut Marks)
+        requires resource { resource < self.now.config.resources }
+        requires sized { length marks.old ≡ self.now.config.processes }
+        ensures { AddsAll (waiters_of self.now resource) marks.old marks.new }
+    {
+        let Some(first) = self.transactions.first_waiter(resource) else {
+            return;
+        };
+        let mut next = Some(first.process);
+        while let Some(process) = next {
+            marks.add(process);
+            next = self.transactions.next_waiter(process);
+        }
+    }
+}
