@@ -113,8 +113,9 @@ impl<T> Arena<T> {
         }
     }
 
-    // `get_mut` of a live key.
-    fn value_mut(&mut self, key: Key) -> &mut T
+    /// The value under a key that is live for writing, in constant time, without a test of the key.
+    #[inline]
+    pub fn value_mut(&mut self, key: Key) -> &mut T
         requires { IsLive self.old key }
         ensures* writes_back { sem 𝓛 (lends_value T.row self.entry key result) }
         ensures value { lookup self.old key ≡ Some result.now }
@@ -136,8 +137,9 @@ impl<T> Arena<T> {
         }
     }
 
-    // `remove` of a live key.
-    fn remove_live(&mut self, key: Key) -> T
+    /// Removes a key that is live and gives its value, in constant time, without a test of the key.
+    #[inline]
+    pub fn remove_live(&mut self, key: Key) -> T
         requires { IsLive self.old key }
         ensures value { lookup self.old key ≡ Some result }
         ensures slots { self.new ≡ vacated self.old key }

@@ -114,13 +114,10 @@ impl Owned {
         let first = &mut self.firsts[key.process as usize];
         let link = Link::to(resource);
         let next = mem::replace(first, link);
-        self.resources[resource as usize] = Resource {
-            owner: Owner::of(key),
-            links: Links {
-                next,
-                ..Links::NONE
-            },
-        };
+        let kept = &mut self.resources[resource as usize];
+        kept.owner = Owner::of(key);
+        kept.links.before = Link::NONE;
+        kept.links.next = next;
         set_before(&mut self.resources, next, link);
     }
 

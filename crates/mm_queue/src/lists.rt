@@ -4,9 +4,10 @@ ghost use Rattle.std.specs.Bool.{OnFalse};
 ghost use Rattle.mm_queue.specs.Members.{Among};
 ghost use Rattle.mm_queue.specs.Queues.{queue, first, empty_queues, with_queue, Stands, IsOccupied, IsNext, IsNextProcess, Removes, StandsOnce};
 
-use crate::ends::{Ends, end_after};
-use crate::entry::{Entry, set_before, set_next};
-use mm_arena::{Key, MAX_CAPACITY, Memory, Shelf};
+use crate::ends::Ends;
+use crate::entry::Entry;
+use crate::places::Places;
+use mm_arena::{Key, MAX_CAPACITY, Memory};
 use mm_links::{Link, Links};
 use std::alloc::Global;
 use std::marker::Model;
@@ -15,7 +16,7 @@ use std::marker::Model;
 #[derive(Drop)]
 pub struct Lists {
     ends: Vec<Ends>,
-    entries: Shelf<Entry>,
+    entries: Places,
 }
 
 impl Model for Lists {
@@ -44,7 +45,7 @@ impl Lists {
         for _ in 0..lists {
             ends.push_reserved(Ends::NONE);
         }
-        let entries = Shelf::new(alloc, processes)?;
+        let entries = Places::new(alloc, processes)?;
         Ok(Lists { ends, entries })
     }
 
@@ -56,24 +57,22 @@ impl Lists {
         requires not_occupied { ¬ IsOccupied self.old key.process }
         ensures { self.new ≡ with_queue self.old list (queue self.old list ++ key ∷ []) }
     {
-        let ends = self.ends[list as usize];
+        let ends = &mut self.ends[list as usize];
+        let last = ends.back;
         let link = Link::to(key.process);
+        ends.back = link;
+        ends.len += 1;
         self.entries.put(
             key,
             Entry {
                 list,
                 links: Links {
-                    before: ends.back,
+                    before: last,
                     ..Links::NONE
                 },
             },
         );
-        set_next(&mut self.entries, ends.back, link);
-        self.ends[list as usize] = Ends {
-            front: end_after(ends.front, ends.back, link),
-            back: link,
-            len: ends.len + 1,
-        };
+        self.entries.set_next(&mut ends.front, last, link);
     }
 
     /// The first key of a list, in constant time. `None` where the list has none.
@@ -82,7 +81,9 @@ impl Lists {
         requires { list < length self.now.lists }
         ensures { result ≡ first (queue self.now list) }
     {
-        self.entries.key_at(self.ends[list as usize].front.get()?)
+        let process = self.ends[list as usize].front.get()?;
+        let (key, _) = self.entries.listed(process);
+        Some(key)
     }
 
     /// The key after this one in its list, in constant time. `None` for the last of a list, and for a key that stands in no list.
@@ -120,19 +121,28 @@ impl Lists {
         ensures lists { length self.new.lists ≡ length self.old.lists }
         ensures processes { self.new.processes ≡ self.old.processes }
     {
-        let Some(entry) = self.entries.take(key) else {
+        let Some(_) = self.entries.get(key) else {
             return false;
         };
-        let Links { before, next } = entry.links;
-        set_next(&mut self.entries, before, next);
-        set_before(&mut self.entries, next, before);
-        let ends = self.ends[entry.list as usize];
-        self.ends[entry.list as usize] = Ends {
-            front: end_after(ends.front, before, next),
-            back: end_after(ends.back, next, before),
-            len: ends.len - 1,
-        };
+        self.take_out(key);
         true
+    }
+
+    /// Takes a key that stands in a list out of it, in constant time, without a test.
+    #[inline]
+    pub fn take_out(&mut self, key: Key)
+        requires { Stands self.old key }
+        ensures removed { Removes self.old self.new key }
+        ensures lists { length self.new.lists ≡ length self.old.lists }
+        ensures processes { self.new.processes ≡ self.old.processes }
+    {
+        let (_, entry) = self.entries.listed(key.process);
+        self.entries.clear(key.process);
+        let Links { before, next } = entry.links;
+        let ends = &mut self.ends[entry.list as usize];
+        ends.len -= 1;
+        self.entries.set_next(&mut ends.front, before, next);
+        self.entries.set_before(&mut ends.back, next, before);
     }
 
     /// Takes the first key out of a list, in constant time. `None` where the list has none, and then nothing changes.

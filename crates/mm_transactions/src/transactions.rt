@@ -88,7 +88,7 @@ impl Transactions {
         requires no_verdict { IsFalse (verdict_of self.old key.process) }
         ensures { self.new ≡ freed self.old key.process }
     {
-        self.slots.remove(key);
+        self.slots.remove_live(key);
     }
 
     /// Whether the key is live, in constant time.
@@ -129,6 +129,6 @@ impl Transactions {
         requires { IsTrue (is_live self.old key) }
         ensures { self.new ≡ record self.old { verdicts = slice_set self.old.verdicts key.process has_verdict } }
     {
-        self.slots.get_mut(key).unwrap().has_verdict = has_verdict;
+        self.slots.value_mut(key).has_verdict = has_verdict;
     }
 }

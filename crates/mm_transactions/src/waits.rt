@@ -18,7 +18,7 @@ impl Transactions {
         requires latest { self.old.latest < arrival }
         ensures { self.new ≡ record self.old { waits = self.old.waits ++ record { key = key; resource = resource } ∷ []; latest = arrival } }
     {
-        let entry = self.slots.get_mut(key).unwrap();
+        let entry = self.slots.value_mut(key);
         entry.waits_for = Link::to(resource);
         entry.arrival = arrival;
         self.queues.push_back(resource, key);
@@ -33,8 +33,8 @@ impl Transactions {
         requires waiting { waited_for self.old.waits key.process ≢ None }
         ensures { self.new ≡ without_wait self.old key.process }
     {
-        self.slots.get_mut(key).unwrap().waits_for = Link::NONE;
-        self.queues.remove(key);
+        self.slots.value_mut(key).waits_for = Link::NONE;
+        self.queues.take_out(key);
         self.waiting -= 1;
     }
 

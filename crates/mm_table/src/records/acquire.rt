@@ -1,12 +1,12 @@
 //! A resource is granted, or its owner is waited for with a new label.
-ghost use Rattle.std.specs.Prelude.{◌≡◌, ◌<◌, ◌≤◌, ◌+◌, ◌^◌, ◌∷◌, ◌++◌, [], IsTrue, None, Some, length, slice_set, Ok, Err, is_some, MatchResult, SomeIff};
+ghost use Rattle.std.specs.Prelude.{◌≡◌, ◌<◌, ◌≤◌, ◌+◌, ◌^◌, ◌∷◌, ◌++◌, [], IsTrue, None, Some, length, slice_set, Ok, Err, is_some, MatchOption, SomeIff, true, false};
 ghost use Rattle.mm_rules.specs.TableState.{wait_of, owner_of, public_of, is_live};
 ghost use Rattle.mm_rules.specs.Change.{block_fits, label_against};
-ghost use Rattle.mm_rules.specs.Event.{Gives, allowed, resource_tests, acquired};
+ghost use Rattle.mm_rules.specs.Event.{Gives, acquired};
 ghost use Rattle.mm_rules.specs.Laws.{Laws};
-ghost use Rattle.mm_rules.specs.private.Stages.{wait_tests};
 ghost use Rattle.mm_settle.specs.Touched.{Touches};
-ghost use Rattle.mm_table.specs.private.LabelLimit.{label_under, labelled, AllLabelsFit};
+ghost use Rattle.mm_settle.specs.private.Added.{Adds};
+ghost use Rattle.mm_table.specs.private.LabelLimit.{label_under, labelled, waiting, AllLabelsFit};
 
 use super::Records;
 use crate::{Acquired, Key, Refusal};
@@ -28,52 +28,42 @@ impl Records {
         ensures touched { Touches self.old self.new touched.old touched.new }
     {
         self.may_use(key, resource)?;
-        if self.owned.owner(resource).is_some() {
-            self.acquire_owned(key, resource, touched)
-        } else {
+        let Some(holder) = self.owned.owner(resource) else {
             self.grant(key, resource);
             self.count();
-            Ok(Acquired::Granted)
+            return Ok(Acquired::Granted);
+        };
+        if holder.process == key.process {
+            return Err(Refusal::AlreadyOwns);
         }
-    }
-
-    /// `acquire` of an owned resource by a transaction that may use it. It stands apart, so that a grant is short.
-    #[inline(never)]
-    fn acquire_owned(
-        &mut self,
-        key: Key,
-        resource: u32,
-        touched: &mut Marks,
-    ) -> Result<Acquired, Refusal>
-        requires laws { Laws self.old }
-        requires process { key.process < self.old.config.processes }
-        requires tests { allowed (resource_tests self.old key resource) ≡ Ok tt }
-        requires owned { IsTrue (is_some (owner_of self.old resource)) }
-        requires sized { length touched.old ≡ self.old.config.processes }
-        ensures step { Gives (acquired self.old key resource) result self.new }
-        ensures touched { Touches self.old self.new touched.old touched.new }
-    {
-        let holder = self.owned.owner(resource).unwrap();
-        let label = self.may_wait(key.process, holder.process)?;
-        self.count_wait(key, resource);
-        self.relabel(key.process, label);
-        touched.add(key.process);
+        let Some(label) = self.wait(key, resource, holder.process, touched) else {
+            return Err(Refusal::LabelsExhausted);
+        };
         Ok(Acquired::Waits { holder, label })
     }
 
-    /// The last tests of `acquire`, of a resource that `holder` owns. Returns the label by which the process will wait.
-    fn may_wait(&self, process: u32, holder: u32) -> Result<Label, Refusal>
-        requires process { process < self.now.config.processes }
-        requires holder { holder < self.now.config.processes }
-        ensures { MatchResult result
-            (λ label. (allowed (wait_tests self.now process holder) ≡ Ok tt) × (label ≡ label_against self.now process holder))
-            (λ refusal. allowed (wait_tests self.now process holder) ≡ Err refusal) }
+    /// `acquire` by a transaction that may use the resource, of one that process `holder`, another one, owns. Returns the label by which
+    /// it waits; `None` past the label limit, and then nothing changes. It stands apart, so that a grant is short, and returns no more
+    /// than registers take.
+    #[inline(never)]
+    fn wait(&mut self, key: Key, resource: u32, holder: u32, touched: &mut Marks) -> Option<Label>
+        requires live { IsTrue (is_live self.old key) }
+        requires process { key.process < self.old.config.processes }
+        requires holder { holder < self.old.config.processes }
+        requires resource { resource < self.old.config.resources }
+        requires idle { wait_of self.old key.process ≡ None }
+        requires count { self.old.totals.accepted < 2 ^ 62 }
+        requires sized { length touched.old ≡ self.old.config.processes }
+        ensures state { MatchOption result
+            ((block_fits self.old key.process holder ≡ false) × (self.new ≡ self.old))
+            (λ label. (block_fits self.old key.process holder ≡ true) × (label ≡ label_against self.old key.process holder) × (self.new ≡ waiting self.old key resource label)) }
+        ensures touched { MatchOption result (touched.new ≡ touched.old) (λ _. Adds key.process touched.old touched.new) }
     {
-        if holder == process {
-            return Err(Refusal::AlreadyOwns);
-        }
-        self.label_against(process, holder)
-            .ok_or(Refusal::LabelsExhausted)
+        let label = self.label_against(key.process, holder)?;
+        self.relabel(key.process, label);
+        self.count_wait(key, resource);
+        touched.add(key.process);
+        Some(label)
     }
 
     /// Makes the key the owner of a free resource.

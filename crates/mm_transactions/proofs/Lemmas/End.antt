@@ -1,10 +1,10 @@
 -- The slot of a transaction that neither waits nor has a verdict is freed, or retired.
-use Rattle.std.proofs.Common.{◌≡◌, ◌+◌, ℕ, false, ◌∷◌, length, map, slice_index, slice_set, Some, None, is_some, nat_lt, if◌then◌else◌, refl, ap, sym, ◌∙◌, inl, inr, length-set}
+use Rattle.std.proofs.Common.{◌≡◌, ◌+◌, ℕ, false, ◌∷◌, length, map, slice_index, slice_set, Some, None, is_some, nat_lt, refl, ap, sym, ◌∙◌, inl, inr, length-set}
 use Rattle.std.proofs.lemmas.List.{map-set, get_or-map}
 use Rattle.std.proofs.lemmas.Bool.{cases_Bool}
 use Rattle.mm_arena.specs.declared.key.Key.{Key}
 use Rattle.mm_arena.specs.Slots as slots
-use Rattle.mm_arena.specs.Slots.{Slots, Place, never_used, place_at, lookup, retired, vacated, removed}
+use Rattle.mm_arena.specs.Slots.{Slots, Place, never_used, place_at, lookup, retired, vacated}
 use Rattle.mm_queue.specs.Queues.{Queues}
 use Rattle.mm_transactions.specs.declared.transaction.Entry.{Entry}
 use Rattle.mm_transactions.specs.Transactions.{freed}
@@ -22,9 +22,6 @@ module _ (s : Slots Entry) (k : Key) (e : Entry) (found : lookup s k ≡ Some e)
 
   generation_is : slice_index (map (λ p. p.generation) s.places) k.process ≡ k.generation
   generation_is = get_or-map (λ p. p.generation) s.places k.process never_used 0 (holds s k e found).within ∙ ap (λ p. p.generation) place
-
-  is_vacated : removed s k ≡ vacated s k
-  is_vacated = ap (λ v. if is_some v then vacated s k else s) found
 
   -- the slot has no wait, as before
   still : (generation : ℕ) → arrivals_from 0 (slice_set s.places k.process (empty generation)) ≡ arrivals_from 0 s.places
@@ -50,22 +47,21 @@ module _ (s : Slots Entry) (k : Key) (e : Entry) (found : lookup s k ≡ Some e)
     retired_is =
         rw (same_slot (λ p. p.generation) s k.process (empty k.generation) (ap (λ p. p.generation) (sym place)), map-set (λ p. is_some p.value) s.places k.process (empty k.generation), same_verdicts k.generation, still k.generation) refl
 
-    pub slot_freed : seen (removed s k) q latest ≡ freed (seen s q latest) k.process
+    pub slot_freed : seen (vacated s k) q latest ≡ freed (seen s q latest) k.process
     slot_freed =
-        ap (λ (v : Slots Entry). seen v q latest) is_vacated
-        ∙ elim (cases_Bool (nat_lt k.generation s.limit)) [
+        elim (cases_Bool (nat_lt k.generation s.limit)) [
           | inl again ↦ rw (generation_is, again) freed_is
           | inr spent ↦ rw (generation_is, spent) retired_is
         ]
 
   -- ---- the waits
 
-  pub end_consistent : (t : Slots Entry) → t ≡ removed s k → (q : Queues) (latest waiting : ℕ) → IsConsistent s q latest waiting → IsConsistent t q latest waiting
+  pub end_consistent : (t : Slots Entry) → t ≡ vacated s k → (q : Queues) (latest waiting : ℕ) → IsConsistent s q latest waiting → IsConsistent t q latest waiting
   end_consistent t is q latest waiting = elim (cases_Bool (nat_lt k.generation s.limit)) [
     | inl again ↦
-        let now : t ≡ slots.freed s k = is ∙ is_vacated ∙ rw again refl in
+        let now : t ≡ slots.freed s k = is ∙ rw again refl in
         same_waits s t q latest waiting (ap (λ (v : Slots Entry). length v.places) now ∙ length-set s.places k.process (empty (k.generation + 1))) (ap (λ (v : Slots Entry). arrivals_from 0 v.places) now ∙ still (k.generation + 1))
     | inr spent ↦
-        let now : t ≡ retired s k = is ∙ is_vacated ∙ rw spent refl in
+        let now : t ≡ retired s k = is ∙ rw spent refl in
         same_waits s t q latest waiting (ap (λ (v : Slots Entry). length v.places) now ∙ length-set s.places k.process (empty k.generation)) (ap (λ (v : Slots Entry). arrivals_from 0 v.places) now ∙ still k.generation)
   ]

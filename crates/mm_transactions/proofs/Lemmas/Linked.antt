@@ -95,12 +95,18 @@ linked_without q ws w b a one within split linked s inside =
           get_or-set_other q.lists r s (b ++ a) [] other ∙ linked s (omega arith) ∙ sym (filter_not its (keys_for s ws) (none_pass its (keys_for s ws) none)) ∙ sym but
     ]
 
+-- and its key stands in the queue of its resource
+pub stands_in_queue : (q : Queues) (ws : List Wait) (w : Wait) → filter (is_of w.key.process) ws ≡ w ∷ [] → w.resource < length q.lists → IsLinked q ws
+    → Among w.key (queue q w.resource)
+stands_in_queue q ws w one within linked =
+    only_among (λ (k : Key). nat_eq k.process w.key.process) w.key (queue q w.resource) (queued_once q ws w one within linked)
+
 -- a wait stops: its key is taken out of its queue
 pub linked_stop : (q q' : Queues) (ws : List Wait) (w : Wait) → filter (is_of w.key.process) ws ≡ w ∷ [] → w.resource < length q.lists → Removes q q' w.key → IsLinked q ws
     → IsLinked q' (filter (λ v. not (is_of w.key.process v)) ws)
 linked_stop q q' ws w one within removes linked =
     let r = w.resource in
-    let cut = cut_at w.key (queue q r) (only_among (λ (k : Key). nat_eq k.process w.key.process) w.key (queue q r) (queued_once q ws w one within linked)) in
+    let cut = cut_at w.key (queue q r) (stands_in_queue q ws w one within linked) in
     rw (removes r cut.earlier cut.later cut.whole) (linked_without q ws w cut.earlier cut.later one within cut.whole linked)
 
 pub linked_opening : (r n : ℕ) → IsLinked (record { lists = replicate r []; processes = n }) []

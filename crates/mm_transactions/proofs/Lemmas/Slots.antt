@@ -4,7 +4,7 @@ use Rattle.std.proofs.Math.Seq.{map-set_same}
 use Rattle.std.proofs.lemmas.List.{get_or_past, get_or-map}
 use Rattle.std.proofs.lemmas.Bool.{and_parts, cases_lt, cases_Bool, eqb-true}
 use Rattle.mm_arena.specs.declared.key.Key.{Key}
-use Rattle.mm_arena.specs.Slots.{Slots, Place, never_used, place_at, value_under, lookup}
+use Rattle.mm_arena.specs.Slots.{Slots, Place, never_used, place_at, value_under, lookup, IsLive}
 use Rattle.mm_queue.specs.Queues.{Queues}
 use Rattle.mm_transactions.specs.declared.transaction.Entry.{Entry}
 use Rattle.mm_transactions.specs.Transactions.{is_live}
@@ -52,6 +52,10 @@ its_value (Some e) some = (e, refl)
 -- a live key has a value
 pub live_value : (s : Slots Entry) (q : Queues) (latest : ℕ) (k : Key) → is_live (seen s q latest) k ≡ true → (e : Entry) × (lookup s k ≡ Some e)
 live_value s q latest k live = its_value (lookup s k) (live_found s.places k.process k.generation live)
+
+-- and may be written or removed
+pub live_slot : (s : Slots Entry) (q : Queues) (latest : ℕ) (k : Key) → is_live (seen s q latest) k ≡ true → IsLive s k
+live_slot s q latest k live = rw (live_value s q latest k live).1 refl
 
 pub its_verdict : (s : Slots Entry) (k : Key) (e : Entry) → lookup s k ≡ Some e → slice_index_or (map verdict_in s.places) k.process false ≡ e.has_verdict
 its_verdict s k e found = let held = holds s k e found in get_or-map verdict_in s.places k.process never_used false held.within ∙ ap verdict_in held.place

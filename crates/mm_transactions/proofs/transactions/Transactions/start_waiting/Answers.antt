@@ -1,13 +1,14 @@
-use Rattle.std.proofs.Common.{◌++◌, ◌∷◌, [], ap, sym, ◌∙◌, arith}
-use Rattle.std.specs.Option.{option_copied_mut}
+use Rattle.std.proofs.Common.{◌++◌, ◌∷◌, [], ap, ◌∙◌, arith}
 use Rattle.mm_rules.specs.TableState.{waited_for}
 use Rattle.mm_transactions.specs.Transactions.{Transactions}
 use Rattle.mm_transactions.proofs.Lemmas.Start.{IsStart, vacant, room, start_consistent, start_seen}
+use Rattle.mm_transactions.proofs.Lemmas.Slots.{live_slot}
+use Rattle.mm_transactions.specs.Transactions.{is_live}
 use Rattle.mm_transactions.proofs.transactions.Transactions.start_waiting.Goals as goal
 
-starts : (c : goal.After-push_back-arg-1) → IsStart c.self.inside.slots c.args.key c.unwrap-entry.result.now c.args.resource c.args.arrival c.self.inside.queues c.self.inside.latest c.self.inside.waiting
+starts : (c : goal.After-push_back-arg-1) → IsStart c.self.inside.slots c.args.key c.value_mut-entry.result.now c.args.resource c.args.arrival c.self.inside.queues c.self.inside.latest c.self.inside.waiting
 starts c = record {
-  found = sym c.get_mut.ensures.value ∙ ap option_copied_mut c.unwrap-entry.ensures;
+  found = c.value_mut-entry.ensures.value;
   resource = omega (arith, ap (λ t. t.resources) c.self.view_is, c.requires.resource);
   later = omega (arith, ap (λ t. t.latest) c.self.view_is, c.requires.latest);
   idle = ap (λ t. waited_for t.waits c.args.key.process) c.self.view_is ∙ c.requires.idle;
@@ -28,3 +29,8 @@ returns c =
     rw c.to-entry.ensures (
     start_seen (starts c.before.before.before) c.push_back.new.self c.push_back.ensures
     ∙ ap (λ (t : Transactions). record t { waits = t.waits ++ record { key = c.args.key; resource = c.args.resource } ∷ []; latest = c.args.arrival }) c.self.view_is)
+
+pub value_mut-entry-requires : goal.value_mut-entry-requires
+value_mut-entry-requires c =
+    let inside = c.self.inside in
+    live_slot inside.slots inside.queues inside.latest c.args.key (ap (λ t. is_live t c.args.key) c.self.view_is ∙ c.requires.live)

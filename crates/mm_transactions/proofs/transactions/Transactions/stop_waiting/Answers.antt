@@ -1,22 +1,28 @@
-use Rattle.std.proofs.Common.{ap, sym, ◌∙◌}
-use Rattle.std.specs.Option.{option_copied_mut}
-use Rattle.mm_rules.specs.TableState.{waited_for}
-use Rattle.mm_transactions.specs.Transactions.{without_wait}
-use Rattle.mm_transactions.proofs.Lemmas.Stop.{IsStop, stop_consistent, stop_seen}
+use Rattle.std.proofs.Common.{ap, ◌∙◌}
+use Rattle.mm_transactions.specs.Transactions.{is_live, without_wait}
+use Rattle.mm_transactions.proofs.Lemmas.Slots.{live_slot}
+use Rattle.mm_transactions.proofs.Lemmas.Stop.{waits_now, stands, stopped, stop_consistent, stop_seen}
 use Rattle.mm_transactions.proofs.transactions.Transactions.stop_waiting.Goals as goal
 
-stops : (c : goal.After-self-2-1) → IsStop c.self.inside.slots c.args.key c.unwrap.result.now c.self.inside.queues c.remove.new.self c.self.inside.latest c.self.inside.waiting
-stops c = record {
-  found = sym c.get_mut.ensures.value ∙ ap option_copied_mut c.unwrap.ensures;
-  waits = λ none. c.requires.waiting (sym (ap (λ t. waited_for t.waits c.args.key.process) c.self.view_is) ∙ none);
-  removes = c.remove.ensures.removed;
-  lists = c.remove.ensures.lists;
-  processes = c.remove.ensures.processes;
-  kept = c.self.invariant;
-}
+pub value_mut-requires : goal.value_mut-requires
+value_mut-requires c =
+    let inside = c.self.inside in
+    live_slot inside.slots inside.queues inside.latest c.args.key (ap (λ t. is_live t c.args.key) c.self.view_is ∙ c.requires.live)
+
+pub take_out-requires : goal.take_out-requires
+take_out-requires c =
+    let inside = c.self.inside in
+    stands (waits_now inside.slots c.args.key c.value_mut.result.now inside.queues inside.latest inside.waiting c.args.self.now c.value_mut.ensures.value c.self.view_is c.requires.waiting c.self.invariant)
 
 pub invariant_of-self : goal.invariant_of-self
-invariant_of-self c = stop_consistent (stops c)
+invariant_of-self c =
+    let inside = c.self.inside in
+    let waits = waits_now inside.slots c.args.key c.value_mut.result.now inside.queues inside.latest inside.waiting c.args.self.now c.value_mut.ensures.value c.self.view_is c.requires.waiting c.self.invariant in
+    stop_consistent (stopped c.take_out.new.self waits c.take_out.ensures.removed c.take_out.ensures.lists c.take_out.ensures.processes)
 
 pub returns : goal.returns
-returns c = stop_seen (stops c) ∙ ap (λ t. without_wait t c.args.key.process) c.self.view_is
+returns c =
+    let inside = c.self.inside in
+    let waits = waits_now inside.slots c.args.key c.value_mut.result.now inside.queues inside.latest inside.waiting c.args.self.now c.value_mut.ensures.value c.self.view_is c.requires.waiting c.self.invariant in
+    stop_seen (stopped c.take_out.new.self waits c.take_out.ensures.removed c.take_out.ensures.lists c.take_out.ensures.processes)
+    ∙ ap (λ t. without_wait t c.args.key.process) c.self.view_is
