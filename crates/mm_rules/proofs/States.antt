@@ -45,6 +45,7 @@ pub mod SettleStep
 pub mod Totals
 pub mod Tenants
 -- all events, and what follows
+pub mod Determined
 pub mod Config
 pub mod EventsKeepLaws
 pub mod RaiseBound

@@ -160,6 +160,10 @@ abbrev pub raises_told : (es : List Event) (old new : TableState) → Run old es
 raises_told [] old new run = 0
 raises_told (e ∷ es) old new (mid, reply, step, rest) = raise_told e reply + raises_told es mid new rest
 
+-- an event has one reply and one new state, so two calls that make it of the same state answer the same and lead to the same state
+abbrev pub StepsAreDetermined : Type 0
+StepsAreDetermined = (e : Event) (s t u : TableState) (r q : Result (Answer e) Refusal) → Step e s r t → Step e s q u → (r ≡ q) × (t ≡ u)
+
 -- transmits and detects alone, however many, raise at most so many labels
 abbrev pub RaisesAreBounded : Type 0
 RaisesAreBounded = (old new : TableState) (es : List Event) → TransmitsAndDetects es → (run : Run old es new) → Laws old → raises_told es old new run ≤ most_raises old

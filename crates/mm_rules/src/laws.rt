@@ -1,5 +1,5 @@
 //! Facts about all tables. Each function does nothing; its contract is the fact, over the definitions of `specs/`.
-ghost use Rattle.mm_rules.specs.Laws.{EventsKeepLaws, KeysAreFresh, KeysNeverReturn, LawsAreNotEmpty, OpeningIsLawful, PublicLabelsNeverFall, QuietHasNoCycle, RaisesAreBounded, ReachedIsLawful, SettleEnds, SettleGivesRest, VerdictsAreSound};
+ghost use Rattle.mm_rules.specs.Laws.{EventsKeepLaws, KeysAreFresh, KeysNeverReturn, LawsAreNotEmpty, OpeningIsLawful, PublicLabelsNeverFall, QuietHasNoCycle, RaisesAreBounded, ReachedIsLawful, SettleEnds, SettleGivesRest, StepsAreDetermined, VerdictsAreSound};
 
 /// The state of a table that was just opened keeps all laws, whatever its configuration, as long as that is in range.
 pub fn opening_is_lawful()
@@ -14,6 +14,11 @@ pub fn events_keep_laws()
 /// So every state that is reached from an opening has them.
 pub fn reached_is_lawful()
     ensures { ReachedIsLawful }
+{}
+
+/// An event has one reply and one new state: two calls that make it of the same state answer the same, and lead to the same state.
+pub fn steps_are_determined()
+    ensures { StepsAreDetermined }
 {}
 
 /// The laws are not empty: from an opening a state is reached in which a verdict stands.
