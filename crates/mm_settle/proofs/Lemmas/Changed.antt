@@ -4,8 +4,10 @@ use Rattle.std.specs.Option.{option_map_or}
 use Rattle.std.proofs.lemmas.Bool.{cases_Bool, cases_eq, cases_lt}
 use Rattle.mm_label.specs.Label.{label_lt, label_eq}
 use Rattle.mm_rules.specs.TableState.{TableState, has_verdict, holder_of}
-use Rattle.mm_rules.specs.Change.{can_transmit, can_detect}
+use Rattle.mm_rules.specs.Change.{can_transmit, can_detect, detect}
+use Rattle.mm_lists.proofs.Lemmas.Set.{true_still}
 use Rattle.mm_rules.specs.Laws.{Laws}
+use Rattle.mm_rules.proofs.States.Detect.{detect_still, detect_convicts}
 use Rattle.mm_marks.specs.Marks.{has, HasNoneFrom, IsNext}
 use Rattle.mm_settle.specs.private.Marked.{AddsWaiters, AreMarked}
 use Rattle.mm_settle.specs.private.Changed.{holder_in, AreChanged, ChangesOnly, IsLoading}
@@ -52,18 +54,12 @@ module _ (s t : TableState) (old new : List Bool) (only : ChangesOnly s t old ne
         let own = only.privates k out in
         let its = only.publics h holder_out in
         ap (detects_from t k) now ∙ (λ i. not (has_verdict t k) && label_eq (own i) (mine i) && label_eq (mine i) (its i))
-        ∙ verdict_lost_by (has_verdict s k) (has_verdict t k) _ _ (λ v. still (only.verdicts k out v)) before
-      where
-        still : (holder_of t k ≡ None) ⊎ (has_verdict t k ≡ true) → has_verdict t k ≡ true
-        still (inl idle) = (let never : Some h ≡ None = sym now ∙ idle in absurd (cc))
-        still (inr v) = v
+        ∙ verdict_lost_by (has_verdict s k) (has_verdict t k) _ _ (only.verdicts k out) before
 
   by_holder : (k : ℕ) (o : Option ℕ) → holder_of t k ≡ o → has new k ≡ false → option_map_or (has new) o false ≡ false → (can_transmit t k ≡ false) × (can_detect t k ≡ false)
   by_holder k None idle out far = (idle_transmits_not t k idle, idle_detects_not t k idle)
-  by_holder k (Some h) now out far = elim (only.holders k out) [
-    | inl idle ↦ (idle_transmits_not t k idle, idle_detects_not t k idle)
-    | inr same ↦ (transmits_not k h out far (sym same ∙ now) now, detects_not k h out far (sym same ∙ now) now)
-  ]
+  by_holder k (Some h) now out far =
+      let before = sym (only.holders k out) ∙ now in (transmits_not k h out far before now, detects_not k h out far before now)
 
   -- so every event keeps the set that adds to it each whose labels or wait it changes
   pub changes_keep : AreChanged t new
@@ -71,6 +67,14 @@ module _ (s t : TableState) (old new : List Bool) (only : ChangesOnly s t old ne
     transmits = λ k out far. (by_holder k (holder_of t k) refl out far).0;
     detects = λ k out far. (by_holder k (holder_of t k) refl out far).1;
   }
+
+-- a detect adds nobody
+pub changes_detect : (s : TableState) (n : ℕ) (set : List Bool) → ChangesOnly s (detect s n) set set
+changes_detect s n set = elim (cases_Bool (can_detect s n)) [
+  | inr no_detect ↦ rw (detect_still s n no_detect) (record { kept = λ k was. was; holders = λ k out. refl; publics = λ k out. refl; privates = λ k out. refl; verdicts = λ k out v. v })
+  | inl can ↦ rw (detect_convicts s n can)
+      (record { kept = λ k was. was; holders = λ k out. refl; publics = λ k out. refl; privates = λ k out. refl; verdicts = λ k out v. true_still s.verdicts n k v })
+]
 
 -- ---- from the changed to the pending
 

@@ -22,7 +22,7 @@ use Rattle.mm_settle.specs.private.Changed.{ChangesOnly}
 use Rattle.mm_settle.proofs.Lemmas.Frames.{transmit_holder, transmit_private, transmit_verdict, transmit_public, not_below_itself, raised_shows}
 use Rattle.mm_settle.proofs.Lemmas.Checks.{due_had_none, due_has_one}
 use Rattle.mm_settle.proofs.Lemmas.Changed.{not_kept}
-use Rattle.mm_settle.proofs.Lemmas.Events.{in_queue}
+use Rattle.mm_settle.proofs.Lemmas.Waiters.{in_queue}
 
 pub unchanged : (s : TableState) (n : ℕ) → IsUnchanged s s n
 unchanged s n = record { private = refl; public = refl; wait = refl; holder = refl; verdict = refl }
@@ -53,10 +53,10 @@ touches_then s t u a b c first second once again = record {
 pub touches_changes : (s t : TableState) (old new : List Bool) → Touches s t old new → ChangesOnly s t old new
 touches_changes s t old new touched = record {
   kept = touched.kept;
-  holders = λ n out. inr (touched.others n out).holder;
+  holders = λ n out. (touched.others n out).holder;
   publics = λ n out. (touched.others n out).public;
   privates = λ n out. (touched.others n out).private;
-  verdicts = λ n out stands. inr ((touched.others n out).verdict ∙ stands);
+  verdicts = λ n out stands. (touched.others n out).verdict ∙ stands;
 }
 
 -- nobody was touched: each process is as it was

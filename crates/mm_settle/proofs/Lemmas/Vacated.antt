@@ -13,7 +13,7 @@ use Rattle.mm_settle.specs.Touched.{IsUnchanged, Touches}
 use Rattle.mm_settle.specs.private.Added.{Adds, AddsAll}
 use Rattle.mm_settle.specs.private.Vacating.{HeldAreUnchanged, IsVacating}
 use Rattle.mm_settle.proofs.Lemmas.Touched.{unchanged, unchanged_then, touches_then, touches_nobody, touches_hand_over, hand_over_else, blocks_waits, waits_for, touches_one, activate_else}
-use Rattle.mm_settle.proofs.Lemmas.Events.{in_queue}
+use Rattle.mm_settle.proofs.Lemmas.Waiters.{in_queue}
 
 -- who was as before until now and is not as it was, or the other way round, is changed by both together
 unchanged_back : (s t u : TableState) (n : ℕ) → IsUnchanged s t n → IsUnchanged s u n → IsUnchanged t u n

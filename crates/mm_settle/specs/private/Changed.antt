@@ -1,5 +1,5 @@
 -- The changed: whoever may transmit or newly detect is one of them, or its holder is.
-use Rattle.std.specs.Prelude.{◌≡◌, ◌⊎◌, ◌<◌, ℕ, Bool, true, false, List, None}
+use Rattle.std.specs.Prelude.{◌≡◌, ◌<◌, ℕ, Bool, true, false, List}
 use Rattle.std.specs.Option.{option_map_or}
 use Rattle.mm_marks.specs.Marks.{has}
 use Rattle.mm_rules.specs.TableState.{TableState, private_of, public_of, has_verdict, holder_of}
@@ -14,13 +14,13 @@ pub record AreChanged (s : TableState) (changed : List Bool) : Type 0 where
   pub transmits : (k : ℕ) → has changed k ≡ false → holder_in s changed k ≡ false → can_transmit s k ≡ false
   pub detects : (k : ℕ) → has changed k ≡ false → holder_in s changed k ≡ false → can_detect s k ≡ false
 
--- nobody was taken out of the set, and each process that is not in it has no holder now, or all it had of waits and labels, and no verdict less
+-- nobody was taken out of the set, and each process that is not in it has the holder and the labels that it had, and no verdict less
 pub record ChangesOnly (s t : TableState) (old new : List Bool) : Type 0 where
   pub kept : (k : ℕ) → has old k ≡ true → has new k ≡ true
-  pub holders : (k : ℕ) → has new k ≡ false → (holder_of t k ≡ None) ⊎ (holder_of t k ≡ holder_of s k)
+  pub holders : (k : ℕ) → has new k ≡ false → holder_of t k ≡ holder_of s k
   pub publics : (k : ℕ) → has new k ≡ false → public_of t k ≡ public_of s k
   pub privates : (k : ℕ) → has new k ≡ false → private_of t k ≡ private_of s k
-  pub verdicts : (k : ℕ) → has new k ≡ false → has_verdict s k ≡ true → (holder_of t k ≡ None) ⊎ (has_verdict t k ≡ true)
+  pub verdicts : (k : ℕ) → has new k ≡ false → has_verdict s k ≡ true → has_verdict t k ≡ true
 
 -- each that waits or has those that wait for it was taken from the changed, and these and those are pending
 pub record IsLoading (s : TableState) (from : ℕ) (changed pending : List Bool) : Type 0 where

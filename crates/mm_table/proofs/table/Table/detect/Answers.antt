@@ -3,8 +3,7 @@ use Rattle.mm_rules.specs.TableState.{TableState}
 use Rattle.mm_rules.specs.Change.{detect}
 use Rattle.mm_rules.specs.Event.{Detect}
 use Rattle.mm_settle.specs.private.Changed.{AreChanged}
-use Rattle.mm_settle.proofs.Lemmas.Changed.{changes_keep}
-use Rattle.mm_settle.proofs.Lemmas.Events.{changes_detect}
+use Rattle.mm_settle.proofs.Lemmas.Changed.{changes_keep, changes_detect}
 use Rattle.mm_table.proofs.Fields.Table.{counted_changed, step_keeps_table}
 use Rattle.mm_table.proofs.table.Table.detect.Goals as goal
 
@@ -13,7 +12,7 @@ invariant_of-self c =
     let old = c.self.inside in
     let s = old.records in
     let n = c.args.key.process in
-    let detects = changes_keep s (detect s n) old.changed old.changed (changes_detect s n old.changed old.changed (λ k was. was)) c.self.invariant.changed in
+    let detects = changes_keep s (detect s n) old.changed old.changed (changes_detect s n old.changed) c.self.invariant.changed in
     step_keeps_table (Detect c.args.key) old c.detect.new.self c.detect.result c.detect.ensures c.self.invariant old.changed old.touched
     (subst (λ (t : TableState). AreChanged t old.changed) (sym c.detect.ensures.1) (counted_changed _ s _ (detect s n) old.changed c.self.invariant.changed detects))
     refl refl c.self.invariant.touched_none
