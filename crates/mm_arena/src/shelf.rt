@@ -2,7 +2,7 @@
 ghost use Rattle.std.specs.Prelude.{◌≡◌, ◌<◌, ◌≤◌, length, replicate, slice_set, IsSome, IfOk, None, Some, option_copied, option_map};
 ghost use Rattle.std.specs.Option.{option_copied_mut};
 ghost use Rattle.std.specs.Borrow.{sem};
-ghost use Rattle.mm_arena.specs.Shelf.{entry_at, value_at, taken};
+ghost use Rattle.mm_arena.specs.Shelf.{entry_at, value_at, taken, HasValue};
 
 use crate::{Key, MAX_CAPACITY, Memory};
 use std::alloc::Global;
@@ -25,7 +25,7 @@ impl<T> Model for Shelf<T> {
 }
 
 impl<T> Shelf<T> {
-    ghost use Rattle.mm_arena.specs.LendingShelf.{lends_get, lends_value};
+    ghost use Rattle.mm_arena.specs.LendingShelf.{lends_get, lends_value, lends_stored};
 
     /// A shelf for the processes below `capacity`, none of which has a value, in time proportional to `capacity`. It takes the memory for all of them, and no later call takes any.
     ///
@@ -116,5 +116,39 @@ impl<T> Shelf<T> {
             Some(Some((_, value))) => Some(value),
             _ => None,
         }
+    }
+
+    /// The generation of the key under which a process has a value, in constant time, where the caller knows that it has one.
+    #[inline]
+    pub fn stored_generation(&self, process: u32) -> u32
+        requires { HasValue self.now process }
+        ensures { option_map (λ entry. entry.0.generation) (entry_at self.now process) ≡ Some result }
+    {
+        match &self.entries[process as usize] {
+            Some((key, _)) => key.generation,
+            // Never so: a number, and no stop, lets the compiler leave out the read where nobody wants the generation.
+            None => 0,
+        }
+    }
+
+    /// The value that a process has for writing, in constant time, where the caller knows that it has one. Its key stays.
+    #[inline]
+    pub fn stored_mut(&mut self, process: u32) -> &mut T
+        requires { HasValue self.old process }
+        ensures* writes_back { sem 𝓛 (lends_stored T.row self.entry process result) }
+        ensures value { option_map (λ entry. entry.1) (entry_at self.old process) ≡ Some result.now }
+    {
+        let entry = self.entries[process as usize].as_mut().unwrap();
+        &mut entry.1
+    }
+
+    /// Takes out the value that a process has, with the key that it is under, in constant time, where the caller knows that it has one.
+    #[inline]
+    pub fn take_stored(&mut self, process: u32) -> (Key, T)
+        requires { HasValue self.old process }
+        ensures value { entry_at self.old process ≡ Some result }
+        ensures entries { self.new ≡ slice_set self.old process None }
+    {
+        self.entries[process as usize].take().unwrap()
     }
 }

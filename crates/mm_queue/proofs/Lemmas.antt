@@ -8,5 +8,3 @@ pub mod Pushed
 pub mod Removed
 -- the entries as links and tags, and what each call makes of them
 pub mod Entries
--- the entries, read off the places
-pub mod Places

@@ -1,14 +1,12 @@
 //! Queues of keys, in which each process stands at most once.
 //!
 //! - `ends`: the two ends of a list.
-//! - `entry`: where a key stands.
-//! - `places`: what is kept of each process.
+//! - `entry`: what is kept of a key that stands in a list.
 //! - `lists`: `Lists`.
 #![tactic(auto)]
 
 mod ends;
 mod entry;
 mod lists;
-mod places;
 
 pub use lists::Lists;

@@ -5,9 +5,8 @@ ghost use Rattle.mm_queue.specs.Members.{Among};
 ghost use Rattle.mm_queue.specs.Queues.{queue, first, empty_queues, with_queue, Stands, IsOccupied, IsNext, IsNextProcess, Removes, StandsOnce};
 
 use crate::ends::Ends;
-use crate::entry::Entry;
-use crate::places::Places;
-use mm_arena::{Key, MAX_CAPACITY, Memory};
+use crate::entry::{Entry, set_before, set_next};
+use mm_arena::{Key, MAX_CAPACITY, Memory, Shelf};
 use mm_links::{Link, Links};
 use std::alloc::Global;
 use std::marker::Model;
@@ -16,7 +15,7 @@ use std::marker::Model;
 #[derive(Drop)]
 pub struct Lists {
     ends: Vec<Ends>,
-    entries: Places,
+    entries: Shelf<Entry>,
 }
 
 impl Model for Lists {
@@ -45,7 +44,7 @@ impl Lists {
         for _ in 0..lists {
             ends.push_reserved(Ends::NONE);
         }
-        let entries = Places::new(alloc, processes)?;
+        let entries = Shelf::new(alloc, processes)?;
         Ok(Lists { ends, entries })
     }
 
@@ -72,7 +71,7 @@ impl Lists {
                 },
             },
         );
-        self.entries.set_next(&mut ends.front, last, link);
+        set_next(&mut self.entries, &mut ends.front, last, link);
     }
 
     /// The first key of a list, in constant time. `None` where the list has none.
@@ -82,8 +81,11 @@ impl Lists {
         ensures { result ≡ first (queue self.now list) }
     {
         let process = self.ends[list as usize].front.get()?;
-        let (key, _) = self.entries.listed(process);
-        Some(key)
+        let generation = self.entries.stored_generation(process);
+        Some(Key {
+            process,
+            generation,
+        })
     }
 
     /// The key after this one in its list, in constant time. `None` for the last of a list, and for a key that stands in no list.
@@ -136,13 +138,12 @@ impl Lists {
         ensures lists { length self.new.lists ≡ length self.old.lists }
         ensures processes { self.new.processes ≡ self.old.processes }
     {
-        let (_, entry) = self.entries.listed(key.process);
-        self.entries.clear(key.process);
+        let (_, entry) = self.entries.take_stored(key.process);
         let Links { before, next } = entry.links;
         let ends = &mut self.ends[entry.list as usize];
         ends.len -= 1;
-        self.entries.set_next(&mut ends.front, before, next);
-        self.entries.set_before(&mut ends.back, next, before);
+        set_next(&mut self.entries, &mut ends.front, before, next);
+        set_before(&mut self.entries, &mut ends.back, next, before);
     }
 
     /// Takes the first key out of a list, in constant time. `None` where the list has none, and then nothing changes.

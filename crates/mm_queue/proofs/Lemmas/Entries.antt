@@ -6,6 +6,7 @@ use Rattle.std.proofs.lemmas.List.{map-set, length-map, set-get_or, length-repli
 use Rattle.std.proofs.lemmas.Option.{none-some, same_Some, cond_some, slice_get-get_or}
 use Rattle.std.proofs.Math.ListN.{get_or-map}
 use Rattle.mm_arena.specs.declared.key.Key.{Key}
+use Rattle.mm_arena.specs.Shelf.{Entries, key_eq, entry_at, value_under, value_at, HasValue, with_stored}
 use Rattle.mm_lists.specs.Members.{Among, NoRepeat}
 use Rattle.mm_lists.proofs.Lemmas.Among.{among_right, among_map_gives}
 use Rattle.mm_lists.proofs.Lemmas.Cut.{Cut, cut_at}
@@ -16,7 +17,6 @@ use Rattle.mm_links.proofs.Lemmas.Ends.{Among-last_or}
 use Rattle.mm_queue.specs.declared.entry.Entry.{Entry}
 use Rattle.mm_queue.specs.declared.ends.Ends.{Ends}
 use Rattle.mm_queue.specs.Queues.{Queues, queue, first, empty_queues, with_queue, Stands, IsOccupied}
-use Rattle.mm_queue.specs.private.Places.{Entries, key_eq, entry_at, value_under, value_at}
 use Rattle.mm_queue.specs.private.Linked.{HasEntry, links_in, tag_in, links_of, tags_of, tag_at, processes_of, ends_of, seen, AreLinked, AreConsistent}
 use Rattle.mm_queue.proofs.Lemmas.Ends.{ends_pushed, ends_removed, head_or-first, first-none}
 use Rattle.mm_queue.proofs.Lemmas.AreLinked.{tag_in_range, lists_seen, ends_are, short}
@@ -40,14 +40,14 @@ value_under-some key (Some x) e is =
     let parts = cond_some (key_eq x.0 key) x.1 e is in
     ap (λ k. Some (k, x.1)) (same_key x.0 key parts.0) ∙ ap (λ y. Some (key, y)) parts.1
 
-pub entry_read : (s : Entries) (key : Key) (e : Entry) → value_at s key ≡ Some e → entry_at s key.process ≡ Some (key, e)
+pub entry_read : (s : Entries Entry) (key : Key) (e : Entry) → value_at s key ≡ Some e → entry_at s key.process ≡ Some (key, e)
 entry_read s key e is = value_under-some key (entry_at s key.process) e is
 
-pub value_read : (s : Entries) (key : Key) (e : Entry) → entry_at s key.process ≡ Some (key, e) → value_at s key ≡ Some e
+pub value_read : (s : Entries Entry) (key : Key) (e : Entry) → entry_at s key.process ≡ Some (key, e) → value_at s key ≡ Some e
 value_read s key e is =
     ap (value_under key) is ∙ ap (λ b. cond b (Some e) None) (key_eq-same key)
 
-tag_read : (s : Entries) (p : ℕ) → tag_at (tags_of s) p ≡ tag_in (entry_at s p)
+tag_read : (s : Entries Entry) (p : ℕ) → tag_at (tags_of s) p ≡ tag_in (entry_at s p)
 tag_read s p = get_or-map tag_in s p None
 
 tag_in-some : (o : Option (Key × Entry)) (k : Key) (list : ℕ) → tag_in o ≡ Some (k, list) → (e : Entry) × (o ≡ Some (k, e)) × (e.list ≡ list)
@@ -56,18 +56,18 @@ tag_in-some (Some x) k list is =
     let same = same_Some _ _ is in
     (x.1, ap (λ j. Some (j, x.1)) (ap (λ (t : Key × ℕ). t.0) same), ap (λ (t : Key × ℕ). t.1) same)
 
-pub entry_tagged : (s : Entries) (p : ℕ) (k : Key) (list : ℕ) → tag_at (tags_of s) p ≡ Some (k, list) → (e : Entry) × (entry_at s p ≡ Some (k, e)) × (e.list ≡ list)
+pub entry_tagged : (s : Entries Entry) (p : ℕ) (k : Key) (list : ℕ) → tag_at (tags_of s) p ≡ Some (k, list) → (e : Entry) × (entry_at s p ≡ Some (k, e)) × (e.list ≡ list)
 entry_tagged s p k list is = tag_in-some (entry_at s p) k list (sym (tag_read s p) ∙ is)
 
-HasEntry-tagged : (s : Entries) (p : ℕ) (k : Key) (list : ℕ) → tag_at (tags_of s) p ≡ Some (k, list) → k.process ≡ p → HasEntry s p
+HasEntry-tagged : (s : Entries Entry) (p : ℕ) (k : Key) (list : ℕ) → tag_at (tags_of s) p ≡ Some (k, list) → k.process ≡ p → HasEntry s p
 HasEntry-tagged s p k list is own =
     let at = entry_tagged s p k list is in
     ap (option_map (λ (x : Key × Entry). x.0.process)) at.1 ∙ ap Some own
 
-tag_of_entry : (s : Entries) (p : ℕ) (k : Key) (e : Entry) → entry_at s p ≡ Some (k, e) → tag_at (tags_of s) p ≡ Some (k, e.list)
+tag_of_entry : (s : Entries Entry) (p : ℕ) (k : Key) (e : Entry) → entry_at s p ≡ Some (k, e) → tag_at (tags_of s) p ≡ Some (k, e.list)
 tag_of_entry s p k e is = tag_read s p ∙ ap tag_in is
 
-links_read : (s : Entries) (p : ℕ) (k : Key) (e : Entry) → entry_at s p ≡ Some (k, e) → slice_get (links_of s) p ≡ Some e.links
+links_read : (s : Entries Entry) (p : ℕ) (k : Key) (e : Entry) → entry_at s p ≡ Some (k, e) → slice_get (links_of s) p ≡ Some e.links
 links_read s p k e is =
     let inside : p < length (tags_of s) = tag_in_range (tags_of s) p (k, e.list) (tag_of_entry s p k e is) in
     slice_get-get_or (links_of s) p (links_in None) (omega (arith, inside, length-map s tag_in, length-map s links_in))
@@ -84,35 +84,60 @@ entry_is (Some x) key e its_key its_value = ap Some (λ i. (same_Some x.0 key it
 
 -- ---- what one write leaves
 
-module _ (s : Entries) (process new : Option ℕ) (key : Key) (e : Entry) (is : process ≡ Some key.process) (there : entry_at s key.process ≡ Some (key, e)) where
-  pub next_set : links_of (set s key.process (Some (key, record { list = e.list; links = record { before = e.links.before; next = new } }))) ≡ with_next (links_of s) process new
-  next_set =
-      map-set links_in s key.process _
-      ∙ ap (λ b. set (links_of s) key.process (record { before = b; next = new })) (sym (ap (option_and_then (λ (l : Links). l.before)) (links_read s key.process key e there)))
+-- a process with an entry has a value
+pub has_value : (s : Entries Entry) (p : ℕ) → HasEntry s p → HasValue s p
+has_value s p has = by (entry_at s p) has
+  where
+    by : (o : Option (Key × Entry)) → option_map (λ (x : Key × Entry). x.0.process) o ≡ Some p → is_some o ≡ true
+    by None is = absurd (none-some p is)
+    by (Some x) is = refl
+
+-- of a value, the key that it is under
+under : (o : Option (Key × Entry)) (e : Entry) → option_map (λ (x : Key × Entry). x.1) o ≡ Some e → (key : Key) × (o ≡ Some (key, e))
+under None e is = absurd (none-some e is)
+under (Some x) e is = (x.0, ap (λ y. Some (x.0, y)) (same_Some _ _ is))
+
+module _ (s : Entries Entry) (p : ℕ) (e : Entry) (found : option_map (λ (x : Key × Entry). x.1) (entry_at s p) ≡ Some e) where
+  there : (key : Key) × (entry_at s p ≡ Some (key, e))
+  there = under (entry_at s p) e found
+
+  abbrev with_links : Links → Entries Entry
+  with_links links = with_stored s p (record { list = e.list; links = links })
+
+  written : (links : Links) → with_links links ≡ set s p (Some (there.0, record { list = e.list; links = links }))
+  written links = ap (λ o. set s p (option_map (λ (x : Key × Entry). (x.0, record { list = e.list; links = links })) o)) there.1
+
+  links_written : (links : Links) → links_of (with_links links) ≡ set (links_of s) p links
+  links_written links = ap links_of (written links) ∙ map-set links_in s p _
+
+  pub next_written : (process new : Option ℕ) → process ≡ Some p → links_of (with_links (record { before = e.links.before; next = new })) ≡ with_next (links_of s) process new
+  next_written process new is =
+      links_written (record { before = e.links.before; next = new })
+      ∙ ap (λ b. set (links_of s) p (record { before = b; next = new })) (sym (ap (option_and_then (λ (l : Links). l.before)) (links_read s p there.0 e there.1)))
       ∙ ap (λ o. with_next (links_of s) o new) (sym is)
 
-  pub before_set : links_of (set s key.process (Some (key, record { list = e.list; links = record { before = new; next = e.links.next } }))) ≡ with_before (links_of s) process new
-  before_set =
-      map-set links_in s key.process _
-      ∙ ap (λ n. set (links_of s) key.process (record { before = new; next = n })) (sym (ap (option_and_then (λ (l : Links). l.next)) (links_read s key.process key e there)))
+  pub before_written : (process new : Option ℕ) → process ≡ Some p → links_of (with_links (record { before = new; next = e.links.next })) ≡ with_before (links_of s) process new
+  before_written process new is =
+      links_written (record { before = new; next = e.links.next })
+      ∙ ap (λ n. set (links_of s) p (record { before = new; next = n })) (sym (ap (option_and_then (λ (l : Links). l.next)) (links_read s p there.0 e there.1)))
       ∙ ap (λ o. with_before (links_of s) o new) (sym is)
 
-pub tags_kept : (s : Entries) (key : Key) (e : Entry) → entry_at s key.process ≡ Some (key, e) → (links : Links) → tags_of (set s key.process (Some (key, record { list = e.list; links = links }))) ≡ tags_of s
-tags_kept s key e there links =
-    map-set tag_in s key.process _
-    ∙ ap (set (tags_of s) key.process) (sym (tag_of_entry s key.process key e there))
-    ∙ set-get_or (tags_of s) key.process None
+  pub tags_stay : (links : Links) → tags_of (with_links links) ≡ tags_of s
+  tags_stay links =
+      ap tags_of (written links) ∙ map-set tag_in s p _
+      ∙ ap (set (tags_of s) p) (sym (tag_of_entry s p there.0 e there.1))
+      ∙ set-get_or (tags_of s) p None
 
 -- ---- what the fields keep
 
-pub linked_now : (q : Queues) (ends : List Ends) (s : Entries) → seen ends s ≡ q → AreConsistent ends s → AreLinked q ends (links_of s) (tags_of s)
+pub linked_now : (q : Queues) (ends : List Ends) (s : Entries Entry) → seen ends s ≡ q → AreConsistent ends s → AreLinked q ends (links_of s) (tags_of s)
 linked_now q ends s is kept = subst (λ t. AreLinked t ends (links_of s) (tags_of s)) is kept
 
-pub record IsShown (q : Queues) (ends : List Ends) (s : Entries) : Type 0 where
+pub record IsShown (q : Queues) (ends : List Ends) (s : Entries Entry) : Type 0 where
   pub kept : AreConsistent ends s
   pub is : seen ends s ≡ q
 
-pub shown : (q : Queues) (ends : List Ends) (s : Entries) → AreLinked q ends (links_of s) (tags_of s) → IsShown q ends s
+pub shown : (q : Queues) (ends : List Ends) (s : Entries Entry) → AreLinked q ends (links_of s) (tags_of s) → IsShown q ends s
 shown q ends s linked =
     let lists = lists_seen q ends (links_of s) (tags_of s) linked in
     let processes : length s ≡ q.processes = sym (length-map s links_in) ∙ linked.many_links in
@@ -123,7 +148,7 @@ process_after : (after : List Key) → head_or (processes_of after) None ≡ opt
 process_after [] = refl
 process_after (k ∷ after) = refl
 
-module _ (q : Queues) (ends : List Ends) (s : Entries) (linked : AreLinked q ends (links_of s) (tags_of s)) where
+module _ (q : Queues) (ends : List Ends) (s : Entries Entry) (linked : AreLinked q ends (links_of s) (tags_of s)) where
   -- the tag of a value that is found
   tag_found : (key : Key) (e : Entry) → value_at s key ≡ Some e → tag_at (tags_of s) key.process ≡ Some (key, e.list)
   tag_found key e found = tag_of_entry s key.process key e (entry_read s key e found)
@@ -243,9 +268,16 @@ module _ (q : Queues) (ends : List Ends) (s : Entries) (linked : AreLinked q end
   front_none list e other below read none =
       sym (first-none (queue q list) (sym (front_is list e other below read) ∙ none))
 
-  pub front_some : (list : ℕ) (e other : Ends) → list < length q.lists → e ≡ get_or ends list other → (p : ℕ) → e.front ≡ Some p → (x : Key × Entry) → entry_at s p ≡ Some x → Some x.0 ≡ first (queue q list)
-  front_some list e other below read p is x there =
-      ap (option_map (λ (y : Key × Entry). y.0)) (sym there) ∙ first_read list [] (queue q list) p refl (sym (front_is list e other below read) ∙ is)
+  pub front_some : (list : ℕ) (e other : Ends) → list < length q.lists → e ≡ get_or ends list other → (p : ℕ) → e.front ≡ Some p → (generation : ℕ) → option_map (λ (x : Key × Entry). x.0.generation) (entry_at s p) ≡ Some generation → Some (record { process = p; generation = generation }) ≡ first (queue q list)
+  front_some list e other below read p is generation there =
+      its_key (entry_at s p) refl there ∙ first_read list [] (queue q list) p refl (sym (front_is list e other below read) ∙ is)
+    where
+      its_key : (o : Option (Key × Entry)) → entry_at s p ≡ o → option_map (λ (x : Key × Entry). x.0.generation) o ≡ Some generation → Some (record { process = p; generation = generation }) ≡ option_map (λ (x : Key × Entry). x.0) (entry_at s p)
+      its_key None at none = absurd (none-some generation none)
+      its_key (Some x) at some =
+          let own : x.0.process ≡ p = its_process p x.0 (ap (option_map (λ (y : Key × Entry). y.0)) at) in
+          ap (λ n. Some (record { process = n; generation = generation })) (sym own)
+          ∙ ap (λ n. Some (record { process = x.0.process; generation = n })) (sym (same_Some _ _ some)) ∙ sym (ap (option_map (λ (y : Key × Entry). y.0)) at)
 
   -- how many keys a list has
   pub len_small : (list : ℕ) (e other : Ends) → list < length q.lists → e ≡ get_or ends list other → e.len ≤ 1048576
@@ -261,7 +293,7 @@ module _ (q : Queues) (ends : List Ends) (s : Entries) (linked : AreLinked q end
 
   -- ---- after a push
 
-  module _ (list : ℕ) (key : Key) (below : list < length q.lists) (inside : key.process < q.processes) (free : IsOccupied q key.process → ⊥) (e other : Ends) (read : e ≡ get_or ends list other) (put : Entries) (stored : put ≡ set s key.process (Some (key, record { list = list; links = record { before = e.back; next = None } }))) where
+  module _ (list : ℕ) (key : Key) (below : list < length q.lists) (inside : key.process < q.processes) (free : IsOccupied q key.process → ⊥) (e other : Ends) (read : e ≡ get_or ends list other) (put : Entries Entry) (stored : put ≡ set s key.process (Some (key, record { list = list; links = record { before = e.back; next = None } }))) where
     e_is : e ≡ ends_of (queue q list)
     e_is = ends_are q ends (links_of s) (tags_of s) linked list e other below read
 
@@ -282,7 +314,7 @@ module _ (q : Queues) (ends : List Ends) (s : Entries) (linked : AreLinked q end
         pushed_tag : (k : Key) → Among k (queue q list) → tag_at (set (tags_of s) key.process (Some (key, list))) k.process ≡ Some (k, list)
         pushed_tag k among = old_tag q ends (links_of s) (tags_of s) linked list key below inside none k among
 
-    pub shown_pushed : (front link : Option ℕ) (new : Entries) → link ≡ Some key.process → front ≡ first_with_next e.front e.back link → links_of new ≡ with_next (links_of put) e.back link → tags_of new ≡ tags_of put
+    pub shown_pushed : (front link : Option ℕ) (new : Entries Entry) → link ≡ Some key.process → front ≡ first_with_next e.front e.back link → links_of new ≡ with_next (links_of put) e.back link → tags_of new ≡ tags_of put
         → IsShown (with_queue q list (queue q list ++ key ∷ [])) (set ends list (record { front = front; back = link; len = e.len + 1 })) new
     shown_pushed front link new link_is front_is links tags =
         let written : Ends = record { front = front; back = link; len = e.len + 1 } in
@@ -303,7 +335,7 @@ module _ (q : Queues) (ends : List Ends) (s : Entries) (linked : AreLinked q end
 
   -- ---- after a removal
 
-  module _ (key : Key) (entry : Entry) (found : value_at s key ≡ Some entry) (t : Entries) (took_it : t ≡ set s key.process None) where
+  module _ (key : Key) (entry : Entry) (found : value_at s key ≡ Some entry) (t : Entries Entry) (took_it : t ≡ set s key.process None) where
     pub cut : Cut key (queue q entry.list)
     cut = cut_at key (queue q entry.list) (among_found key entry found)
 
@@ -321,24 +353,24 @@ module _ (q : Queues) (ends : List Ends) (s : Entries) (linked : AreLinked q end
       pub its_links : entry.links ≡ record { before = last_or None (processes_of before); next = head_or (processes_of after) None }
       its_links = links_are q ends (links_of s) (tags_of s) linked list before key after whole entry.links (links_read s key.process key entry (entry_read s key entry found))
 
-      left_has_entry : (u : Entries) → tags_of u ≡ tags_of t → (j : Key) → Among j (before ++ after) → (p : ℕ) → j.process ≡ p → HasEntry u p
+      left_has_entry : (u : Entries Entry) → tags_of u ≡ tags_of t → (j : Key) → Among j (before ++ after) → (p : ℕ) → j.process ≡ p → HasEntry u p
       left_has_entry u tags j among p own =
           HasEntry-tagged u p j list
           (ap (λ ts. tag_at ts p) (tags ∙ took_tags) ∙ ap (tag_at (set (tags_of s) key.process None)) (sym own)
           ∙ tag_left q ends (links_of s) (tags_of s) linked list before key after whole j among) own
 
-      pub before_has_entry : (u : Entries) → tags_of u ≡ tags_of t → (p : ℕ) → entry.links.before ≡ Some p → HasEntry u p
+      pub before_has_entry : (u : Entries Entry) → tags_of u ≡ tags_of t → (p : ℕ) → entry.links.before ≡ Some p → HasEntry u p
       before_has_entry u tags p is =
           let at = before_left q ends (links_of s) (tags_of s) linked list before key after whole p (sym (ap (λ (l : Links). l.before) its_links) ∙ is) in
           left_has_entry u tags at.0 at.1 p at.2
 
-      pub next_has_entry : (u : Entries) → tags_of u ≡ tags_of t → (p : ℕ) → entry.links.next ≡ Some p → HasEntry u p
+      pub next_has_entry : (u : Entries Entry) → tags_of u ≡ tags_of t → (p : ℕ) → entry.links.next ≡ Some p → HasEntry u p
       next_has_entry u tags p is =
           let at = next_left q ends (links_of s) (tags_of s) linked list before key after whole p (sym (ap (λ (l : Links). l.next) its_links) ∙ is) in
           left_has_entry u tags at.0 at.1 p at.2
 
       pub shown_removed : (below : list < length q.lists) (e other : Ends) → e ≡ get_or ends entry.list other → (front back : Option ℕ) → front ≡ first_with_next e.front entry.links.before entry.links.next → back ≡ first_with_next e.back entry.links.next entry.links.before
-          → (u new : Entries) → links_of u ≡ with_next (links_of t) entry.links.before entry.links.next → tags_of u ≡ tags_of t → links_of new ≡ with_before (links_of u) entry.links.next entry.links.before → tags_of new ≡ tags_of u
+          → (u new : Entries Entry) → links_of u ≡ with_next (links_of t) entry.links.before entry.links.next → tags_of u ≡ tags_of t → links_of new ≡ with_before (links_of u) entry.links.next entry.links.before → tags_of new ≡ tags_of u
           → IsShown (with_queue q list (before ++ after)) (set ends entry.list (record { front = front; back = back; len = e.len - 1 })) new
       shown_removed below e other read front back front_is back_is u new links_u tags_u links_new tags_new =
           let written : Ends = record { front = front; back = back; len = e.len - 1 } in
@@ -375,8 +407,8 @@ map-replicate : {X Y : Type 0} (f : X → Y) (x : X) (n : ℕ) → map f (replic
 map-replicate f x zero = refl
 map-replicate f x (suc n) = λ i. f x ∷ map-replicate f x n i
 
-AreLinked-empty : (lists processes : ℕ) → processes ≤ 1048576 → lists ≤ 1048576 → AreLinked (empty_queues lists processes) (replicate lists (ends_of [])) (replicate processes unlinked) (replicate processes None)
-AreLinked-empty lists processes small few = record {
+AreLinked-empty : (lists processes : ℕ) → processes ≤ 1048576 → AreLinked (empty_queues lists processes) (replicate lists (ends_of [])) (replicate processes unlinked) (replicate processes None)
+AreLinked-empty lists processes small = record {
   at_ends = sym (map-replicate ends_of [] lists);
   chains = λ list. subst (λ ks. IsChain (replicate processes unlinked) None (processes_of ks) None) (sym (no_queue lists list)) tt;
   no_repeat = λ list. subst (λ ks. NoRepeat (processes_of ks)) (sym (no_queue lists list)) tt;
@@ -388,11 +420,10 @@ AreLinked-empty lists processes small few = record {
   many_links = length-replicate processes unlinked;
   many_tags = length-replicate {A = Option (Key × ℕ)} processes None;
   small = small;
-  few_lists = omega (arith, few, length-replicate {A = List Key} lists []);
 }
 
-pub shown_empty : (lists processes : ℕ) (ends : List Ends) (s : Entries) → ends ≡ replicate lists (ends_of []) → s ≡ replicate processes None → processes ≤ 1048576 → lists ≤ 1048576 → IsShown (empty_queues lists processes) ends s
-shown_empty lists processes ends s ends_are_none s_is small few =
+pub shown_empty : (lists processes : ℕ) (ends : List Ends) (s : Entries Entry) → ends ≡ replicate lists (ends_of []) → s ≡ replicate processes None → processes ≤ 1048576 → IsShown (empty_queues lists processes) ends s
+shown_empty lists processes ends s ends_are_none s_is small =
     let links : links_of s ≡ replicate processes unlinked = ap links_of s_is ∙ map-replicate links_in None processes in
     let tags : tags_of s ≡ replicate processes None = ap tags_of s_is ∙ map-replicate tag_in None processes in
-    shown _ _ s (rw (ends_are_none, links, tags) (AreLinked-empty lists processes small few))
+    shown _ _ s (rw (ends_are_none, links, tags) (AreLinked-empty lists processes small))

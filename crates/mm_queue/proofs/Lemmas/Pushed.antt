@@ -136,5 +136,4 @@ module _ (q : Queues) (ends : List Ends) (links : List Links) (tags : List (Opti
     many_links = length-with_next (set links key.process _) (last_or None xs) (Some key.process) ∙ length-set links key.process _ ∙ linked.many_links;
     many_tags = length-set tags key.process _ ∙ linked.many_tags;
     small = linked.small;
-    few_lists = omega (arith, length-set q.lists list pushed, linked.few_lists);
   }

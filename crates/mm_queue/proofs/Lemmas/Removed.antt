@@ -154,7 +154,6 @@ module _ (q : Queues) (ends : List Ends) (links : List Links) (tags : List (Opti
     many_links = length-taken_out links key.process had ∙ linked.many_links;
     many_tags = length-set tags key.process None ∙ linked.many_tags;
     small = linked.small;
-    few_lists = omega (arith, length-set q.lists list left, linked.few_lists);
   }
 
   -- the neighbours have keys that are left

@@ -45,6 +45,18 @@ fn put_hello(
     Ok(())
 }
 
+// By process, which has a value.
+#[test]
+fn takes_by_process(rt: HostRuntime) -> Result<(), Fail> {
+    let mut shelf = Shelf::<u64>::new(rt.alloc(), 2)?;
+    same(&rt, shelf.put(key(1, 3), 7), None);
+    same(&rt, shelf.stored_generation(1), 3);
+    *shelf.stored_mut(1) = 8;
+    same(&rt, shelf.take_stored(1), (key(1, 3), 8));
+    same(&rt, shelf.key_at(1), None);
+    Ok(())
+}
+
 // The values are not `Copy`, and what is left is dropped with the shelf.
 #[test]
 fn writes_a_text_where_it_stands(rt: HostRuntime) -> Result<(), Fail> {
