@@ -9,4 +9,5 @@ mod queue;
 mod same;
 mod shelf;
 mod table;
+mod wake;
 mod work;
