@@ -1,4 +1,4 @@
-//! One module for each library, and `shelf` for the shelves of mm_arena.
+//! One module for each library, `shelf` for the shelves of mm_arena, and `wake` for mm_examples.
 
 mod arena;
 mod label;
