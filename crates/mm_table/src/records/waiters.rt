@@ -9,6 +9,7 @@ use mm_marks::Marks;
 
 impl Records {
     /// Adds all that wait for what `holder` owns. `O(its resources + their waiters)`.
+    #[inline(always)]
     pub(super) fn add_waiters(&self, holder: u32, marks: &mut Marks)
         requires holder { holder < self.now.config.processes }
         requires sized { length marks.old ≡ self.now.config.processes }
