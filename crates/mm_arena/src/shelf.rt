@@ -107,15 +107,14 @@ impl<T> Shelf<T> {
         Some(*key)
     }
 
-    /// The value that a process has, under whatever key, in constant time. `None` exactly where it has none, or is not below the capacity.
+    /// The value of a process that has one, under whatever key, in constant time.
     #[inline]
-    pub fn of_process(&self, process: u32) -> Option<&T>
-        ensures { option_copied result ≡ option_map (λ entry. entry.1) (entry_at self.now process) }
+    pub fn stored(&self, process: u32) -> &T
+        requires { HasValue self.now process }
+        ensures { option_map (λ entry. entry.1) (entry_at self.now process) ≡ Some result.now }
     {
-        match self.entries.get(process as usize) {
-            Some(Some((_, value))) => Some(value),
-            _ => None,
-        }
+        let entry = self.entries[process as usize].as_ref().unwrap();
+        &entry.1
     }
 
     /// The generation of the key under which a process has a value, in constant time, where the caller knows that it has one.

@@ -103,14 +103,13 @@ impl Lists {
         })
     }
 
-    /// The process whose key comes after that of this process in its list, in constant time. `None` for the last of a list, and for
-    /// a process that stands in no list.
+    /// The process whose key comes after that of a process which stands in a list, in constant time. `None` for the last of the list.
     #[inline]
     pub fn next_process(&self, process: u32) -> Option<u32>
-        ensures listed { IsNextProcess self.now process result }
-        ensures absent { ¬ IsOccupied self.now process → IsNone result }
+        requires { IsOccupied self.now process }
+        ensures { IsNextProcess self.now process result }
     {
-        let Links { next, .. } = self.entries.of_process(process)?.links;
+        let Links { next, .. } = self.entries.stored(process).links;
         next.get()
     }
 

@@ -51,12 +51,11 @@ impl Transactions {
         self.queues.front(resource)
     }
 
-    /// The process that waits next after this one for the same resource, in constant time. `None` for the last of a queue, and for
-    /// a process that does not wait.
+    /// The process that waits next after a waiting one for the same resource, in constant time. `None` for the last of a queue.
     #[inline]
     pub fn next_waiter(&self, process: u32) -> Option<u32>
-        ensures listed { IsNextWaiter self.now.waits process result }
-        ensures absent { waited_for self.now.waits process ≡ None → IsNone result }
+        requires { waited_for self.now.waits process ≢ None }
+        ensures { IsNextWaiter self.now.waits process result }
     {
         self.queues.next_process(process)
     }

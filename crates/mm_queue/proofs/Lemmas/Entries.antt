@@ -221,21 +221,6 @@ module _ (q : Queues) (ends : List Ends) (s : Entries Entry) (linked : AreLinked
   value_there list k p e among own is =
       value_read s k e (ap (entry_at s) own ∙ entry_is (entry_at s p) k e (key_read list k p among own) is)
 
-  pub value_none : (list : ℕ) (k : Key) (p : ℕ) → Among k (queue q list) → k.process ≡ p → option_map (λ (x : Key × Entry). x.1) (entry_at s p) ≡ None → ⊥
-  value_none list k p among own none = by (entry_at s p) (key_read list k p among own) none
-    where
-      by : (o : Option (Key × Entry)) → option_map (λ (x : Key × Entry). x.0) o ≡ Some k → option_map (λ (x : Key × Entry). x.1) o ≡ None → ⊥
-      by None key_is value_is = none-some k key_is
-      by (Some x) key_is value_is = none-some x.1 (sym value_is)
-
-  -- a process that has a value stands in a list
-  pub occupied_by : (p : ℕ) (e : Entry) → option_map (λ (x : Key × Entry). x.1) (entry_at s p) ≡ Some e → IsOccupied q p
-  occupied_by p e is = by (entry_at s p) refl is
-    where
-      by : (o : Option (Key × Entry)) → entry_at s p ≡ o → option_map (λ (x : Key × Entry). x.1) o ≡ Some e → IsOccupied q p
-      by None at none = absurd (none-some e none)
-      by (Some x) at some = occupied_tag p (Some x) at x refl
-
   -- a key is kept under its own process
   pub its_process : (p : ℕ) (k : Key) → option_map (λ (x : Key × Entry). x.0) (entry_at s p) ≡ Some k → k.process ≡ p
   its_process p k is = by (entry_at s p) refl is

@@ -9,7 +9,7 @@ use Rattle.mm_lists.specs.Members.{Among, NoRepeat}
 use Rattle.mm_lists.proofs.Lemmas.Among.{all_map, all_from}
 use Rattle.mm_lists.proofs.Lemmas.Filter.{filter_gives, filter_swap, filter_not}
 use Rattle.mm_lists.proofs.Lemmas.NoRepeat.{no_repeat_filter, found_by_number}
-use Rattle.mm_rules.specs.TableState.{TableState, Wait, is_of, is_live, is_waiting, waiters_of}
+use Rattle.mm_rules.specs.TableState.{TableState, Wait, is_of, is_live, is_waiting, wait_of, waiters_of}
 use Rattle.mm_rules.specs.Change.{activate, block_fits, give_to, give_to_fits, hand_over, hand_over_fits}
 use Rattle.mm_rules.specs.Event.{release_answer}
 use Rattle.mm_rules.specs.declared.reply.Released.TheVariants.{To}
@@ -54,6 +54,13 @@ lawful_waits t s fits is lawful = subst HasLawfulWaits is (record {
   once = lawful.once;
   within = λ w among. omega (arith, (lawful.in_range w among).0, fits.sizes.slots);
 })
+
+-- who is in a queue waits
+pub queued_waits : (s : TableState) (r : ℕ) (w : Wait) (n : ℕ) → HasLawfulWaits s → Among w (waiters_of s r) → w.key.process ≡ n → wait_of s n ≢ None
+queued_waits s r w n lawful among is none =
+    let found = found_by_number (λ (v : Wait). v.key.process) s.waits w n lawful.once (filter_gives (λ v. nat_eq v.resource r) s.waits w among).0 is in
+    let never : Some w.resource ≡ None = sym (ap (option_map (λ (v : Wait). v.resource)) found) ∙ none in
+    cc
 
 -- the waits are as before once r is free
 pub same_waits : (s free : TableState) (r : ℕ) → free ≡ record s { owners = slice_set s.owners r None } → HasLawfulWaits free → HasLawfulWaits s
@@ -133,6 +140,11 @@ module _ (s : TableState) (r : ℕ) (key : Key) (first : Some key ≡ first_key 
 
   pub waiting : is_waiting s key.process ≡ true
   waiting = ap (λ o. is_some (option_map (λ (w : Wait). w.resource) o)) (found_by_number (λ (w : Wait). w.key.process) s.waits one.wait key.process once among its_process)
+
+  pub first_waits : wait_of s key.process ≢ None
+  first_waits none =
+      let never : true ≡ false = sym waiting ∙ ap is_some none in
+      cc
 
   pub answer : To key ≡ release_answer (waiters_of s r)
   answer = ap To (sym one.key_is) ∙ ap release_answer (sym one.queue_is)

@@ -1,6 +1,7 @@
 -- A queue that is walked from one waiter to the next, by their processes.
-use Rattle.std.proofs.Common.{◌≡◌, ℕ, ◌<◌, List, [], ◌∷◌, ◌++◌, length, map, Option, Some, None, option_map, refl, ap, subst, ◌∙◌, arith}
-use Rattle.mm_lists.specs.Members.{NoRepeat}
+use Rattle.std.proofs.Common.{◌≡◌, ℕ, ◌<◌, List, [], ◌∷◌, ◌++◌, length, map, Option, Some, None, option_map, inl, refl, ap, sym, subst, ◌∙◌, arith}
+use Rattle.mm_lists.specs.Members.{Among, NoRepeat}
+use Rattle.mm_lists.proofs.Lemmas.Among.{among_right}
 use Rattle.mm_lists.proofs.Lemmas.Walk.{first_number, rest_from, rest_from-part}
 use Rattle.mm_rules.specs.TableState.{Wait}
 use Rattle.mm_transactions.specs.Transactions.{queue_of, first_key, IsNextWaiter}
@@ -35,6 +36,10 @@ pub record Passes (queue : List Wait) (n : ℕ) (left : List Wait) : Type 0 wher
 pub passes : (queue : List Wait) (n : ℕ) (left : List Wait) → IsAt queue (Some n) left → Passes queue n left
 passes queue n [] at = (let never : Some n ≡ None = at.first in absurd (cc))
 passes queue n (w ∷ others) at = record { wait = w; others = others; left_is = refl; process_is = (let same : Some n ≡ Some w.key.process = at.first in cc) }
+
+-- it is in the queue
+pub at_among : (queue : List Wait) (n : ℕ) (left : List Wait) → IsAt queue (Some n) left → (one : Passes queue n left) → Among one.wait queue
+at_among queue n left at one = subst (Among one.wait) (sym at.whole) (among_right at.passed left one.wait (subst (Among one.wait) (sym one.left_is) (inl refl)))
 
 pub append_one : (xs : List Wait) (w : Wait) (ys : List Wait) → xs ++ w ∷ ys ≡ (xs ++ w ∷ []) ++ ys
 append_one [] w ys = refl

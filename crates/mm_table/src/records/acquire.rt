@@ -138,7 +138,9 @@ impl Records {
         requires { process < self.old.config.processes }
         ensures { self.new ≡ labelled self.old process label }
     {
-        self.greatest = self.greatest.max(label.counter());
+        if label.counter() > self.greatest {
+            self.greatest = label.counter();
+        }
         let blocked = &mut self.labels[process as usize];
         blocked.private = label;
         blocked.public = label;

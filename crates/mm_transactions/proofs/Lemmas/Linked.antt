@@ -1,14 +1,14 @@
 -- The queues when a wait starts and when one stops, whatever the waits are read off.
 use Rattle.std.proofs.Common.{◌≡◌, ◌≢◌, ℕ, ◌<◌, ◌≤◌, Bool, true, false, not, List, [], ◌∷◌, ◌++◌, length, map, filter, nat_eq, find, if◌then◌else◌, Option, Some, None, replicate, refl, sym, ap, subst, ◌∙◌, inl, inr, arith, append-nil, length-set, get_or-set_same, get_or-set_other}
-use Rattle.std.proofs.lemmas.Bool.{cases_eq, cases_lt, eq-eqb, ne_eqb}
+use Rattle.std.proofs.lemmas.Bool.{cases_Bool, cases_eq, cases_lt, eq-eqb, eqb-true, ne_eqb}
 use Rattle.std.proofs.lemmas.List.{map-append, length-replicate, get_or-replicate, get_or_past}
 use Rattle.std.proofs.lemmas.List.Elements.{filter-append}
 use Rattle.std.specs.Option.{option_map}
 use Rattle.mm_arena.specs.declared.key.Key.{Key}
 use Rattle.mm_lists.specs.Members.{Among}
-use Rattle.mm_lists.proofs.Lemmas.Among.{all_at}
+use Rattle.mm_lists.proofs.Lemmas.Among.{all_at, among_map}
 use Rattle.mm_lists.proofs.Lemmas.Cut.{cut_at}
-use Rattle.mm_lists.proofs.Lemmas.Filter.{filter_swap, filter_not, filter_only, only_among, none_pass, filter_map}
+use Rattle.mm_lists.proofs.Lemmas.Filter.{filter_keeps, filter_swap, filter_not, filter_only, only_among, none_pass, filter_map}
 use Rattle.mm_queue.specs.Queues.{Queues, queue, with_queue, first, IsOccupied, IsNextProcess, Removes}
 use Rattle.mm_rules.specs.TableState.{Wait, is_of, waited_for}
 use Rattle.mm_transactions.specs.Transactions.{queue_of, first_key, IsNextWaiter}
@@ -126,9 +126,22 @@ idle_none n (w ∷ ws) idle = by (is_of n w) refl (idle_none n ws)
     by true its rest = (let never : Some w.resource ≡ None = ap tested (sym its) ∙ idle in absurd (cc))
     by false other rest = rw other (rest (ap tested (sym other) ∙ idle))
 
--- and stands in no queue
-pub idle_stands_nowhere : (q : Queues) (ws : List Wait) (n : ℕ) → IsLinked q ws → waited_for ws n ≡ None → IsOccupied q n → ⊥
-idle_stands_nowhere q ws n linked idle = not_occupied q ws n linked (idle_none n ws idle)
+found : (ws : List Wait) (n : ℕ) → waited_for ws n ≢ None → (w : Wait) × Among w ws × (w.key.process ≡ n)
+found [] n some = absurd (some refl)
+found (w ∷ ws) n some = elim (cases_Bool (nat_eq w.key.process n)) [
+  | inl mine ↦ (w, inl refl, eqb-true w.key.process n mine)
+  | inr other ↦ let rest = found ws n (rw other at some) in (rest.0, inr rest.1, rest.2)
+]
+
+-- who waits stands in a queue
+pub waiting_stands : (q : Queues) (ws : List Wait) (n : ℕ) → IsLinked q ws → ((r : ℕ) → length q.lists ≤ r → queue_of ws r ≡ []) → waited_for ws n ≢ None → IsOccupied q n
+waiting_stands q ws n linked past some =
+    let one = found ws n some in
+    let w = one.0 in
+    let r = w.resource in
+    let queued : Among w (queue_of ws r) = filter_keeps (λ v. nat_eq v.resource r) ws w one.1 (eq-eqb r r refl) in
+    let below : r < length q.lists = elim (cases_lt r (length q.lists)) [ inl low ↦ low | inr over ↦ absurd (subst (Among w) (past r over) queued) ] in
+    (w.key, one.2, (r, subst (Among w.key) (sym (linked r below)) (among_map (λ v. v.key) (queue_of ws r) w queued)))
 
 pub first_is : (ws : List Wait) → first (map key ws) ≡ first_key ws
 first_is [] = refl

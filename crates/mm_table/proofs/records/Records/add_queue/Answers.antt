@@ -1,13 +1,13 @@
 use Rattle.std.proofs.Common.{◌<◌, ◌∷◌, List, length, Some, option_map, refl, ap, sym, subst, ◌∙◌, arith}
 use Rattle.std.specs.List.{AllByRecursion}
 use Rattle.mm_arena.specs.declared.key.Key.{Key}
-use Rattle.mm_rules.specs.TableState.{Wait, waiters_of}
+use Rattle.mm_rules.specs.TableState.{Wait, waited_for, waiters_of}
 use Rattle.mm_transactions.specs.Transactions.{first_key, IsNextWaiter}
 use Rattle.mm_settle.specs.private.Added.{AddsAll}
 use Rattle.mm_settle.proofs.Lemmas.Added.{adds_nobody}
 use Rattle.mm_table.proofs.Fields.Adding.{AddsUpTo, adding_starts, adding_next, adding_ends}
-use Rattle.mm_table.proofs.Fields.Walk.{left_from, at_start, at_next, fewer_left, IsAt, Passes, passes}
-use Rattle.mm_table.proofs.Fields.HandOver.{HasLawfulWaits, lawful_waits, nobody, once_queue, queue_within}
+use Rattle.mm_table.proofs.Fields.Walk.{left_from, at_start, at_among, at_next, fewer_left, IsAt, Passes, passes}
+use Rattle.mm_table.proofs.Fields.HandOver.{HasLawfulWaits, lawful_waits, queued_waits, nobody, once_queue, queue_within}
 use Rattle.mm_table.proofs.records.Records.add_queue.Goals as goal
 
 pub returns-in_default : goal.returns-in_default
@@ -42,7 +42,7 @@ one c = passes (waiters_of c.args.self.now c.args.resource) c.in-Some-next.proce
 then : (c : goal.After-next_waiter-next) → IsAt (waiters_of c.args.self.now c.args.resource) c.next_waiter-next.result (one c).others
 then c =
     let s = c.args.self.now in
-    let is_next = subst (λ (ws : List Wait). IsNextWaiter ws c.in-Some-next.process c.next_waiter-next.result) (ap (λ s. s.waits) c.self.view_is) c.next_waiter-next.ensures.listed in
+    let is_next = subst (λ (ws : List Wait). IsNextWaiter ws c.in-Some-next.process c.next_waiter-next.result) (ap (λ s. s.waits) c.self.view_is) c.next_waiter-next.ensures in
     at_next s.waits (waiters_of s c.args.resource) c.args.resource c.in-Some-next.process c.next_waiter-next.result c.loop-next.invariant.left refl (at c) (one c) is_next
 
 within : (c : goal.After-next_waiter-next) → AllByRecursion (λ (w : Wait). w.key.process < c.args.self.now.config.processes) ((one c).wait ∷ (one c).others)
@@ -56,6 +56,17 @@ add-requires c =
     let one = passes queue n c.loop-next.invariant.left (subst (λ o. IsAt queue o c.loop-next.invariant.left) c.in-Some-next.is c.loop-next.invariant.at) in
     let within = (subst (λ (ws : List Wait). AllByRecursion (λ w. w.key.process < s.config.processes) ws) one.left_is c.loop-next.invariant.within).0 in
     omega (arith, within, one.process_is, c.loop-next.invariant.added.added.sized, c.requires.sized)
+
+pub next_waiter-next-requires : goal.next_waiter-next-requires
+next_waiter-next-requires c = λ none.
+    let s = c.args.self.now in
+    let r = c.args.resource in
+    let n = c.in-Some-next.process in
+    let left = c.loop-next.invariant.left in
+    let at = subst (λ o. IsAt (waiters_of s r) o left) c.in-Some-next.is c.loop-next.invariant.at in
+    let one = passes (waiters_of s r) n left at in
+    let lawful = lawful_waits c.self.inside s c.self.invariant c.self.view_is c.first_waiter.ensures.lawful in
+    queued_waits s r one.wait n lawful (at_among (waiters_of s r) n left at one) one.process_is (sym (ap (λ t. waited_for t.waits n) c.self.view_is) ∙ none)
 
 pub loop-next-smaller : goal.loop-next-smaller
 loop-next-smaller c =

@@ -1,15 +1,15 @@
 use Rattle.std.proofs.Common.{◌≡◌, ◌<◌, List, length, Some, option_map, ap, sym, subst, ◌∙◌, arith}
 use Rattle.mm_arena.specs.declared.key.Key.{Key}
-use Rattle.mm_rules.specs.TableState.{TableState, Wait, public_of, waiters_of}
+use Rattle.mm_rules.specs.TableState.{TableState, Wait, public_of, waited_for, waiters_of}
 use Rattle.mm_rules.specs.private.Stages.{blocked_on}
 use Rattle.mm_transactions.specs.Transactions.{first_key, IsNextWaiter}
 use Rattle.mm_settle.specs.private.Added.{AddsAll}
 use Rattle.mm_settle.proofs.Lemmas.Added.{adds_nobody}
 use Rattle.mm_table.specs.private.LabelLimit.{label_under, labelled}
 use Rattle.mm_table.proofs.Fields.Adding.{AddsUpTo, adding_starts, adding_next}
-use Rattle.mm_table.proofs.Fields.Walk.{left_from, at_start, fewer_left}
+use Rattle.mm_table.proofs.Fields.Walk.{left_from, at_start, at_among, fewer_left}
 use Rattle.mm_table.proofs.Fields.BlockQueue.{IsUnderWay, starts, one, its_own, at_another, blocked}
-use Rattle.mm_table.proofs.Fields.HandOver.{lawful_waits, nobody, once_queue, queue_within}
+use Rattle.mm_table.proofs.Fields.HandOver.{lawful_waits, queued_waits, nobody, once_queue, queue_within}
 use Rattle.mm_table.proofs.records.Records.block_queue.Goals as goal
 
 pub returns-in_default : goal.returns-in_default
@@ -37,7 +37,19 @@ way : (c : goal.After-next_waiter-next) → IsUnderWay c.args.self.now c.loop-ne
 way c = subst (IsUnderWay c.args.self.now c.loop-next.self c.args.resource c.args.holder) c.in-Some-next.is c.loop-next.invariant.way
 
 is_next : (c : goal.After-next_waiter-next) → IsNextWaiter c.loop-next.self.waits c.in-Some-next.process c.next_waiter-next.result
-is_next c = subst (λ (ws : List Wait). IsNextWaiter ws c.in-Some-next.process c.next_waiter-next.result) (ap (λ s. s.waits) (c.self-in-Some-next.view_is ∙ c.block_under.ensures)) c.next_waiter-next.ensures.listed
+is_next c = subst (λ (ws : List Wait). IsNextWaiter ws c.in-Some-next.process c.next_waiter-next.result) (ap (λ s. s.waits) (c.self-in-Some-next.view_is ∙ c.block_under.ensures)) c.next_waiter-next.ensures
+
+pub next_waiter-next-requires : goal.next_waiter-next-requires
+next_waiter-next-requires c = λ none.
+    let old = c.args.self.now in
+    let s = c.loop-next.self in
+    let r = c.args.resource in
+    let n = c.in-Some-next.process in
+    let way = subst (IsUnderWay old s r c.args.holder) c.in-Some-next.is c.loop-next.invariant.way in
+    let first = one old s r c.args.holder n way in
+    let lawful = lawful_waits c.self.inside old c.self.invariant c.self.view_is c.first_waiter.ensures.lawful in
+    queued_waits old r first.wait n lawful (at_among (waiters_of old r) n way.left way.at first) first.process_is
+    (sym (ap (λ ws. waited_for ws n) (ap (λ t. t.waits) (c.self-in-Some-next.view_is ∙ c.block_under.ensures) ∙ way.waits)) ∙ none)
 
 pub loop-next-smaller : goal.loop-next-smaller
 loop-next-smaller c =
