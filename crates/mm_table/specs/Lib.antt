@@ -1,10 +1,11 @@
--- the rules, passed on, so that callers name this crate alone
+-- the rules, and whom an event changes, passed on, so that callers name this crate alone
 pub use Rattle.mm_rules.specs.Graph
 pub use Rattle.mm_rules.specs.Refusal
 pub use Rattle.mm_rules.specs.TableState
 pub use Rattle.mm_rules.specs.Change
 pub use Rattle.mm_rules.specs.Event
 pub use Rattle.mm_rules.specs.Laws
+pub use Rattle.mm_settle.specs.Touched
 pub use Rattle.mm_rules.specs.declared.config
 pub use Rattle.mm_rules.specs.declared.refusal
 pub use Rattle.mm_rules.specs.declared.reply

@@ -90,9 +90,9 @@ impl Table {
         self.records.release(key, resource, &mut self.changed)
     }
 
-    /// `release`, which also lists whom to wake: in `wake` stand then, in place of what it held, all processes whose labels, wait,
-    /// holder or verdict the call changed, each once, by rising number. These are the new owner and the waiters behind it, with their
-    /// new labels; none where the call is refused. `wake` has room for each process, and no memory is taken.
+    /// `release`, which also lists whom to wake: `wake` then has, in place of what it had, all processes whose labels, wait, holder or
+    /// verdict the call changed, each once, by rising number. These are the new owner and the waiters behind it, with their new labels;
+    /// none where the call is refused. `wake` has room for each process, and no memory is taken.
     ///
     /// A caller goes on from each of them by its key (`tenant`) and what it does now (`state`): one that is active was given the resource.
     ///

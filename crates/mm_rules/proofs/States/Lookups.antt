@@ -139,18 +139,3 @@ module _ (s : TableState) (formed : WellFormed s) where
 
 pub waiting_is_some : (s : TableState) (n h : ℕ) → WaitsFor (graph_of s) n h → IsTrue (is_waiting s n)
 waiting_is_some s n h waits = let holder : IsHolder s n h = is_holder s n h waits in rw holder.waits refl
-
--- in a well formed state whoever has no holder does not wait
-pub unheld_idle : (s : TableState) → WellFormed s → (n : ℕ) → holder_of s n ≡ None → is_waiting s n ≡ false
-unheld_idle s formed n unheld = by (wait_of s n) refl
-  where
-    by : (o : Option ℕ) → wait_of s n ≡ o → is_waiting s n ≡ false
-    by None idle = ap is_some idle
-    by (Some r) waits =
-        let here : WaitsHere s n r = waits_here s n r waits in
-        let owned = held s formed here.wait here.among in
-        let holder : holder_of s n ≡ Some owned.0.process =
-        ap (λ (o : Option ℕ). option_map (λ (k : Key). k.process) (option_and_then (owner_of s) o)) waits
-        ∙ ap (λ q. option_map (λ (k : Key). k.process) (owner_of s q)) (sym here.resource) ∙ ap (option_map (λ (k : Key). k.process)) owned.1 in
-        let never : None ≡ Some owned.0.process = sym unheld ∙ holder in
-        absurd (cc)

@@ -1,14 +1,9 @@
 -- Stages of an event, as the contracts of a table's private functions see them.
-use Rattle.std.specs.Prelude.{◌≡◌, ◌≢◌, ℕ, not, List, [], ◌∷◌, fold, nat_eq}
+use Rattle.std.specs.Prelude.{◌≡◌, ◌≢◌, ℕ, List, fold}
 use Rattle.std.specs.List.{AllByRecursion}
-use Rattle.mm_rules.specs.declared.refusal.Refusal.TheVariants.{AlreadyOwns, LabelsExhausted}
 use Rattle.mm_rules.specs.TableState.{TableState, Wait}
-use Rattle.mm_rules.specs.Change.{block, block_fits, swept, total_raises}
-use Rattle.mm_rules.specs.Event.{Tests, Settles}
-
--- the last tests of an acquire of what process h owns
-abbrev pub wait_tests : TableState → ℕ → ℕ → Tests
-wait_tests s n h = (nat_eq h n, AlreadyOwns) ∷ (not (block_fits s n h), LabelsExhausted) ∷ []
+use Rattle.mm_rules.specs.Change.{block, swept, total_raises}
+use Rattle.mm_rules.specs.Event.{Settles}
 
 -- each of these, in turn, is blocked on process h
 abbrev pub blocked_on : TableState → ℕ → List Wait → TableState

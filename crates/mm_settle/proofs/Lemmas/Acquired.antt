@@ -38,8 +38,3 @@ touches_grant s k r set formed free = touches_nobody s (acquire_change s k r Non
     let owned = held s formed here.wait here.among in
     let never : None ≡ Some owned.0 = sym free ∙ ap (owner_of s) (sym here.resource) ∙ owned.1 in
     absurd (cc)))
-
--- a slot that is taken changes no labels, waits and verdicts
-pub touches_begin : (s : TableState) (free : List ℕ) (live : List Bool) (set : List Bool) → Touches s (record s { free = free; live = live }) set set
-touches_begin s free live set =
-    touches_nobody s (record s { free = free; live = live }) set (λ n. record { private = refl; public = refl; wait = refl; holder = refl; verdict = refl })

@@ -1,15 +1,14 @@
 -- Between two settles: whoever may transmit or newly detect is among the changed, or its holder is; and how these become pending.
-use Rattle.std.proofs.Common.{◌≡◌, ◌⊎◌, ◌&&◌, ◌+◌, ℕ, Bool, true, false, not, List, length, slice_set, Option, Some, None, is_some, if◌then◌else◌, inl, inr, refl, sym, ap, ◌∙◌, arith}
+use Rattle.std.proofs.Common.{◌≡◌, ◌⊎◌, ◌&&◌, ◌+◌, ℕ, Bool, true, false, not, List, slice_set, Option, Some, None, is_some, if◌then◌else◌, inl, inr, refl, sym, ap, ◌∙◌, arith}
 use Rattle.std.specs.Option.{option_map_or}
 use Rattle.std.proofs.lemmas.Bool.{cases_Bool, cases_eq, cases_lt}
 use Rattle.mm_label.specs.Label.{label_lt, label_eq}
 use Rattle.mm_rules.specs.TableState.{TableState, has_verdict, holder_of}
 use Rattle.mm_rules.specs.Change.{can_transmit, can_detect, detect}
 use Rattle.mm_lists.proofs.Lemmas.Set.{true_still}
-use Rattle.mm_rules.specs.Laws.{Laws}
 use Rattle.mm_rules.proofs.States.Detect.{detect_still, detect_convicts}
-use Rattle.mm_marks.specs.Marks.{has, HasNoneFrom, IsNext}
-use Rattle.mm_settle.specs.private.Marked.{AddsWaiters, AreMarked}
+use Rattle.mm_marks.specs.Marks.{has, IsNext}
+use Rattle.mm_settle.specs.private.Marked.{AddsWaiters}
 use Rattle.mm_settle.specs.private.Changed.{holder_in, AreChanged, ChangesOnly, IsLoading}
 use Rattle.mm_settle.proofs.Lemmas.Frames.{greater_from, detects_from, idle_transmits_not, idle_detects_not}
 use Rattle.mm_settle.proofs.Lemmas.Passes.{has_cleared, has_apart, not_cleared}
@@ -125,24 +124,6 @@ module _ (s : TableState) (from : ℕ) (changed pending more : List Bool) (way :
     ];
   }
 
--- when nobody is left among the changed, the pending are marked as a settle wants them
-pub loading_ends : (s : TableState) (from : ℕ) (changed pending checks : List Bool) → Laws s → length pending ≡ s.config.processes → length checks ≡ s.config.processes
-    → IsLoading s from changed pending → HasNoneFrom changed from → AreMarked s pending checks
-loading_ends s from changed pending checks laws pending_sized checks_sized way none =
-    let gone : (k : ℕ) → has changed k ≡ false = λ k. elim (cases_lt k from) [ inl low ↦ way.below k low | inr high ↦ none k high ] in
-    let far : (k : ℕ) → holder_in s changed k ≡ false = λ k. by_option gone (holder_of s k) in
-    record {
-      laws = laws;
-      transmits = λ k out. way.transmits k (gone k) (far k) out;
-      detects = λ k out unchecked. way.detects k (gone k) (far k) out;
-      pending_sized = pending_sized;
-      checks_sized = checks_sized;
-    }
-  where
-    by_option : ((k : ℕ) → has changed k ≡ false) → (o : Option ℕ) → option_map_or (has changed) o false ≡ false
-    by_option gone None = refl
-    by_option gone (Some h) = gone h
-
 -- where nobody can transmit or newly detect, nobody need be among the changed
 pub none_changed : (s : TableState) (changed : List Bool) → ((k : ℕ) → can_transmit s k ≡ false) → ((k : ℕ) → can_detect s k ≡ false) → AreChanged s changed
 none_changed s changed transmits detects = record { transmits = λ k out far. transmits k; detects = λ k out far. detects k }
@@ -151,6 +132,3 @@ none_changed s changed transmits detects = record { transmits = λ k out far. tr
 pub loading_turn : (s : TableState) (from : ℕ) (changed pending more : List Bool) → IsLoading s from changed pending → (n : ℕ) → IsNext changed from n
     → ((holder_of s n ≡ None) ⊎ (has more n ≡ true)) → AddsWaiters s n pending more → (taken : List Bool) → taken ≡ slice_set changed n false → IsLoading s (n + 1) taken more
 loading_turn s from changed pending more way n next mine adds taken cleared = rw cleared (loading_next s from changed pending more way n next mine adds)
-
-pub loaded_none : (s : TableState) (from : ℕ) (changed pending : List Bool) → IsLoading s from changed pending → HasNoneFrom changed from → (k : ℕ) → has changed k ≡ false
-loaded_none s from changed pending way none k = elim (cases_lt k from) [ inl low ↦ way.below k low | inr high ↦ none k high ]

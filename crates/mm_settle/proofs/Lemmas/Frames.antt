@@ -3,7 +3,7 @@ use Rattle.std.proofs.Common.{◌≡◌, ◌≢◌, ◌&&◌, ◌<◌, ℕ, Bool
 use Rattle.std.specs.Option.{option_map_or}
 use Rattle.std.proofs.lemmas.Bool.{cases_Bool, not-true}
 use Rattle.mm_label.specs.Label.{Label, label_lt, label_eq, label_le, opening_label}
-use Rattle.mm_rules.specs.TableState.{TableState, private_of, public_of, has_verdict, holder_of, is_waiting, waiting_processes}
+use Rattle.mm_rules.specs.TableState.{TableState, private_of, public_of, has_verdict, holder_of, is_waiting}
 use Rattle.mm_rules.specs.Change.{greater_label, can_transmit, transmit, can_detect}
 use Rattle.mm_rules.specs.Laws.{Laws}
 use Rattle.mm_rules.proofs.States.LabelOrder.{label_eq_true, label_le_same}
@@ -40,13 +40,6 @@ module _ (s : TableState) (n k : ℕ) where
       by : (o : Option Label) → public_of (option_map_or (shown s n) o s) k ≡ public_of s k
       by None = refl
       by (Some l) = get_or-set_other s.public n k l (opening_label k) apart
-
-pub transmit_waiting : (s : TableState) (n : ℕ) → waiting_processes (transmit s n) ≡ waiting_processes s
-transmit_waiting s n = by (greater_label s n)
-  where
-    by : (o : Option Label) → waiting_processes (option_map_or (shown s n) o s) ≡ waiting_processes s
-    by None = refl
-    by (Some l) = refl
 
 pub transmit_config : (s : TableState) (n : ℕ) → (transmit s n).config ≡ s.config
 transmit_config s n = by (greater_label s n)

@@ -1,18 +1,16 @@
 -- Whom a settle changes: those whose labels it raises, and those to whom it gives a verdict.
-use Rattle.std.proofs.Common.{◌≡◌, ◌≢◌, ◌⊎◌, ◌<◌, ℕ, Bool, true, false, List, length, IsTrue, inl, inr, refl, sym, ap, ◌∙◌, get_or-set_other}
+use Rattle.std.proofs.Common.{◌≡◌, ◌≢◌, ◌⊎◌, ℕ, Bool, true, false, List, IsTrue, inl, inr, refl, sym, ap, ◌∙◌}
 use Rattle.std.proofs.lemmas.Bool.{cases_Bool, cases_eq, not-true}
 use Rattle.mm_label.specs.Label.{Label, label_lt, label_le}
 use Rattle.mm_rules.specs.TableState.{TableState, public_of, has_verdict}
-use Rattle.mm_rules.specs.Change.{can_transmit, transmit, can_detect, detect}
+use Rattle.mm_rules.specs.Change.{can_transmit, transmit}
 use Rattle.mm_rules.specs.Laws.{Laws}
 use Rattle.mm_rules.proofs.States.LabelOrder.{label_le_then, label_le_lt}
-use Rattle.mm_rules.proofs.States.Detect.{convicted, detect_convicts}
 use Rattle.mm_marks.specs.Marks.{has}
 use Rattle.mm_settle.specs.Touched.{IsChanged, Touches}
 use Rattle.mm_settle.specs.private.Added.{Adds}
 use Rattle.mm_settle.specs.private.Settling.{IsSettling}
 use Rattle.mm_settle.proofs.Lemmas.Frames.{transmit_holder, transmit_private, transmit_verdict, transmit_public, raised_shows}
-use Rattle.mm_settle.proofs.Lemmas.Checks.{due_had_none, due_has_one}
 use Rattle.mm_settle.proofs.Lemmas.Added.{adds_kept}
 use Rattle.mm_settle.proofs.Lemmas.Changed.{not_kept}
 use Rattle.mm_settle.proofs.Lemmas.Touched.{unchanged, unchanged_then, transmit_wait, greater_is_changed}
@@ -109,22 +107,6 @@ settling_transmit s n old new laws can adds = record {
   where
     up : (k : ℕ) → k ≡ n → label_lt (public_of s k) (public_of (transmit s n) k) ≡ true
     up k e = rw e (raised_shows s n laws can)
-
-pub settling_detect : (s : TableState) (n : ℕ) (old new : List Bool) → n < length s.verdicts → can_detect s n ≡ true → Adds n old new → IsSettling s (detect s n) old new
-settling_detect s n old new within can adds =
-    let given : has_verdict (convicted s n) n ≡ true = ap (λ (t : TableState). has_verdict t n) (sym (detect_convicts s n can)) ∙ due_has_one s n within can in
-    let else_verdict : (k : ℕ) → k ≢ n → has_verdict (convicted s n) k ≡ has_verdict s k = λ k apart. get_or-set_other s.verdicts n k true false apart in
-    rw (detect_convicts s n can) (record {
-      kept = adds_kept n old new adds;
-      others = λ k out. record { private = refl; public = refl; wait = refl; holder = refl; verdict = else_verdict k (out_apart n k old new adds out) };
-      rises = λ k. inl refl;
-      stands = λ k v. elim (cases_eq k n) [ inl e ↦ ap (has_verdict (convicted s n)) e ∙ given | inr apart ↦ else_verdict k apart ∙ v ];
-      changed = λ k here. elim (cases_eq k n) [
-        | inl e ↦ inr (inr (ap (has_verdict s) e ∙ due_had_none s n can, ap (has_verdict (convicted s n)) e ∙ given))
-        | inr apart ↦ inl (sym (adds.others k apart) ∙ here)
-      ];
-      sized = adds.sized;
-    })
 
 -- ---- the whole of it
 

@@ -14,7 +14,7 @@ use Rattle.mm_settle.specs.Touched.{IsUnchanged, IsChanged, Touches, is_changed,
 use Rattle.mm_settle.specs.private.Marked.{IsNoneMarked}
 use Rattle.mm_settle.specs.private.Changed.{AreChanged}
 use Rattle.mm_settle.proofs.Lemmas.Changed.{changes_keep}
-use Rattle.mm_settle.proofs.Lemmas.Touched.{unchanged, touches_changes}
+use Rattle.mm_settle.proofs.Lemmas.Touched.{touches_changes}
 
 -- ---- the test
 
@@ -95,9 +95,6 @@ told s t old new touched none sized =
 filter_nobody : (p : ℕ → Bool) (ns : List ℕ) → ((n : ℕ) → p n ≡ false) → filter p ns ≡ []
 filter_nobody p [] none = refl
 filter_nobody p (n ∷ ns) none = rw (none n) (filter_nobody p ns none)
-
-pub told_nobody : (s : TableState) → changed_processes s s ≡ []
-told_nobody s = filter_nobody (is_changed s s) (range_with_len 0 s.config.processes) (λ n. unchanged_not s s n (unchanged s n))
 
 -- the count of events touches nobody
 pub touches_counted : (s t : TableState) (old new : List Bool) (totals : Totals) → Touches s t old new → Touches s (record t { totals = totals }) old new

@@ -7,20 +7,18 @@ use Rattle.mm_arena.specs.declared.key.Key.{Key}
 use Rattle.mm_lists.proofs.Lemmas.Filter.{filter_gives}
 use Rattle.mm_lists.proofs.Lemmas.NoRepeat.{found_by_number}
 use Rattle.mm_lists.specs.Members.{Among}
-use Rattle.mm_rules.specs.TableState.{TableState, Wait, public_of, has_verdict, owner_of, wait_of, waited_for, waiters_of}
-use Rattle.mm_rules.specs.Change.{greater_label, can_transmit, transmit, can_detect, detect, block, label_against, activate, give_to, hand_over}
+use Rattle.mm_rules.specs.TableState.{TableState, Wait, public_of, owner_of, wait_of, waited_for, waiters_of}
+use Rattle.mm_rules.specs.Change.{greater_label, can_transmit, transmit, block, label_against, activate, give_to, hand_over}
 use Rattle.mm_rules.specs.private.Stages.{blocked_on}
 use Rattle.mm_rules.specs.Laws.{Laws}
 use Rattle.mm_rules.proofs.States.Lookups.{waiter_within}
 use Rattle.mm_rules.proofs.States.Transmit.{shown}
 use Rattle.mm_rules.proofs.States.Activate.{waits_no_longer, waits_else}
-use Rattle.mm_rules.proofs.States.Detect.{convicted, detect_convicts}
 use Rattle.mm_marks.specs.Marks.{has}
 use Rattle.mm_settle.specs.Touched.{IsUnchanged, IsChanged, Touches}
 use Rattle.mm_settle.specs.private.Added.{Adds, AddsAll}
 use Rattle.mm_settle.specs.private.Changed.{ChangesOnly}
 use Rattle.mm_settle.proofs.Lemmas.Frames.{transmit_holder, transmit_private, transmit_verdict, transmit_public, not_below_itself, raised_shows}
-use Rattle.mm_settle.proofs.Lemmas.Checks.{due_had_none, due_has_one}
 use Rattle.mm_settle.proofs.Lemmas.Changed.{not_kept}
 use Rattle.mm_settle.proofs.Lemmas.Waiters.{in_queue}
 
@@ -102,15 +100,6 @@ touches_transmit s n old new laws can adds =
     (greater_is_changed s (transmit s n) n (raised_shows s n laws can))
 
 -- ---- a detect
-
-pub touches_detect : (s : TableState) (n : ℕ) (old new : List Bool) → n < length s.verdicts → can_detect s n ≡ true → Adds n old new → Touches s (detect s n) old new
-touches_detect s n old new within can adds =
-    rw (detect_convicts s n can) (touches_one s (convicted s n) n old new adds
-    (λ k apart. record { private = refl; public = refl; wait = refl; holder = refl; verdict = get_or-set_other s.verdicts n k true false apart })
-    (λ same.
-    let stands : has_verdict (convicted s n) n ≡ true = rw (detect_convicts s n can) at (due_has_one s n within can) in
-    let never : true ≡ false = sym stands ∙ same.verdict ∙ due_had_none s n can in
-    cc))
 
 -- ---- blocks
 

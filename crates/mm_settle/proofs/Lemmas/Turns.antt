@@ -1,6 +1,6 @@
 -- A turn of a pass, whether it raised or not.
-use Rattle.std.proofs.Common.{◌≡◌, ◌+◌, ℕ, Bool, true, false, List, slice_set, sym, ap, subst, ◌∙◌, arith}
-use Rattle.mm_rules.specs.TableState.{TableState, holder_of}
+use Rattle.std.proofs.Common.{◌≡◌, ◌+◌, ℕ, Bool, true, false, List, slice_set, sym, subst, ◌∙◌, arith}
+use Rattle.mm_rules.specs.TableState.{TableState}
 use Rattle.mm_rules.specs.Change.{can_transmit, transmit}
 use Rattle.mm_marks.specs.Marks.{IsNext}
 use Rattle.mm_settle.specs.private.Marked.{AddsWaiters}
@@ -12,13 +12,6 @@ use Rattle.mm_settle.proofs.Lemmas.Passes.{pass_still, pass_raises}
 -- who waits for n does not change by a transmit
 adds_after : (s : TableState) (n : ℕ) (old new : List Bool) → AddsWaiters s n old new → AddsWaiters (transmit s n) n old new
 adds_after s n old new adds = record { kept = adds.kept; added = λ k waits. adds.added k (sym (transmit_holder s n k) ∙ waits); sized = adds.sized }
-
-pub adds_before : (s t : TableState) (n : ℕ) (old new : List Bool) → t ≡ transmit s n → AddsWaiters t n old new → AddsWaiters s n old new
-adds_before s t n old new is adds = record {
-  kept = adds.kept;
-  added = λ k waits. adds.added k (ap (λ u. holder_of u k) is ∙ transmit_holder s n k ∙ waits);
-  sized = adds.sized;
-}
 
 module _ (s : TableState) (from raises : ℕ) (pending checks : List Bool) (now : TableState)
     (way : IsPassing s from raises pending checks now) (n : ℕ) (next : IsNext pending from n) where

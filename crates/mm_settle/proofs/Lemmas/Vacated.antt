@@ -52,7 +52,7 @@ pub held_at_first : (s : TableState) (n : ℕ) → HeldAreUnchanged s s n
 held_at_first s n k holds = unchanged s k
 
 module _ (s t : TableState) (n r : ℕ) (key : Key) (laws : Laws t) (owned : owner_of t r ≡ Some key) (its : key.process ≡ n) (held : HeldAreUnchanged s t n) where
-  -- whoever waits for r is held up by n
+  -- whoever waits for r has n as holder
   holds : (k : ℕ) → wait_of t k ≡ Some r → holder_of t k ≡ Some n
   holds k waits = ap (λ o. option_map (λ (j : Key). j.process) (option_and_then (owner_of t) o)) waits ∙ ap (option_map (λ (j : Key). j.process)) owned ∙ ap Some its
 
@@ -64,7 +64,7 @@ module _ (s t : TableState) (n r : ℕ) (key : Key) (laws : Laws t) (owned : own
         | inr other ↦ inr (hand_over_else t r laws k other)
       ])
 
-  -- those that n holds up afterwards did not wait for r
+  -- those whose holder n is afterwards did not wait for r
   pub held_next : ((k : ℕ) → wait_of t k ≡ Some r → holder_of (hand_over t r) k ≢ Some n) → HeldAreUnchanged s (hand_over t r) n
   held_next gone k holds_now = elim (waits_or (wait_of t k) r) [
     | inl waits ↦ absurd (gone k waits holds_now)
@@ -73,7 +73,7 @@ module _ (s t : TableState) (n r : ℕ) (key : Key) (laws : Laws t) (owned : own
         unchanged_then s t (hand_over t r) k (held k (sym after.holder ∙ holds_now)) after
   ]
 
--- ---- who waited for what is handed over is held up by its new owner, or by nobody
+-- ---- whoever waited for what is handed over has its new owner as holder, or none
 
 blocks_owners : (s : TableState) (h : ℕ) (ws : List Wait) → (blocked_on s h ws).owners ≡ s.owners
 blocks_owners s h [] = refl

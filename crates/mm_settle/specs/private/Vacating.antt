@@ -3,7 +3,7 @@ use Rattle.std.specs.Prelude.{◌≡◌, ℕ, Bool, List, Some, None}
 use Rattle.mm_rules.specs.TableState.{TableState, holder_of, wait_of}
 use Rattle.mm_settle.specs.Touched.{IsUnchanged, Touches}
 
--- those that n still holds up are as they were at s
+-- those whose holder n still is are as they were at s
 abbrev pub HeldAreUnchanged : TableState → TableState → ℕ → Type 0
 HeldAreUnchanged s t n = (k : ℕ) → holder_of t k ≡ Some n → IsUnchanged s t k
 

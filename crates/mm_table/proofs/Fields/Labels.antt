@@ -1,7 +1,7 @@
 -- The labels of a process: how they are written and read.
-use Rattle.std.proofs.Common.{◌≡◌, ℕ, zero, suc, ◌<◌, ◌≤◌, true, List, [], ◌∷◌, arith, subst, map, slice_index_or, slice_set, Option, refl, ap, sym, ◌∙◌, length-set}
+use Rattle.std.proofs.Common.{◌≡◌, ℕ, zero, suc, ◌<◌, ◌≤◌, true, List, [], ◌∷◌, arith, subst, map, slice_index_or, slice_set, Option, refl, ap, ◌∙◌, length-set}
 use Rattle.std.proofs.Math.Seq.{map-set_same}
-use Rattle.std.proofs.lemmas.List.{map-set, get_or-map}
+use Rattle.std.proofs.lemmas.List.{map-set}
 use Rattle.mm_arena.specs.declared.key.Key.{Key}
 use Rattle.std.proofs.lemmas.Bool.{le-leb}
 use Rattle.mm_label.specs.Label.{Label, opening_label}
@@ -41,10 +41,6 @@ sized_labels {c} {t} {ls} n l sizes = record {
   lists = sizes.lists;
   owners = sizes.owners;
 }
-
-pub public_read : {c : Config} {s : Transactions} {ls : List Labels} {os : Ownership} → AreSized c s ls os
-    → (n : ℕ) (l : Labels) (d : Label) → n < c.processes → l ≡ slice_index_or ls n l → slice_index_or (map (λ q. q.public) ls) n d ≡ l.public
-public_read {c} {s} {ls} sizes n l d h is = get_or-map (λ q. q.public) ls n l d (rw sizes.labels h) ∙ ap (λ q. q.public) (sym is)
 
 -- ---- no public label has a counter above the greatest
 

@@ -1,5 +1,5 @@
 //! A resource is granted, or its owner is waited for with a new label.
-ghost use Rattle.std.specs.Prelude.{◌≡◌, ◌<◌, ◌≤◌, ◌+◌, ◌^◌, ◌∷◌, ◌++◌, [], IsTrue, None, Some, length, slice_set, Ok, Err, is_some, MatchOption, SomeIff, true, false};
+ghost use Rattle.std.specs.Prelude.{◌≡◌, ◌<◌, ◌≤◌, ◌+◌, ◌^◌, ◌∷◌, ◌++◌, [], IsTrue, None, Some, length, slice_set, MatchOption, SomeIff, true, false};
 ghost use Rattle.mm_rules.specs.TableState.{wait_of, owner_of, public_of, is_live};
 ghost use Rattle.mm_rules.specs.Change.{block_fits, label_against};
 ghost use Rattle.mm_rules.specs.Event.{Gives, acquired};

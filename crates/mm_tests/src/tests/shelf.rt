@@ -50,6 +50,7 @@ fn put_hello(
 fn takes_by_process(rt: HostRuntime) -> Result<(), Fail> {
     let mut shelf = Shelf::<u64>::new(rt.alloc(), 2)?;
     same(&rt, shelf.put(key(1, 3), 7), None);
+    same(&rt, *shelf.stored(1), 7);
     same(&rt, shelf.stored_generation(1), 3);
     *shelf.stored_mut(1) = 8;
     same(&rt, shelf.take_stored(1), (key(1, 3), 8));
