@@ -43,6 +43,7 @@ pub mod SweepLoop
 pub mod SettleStep
 -- what the counts become, and the live key of a process
 pub mod Totals
+pub mod Counts
 pub mod Tenants
 -- all events, and what follows
 pub mod Determined

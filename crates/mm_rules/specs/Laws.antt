@@ -1,14 +1,16 @@
 -- What holds of every state that is reached.
-use Rattle.std.specs.Prelude.{◌≡◌, ◌≢◌, ℕ, ◌+◌, ◌*◌, ◌<◌, ◌≤◌, false, ⊤, List, [], ◌∷◌, length, map, Some, MatchOption, Result, Ok, IsTrue, IsFalse, count_by, slice_get}
+use Rattle.std.specs.Prelude.{◌≡◌, ◌≢◌, ℕ, ◌+◌, ◌*◌, ◌<◌, ◌≤◌, false, ⊤, List, [], ◌∷◌, length, map, Some, MatchOption, Result, Ok, Err, IsTrue, IsFalse, count_by, slice_get}
 use Rattle.std.specs.List.{AllByRecursion}
 use Rattle.mm_label.specs.Label.{label_le, label_lt, word_of}
 use Rattle.mm_rules.specs.declared.config.Config.{Config}
 use Rattle.mm_arena.specs.declared.key.Key.{Key}
 use Rattle.mm_rules.specs.declared.refusal.Refusal.{Refusal}
+use Rattle.mm_rules.specs.declared.reply.Detected.TheVariants.{Deadlock}
 use Rattle.mm_rules.specs.declared.reply.Settled.{Settled}
+use Rattle.mm_rules.specs.declared.reply.Totals.{Totals}
 use Rattle.mm_rules.specs.declared.reply.Transmitted.TheVariants.{Raised}
 use Rattle.mm_rules.specs.TableState.{TableState, Wait, IsInRange, IsSized, opening, is_live, private_of, public_of, has_verdict, owner_of, is_waiting, waiting_processes, graph_of}
-use Rattle.mm_rules.specs.Event.{Event, Begin, Transmit, Detect, Settle, Answer, Step, Run, IsReached, Settles}
+use Rattle.mm_rules.specs.Event.{Event, Begin, Transmit, Detect, Abort, Settle, Answer, Step, Run, IsReached, Settles}
 use Rattle.mm_lists.specs.Members.{Among, NoRepeat}
 use Rattle.mm_rules.specs.Graph.{Cycle, LabelReturned, Deadlocked, IsGreatest, PropagatedLaw, RisingLaw, ToppedLaw, IsSettled}
 
@@ -136,6 +138,29 @@ KeysAreFresh = (old new : TableState) (k : Key) → Step Begin old (Ok k) new �
 abbrev pub KeysNeverReturn : Type 0
 KeysNeverReturn = (e : Event) (old mid new : TableState) (reply : Result (Answer e) Refusal) (es : List Event) → Step e old reply mid → Run mid es new → Laws old
     → (k : Key) → IsTrue (is_live old k) → IsFalse (is_live mid k) → IsFalse (is_live new k)
+
+-- ---- counts
+
+-- how many verdicts an accepted event gives, by its answer
+abbrev pub verdicts_made : (e : Event) → Answer e → ℕ
+verdicts_made (Detect k) (Deadlock l) = 1
+verdicts_made Settle answer = answer.verdicts
+verdicts_made e answer = 0
+
+-- how many aborts an accepted event makes
+abbrev pub aborts_made : Event → ℕ
+aborts_made (Abort k) = 1
+aborts_made e = 0
+
+-- an accepted event is counted, and so are the verdicts and aborts that it makes; a refused one counts nothing
+abbrev pub Counts : (e : Event) → Result (Answer e) Refusal → Totals → Totals → Type 0
+Counts e (Ok answer) old new =
+    (new.accepted ≡ old.accepted + 1) × (new.verdicts ≡ old.verdicts + verdicts_made e answer) × (new.aborts ≡ old.aborts + aborts_made e)
+Counts e (Err refusal) old new = new ≡ old
+
+-- so it is with every event, in any state
+abbrev pub CountsAreExact : Type 0
+CountsAreExact = (e : Event) (old new : TableState) (reply : Result (Answer e) Refusal) → Step e old reply new → Counts e reply old.totals new.totals
 
 -- ---- raises, and what settling gives
 

@@ -1,5 +1,5 @@
 //! Facts about all tables. Each function does nothing; its contract is the fact, over the definitions of `specs/`.
-ghost use Rattle.mm_rules.specs.Laws.{EventsKeepLaws, KeysAreFresh, KeysNeverReturn, LawsAreNotEmpty, OpeningIsLawful, PublicLabelsNeverFall, QuietHasNoCycle, RaisesAreBounded, ReachedIsLawful, SettleEnds, SettleGivesRest, StepsAreDetermined, VerdictsAreSound};
+ghost use Rattle.mm_rules.specs.Laws.{CountsAreExact, EventsKeepLaws, KeysAreFresh, KeysNeverReturn, LawsAreNotEmpty, OpeningIsLawful, PublicLabelsNeverFall, QuietHasNoCycle, RaisesAreBounded, ReachedIsLawful, SettleEnds, SettleGivesRest, StepsAreDetermined, VerdictsAreSound};
 
 /// The state of a table that was just opened keeps all laws, whatever its configuration, as long as that is in range.
 pub fn opening_is_lawful()
@@ -39,6 +39,12 @@ pub fn quiet_has_no_cycle()
 /// No event lowers a public label.
 pub fn public_labels_never_fall()
     ensures { PublicLabelsNeverFall }
+{}
+
+/// An accepted event adds one to the accepted events, the verdicts that it gives to the verdicts, and one to the aborts where it is an
+/// abort. A refused one changes none of the three.
+pub fn counts_are_exact()
+    ensures { CountsAreExact }
 {}
 
 /// Begin gives a key that was not live.

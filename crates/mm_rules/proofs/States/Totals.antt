@@ -34,17 +34,20 @@ free_slot_totals s n = elim (cases_Bool (nat_lt (slice_index s.generations n) s.
 pub vacate_totals : (s : TableState) (n : ℕ) → (vacate s n).totals ≡ s.totals
 vacate_totals s n = free_slot_totals (fold hand_over s (resources_of s n)) n ∙ all_totals s (resources_of s n)
 
--- ---- sweeps count nothing, and detects no accepted event
+-- ---- sweeps count nothing, and detects no accepted event and no abort
 
 shown_totals : (s : TableState) (n : ℕ) (o : Option Label) → (option_map_or (shown s n) o s).totals ≡ s.totals
 shown_totals s n None = refl
 shown_totals s n (Some l) = refl
 
+pub transmit_totals : (s : TableState) (n : ℕ) → (transmit s n).totals ≡ s.totals
+transmit_totals s n = shown_totals s n (greater_label s n)
+
 transmits_totals : (s : TableState) (ns : List ℕ) → (fold transmit s ns).totals ≡ s.totals
 transmits_totals s [] = refl
-transmits_totals s (n ∷ ns) = transmits_totals (transmit s n) ns ∙ shown_totals s n (greater_label s n)
+transmits_totals s (n ∷ ns) = transmits_totals (transmit s n) ns ∙ transmit_totals s n
 
-swept_totals : (s : TableState) (n : ℕ) → (swept s n).totals ≡ s.totals
+pub swept_totals : (s : TableState) (n : ℕ) → (swept s n).totals ≡ s.totals
 swept_totals s zero = refl
 swept_totals s (suc n) = transmits_totals (swept s n) (waiting_processes (swept s n)) ∙ swept_totals s n
 
@@ -60,3 +63,13 @@ detect_accepted s n = elim (cases_Bool (can_detect s n)) [
 pub detects_accepted : (s : TableState) (ns : List ℕ) → (fold detect s ns).totals.accepted ≡ s.totals.accepted
 detects_accepted s [] = refl
 detects_accepted s (n ∷ ns) = detects_accepted (detect s n) ns ∙ detect_accepted s n
+
+detect_aborts : (s : TableState) (n : ℕ) → (detect s n).totals.aborts ≡ s.totals.aborts
+detect_aborts s n = elim (cases_Bool (can_detect s n)) [
+  | inl can ↦ ap (λ (t : TableState). t.totals.aborts) (detect_convicts s n can)
+  | inr no_detect ↦ ap (λ (t : TableState). t.totals.aborts) (detect_still s n no_detect)
+]
+
+pub detects_aborts : (s : TableState) (ns : List ℕ) → (fold detect s ns).totals.aborts ≡ s.totals.aborts
+detects_aborts s [] = refl
+detects_aborts s (n ∷ ns) = detects_aborts (detect s n) ns ∙ detect_aborts s n

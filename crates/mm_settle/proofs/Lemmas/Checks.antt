@@ -1,5 +1,5 @@
 -- The detects of those that are left to check are the detects of all that wait.
-use Rattle.std.proofs.Common.{◌≡◌, ◌≢◌, ◌+◌, ◌-◌, ◌<◌, ◌≤◌, ◌&&◌, ℕ, Bool, true, false, not, List, [], ◌∷◌, None, length, filter, fold, count_by, slice_set, inl, inr, refl, sym, ap, ◌∙◌, arith, length-set, get_or-set_same, get_or-set_other}
+use Rattle.std.proofs.Common.{◌≡◌, ◌≢◌, ◌+◌, ◌-◌, ◌<◌, ◌≤◌, ◌&&◌, ℕ, Bool, true, false, not, List, [], ◌∷◌, None, length, filter, fold, count_by, slice_set, inl, inr, refl, sym, ap, ◌∙◌, arith, length-set, get_or-set_same}
 use Rattle.std.specs.Option.{option_map_or}
 use Rattle.std.specs.List.{range_with_len}
 use Rattle.std.proofs.lemmas.Bool.{cases_Bool, cases_eq, cases_lt, and_parts, not-true}
@@ -10,6 +10,7 @@ use Rattle.mm_rules.specs.Change.{can_transmit, can_detect, detect}
 use Rattle.mm_rules.specs.Laws.{Laws}
 use Rattle.mm_lists.proofs.Lemmas.Range.{among_range_gives}
 use Rattle.mm_lists.proofs.Lemmas.Set.{true_within}
+use Rattle.mm_rules.proofs.States.Counts.{detect_apart, verdicts_after, count_same}
 use Rattle.mm_rules.proofs.States.Detect.{convicted, detect_still, detect_convicts, detect_keeps}
 use Rattle.mm_marks.specs.Marks.{has, HasNoneFrom, IsNext}
 use Rattle.mm_settle.specs.private.Pass.{ahead}
@@ -19,18 +20,6 @@ use Rattle.mm_settle.proofs.Lemmas.Skips.{one, count_first, skip_detects, skip_d
 use Rattle.mm_settle.proofs.Lemmas.Passes.{has_apart, has_cleared}
 
 -- ---- what a detect does not touch
-
-convicted_apart : (s : TableState) (n k : ℕ) → k ≢ n → can_detect (convicted s n) k ≡ can_detect s k
-convicted_apart s n k apart =
-    ap (λ (v : Bool). not v && label_eq (private_of s k) (public_of s k) && option_map_or (λ h. label_eq (public_of s k) (public_of s h)) (holder_of s k) false)
-    (get_or-set_other s.verdicts n k true false apart)
-
--- a detect of n leaves whether another process can detect
-pub detect_apart : (s : TableState) (n k : ℕ) → k ≢ n → can_detect (detect s n) k ≡ can_detect s k
-detect_apart s n k apart = elim (cases_Bool (can_detect s n)) [
-  | inl can ↦ ap (λ (t : TableState). can_detect t k) (detect_convicts s n can) ∙ convicted_apart s n k apart
-  | inr no_detect ↦ ap (λ (t : TableState). can_detect t k) (detect_still s n no_detect)
-]
 
 pub detect_holder : (s : TableState) (n k : ℕ) → holder_of (detect s n) k ≡ holder_of s k
 detect_holder s n k = elim (cases_Bool (can_detect s n)) [
@@ -81,18 +70,6 @@ detect_config s n = elim (cases_Bool (can_detect s n)) [
   | inl can ↦ ap (λ (t : TableState). t.config) (detect_convicts s n can)
   | inr no_detect ↦ ap (λ (t : TableState). t.config) (detect_still s n no_detect)
 ]
-
-verdicts_after : (s : TableState) (n : ℕ) → (detect s n).totals.verdicts ≡ s.totals.verdicts + one (can_detect s n)
-verdicts_after s n = elim (cases_Bool (can_detect s n)) [
-  | inl can ↦ rw can refl
-  | inr no_detect ↦ rw no_detect (omega arith)
-]
-
-count_same : (p q : ℕ → Bool) (ns : List ℕ) → ((k : ℕ) → Among k ns → p k ≡ q k) → count_by p ns ≡ count_by q ns
-count_same p q [] same = refl
-count_same p q (n ∷ ns) same =
-    let rest = count_same p q ns (λ k later. same k (inr later)) in
-    omega (arith, count_first p n ns, count_first q n ns, ap one (same n (inl refl)), rest)
 
 -- ---- all processes in place of those that wait
 
