@@ -1,0 +1,52 @@
+//! The end of a shared table.
+ghost use Rattle.std.specs.Prelude.{◌≡◌, ◌≢◌, IfOk, IfErr};
+
+use crate::name::Name;
+use crate::pass::{ALL_PARTS, Pass};
+use crate::shared::SharedTable;
+use mm_table::Refusal;
+use std::sync::ledger::Ledger;
+
+/// What a shared table counted from its opening to its end: the table's totals.
+#[derive(Clone, Copy, Debug, PartialEq, Eq)]
+pub struct Report {
+    /// Accepted events.
+    pub accepted: u64,
+    /// Verdicts, by `detect` and by `settle`.
+    pub verdicts: u64,
+    /// Accepted aborts.
+    pub aborts: u64,
+}
+
+/// The table was not closed, since the pass does not have all parts. It gives both back.
+#[derive(Drop)]
+pub struct CloseRefused<N: Name, A: Ledger, V: Ledger, B: Ledger> {
+    /// `SharesMissing`.
+    pub refusal: Refusal,
+    pub table: SharedTable<N, A, V, B>,
+    pub pass: Pass<N, A, V, B>,
+}
+
+impl<N: Name, A: Ledger, V: Ledger, B: Ledger> SharedTable<N, A, V, B> {
+    /// Ends the table, and reports what it counted: that is what the pass has counted, once all passes are joined into it.
+    ///
+    /// Refused as `SharesMissing` exactly where the pass does not have all parts; the table and the pass are then given back, both as
+    /// they were. It takes no lock, since nobody else has the table, and no memory. Constant time, apart from giving the table's
+    /// memory back.
+    pub fn close(self, pass: Pass<N, A, V, B>) -> Result<Report, CloseRefused<N, A, V, B>>
+        ensures closed { IfOk result (λ report. (pass.parts ≡ ALL_PARTS) × (report.accepted ≡ pass.accepted) × (report.verdicts ≡ pass.verdicts) × (report.aborts ≡ pass.aborts)) }
+        ensures refused { IfErr result (λ refused. (pass.parts ≢ ALL_PARTS) × (refused.refusal ≡ Refusal.SharesMissing) × (refused.table ≡ self) × (refused.pass ≡ pass)) }
+    {
+        if pass.parts() != ALL_PARTS {
+            return Err(CloseRefused {
+                refusal: Refusal::SharesMissing,
+                table: self,
+                pass,
+            });
+        }
+        self.has_all_parts();
+        let mut pass = pass;
+        let mut inside = self.into_inside();
+        Ok(inside.report(&mut pass))
+    }
+}

@@ -1,0 +1,233 @@
+//! The value behind the lock of a shared table.
+ghost use Rattle.std.specs.Prelude.{◌≡◌, ◌+◌, OnOk, OnErr, IfOk};
+ghost use Rattle.mm_rules.specs.Event.{Step, Begin, Acquire, Release, Finish, Transmit, Detect, Abort, Settle, state_of, owner_told, tenant_of};
+ghost use Rattle.mm_rules.specs.Laws.{HasSoundVerdicts, verdicts_made};
+ghost use Rattle.mm_shared.specs.Booked.{Booked};
+
+use crate::close::Report;
+use crate::name::Name;
+use crate::pass::Pass;
+use mm_table::{Acquired, Detected, Key, Refusal, Released, Settled, State, Table, Transmitted};
+use std::marker::PhantomData;
+use std::sync::ledger::{Book, Ledger};
+
+/// The value behind the lock: a table, and the books of three ledgers that count its accepted events, its verdicts and its aborts.
+///
+/// The books equal the table's totals in every value of this type, and the table keeps all laws of mm_rules by its own type. So both
+/// hold of whatever a thread finds behind the lock. Only `Prepared::open` makes one.
+#[derive(Drop)]
+pub struct Inside<N: Name, A: Ledger, V: Ledger, B: Ledger> {
+    board: PhantomData<N>,
+    table: Table,
+    accepted: Book<A>,
+    verdicts: Book<V>,
+    aborts: Book<B>,
+    ghost booked: { Booked table.totals accepted.total verdicts.total aborts.total },
+}
+
+/// Each event makes the one call of its name on the table, without a lock. Where that is accepted, it adds one to the pass's first
+/// share, the new verdicts to its second, and one to its third where it is an abort; where it is refused, nothing changes.
+impl<N: Name, A: Ledger, V: Ledger, B: Ledger> Inside<N, A, V, B> {
+    /// The table and books that stand in a new shared table.
+    pub(crate) fn new(
+        table: Table,
+        accepted: Book<A>,
+        verdicts: Book<V>,
+        aborts: Book<B>,
+    ) -> Inside<N, A, V, B>
+        requires { Booked table.totals accepted.total verdicts.total aborts.total }
+        ensures { result.table ≡ table }
+    {
+        Inside {
+            board: PhantomData,
+            table,
+            accepted,
+            verdicts,
+            aborts,
+        }
+    }
+
+    /// `Table::begin`. Constant time.
+    pub fn begin(&mut self, pass: &mut Pass<N, A, V, B>) -> Result<Key, Refusal>
+        ensures step { Step Begin self.old.table result self.new.table }
+        ensures first { OnOk result (pass.new.accepted ≡ pass.old.accepted + 1) }
+        ensures second { pass.new.verdicts ≡ pass.old.verdicts }
+        ensures third { pass.new.aborts ≡ pass.old.aborts }
+        ensures others { pass.new.parts ≡ pass.old.parts }
+        ensures refused { OnErr result (pass.new ≡ pass.old) }
+    {
+        let key = self.table.begin()?;
+        pass.count_accepted(&mut self.accepted);
+        Ok(key)
+    }
+
+    /// `Table::acquire`. Constant time.
+    pub fn acquire(
+        &mut self,
+        pass: &mut Pass<N, A, V, B>,
+        key: Key,
+        resource: u32,
+    ) -> Result<Acquired, Refusal>
+        ensures step { Step (Acquire key resource) self.old.table result self.new.table }
+        ensures first { OnOk result (pass.new.accepted ≡ pass.old.accepted + 1) }
+        ensures second { pass.new.verdicts ≡ pass.old.verdicts }
+        ensures third { pass.new.aborts ≡ pass.old.aborts }
+        ensures others { pass.new.parts ≡ pass.old.parts }
+        ensures refused { OnErr result (pass.new ≡ pass.old) }
+    {
+        let answer = self.table.acquire(key, resource)?;
+        pass.count_accepted(&mut self.accepted);
+        Ok(answer)
+    }
+
+    /// `Table::release`. `O(waiters of the resource)`.
+    pub fn release(
+        &mut self,
+        pass: &mut Pass<N, A, V, B>,
+        key: Key,
+        resource: u32,
+    ) -> Result<Released, Refusal>
+        ensures step { Step (Release key resource) self.old.table result self.new.table }
+        ensures first { OnOk result (pass.new.accepted ≡ pass.old.accepted + 1) }
+        ensures second { pass.new.verdicts ≡ pass.old.verdicts }
+        ensures third { pass.new.aborts ≡ pass.old.aborts }
+        ensures others { pass.new.parts ≡ pass.old.parts }
+        ensures refused { OnErr result (pass.new ≡ pass.old) }
+    {
+        let answer = self.table.release(key, resource)?;
+        pass.count_accepted(&mut self.accepted);
+        Ok(answer)
+    }
+
+    /// `Table::finish`. `O(its resources + their waiters)`.
+    pub fn finish(&mut self, pass: &mut Pass<N, A, V, B>, key: Key) -> Result<(), Refusal>
+        ensures step { Step (Finish key) self.old.table result self.new.table }
+        ensures first { OnOk result (pass.new.accepted ≡ pass.old.accepted + 1) }
+        ensures second { pass.new.verdicts ≡ pass.old.verdicts }
+        ensures third { pass.new.aborts ≡ pass.old.aborts }
+        ensures others { pass.new.parts ≡ pass.old.parts }
+        ensures refused { OnErr result (pass.new ≡ pass.old) }
+    {
+        self.table.finish(key)?;
+        pass.count_accepted(&mut self.accepted);
+        Ok(())
+    }
+
+    /// `Table::transmit`. Constant time.
+    pub fn transmit(
+        &mut self,
+        pass: &mut Pass<N, A, V, B>,
+        key: Key,
+    ) -> Result<Transmitted, Refusal>
+        ensures step { Step (Transmit key) self.old.table result self.new.table }
+        ensures first { OnOk result (pass.new.accepted ≡ pass.old.accepted + 1) }
+        ensures second { pass.new.verdicts ≡ pass.old.verdicts }
+        ensures third { pass.new.aborts ≡ pass.old.aborts }
+        ensures others { pass.new.parts ≡ pass.old.parts }
+        ensures refused { OnErr result (pass.new ≡ pass.old) }
+    {
+        let answer = self.table.transmit(key)?;
+        pass.count_accepted(&mut self.accepted);
+        Ok(answer)
+    }
+
+    /// `Table::detect`. A new verdict counts in the second share; one that stands already does not. Constant time.
+    pub fn detect(&mut self, pass: &mut Pass<N, A, V, B>, key: Key) -> Result<Detected, Refusal>
+        ensures step { Step (Detect key) self.old.table result self.new.table }
+        ensures first { OnOk result (pass.new.accepted ≡ pass.old.accepted + 1) }
+        ensures second { IfOk result (λ answer. pass.new.verdicts ≡ pass.old.verdicts + verdicts_made (Detect key) answer) }
+        ensures third { pass.new.aborts ≡ pass.old.aborts }
+        ensures others { pass.new.parts ≡ pass.old.parts }
+        ensures refused { OnErr result (pass.new ≡ pass.old) }
+    {
+        let answer = self.table.detect(key)?;
+        let new_verdicts = match answer {
+            Detected::Deadlock(_) => 1,
+            Detected::Standing => 0,
+            Detected::Clear => 0,
+        };
+        pass.count_accepted(&mut self.accepted);
+        pass.count_verdicts(&mut self.verdicts, new_verdicts);
+        Ok(answer)
+    }
+
+    /// `Table::abort`. It counts in the third share. `O(its resources + their waiters)`.
+    pub fn abort(&mut self, pass: &mut Pass<N, A, V, B>, key: Key) -> Result<(), Refusal>
+        ensures step { Step (Abort key) self.old.table result self.new.table }
+        ensures first { OnOk result (pass.new.accepted ≡ pass.old.accepted + 1) }
+        ensures second { pass.new.verdicts ≡ pass.old.verdicts }
+        ensures third { OnOk result (pass.new.aborts ≡ pass.old.aborts + 1) }
+        ensures others { pass.new.parts ≡ pass.old.parts }
+        ensures refused { OnErr result (pass.new ≡ pass.old) }
+    {
+        self.table.abort(key)?;
+        pass.count_accepted(&mut self.accepted);
+        pass.count_abort(&mut self.aborts);
+        Ok(())
+    }
+
+    /// `Table::settle`. The verdicts that it gives count in the second share. It costs what `Table::settle` costs.
+    pub fn settle(&mut self, pass: &mut Pass<N, A, V, B>) -> Result<Settled, Refusal>
+        ensures step { Step Settle self.old.table result self.new.table }
+        ensures first { OnOk result (pass.new.accepted ≡ pass.old.accepted + 1) }
+        ensures second { IfOk result (λ answer. pass.new.verdicts ≡ pass.old.verdicts + answer.verdicts) }
+        ensures third { pass.new.aborts ≡ pass.old.aborts }
+        ensures others { pass.new.parts ≡ pass.old.parts }
+        ensures refused { OnErr result (pass.new ≡ pass.old) }
+    {
+        let answer = self.table.settle()?;
+        pass.count_accepted(&mut self.accepted);
+        pass.count_verdicts(&mut self.verdicts, answer.verdicts);
+        Ok(answer)
+    }
+
+    /// `Table::state`. Changes nothing and is not counted. Constant time.
+    pub fn state(&self, key: Key) -> Result<State, Refusal>
+        ensures { result ≡ state_of self.now.table key }
+    {
+        self.table.state(key)
+    }
+
+    /// `Table::owner`. Changes nothing and is not counted. Constant time.
+    pub fn owner(&self, resource: u32) -> Result<Option<Key>, Refusal>
+        ensures { result ≡ owner_told self.now.table resource }
+    {
+        self.table.owner(resource)
+    }
+
+    /// `Table::tenant`. Changes nothing and is not counted. Constant time.
+    pub fn tenant(&self, process: u32) -> Option<Key>
+        ensures { result ≡ tenant_of self.now.table process }
+    {
+        self.table.tenant(process)
+    }
+
+    /// What the table counted. For a pass of all parts, the table's totals, the books and the pass's shares are one and the same.
+    ///
+    /// Changes nothing. Constant time.
+    pub fn report(&mut self, pass: &mut Pass<N, A, V, B>) -> Report
+        requires all_parts { (pass.old.parts ≡ A.parts) × (pass.old.parts ≡ V.parts) × (pass.old.parts ≡ B.parts) }
+        ensures table { (result.accepted ≡ self.old.table.totals.accepted) × (result.verdicts ≡ self.old.table.totals.verdicts) × (result.aborts ≡ self.old.table.totals.aborts) }
+        ensures books { (result.accepted ≡ self.old.accepted.total) × (result.verdicts ≡ self.old.verdicts.total) × (result.aborts ≡ self.old.aborts.total) }
+        ensures shares { (result.accepted ≡ pass.old.accepted) × (result.verdicts ≡ pass.old.verdicts) × (result.aborts ≡ pass.old.aborts) }
+        ensures same { (self.new.table ≡ self.old.table) × (pass.new ≡ pass.old) }
+    {
+        pass.audit(&mut self.accepted, &mut self.verdicts, &mut self.aborts);
+        let totals = self.table.totals();
+        Report {
+            accepted: totals.accepted,
+            verdicts: totals.verdicts,
+            aborts: totals.aborts,
+        }
+    }
+
+    /// Does nothing. Its contract is what holds of any value behind the lock, whatever was called and by whom: no owner or wait names a
+    /// freed key, private labels are distinct, each standing verdict names a transaction on a cycle of waits whose private label is
+    /// that cycle's greatest, no cycle has two, and the books equal the table's totals.
+    pub fn verdicts_are_sound(&self)
+        ensures sound { HasSoundVerdicts self.now.table }
+        ensures booked { Booked self.now.table.totals self.now.accepted.total self.now.verdicts.total self.now.aborts.total }
+    {
+        self.table.verdicts_are_sound();
+    }
+}

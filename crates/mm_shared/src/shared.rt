@@ -1,0 +1,217 @@
+//! The table that threads share.
+ghost use Rattle.std.specs.Prelude.{◌≡◌, ◌+◌, OnOk, OnErr, IfOk};
+ghost use Rattle.mm_rules.specs.Event.{Detect};
+ghost use Rattle.mm_rules.specs.Laws.{verdicts_made};
+
+use crate::inside::Inside;
+use crate::name::Name;
+use crate::pass::{ALL_PARTS, Pass};
+use crossbeam_utils::CachePadded;
+use mm_table::{Acquired, Detected, Key, Refusal, Released, Settled, State, Transmitted};
+use std::marker::Model;
+use std::sync::ledger::Ledger;
+use std::sync::{Mutex, Wait};
+
+/// A lock table that threads share by reference: an `Inside` behind one lock.
+///
+/// A contract sees it as its number of processes. Each event and read takes the lock, makes the one call of its name, and lets go. What
+/// stood behind the lock no contract of a shared call can say; what holds of it at any time is said by `Inside`.
+#[derive(Drop)]
+pub struct SharedTable<N: Name, A: Ledger, V: Ledger, B: Ledger> {
+    processes: u32,
+    /// It has cache lines of its own, so a thread that waits for the lock slows down nobody who reads what stands beside it.
+    lock: CachePadded<Mutex<Inside<N, A, V, B>>>,
+}
+
+impl<N: Name, A: Ledger, V: Ledger, B: Ledger> Model for SharedTable<N, A, V, B> {
+    ghost use Rattle.std.specs.Prelude.{◌≡◌, ℕ};
+
+    ghost Value = { ℕ };
+
+    ghost view = { λ t. t.processes };
+
+    ghost invariant = { λ t. (A.parts ≡ 1048576) × (V.parts ≡ 1048576) × (B.parts ≡ 1048576) };
+}
+
+impl<N: Name, A: Ledger, V: Ledger, B: Ledger> SharedTable<N, A, V, B> {
+    pub(crate) fn new(inside: Inside<N, A, V, B>, processes: u32) -> SharedTable<N, A, V, B>
+        requires { (A.parts ≡ ALL_PARTS) × (V.parts ≡ ALL_PARTS) × (B.parts ≡ ALL_PARTS) }
+        ensures { result ≡ processes }
+    {
+        SharedTable {
+            processes,
+            lock: CachePadded::new(Mutex::new(inside)),
+        }
+    }
+
+    /// Does nothing. Its contract is how many parts each ledger of a shared table has.
+    pub(crate) fn has_all_parts(&self)
+        ensures { (A.parts ≡ ALL_PARTS) × (V.parts ≡ ALL_PARTS) × (B.parts ≡ ALL_PARTS) }
+    {
+        let _ = &self.processes;
+    }
+
+    /// What stands behind the lock, which nobody else can take any more.
+    pub(crate) fn into_inside(self) -> Inside<N, A, V, B> {
+        let SharedTable { processes: _, lock } = self;
+        lock.into_inner().into_inner()
+    }
+
+    /// How many processes the table has. Constant time, and takes no lock.
+    pub fn processes(&self) -> u32
+        ensures { result ≡ self.now }
+    {
+        self.processes
+    }
+
+    /// `Table::begin`, under the lock. Constant time once it has the lock.
+    pub fn begin<R: Wait>(&self, rt: &R, pass: &mut Pass<N, A, V, B>) -> Result<Key, Refusal>
+        ensures first { OnOk result (pass.new.accepted ≡ pass.old.accepted + 1) }
+        ensures second { pass.new.verdicts ≡ pass.old.verdicts }
+        ensures third { pass.new.aborts ≡ pass.old.aborts }
+        ensures others { pass.new.parts ≡ pass.old.parts }
+        ensures refused { OnErr result (pass.new ≡ pass.old) }
+    {
+        self.lock.lock(rt).begin(pass)
+    }
+
+    /// `Table::acquire`, under the lock. Constant time once it has the lock.
+    pub fn acquire<R: Wait>(
+        &self,
+        rt: &R,
+        pass: &mut Pass<N, A, V, B>,
+        key: Key,
+        resource: u32,
+    ) -> Result<Acquired, Refusal>
+        ensures first { OnOk result (pass.new.accepted ≡ pass.old.accepted + 1) }
+        ensures second { pass.new.verdicts ≡ pass.old.verdicts }
+        ensures third { pass.new.aborts ≡ pass.old.aborts }
+        ensures others { pass.new.parts ≡ pass.old.parts }
+        ensures refused { OnErr result (pass.new ≡ pass.old) }
+    {
+        self.lock.lock(rt).acquire(pass, key, resource)
+    }
+
+    /// `Table::release`, under the lock. `O(waiters of the resource)` once it has the lock.
+    pub fn release<R: Wait>(
+        &self,
+        rt: &R,
+        pass: &mut Pass<N, A, V, B>,
+        key: Key,
+        resource: u32,
+    ) -> Result<Released, Refusal>
+        ensures first { OnOk result (pass.new.accepted ≡ pass.old.accepted + 1) }
+        ensures second { pass.new.verdicts ≡ pass.old.verdicts }
+        ensures third { pass.new.aborts ≡ pass.old.aborts }
+        ensures others { pass.new.parts ≡ pass.old.parts }
+        ensures refused { OnErr result (pass.new ≡ pass.old) }
+    {
+        self.lock.lock(rt).release(pass, key, resource)
+    }
+
+    /// `Table::finish`, under the lock. `O(its resources + their waiters)` once it has the lock.
+    pub fn finish<R: Wait>(
+        &self,
+        rt: &R,
+        pass: &mut Pass<N, A, V, B>,
+        key: Key,
+    ) -> Result<(), Refusal>
+        ensures first { OnOk result (pass.new.accepted ≡ pass.old.accepted + 1) }
+        ensures second { pass.new.verdicts ≡ pass.old.verdicts }
+        ensures third { pass.new.aborts ≡ pass.old.aborts }
+        ensures others { pass.new.parts ≡ pass.old.parts }
+        ensures refused { OnErr result (pass.new ≡ pass.old) }
+    {
+        self.lock.lock(rt).finish(pass, key)
+    }
+
+    /// `Table::transmit`, under the lock. Constant time once it has the lock.
+    pub fn transmit<R: Wait>(
+        &self,
+        rt: &R,
+        pass: &mut Pass<N, A, V, B>,
+        key: Key,
+    ) -> Result<Transmitted, Refusal>
+        ensures first { OnOk result (pass.new.accepted ≡ pass.old.accepted + 1) }
+        ensures second { pass.new.verdicts ≡ pass.old.verdicts }
+        ensures third { pass.new.aborts ≡ pass.old.aborts }
+        ensures others { pass.new.parts ≡ pass.old.parts }
+        ensures refused { OnErr result (pass.new ≡ pass.old) }
+    {
+        self.lock.lock(rt).transmit(pass, key)
+    }
+
+    /// `Table::detect`, under the lock. Constant time once it has the lock.
+    pub fn detect<R: Wait>(
+        &self,
+        rt: &R,
+        pass: &mut Pass<N, A, V, B>,
+        key: Key,
+    ) -> Result<Detected, Refusal>
+        ensures first { OnOk result (pass.new.accepted ≡ pass.old.accepted + 1) }
+        ensures second { IfOk result (λ answer. pass.new.verdicts ≡ pass.old.verdicts + verdicts_made (Detect key) answer) }
+        ensures third { pass.new.aborts ≡ pass.old.aborts }
+        ensures others { pass.new.parts ≡ pass.old.parts }
+        ensures refused { OnErr result (pass.new ≡ pass.old) }
+    {
+        self.lock.lock(rt).detect(pass, key)
+    }
+
+    /// `Table::abort`, under the lock. `O(its resources + their waiters)` once it has the lock.
+    pub fn abort<R: Wait>(
+        &self,
+        rt: &R,
+        pass: &mut Pass<N, A, V, B>,
+        key: Key,
+    ) -> Result<(), Refusal>
+        ensures first { OnOk result (pass.new.accepted ≡ pass.old.accepted + 1) }
+        ensures second { pass.new.verdicts ≡ pass.old.verdicts }
+        ensures third { OnOk result (pass.new.aborts ≡ pass.old.aborts + 1) }
+        ensures others { pass.new.parts ≡ pass.old.parts }
+        ensures refused { OnErr result (pass.new ≡ pass.old) }
+    {
+        self.lock.lock(rt).abort(pass, key)
+    }
+
+    /// `Table::settle`, under the lock. It costs what `Table::settle` costs once it has the lock.
+    pub fn settle<R: Wait>(&self, rt: &R, pass: &mut Pass<N, A, V, B>) -> Result<Settled, Refusal>
+        ensures first { OnOk result (pass.new.accepted ≡ pass.old.accepted + 1) }
+        ensures second { IfOk result (λ answer. pass.new.verdicts ≡ pass.old.verdicts + answer.verdicts) }
+        ensures third { pass.new.aborts ≡ pass.old.aborts }
+        ensures others { pass.new.parts ≡ pass.old.parts }
+        ensures refused { OnErr result (pass.new ≡ pass.old) }
+    {
+        self.lock.lock(rt).settle(pass)
+    }
+
+    /// `Table::state`, under the lock. Constant time once it has the lock.
+    pub fn state<R: Wait>(
+        &self,
+        rt: &R,
+        pass: &mut Pass<N, A, V, B>,
+        key: Key,
+    ) -> Result<State, Refusal>
+        ensures { pass.new ≡ pass.old }
+    {
+        self.lock.lock(rt).state(key)
+    }
+
+    /// `Table::owner`, under the lock. Constant time once it has the lock.
+    pub fn owner<R: Wait>(
+        &self,
+        rt: &R,
+        pass: &mut Pass<N, A, V, B>,
+        resource: u32,
+    ) -> Result<Option<Key>, Refusal>
+        ensures { pass.new ≡ pass.old }
+    {
+        self.lock.lock(rt).owner(resource)
+    }
+
+    /// `Table::tenant`, under the lock. Constant time once it has the lock.
+    pub fn tenant<R: Wait>(&self, rt: &R, pass: &mut Pass<N, A, V, B>, process: u32) -> Option<Key>
+        ensures { pass.new ≡ pass.old }
+    {
+        self.lock.lock(rt).tenant(process)
+    }
+}
