@@ -8,6 +8,10 @@ pub record Shares : Type 0 where
   pub verdicts : ℕ  -- new verdicts
   pub aborts : ℕ  -- accepted aborts
 
+-- how many parts each ledger has
+abbrev pub all_parts : ℕ
+all_parts = 1048576
+
 -- so many parts, which have counted nothing yet
 abbrev pub empty_shares : ℕ → Shares
 empty_shares parts = record { parts = parts; accepted = 0; verdicts = 0; aborts = 0 }

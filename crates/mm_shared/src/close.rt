@@ -1,11 +1,13 @@
 //! The end of a shared table.
 ghost use Rattle.std.specs.Prelude.{◌≡◌, ◌≢◌, IfOk, IfErr};
+ghost use Rattle.mm_shared.specs.Shares.{all_parts};
 
 use crate::name::Name;
 use crate::pass::{ALL_PARTS, Pass};
 use crate::shared::SharedTable;
 use mm_table::Refusal;
 use std::sync::ledger::Ledger;
+use thiserror::Error;
 
 /// What a shared table counted from its opening to its end: the table's totals.
 #[derive(Clone, Copy, Debug, PartialEq, Eq)]
@@ -19,7 +21,9 @@ pub struct Report {
 }
 
 /// The table was not closed, since the pass does not have all parts. It gives both back.
-#[derive(Drop)]
+#[derive(Drop, Error)]
+#[derive_where(Debug)]
+#[error("the pass does not have all parts")]
 pub struct CloseRefused<N: Name, A: Ledger, V: Ledger, B: Ledger> {
     /// `SharesMissing`.
     pub refusal: Refusal,
@@ -34,8 +38,8 @@ impl<N: Name, A: Ledger, V: Ledger, B: Ledger> SharedTable<N, A, V, B> {
     /// they were. It takes no lock, since nobody else has the table, and no memory. Constant time, apart from giving the table's
     /// memory back.
     pub fn close(self, pass: Pass<N, A, V, B>) -> Result<Report, CloseRefused<N, A, V, B>>
-        ensures closed { IfOk result (λ report. (pass.parts ≡ ALL_PARTS) × (report.accepted ≡ pass.accepted) × (report.verdicts ≡ pass.verdicts) × (report.aborts ≡ pass.aborts)) }
-        ensures refused { IfErr result (λ refused. (pass.parts ≢ ALL_PARTS) × (refused.refusal ≡ Refusal.SharesMissing) × (refused.table ≡ self) × (refused.pass ≡ pass)) }
+        ensures closed { IfOk result (λ report. (pass.parts ≡ all_parts) × (report.accepted ≡ pass.accepted) × (report.verdicts ≡ pass.verdicts) × (report.aborts ≡ pass.aborts)) }
+        ensures refused { IfErr result (λ refused. (pass.parts ≢ all_parts) × (refused.refusal ≡ Refusal.SharesMissing) × (refused.table ≡ self) × (refused.pass ≡ pass)) }
     {
         if pass.parts() != ALL_PARTS {
             return Err(CloseRefused {

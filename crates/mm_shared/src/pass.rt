@@ -4,6 +4,8 @@ ghost use Rattle.mm_shared.specs.Shares.{empty_shares, joined, less_parts};
 
 use crate::name::Name;
 use crate::shared::SharedTable;
+use std::fmt;
+use std::fmt::{Debug, Formatter};
 use std::marker::{Model, PhantomData};
 use std::sync::ledger::{Book, Ledger, Share};
 
@@ -141,5 +143,11 @@ impl<N: Name, A: Ledger, V: Ledger, B: Ledger> Pass<N, A, V, B> {
         accepted.audit(&mut self.accepted);
         verdicts.audit(&mut self.verdicts);
         aborts.audit(&mut self.aborts);
+    }
+}
+
+impl<N: Name, A: Ledger, V: Ledger, B: Ledger> Debug for Pass<N, A, V, B> {
+    fn fmt<W: fmt::Write>(&self, f: &mut Formatter<W>) -> fmt::Result {
+        f.debug_struct("Pass").field("parts", &self.parts).finish()
     }
 }

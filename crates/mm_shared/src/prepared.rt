@@ -2,7 +2,7 @@
 ghost use Rattle.std.specs.Prelude.{◌≡◌, Ok, Err, IfOk, IfErr};
 ghost use Rattle.mm_rules.specs.TableState.{opening};
 ghost use Rattle.mm_rules.specs.Event.{Opens};
-ghost use Rattle.mm_shared.specs.Shares.{empty_shares};
+ghost use Rattle.mm_shared.specs.Shares.{all_parts, empty_shares};
 
 use crate::inside::Inside;
 use crate::name::Name;
@@ -22,7 +22,7 @@ pub struct Prepared {
     aborts: Blank,
     ghost opened: { table ≡ opening table.config },
     ghost sized: { processes ≡ table.config.processes },
-    ghost whole: { (accepted.parts ≡ 1048576) × (verdicts.parts ≡ 1048576) × (aborts.parts ≡ 1048576) },
+    ghost whole: { (accepted.parts ≡ all_parts) × (verdicts.parts ≡ all_parts) × (aborts.parts ≡ all_parts) },
 }
 
 impl Prepared {
@@ -53,7 +53,7 @@ impl Prepared {
         requires verdicts { (self.verdicts.name ≡ V.name) × (self.verdicts.parts ≡ V.parts) }
         requires aborts { (self.aborts.name ≡ B.name) × (self.aborts.parts ≡ B.parts) }
         ensures processes { result.0 ≡ self.table.config.processes }
-        ensures pass { result.1 ≡ empty_shares ALL_PARTS }
+        ensures pass { result.1 ≡ empty_shares all_parts }
     {
         let Prepared {
             table,

@@ -2,12 +2,15 @@
 ghost use Rattle.std.specs.Prelude.{◌≡◌, ◌+◌, OnOk, OnErr, IfOk};
 ghost use Rattle.mm_rules.specs.Event.{Detect};
 ghost use Rattle.mm_rules.specs.Laws.{verdicts_made};
+ghost use Rattle.mm_shared.specs.Shares.{all_parts};
 
 use crate::inside::Inside;
 use crate::name::Name;
-use crate::pass::{ALL_PARTS, Pass};
+use crate::pass::Pass;
 use crossbeam_utils::CachePadded;
 use mm_table::{Acquired, Detected, Key, Refusal, Released, Settled, State, Transmitted};
+use std::fmt;
+use std::fmt::{Debug, Formatter};
 use std::marker::Model;
 use std::sync::ledger::Ledger;
 use std::sync::{Mutex, Wait};
@@ -25,17 +28,18 @@ pub struct SharedTable<N: Name, A: Ledger, V: Ledger, B: Ledger> {
 
 impl<N: Name, A: Ledger, V: Ledger, B: Ledger> Model for SharedTable<N, A, V, B> {
     ghost use Rattle.std.specs.Prelude.{◌≡◌, ℕ};
+    ghost use Rattle.mm_shared.specs.Shares.{all_parts};
 
     ghost Value = { ℕ };
 
     ghost view = { λ t. t.processes };
 
-    ghost invariant = { λ t. (A.parts ≡ 1048576) × (V.parts ≡ 1048576) × (B.parts ≡ 1048576) };
+    ghost invariant = { λ t. (A.parts ≡ all_parts) × (V.parts ≡ all_parts) × (B.parts ≡ all_parts) };
 }
 
 impl<N: Name, A: Ledger, V: Ledger, B: Ledger> SharedTable<N, A, V, B> {
     pub(crate) fn new(inside: Inside<N, A, V, B>, processes: u32) -> SharedTable<N, A, V, B>
-        requires { (A.parts ≡ ALL_PARTS) × (V.parts ≡ ALL_PARTS) × (B.parts ≡ ALL_PARTS) }
+        requires { (A.parts ≡ all_parts) × (V.parts ≡ all_parts) × (B.parts ≡ all_parts) }
         ensures { result ≡ processes }
     {
         SharedTable {
@@ -46,7 +50,7 @@ impl<N: Name, A: Ledger, V: Ledger, B: Ledger> SharedTable<N, A, V, B> {
 
     /// Does nothing. Its contract is how many parts each ledger of a shared table has.
     pub(crate) fn has_all_parts(&self)
-        ensures { (A.parts ≡ ALL_PARTS) × (V.parts ≡ ALL_PARTS) × (B.parts ≡ ALL_PARTS) }
+        ensures { (A.parts ≡ all_parts) × (V.parts ≡ all_parts) × (B.parts ≡ all_parts) }
     {
         let _ = &self.processes;
     }
@@ -188,10 +192,10 @@ impl<N: Name, A: Ledger, V: Ledger, B: Ledger> SharedTable<N, A, V, B> {
     pub fn state<R: Wait>(
         &self,
         rt: &R,
-        pass: &mut Pass<N, A, V, B>,
+        _pass: &mut Pass<N, A, V, B>,
         key: Key,
     ) -> Result<State, Refusal>
-        ensures { pass.new ≡ pass.old }
+        ensures { _pass.new ≡ _pass.old }
     {
         self.lock.lock(rt).state(key)
     }
@@ -200,18 +204,26 @@ impl<N: Name, A: Ledger, V: Ledger, B: Ledger> SharedTable<N, A, V, B> {
     pub fn owner<R: Wait>(
         &self,
         rt: &R,
-        pass: &mut Pass<N, A, V, B>,
+        _pass: &mut Pass<N, A, V, B>,
         resource: u32,
     ) -> Result<Option<Key>, Refusal>
-        ensures { pass.new ≡ pass.old }
+        ensures { _pass.new ≡ _pass.old }
     {
         self.lock.lock(rt).owner(resource)
     }
 
     /// `Table::tenant`, under the lock. Constant time once it has the lock.
-    pub fn tenant<R: Wait>(&self, rt: &R, pass: &mut Pass<N, A, V, B>, process: u32) -> Option<Key>
-        ensures { pass.new ≡ pass.old }
+    pub fn tenant<R: Wait>(&self, rt: &R, _pass: &mut Pass<N, A, V, B>, process: u32) -> Option<Key>
+        ensures { _pass.new ≡ _pass.old }
     {
         self.lock.lock(rt).tenant(process)
+    }
+}
+
+impl<N: Name, A: Ledger, V: Ledger, B: Ledger> Debug for SharedTable<N, A, V, B> {
+    fn fmt<W: fmt::Write>(&self, f: &mut Formatter<W>) -> fmt::Result {
+        f.debug_struct("SharedTable")
+            .field("processes", &self.processes)
+            .finish()
     }
 }
