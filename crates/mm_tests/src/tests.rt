@@ -7,6 +7,7 @@ mod marks;
 mod owned;
 mod queue;
 mod same;
+mod shared;
 mod shelf;
 mod table;
 mod wake;
