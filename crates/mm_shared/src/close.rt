@@ -48,7 +48,7 @@ impl<N: Name, A: Ledger, V: Ledger, B: Ledger> SharedTable<N, A, V, B> {
                 pass,
             });
         }
-        self.has_all_parts();
+        self.ledgers_have_all_parts();
         let mut pass = pass;
         let mut inside = self.into_inside();
         Ok(inside.report(&mut pass))

@@ -25,8 +25,8 @@ pub struct Inside<N: Name, A: Ledger, V: Ledger, B: Ledger> {
     ghost booked: { Booked table.totals accepted.total verdicts.total aborts.total },
 }
 
-/// Each event makes the one call of its name on the table, without a lock. Where that is accepted, it adds one to the pass's first
-/// share, the new verdicts to its second, and one to its third where it is an abort; where it is refused, nothing changes.
+/// Each event is the one call of its name on the table; a shared call makes it under the lock. Where it is accepted, it adds one to the
+/// pass's first share, its new verdicts to the second, and one to the third where it is an abort; where it is refused, nothing changes.
 impl<N: Name, A: Ledger, V: Ledger, B: Ledger> Inside<N, A, V, B> {
     /// The table and books that stand in a new shared table.
     pub(crate) fn new(
@@ -47,7 +47,9 @@ impl<N: Name, A: Ledger, V: Ledger, B: Ledger> Inside<N, A, V, B> {
         }
     }
 
-    /// `Table::begin`. Constant time.
+    /// `Table::begin`: starts a transaction in the first free process, and returns its key.
+    ///
+    /// Refused as `CountsExhausted` or `Full`. Constant time.
     pub fn begin(&mut self, pass: &mut Pass<N, A, V, B>) -> Result<Key, Refusal>
         ensures step { Step Begin self.old.table result self.new.table }
         ensures first { OnOk result (pass.new.accepted ≡ pass.old.accepted + 1) }
@@ -61,7 +63,9 @@ impl<N: Name, A: Ledger, V: Ledger, B: Ledger> Inside<N, A, V, B> {
         Ok(key)
     }
 
-    /// `Table::acquire`. Constant time.
+    /// `Table::acquire`: grants a free resource; for an owned one the transaction waits, last in its queue, with a fresh label.
+    ///
+    /// Refused as `CountsExhausted`, `Stale`, `NoResource`, `Waiting`, `AlreadyOwns` or `LabelsExhausted`. Constant time.
     pub fn acquire(
         &mut self,
         pass: &mut Pass<N, A, V, B>,
@@ -80,7 +84,9 @@ impl<N: Name, A: Ledger, V: Ledger, B: Ledger> Inside<N, A, V, B> {
         Ok(answer)
     }
 
-    /// `Table::release`. `O(waiters of the resource)`.
+    /// `Table::release`: hands the resource over to its longest waiter, or frees it.
+    ///
+    /// Refused as `CountsExhausted`, `Stale`, `NoResource`, `Waiting`, `NotOwner` or `LabelsExhausted`. `O(waiters of the resource)`.
     pub fn release(
         &mut self,
         pass: &mut Pass<N, A, V, B>,
@@ -99,7 +105,9 @@ impl<N: Name, A: Ledger, V: Ledger, B: Ledger> Inside<N, A, V, B> {
         Ok(answer)
     }
 
-    /// `Table::finish`. `O(its resources + their waiters)`.
+    /// `Table::finish`: ends the transaction, hands over all that it owns, and frees its slot.
+    ///
+    /// Refused as `CountsExhausted`, `Stale`, `Waiting` or `LabelsExhausted`. `O(its resources + their waiters)`.
     pub fn finish(&mut self, pass: &mut Pass<N, A, V, B>, key: Key) -> Result<(), Refusal>
         ensures step { Step (Finish key) self.old.table result self.new.table }
         ensures first { OnOk result (pass.new.accepted ≡ pass.old.accepted + 1) }
@@ -113,7 +121,9 @@ impl<N: Name, A: Ledger, V: Ledger, B: Ledger> Inside<N, A, V, B> {
         Ok(())
     }
 
-    /// `Table::transmit`. Constant time.
+    /// `Table::transmit`: the waiting transaction takes over its holder's public label where that is greater.
+    ///
+    /// Refused as `CountsExhausted`, `Stale` or `NotWaiting`. Constant time.
     pub fn transmit(
         &mut self,
         pass: &mut Pass<N, A, V, B>,
@@ -131,7 +141,10 @@ impl<N: Name, A: Ledger, V: Ledger, B: Ledger> Inside<N, A, V, B> {
         Ok(answer)
     }
 
-    /// `Table::detect`. A new verdict counts in the second share; one that stands already does not. Constant time.
+    /// `Table::detect`: gives the waiting transaction a verdict where its label has come round to its holder. A new verdict adds one to the
+    /// pass's second share; one that stands already adds nothing.
+    ///
+    /// Refused as `CountsExhausted`, `Stale` or `NotWaiting`. Constant time.
     pub fn detect(&mut self, pass: &mut Pass<N, A, V, B>, key: Key) -> Result<Detected, Refusal>
         ensures step { Step (Detect key) self.old.table result self.new.table }
         ensures first { OnOk result (pass.new.accepted ≡ pass.old.accepted + 1) }
@@ -151,7 +164,9 @@ impl<N: Name, A: Ledger, V: Ledger, B: Ledger> Inside<N, A, V, B> {
         Ok(answer)
     }
 
-    /// `Table::abort`. It counts in the third share. `O(its resources + their waiters)`.
+    /// `Table::abort`: ends a transaction with a verdict, as `finish` ends an active one. It adds one to the pass's third share.
+    ///
+    /// Refused as `CountsExhausted`, `Stale`, `NoVerdict` or `LabelsExhausted`. `O(its resources + their waiters)`.
     pub fn abort(&mut self, pass: &mut Pass<N, A, V, B>, key: Key) -> Result<(), Refusal>
         ensures step { Step (Abort key) self.old.table result self.new.table }
         ensures first { OnOk result (pass.new.accepted ≡ pass.old.accepted + 1) }
@@ -166,7 +181,10 @@ impl<N: Name, A: Ledger, V: Ledger, B: Ledger> Inside<N, A, V, B> {
         Ok(())
     }
 
-    /// `Table::settle`. The verdicts that it gives count in the second share. It costs what `Table::settle` costs.
+    /// `Table::settle`: transmits and detects for all that wait, until neither has anything left to do. It adds the new verdicts to the
+    /// pass's second share.
+    ///
+    /// Refused as `CountsExhausted`. It costs what `Table::settle` costs.
     pub fn settle(&mut self, pass: &mut Pass<N, A, V, B>) -> Result<Settled, Refusal>
         ensures step { Step Settle self.old.table result self.new.table }
         ensures first { OnOk result (pass.new.accepted ≡ pass.old.accepted + 1) }
@@ -181,21 +199,27 @@ impl<N: Name, A: Ledger, V: Ledger, B: Ledger> Inside<N, A, V, B> {
         Ok(answer)
     }
 
-    /// `Table::state`. Changes nothing and is not counted. Constant time.
+    /// `Table::state`: what the transaction does, and its two labels.
+    ///
+    /// Refused as `Stale`. Changes nothing and is not counted. Constant time.
     pub fn state(&self, key: Key) -> Result<State, Refusal>
         ensures { result ≡ state_of self.now.table key }
     {
         self.table.state(key)
     }
 
-    /// `Table::owner`. Changes nothing and is not counted. Constant time.
+    /// `Table::owner`: the key that owns the resource; `None` where it is free.
+    ///
+    /// Refused as `NoResource`. Changes nothing and is not counted. Constant time.
     pub fn owner(&self, resource: u32) -> Result<Option<Key>, Refusal>
         ensures { result ≡ owner_told self.now.table resource }
     {
         self.table.owner(resource)
     }
 
-    /// `Table::tenant`. Changes nothing and is not counted. Constant time.
+    /// `Table::tenant`: the live key of the process; `None` where it has none, or is not one of the table's.
+    ///
+    /// Changes nothing and is not counted. Constant time.
     pub fn tenant(&self, process: u32) -> Option<Key>
         ensures { result ≡ tenant_of self.now.table process }
     {

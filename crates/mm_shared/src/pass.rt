@@ -89,7 +89,7 @@ impl<N: Name, A: Ledger, V: Ledger, B: Ledger> Pass<N, A, V, B> {
     pub fn join(&mut self, table: &SharedTable<N, A, V, B>, other: Pass<N, A, V, B>)
         ensures { self.new ≡ joined self.old other }
     {
-        table.has_all_parts();
+        table.ledgers_have_all_parts();
         let Pass {
             board: _,
             accepted,

@@ -17,8 +17,9 @@ use std::sync::{Mutex, Wait};
 
 /// A lock table that threads share by reference: an `Inside` behind one lock.
 ///
-/// A contract sees it as its number of processes. Each event and read takes the lock, makes the one call of its name, and lets go. What
-/// stood behind the lock no contract of a shared call can say; what holds of it at any time is said by `Inside`.
+/// A contract sees it as its number of processes. Each event and each read takes the lock, makes the one call of its name on the value
+/// behind it, and lets go: it may wait for the lock, and its cost is said from then on. The contract of such a call says what it does to
+/// the pass. It cannot say what it found behind the lock, or did there; what holds there at any time is said by the type `Inside`.
 #[derive(Drop)]
 pub struct SharedTable<N: Name, A: Ledger, V: Ledger, B: Ledger> {
     processes: u32,
@@ -49,7 +50,7 @@ impl<N: Name, A: Ledger, V: Ledger, B: Ledger> SharedTable<N, A, V, B> {
     }
 
     /// Does nothing. Its contract is how many parts each ledger of a shared table has.
-    pub(crate) fn has_all_parts(&self)
+    pub(crate) fn ledgers_have_all_parts(&self)
         ensures { (A.parts ≡ all_parts) × (V.parts ≡ all_parts) × (B.parts ≡ all_parts) }
     {
         let _ = &self.processes;
@@ -68,7 +69,9 @@ impl<N: Name, A: Ledger, V: Ledger, B: Ledger> SharedTable<N, A, V, B> {
         self.processes
     }
 
-    /// `Table::begin`, under the lock. Constant time once it has the lock.
+    /// `Table::begin`: starts a transaction in the first free process, and returns its key.
+    ///
+    /// Refused as `CountsExhausted` or `Full`. Constant time.
     pub fn begin<R: Wait>(&self, rt: &R, pass: &mut Pass<N, A, V, B>) -> Result<Key, Refusal>
         ensures first { OnOk result (pass.new.accepted ≡ pass.old.accepted + 1) }
         ensures second { pass.new.verdicts ≡ pass.old.verdicts }
@@ -79,7 +82,9 @@ impl<N: Name, A: Ledger, V: Ledger, B: Ledger> SharedTable<N, A, V, B> {
         self.lock.lock(rt).begin(pass)
     }
 
-    /// `Table::acquire`, under the lock. Constant time once it has the lock.
+    /// `Table::acquire`: grants a free resource; for an owned one the transaction waits, last in its queue, with a fresh label.
+    ///
+    /// Refused as `CountsExhausted`, `Stale`, `NoResource`, `Waiting`, `AlreadyOwns` or `LabelsExhausted`. Constant time.
     pub fn acquire<R: Wait>(
         &self,
         rt: &R,
@@ -96,7 +101,9 @@ impl<N: Name, A: Ledger, V: Ledger, B: Ledger> SharedTable<N, A, V, B> {
         self.lock.lock(rt).acquire(pass, key, resource)
     }
 
-    /// `Table::release`, under the lock. `O(waiters of the resource)` once it has the lock.
+    /// `Table::release`: hands the resource over to its longest waiter, or frees it.
+    ///
+    /// Refused as `CountsExhausted`, `Stale`, `NoResource`, `Waiting`, `NotOwner` or `LabelsExhausted`. `O(waiters of the resource)`.
     pub fn release<R: Wait>(
         &self,
         rt: &R,
@@ -113,7 +120,9 @@ impl<N: Name, A: Ledger, V: Ledger, B: Ledger> SharedTable<N, A, V, B> {
         self.lock.lock(rt).release(pass, key, resource)
     }
 
-    /// `Table::finish`, under the lock. `O(its resources + their waiters)` once it has the lock.
+    /// `Table::finish`: ends the transaction, hands over all that it owns, and frees its slot.
+    ///
+    /// Refused as `CountsExhausted`, `Stale`, `Waiting` or `LabelsExhausted`. `O(its resources + their waiters)`.
     pub fn finish<R: Wait>(
         &self,
         rt: &R,
@@ -129,7 +138,9 @@ impl<N: Name, A: Ledger, V: Ledger, B: Ledger> SharedTable<N, A, V, B> {
         self.lock.lock(rt).finish(pass, key)
     }
 
-    /// `Table::transmit`, under the lock. Constant time once it has the lock.
+    /// `Table::transmit`: the waiting transaction takes over its holder's public label where that is greater.
+    ///
+    /// Refused as `CountsExhausted`, `Stale` or `NotWaiting`. Constant time.
     pub fn transmit<R: Wait>(
         &self,
         rt: &R,
@@ -145,7 +156,10 @@ impl<N: Name, A: Ledger, V: Ledger, B: Ledger> SharedTable<N, A, V, B> {
         self.lock.lock(rt).transmit(pass, key)
     }
 
-    /// `Table::detect`, under the lock. Constant time once it has the lock.
+    /// `Table::detect`: gives the waiting transaction a verdict where its label has come round to its holder. A new verdict adds one to the
+    /// pass's second share; one that stands already adds nothing.
+    ///
+    /// Refused as `CountsExhausted`, `Stale` or `NotWaiting`. Constant time.
     pub fn detect<R: Wait>(
         &self,
         rt: &R,
@@ -161,7 +175,9 @@ impl<N: Name, A: Ledger, V: Ledger, B: Ledger> SharedTable<N, A, V, B> {
         self.lock.lock(rt).detect(pass, key)
     }
 
-    /// `Table::abort`, under the lock. `O(its resources + their waiters)` once it has the lock.
+    /// `Table::abort`: ends a transaction with a verdict, as `finish` ends an active one. It adds one to the pass's third share.
+    ///
+    /// Refused as `CountsExhausted`, `Stale`, `NoVerdict` or `LabelsExhausted`. `O(its resources + their waiters)`.
     pub fn abort<R: Wait>(
         &self,
         rt: &R,
@@ -177,7 +193,10 @@ impl<N: Name, A: Ledger, V: Ledger, B: Ledger> SharedTable<N, A, V, B> {
         self.lock.lock(rt).abort(pass, key)
     }
 
-    /// `Table::settle`, under the lock. It costs what `Table::settle` costs once it has the lock.
+    /// `Table::settle`: transmits and detects for all that wait, until neither has anything left to do. It adds the new verdicts to the
+    /// pass's second share.
+    ///
+    /// Refused as `CountsExhausted`. It costs what `Table::settle` costs.
     pub fn settle<R: Wait>(&self, rt: &R, pass: &mut Pass<N, A, V, B>) -> Result<Settled, Refusal>
         ensures first { OnOk result (pass.new.accepted ≡ pass.old.accepted + 1) }
         ensures second { IfOk result (λ answer. pass.new.verdicts ≡ pass.old.verdicts + answer.verdicts) }
@@ -188,7 +207,9 @@ impl<N: Name, A: Ledger, V: Ledger, B: Ledger> SharedTable<N, A, V, B> {
         self.lock.lock(rt).settle(pass)
     }
 
-    /// `Table::state`, under the lock. Constant time once it has the lock.
+    /// `Table::state`: what the transaction does, and its two labels.
+    ///
+    /// Refused as `Stale`. Changes nothing and is not counted. Constant time.
     pub fn state<R: Wait>(
         &self,
         rt: &R,
@@ -200,7 +221,9 @@ impl<N: Name, A: Ledger, V: Ledger, B: Ledger> SharedTable<N, A, V, B> {
         self.lock.lock(rt).state(key)
     }
 
-    /// `Table::owner`, under the lock. Constant time once it has the lock.
+    /// `Table::owner`: the key that owns the resource; `None` where it is free.
+    ///
+    /// Refused as `NoResource`. Changes nothing and is not counted. Constant time.
     pub fn owner<R: Wait>(
         &self,
         rt: &R,
@@ -212,7 +235,9 @@ impl<N: Name, A: Ledger, V: Ledger, B: Ledger> SharedTable<N, A, V, B> {
         self.lock.lock(rt).owner(resource)
     }
 
-    /// `Table::tenant`, under the lock. Constant time once it has the lock.
+    /// `Table::tenant`: the live key of the process; `None` where it has none, or is not one of the table's.
+    ///
+    /// Changes nothing and is not counted. Constant time.
     pub fn tenant<R: Wait>(&self, rt: &R, _pass: &mut Pass<N, A, V, B>, process: u32) -> Option<Key>
         ensures { _pass.new ≡ _pass.old }
     {
