@@ -1,0 +1,29 @@
+//! A board: for each process a label and a holder, which one publisher stores and any number of readers load. No call waits.
+//!
+//! A load gives what stood there at that moment; `README.md` says what that means and what it does not.
+//!
+//! - `board`: `RawBoard`, a board before it has a name, and `Board`, the words that all threads share.
+//! - `publisher`: `Publisher`, the one who stores.
+//! - `reader`: `Reader`, who loads.
+//! - `holder`: the word that keeps a holder.
+//! - `views`: what contracts know of the publisher and of a reader.
+//! - `rule`: the rule that holds between any two steps, and the names of boards.
+//! - `steps`: the kinds of step.
+//! - `memory`: the one error.
+#![tactic(auto)]
+
+mod board;
+mod holder;
+mod memory;
+mod publisher;
+mod reader;
+mod rule;
+mod steps;
+mod views;
+
+pub use board::{Board, MOST_PROCESSES, RawBoard};
+pub use memory::Memory;
+pub use publisher::Publisher;
+pub use reader::Reader;
+pub use rule::{BoardRule, Name};
+pub use views::{Published, Seen, View};
