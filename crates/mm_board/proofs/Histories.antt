@@ -3,7 +3,7 @@ use Rattle.std.proofs.Common.{◌≡◌, ◌≢◌, ℕ, ◌+◌, ◌-◌, ◌<�
 use Rattle.std.proofs.lemmas.Bool.{cases_eq, cases_lt}
 use Rattle.std.proofs.lemmas.List.{length-map, get_or_past}
 use lib.ListN.{get_or-append, get_or-map}
-use lib.Seq.{get_or-append_seam, map-set}
+use lib.Seq.{get_or-append_seam}
 use Rattle.mm_label.specs.Label.{Label, label_le, opening_label}
 use Rattle.mm_board.specs.declared.views.Published.{Published}
 use Rattle.mm_board.specs.Views.{label_at, last_label, history, current_label, current_labels, with_label, NoneFalls}
@@ -118,8 +118,3 @@ module _ (p : Published) where
       | inr past ↦
           rw (get_or_past labels i (opening_label 0) (omega (arith, were.0)), get_or_past (current_labels p) i (opening_label 0) (omega (arith, length-current_labels))) (label_le_same (opening_label 0))
     ]
-
--- ---- for crates above: what a stored label does to the current labels
-
-pub current_labels_stored : (p : Published) (i : ℕ) (label : Label) → current_labels (with_label p i label) ≡ set (current_labels p) i label
-current_labels_stored p i label = map-set last_label p.histories i (history p i ++ label ∷ []) ∙ ap (λ l. set (current_labels p) i l) (last_of_longer (history p i) label)

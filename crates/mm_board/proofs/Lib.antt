@@ -6,3 +6,4 @@ pub mod Keeps
 pub mod Holders
 pub mod Calls
 pub mod Opens
+pub mod Current

@@ -41,10 +41,10 @@ single_rises label i j ordered inside =
     let second : j ≡ 0 = omega arith in
     rw (first, second) (label_le_same label)
 
-history_at_first : (n i : ℕ) → i < n → history (opening_published n) i ≡ opening_label i ∷ []
+pub history_at_first : (n i : ℕ) → i < n → history (opening_published n) i ≡ opening_label i ∷ []
 history_at_first n i inside = get_or-map-range_with_len (λ k. opening_label k ∷ []) 0 n i i [] inside (omega arith)
 
-opening_at : (n i : ℕ) → i < n → label_at (opening_labels n) i ≡ opening_label i
+pub opening_at : (n i : ℕ) → i < n → label_at (opening_labels n) i ≡ opening_label i
 opening_at n i inside = get_or-map-range_with_len opening_label 0 n i i (opening_label 0) inside (omega arith)
 
 holder_at_first : (n i : ℕ) → i < n → current_holder (opening_published n) i ≡ None

@@ -46,3 +46,11 @@ label_le_then a b c first second =
     let low : AtMost a b = at_most_from a b first in
     let high : AtMost b c = at_most_from b c second in
     at_most_to a c (grind arith)
+
+pub label_le_both : (a b : Label) → IsTrue (label_le a b) → IsTrue (label_le b a) → a ≡ b
+label_le_both a b first second =
+    let low : AtMost a b = at_most_from a b first in
+    let high : AtMost b a = at_most_from b a second in
+    let counter : a.counter ≡ b.counter = omega (arith, low, high) in
+    let process : a.process ≡ b.process = omega (arith, low, high) in
+    λ i. record { counter = counter i; process = process i }

@@ -1,5 +1,5 @@
 //! The word that keeps a holder: 0 for none, and else the number of the process and one.
-ghost use Rattle.std.specs.Prelude.{◌≡◌, ◌≤◌, ◌^◌};
+ghost use Rattle.std.specs.Prelude.{◌≡◌, ◌<◌, ◌^◌};
 ghost use Rattle.mm_board.specs.Views.{holder_of};
 
 /// The word that keeps this holder.
@@ -16,7 +16,7 @@ pub(crate) fn word_of(holder: Option<u32>) -> u64
 /// The holder that this word keeps.
 #[inline]
 pub(crate) fn of_word(word: u64) -> Option<u32>
-    requires { word ≤ 2 ^ 32 }
+    requires { word < 2 ^ 32 }
     ensures { result ≡ holder_of word }
 {
     if word == 0 {

@@ -1,7 +1,7 @@
 //! The one who stores labels and holders.
 ghost use Rattle.std.specs.Prelude.{◌≡◌, ◌<◌, length, IfSome, IsTrue};
 ghost use Rattle.mm_label.specs.Label.{label_le};
-ghost use Rattle.mm_board.specs.Views.{current_label, current_labels, with_label, with_holder, with_met, new_seen, IsAnother, NoneFalls};
+ghost use Rattle.mm_board.specs.Views.{current_label, current_labels, current_holder, with_label, with_holder, with_met, new_seen, IsAnother, NoneFalls};
 
 use crate::board::Board;
 use crate::holder;
@@ -42,7 +42,8 @@ impl<N: Name> Publisher<N> {
     pub fn store_label(&mut self, board: &Board<N>, process: u32, label: Label)
         requires process_in_range { process < board.now }
         requires rises { IsTrue (label_le (current_label self.old process) label) }
-        ensures { self.new ≡ with_label self.old process label }
+        ensures stored { self.new ≡ with_label self.old process label }
+        ensures current { current_label self.new process ≡ label }
     {
         let word = label.word();
         board
@@ -56,7 +57,8 @@ impl<N: Name> Publisher<N> {
     pub fn store_holder(&mut self, board: &Board<N>, process: u32, holder: Option<u32>)
         requires process_in_range { process < board.now }
         requires another { IfSome holder (λ other. IsAnother board.now process other) }
-        ensures { self.new ≡ with_holder self.old process holder }
+        ensures stored { self.new ≡ with_holder self.old process holder }
+        ensures current { current_holder self.new process ≡ holder }
     {
         let word = holder::word_of(holder);
         let place = board.processes as usize + process as usize;

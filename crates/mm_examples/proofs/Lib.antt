@@ -1,1 +1,2 @@
 pub mod Woken
+pub mod Shown
