@@ -1,25 +1,38 @@
 -- Lists of labels that rise, one for each process, and what a store does to them.
-use Rattle.std.proofs.Common.{◌≡◌, ◌≢◌, ℕ, ◌+◌, ◌-◌, ◌<◌, List, [], ◌∷◌, ◌++◌, length, set, IsTrue, refl, sym, ap, ◌∙◌, subst, arith, inl, inr, length-append, length-set, get_or-set_same, get_or-set_other}
+use Rattle.std.proofs.Common.{◌≡◌, ◌≢◌, ℕ, zero, suc, ◌+◌, ◌-◌, ◌<◌, List, [], ◌∷◌, ◌++◌, length, set, IsTrue, refl, sym, ap, ◌∙◌, subst, arith, inl, inr, length-append, length-set, get_or-set_same, get_or-set_other}
 use Rattle.std.proofs.lemmas.Bool.{cases_eq, cases_lt}
 use Rattle.std.proofs.lemmas.List.{length-map, get_or_past}
 use lib.ListN.{get_or-append, get_or-map}
 use lib.Seq.{get_or-append_seam}
+use Rattle.mm_lists.specs.Members.{Among}
+use Rattle.mm_lists.proofs.Lemmas.Among.{among_left}
 use Rattle.mm_label.specs.Label.{Label, label_le, opening_label}
 use Rattle.mm_board.specs.declared.views.Published.{Published}
 use Rattle.mm_board.specs.Views.{label_at, last_label, history, current_label, current_labels, with_label, NoneFalls}
-use Rattle.mm_board.specs.Rule.{Rises, IsHistory, Stands, WereStored}
+use Rattle.mm_board.specs.Rule.{Rises, IsHistory, WereStored}
 use Rattle.mm_board.proofs.Order.{label_le_same, label_le_then}
 
 -- ---- one list
 
-pub last_stands : (labels : List Label) → 0 < length labels → Stands labels (last_label labels)
-last_stands labels some = (length labels - 1, omega arith, refl)
+at_among : (labels : List Label) (k : ℕ) → k < length labels → Among (label_at labels k) labels
+at_among [] k inside = absurd (omega arith)
+at_among (l ∷ ls) zero inside = inl refl
+at_among (l ∷ ls) (suc k) inside = inr (at_among ls k (omega arith))
+
+place_of : (labels : List Label) (label : Label) → Among label labels → (k : ℕ) × (k < length labels) × (label_at labels k ≡ label)
+place_of [] label among = absurd among
+place_of (l ∷ ls) label (inl first) = (0, omega arith, sym first)
+place_of (l ∷ ls) label (inr later) = let rest = place_of ls label later in let inside = rest.1 in (suc rest.0, omega arith, rest.2)
+
+pub last_among : (labels : List Label) → 0 < length labels → Among (last_label labels) labels
+last_among labels some = at_among labels (length labels - 1) (omega arith)
 
 -- no label of a list that rises is above its last
-pub at_most_last : (labels : List Label) (label : Label) → Rises labels → Stands labels label → IsTrue (label_le label (last_label labels))
-at_most_last labels label rises stands =
-    let inside = stands.1 in
-    subst (λ (l : Label). IsTrue (label_le l (last_label labels))) stands.2 (rises stands.0 (length labels - 1) (omega arith) (omega arith))
+pub at_most_last : (labels : List Label) (label : Label) → Rises labels → Among label labels → IsTrue (label_le label (last_label labels))
+at_most_last labels label rises among =
+    let place = place_of labels label among in
+    let inside = place.1 in
+    subst (λ (l : Label). IsTrue (label_le l (last_label labels))) place.2 (rises place.0 (length labels - 1) (omega arith) (omega arith))
 
 module _ (labels : List Label) (label : Label) where
   length_longer : length (labels ++ label ∷ []) ≡ length labels + 1
@@ -35,9 +48,6 @@ module _ (labels : List Label) (label : Label) where
   last_of_longer =
       let place : length (labels ++ label ∷ []) - 1 ≡ length labels = omega (arith, length_longer) in
       ap (label_at (labels ++ label ∷ [])) place ∙ new_at
-
-  pub stands_in_longer : (old : Label) → Stands labels old → Stands (labels ++ label ∷ []) old
-  stands_in_longer old stands = let inside = stands.1 in (stands.0, omega (arith, length_longer), old_at stands.0 inside ∙ stands.2)
 
   rises_longer : Rises labels → IsTrue (label_le (last_label labels) label) → Rises (labels ++ label ∷ [])
   rises_longer rises above i j ordered inside = elim (cases_lt j (length labels)) [
@@ -86,14 +96,14 @@ module _ (p : Published) where
           elim (cases_eq j i) [
             | inl same ↦
                 let here : history (with_label p i label) j ≡ history p j ++ label ∷ [] = ap (history (with_label p i label)) same ∙ history_here inside ∙ ap (λ k. history p k ++ label ∷ []) (sym same) in
-                rw here (stands_in_longer (history p j) label (label_at labels j) (were.1 j within))
+                rw here (among_left (history p j) (label ∷ []) (label_at labels j) (were.1 j within))
             | inr other ↦ rw (history_else j other) (were.1 j within)
           ],
     )
 
   module _ (are : (i : ℕ) → i < length p.histories → IsHistory i (history p i)) where
     pub current_were_stored : WereStored p (current_labels p)
-    current_were_stored = (length-current_labels, λ i inside. rw (current_labels_at i) (last_stands (history p i) (are i inside).0))
+    current_were_stored = (length-current_labels, λ i inside. rw (current_labels_at i) (last_among (history p i) (are i inside).0))
 
     -- a reader sees the current label of one process
     pub seen_were_stored : (labels : List Label) (i : ℕ) → i < length p.histories → WereStored p labels → WereStored p (set labels i (current_label p i))
@@ -103,7 +113,7 @@ module _ (p : Published) where
         | inl same ↦
             let here : label_at (set labels i (current_label p i)) j ≡ current_label p j
             = ap (label_at (set labels i (current_label p i))) same ∙ get_or-set_same labels i (current_label p i) (opening_label 0) (omega (arith, were.0)) ∙ ap (current_label p) (sym same) in
-            rw here (last_stands (history p j) (are j low).0)
+            rw here (last_among (history p j) (are j low).0)
         | inr other ↦ rw (get_or-set_other labels i j (current_label p i) (opening_label 0) other) (were.1 j low)
       ],
     )

@@ -1,5 +1,5 @@
 -- A new board meets its rule.
-use Rattle.std.proofs.Common.{◌≡◌, ℕ, zero, suc, ◌+◌, ◌<◌, List, [], ◌∷◌, map, length, None, refl, sym, ap, ◌∙◌, subst, arith}
+use Rattle.std.proofs.Common.{inl, ◌≡◌, ℕ, zero, suc, ◌+◌, ◌<◌, List, [], ◌∷◌, map, length, None, refl, sym, ap, ◌∙◌, subst, arith}
 use Rattle.std.specs.Prelude.{slice_index}
 use Rattle.std.specs.List.{range_with_len}
 use Rattle.std.proofs.lemmas.List.{length-replicate, get_or-replicate}
@@ -62,7 +62,7 @@ opening_is_published words n are =
       histories = λ i low. rw (history_at_first n i (omega arith)) (omega arith, refl, single_rises (opening_label i));
       met = (
         length-opening_labels n ∙ sym sized,
-        λ i low. rw (history_at_first n i (omega arith), opening_at n i (omega arith)) (0, omega arith, refl),
+        λ i low. rw (history_at_first n i (omega arith), opening_at n i (omega arith)) (inl refl),
       );
     }
 

@@ -4,6 +4,7 @@ use mathlib.Core.Option.{some}
 use lib.ListN.{get_elem?}
 use Rattle.atomic_table.specs.Table.{State}
 use Rattle.mm_label.specs.Label.{Label, label_le, label_of, opening_label}
+use Rattle.mm_lists.specs.Members.{Among}
 use Rattle.mm_board.specs.declared.views.Published.{Published}
 use Rattle.mm_board.specs.declared.views.View.{View}
 use Rattle.mm_board.specs.declared.views.View.TheVariants.{Publishes, Reads, Spent}
@@ -17,13 +18,9 @@ Rises labels = (i j : ℕ) → i ≤ j → j < length labels → IsTrue (label_l
 abbrev pub IsHistory : ℕ → List Label → Type 0
 IsHistory i labels = (0 < length labels) × (label_at labels 0 ≡ opening_label i) × Rises labels
 
--- the label stands in the list
-abbrev pub Stands : List Label → Label → Type 0
-Stands labels label = (k : ℕ) × (k < length labels) × (label_at labels k ≡ label)
-
 -- a label for each process, which was stored there
 abbrev pub WereStored : Published → List Label → Type 0
-WereStored p labels = (length labels ≡ length p.histories) × ((i : ℕ) → i < length p.histories → Stands (history p i) (label_at labels i))
+WereStored p labels = (length labels ≡ length p.histories) × ((i : ℕ) → i < length p.histories → Among (label_at labels i) (history p i))
 
 -- the words keep what the publisher stored last: the labels of all processes, and then the holders
 pub record IsPublished (words : List ℕ) (p : Published) : Type 0 where
@@ -35,7 +32,7 @@ pub record IsPublished (words : List ℕ) (p : Published) : Type 0 where
   pub histories : (i : ℕ) → i < length p.histories → IsHistory i (history p i)
   pub met : WereStored p p.met
 
--- what a seat may know: the publisher's seat what was stored, and a reader's what was stored at some time. The third number is the seat
+-- what a seat may know, where p was stored from the seat `publisher`: that seat alone knows p, and a reader labels that were stored at some time
 abbrev pub MayKnow : Published → ℕ → ℕ → View → Type 0
 MayKnow p publisher seat (Publishes q) = (seat ≡ publisher) × (q ≡ p)
 MayKnow p publisher seat (Reads seen) = WereStored p seen.labels
