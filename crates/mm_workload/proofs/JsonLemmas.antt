@@ -1,0 +1,119 @@
+-- Reading a JSON value, and the items of an array in turn.
+use Rattle.std.proofs.Common.{◌≡◌, ◌∙◌, ap, sym, refl, subst, ℕ, suc, ◌+◌, ◌<◌, ◌≤◌, Bool, true, false, List, [], ◌∷◌, ◌++◌, map, length, drop, get_or, nat_le, ◌&&◌, cond, if◌then◌else◌, Option, Some, None, option_map, option_and_then, Result, Ok, Err, IfErr, add-one, drop-cons, arith}
+use Rattle.std.proofs.lemmas.List.{append_assoc}
+use Rattle.std.proofs.lemmas.Grind.{common_steps}
+use Rattle.std.proofs.lemmas.Bool.{le-leb, lt-leb}
+use Rattle.serde_json.specs.Data.{Data, Items, no_items, item}
+use Rattle.serde_json.specs.Find.{as_array}
+use Rattle.serde_json.specs.Read.{read}
+use Rattle.serde_json.specs.View.{view, items_of, items_view}
+use Rattle.serde_json.specs.declared.value.Value.{Value}
+use Rattle.serde_json.proofs.OnLiterals.{serde_json_on_literals}
+use Rattle.mm_workload.specs.Work.{Work}
+use Rattle.mm_workload.specs.Json.{all_of, all_in, count, SaysWork, Says, SaysNone}
+use Rattle.mm_workload.specs.declared.fault.WorkFault.{WorkFault}
+use Rattle.mm_workload.specs.declared.fault.WorkFault.TheVariants.{Memory}
+
+-- what was made so far, and what the rest gives
+abbrev pub GoesOn : {X : Type 0} → (Data → Option X) → List X → List Value → List Value → Type 0
+GoesOn f made all rest = all_of f (items_view all) ≡ option_map (λ more. made ++ more) (all_of f (items_view rest))
+
+with_none : {X : Type 0} → (o : Option (List X)) → o ≡ option_map (λ more. [] ++ more) o
+with_none None = refl
+with_none (Some xs) = refl
+
+pub goes_on-first : {X : Type 0} → (f : Data → Option X) (all : List Value) → GoesOn f [] all all
+goes_on-first f all = with_none (all_of f (items_view all))
+
+one_more : {X : Type 0} → (made : List X) (x : X) (o : Option (List X)) →
+    option_map (λ more. made ++ more) (option_map (λ xs. x ∷ xs) o) ≡ option_map (λ more. (made ++ x ∷ []) ++ more) o
+one_more made x None = refl
+one_more made x (Some xs) = ap Some (sym (append_assoc made (x ∷ []) xs))
+
+first_of : {X : Type 0} → (f : Data → Option X) (v : Value) (rest : List Value) →
+    all_of f (items_view (v ∷ rest)) ≡ option_and_then (λ x. option_map (λ xs. x ∷ xs) (all_of f (items_view rest))) (f (view v))
+first_of f v rest = refl
+
+pub goes_on-next : {X : Type 0} → (f : Data → Option X) (made : List X) (all : List Value) (v : Value) (rest : List Value) (x : X) →
+    f (view v) ≡ Some x → GoesOn f made all (v ∷ rest) → GoesOn f (made ++ x ∷ []) all rest
+goes_on-next f made all v rest x is on =
+    on ∙ (ap (λ o. option_map (λ more. made ++ more) (option_and_then (λ y. option_map (λ xs. y ∷ xs) (all_of f (items_view rest))) o)) is
+    ∙ one_more made x (all_of f (items_view rest)))
+
+pub goes_on-none : {X : Type 0} → (f : Data → Option X) (made : List X) (all : List Value) (v : Value) (rest : List Value) →
+    f (view v) ≡ None → GoesOn f made all (v ∷ rest) → all_of f (items_view all) ≡ None
+goes_on-none f made all v rest is on =
+    on ∙ ap (λ o. option_map (λ more. made ++ more) (option_and_then (λ y. option_map (λ xs. y ∷ xs) (all_of f (items_view rest))) o)) is
+
+append_none : {X : Type 0} → (xs : List X) → xs ++ [] ≡ xs
+append_none [] = refl
+append_none (x ∷ xs) = ap (λ ys. x ∷ ys) (append_none xs)
+
+pub goes_on-last : {X : Type 0} → (f : Data → Option X) (made : List X) (all : List Value) → GoesOn f made all [] → all_of f (items_view all) ≡ Some made
+goes_on-last f made all on = on ∙ ap Some (append_none made)
+
+pub count-view : (vs : List Value) → count (items_view vs) ≡ length vs
+count-view [] = refl
+count-view (v ∷ vs) = ap (λ n. 1 + n) (count-view vs) ∙ (omega arith)
+
+within : {X : Type 0} → (least most n : ℕ) (o : Option (List X)) → least ≤ n → n ≤ most → (if nat_le least n && nat_le n most then o else None) ≡ o
+within least most n o a b = rw (le-leb least n a, le-leb n most b) refl
+
+over : {X : Type 0} → (least most n : ℕ) (o : Option (List X)) → most < n → (if nat_le least n && nat_le n most then o else None) ≡ None
+over least most n o a = elim (nat_le least n) as (λ t. cond (t && nat_le n most) o None ≡ None) [
+  | true ↦ rw (lt-leb n most a) refl
+  | false ↦ refl
+]
+
+under : {X : Type 0} → (least most n : ℕ) (o : Option (List X)) → n < least → (if nat_le least n && nat_le n most then o else None) ≡ None
+under least most n o a = rw (lt-leb least n a) refl
+
+pub all_in-within : {X : Type 0} → (least most : ℕ) (f : Data → Option X) (vs : List Value) → least ≤ length vs → length vs ≤ most →
+    all_in least most f (items_view vs) ≡ all_of f (items_view vs)
+all_in-within least most f vs a b = rw (count-view vs) (within least most (length vs) (all_of f (items_view vs)) a b)
+
+pub all_in-over : {X : Type 0} → (least most : ℕ) (f : Data → Option X) (vs : List Value) → most < length vs → all_in least most f (items_view vs) ≡ None
+all_in-over least most f vs a = rw (count-view vs) (over least most (length vs) (all_of f (items_view vs)) a)
+
+pub all_in-under : {X : Type 0} → (least most : ℕ) (f : Data → Option X) (vs : List Value) → length vs < least → all_in least most f (items_view vs) ≡ None
+all_in-under least most f vs a = rw (count-view vs) (under least most (length vs) (all_of f (items_view vs)) a)
+
+drop_all : {X : Type 0} → (xs : List X) (n : ℕ) → length xs ≤ n → drop n xs ≡ []
+drop_all xs n h = grind (arith, common_steps)
+
+-- past the last item
+pub goes_on-end : {X : Type 0} → (f : Data → Option X) (made : List X) (all : List Value) (i : ℕ) → length all ≤ i →
+    GoesOn f made all (drop i all) → all_of f (items_view all) ≡ Some made
+goes_on-end f made all i h on =
+    goes_on-last f made all (on ∙ ap (λ rest. option_map (λ more. made ++ more) (all_of f (items_view rest))) (drop_all all i h))
+
+-- an item that does not fit
+pub goes_on-stop : {X : Type 0} → (f : Data → Option X) (made : List X) (all : List Value) (i : ℕ) (v : Value) → i < length all → v ≡ get_or all i v →
+    f (view v) ≡ None → GoesOn f made all (drop i all) → all_of f (items_view all) ≡ None
+goes_on-stop f made all i v h is none on =
+    let at : drop i all ≡ v ∷ drop (suc i) all = drop-cons all i v h ∙ ap (λ w. w ∷ drop (suc i) all) (sym is) in
+    goes_on-none f made all v (drop (suc i) all) none (on ∙ ap (λ rest. option_map (λ more. made ++ more) (all_of f (items_view rest))) at)
+
+-- the items of an array that may be absent
+pub in_array : {X : Type 0} → (f : Items → Option X) (o : Option Data) → option_and_then (λ d. option_and_then f (as_array d)) o ≡ option_and_then f (option_and_then as_array o)
+in_array f None = refl
+in_array f (Some d) = refl
+
+-- no JSON text is empty
+read_nothing : read [] ≡ None
+unfolding serde_json_on_literals
+read_nothing = refl
+
+pub some_bytes : (bytes : List ℕ) (d : Data) → read bytes ≡ Some d → 0 < length bytes
+some_bytes [] d is =
+    let no : None ≡ Some d = sym read_nothing ∙ is in
+    cc
+some_bytes (b ∷ bytes) d is = omega arith
+
+-- where the value says no workload, its bytes say none
+pub says_none : {W : Type 0} → (bytes : List ℕ) (d : Data) (r : Result W WorkFault) → read bytes ≡ Some d →
+    IfErr r (λ e. ¬ (e ≡ Memory) → (w : Work) → ¬ SaysWork d w) → IfErr r (λ e. ¬ (e ≡ Memory) → SaysNone bytes)
+says_none bytes d (Ok w) is none = tt
+says_none bytes d (Err e) is none = λ other w says.
+    let same : says.value.0 ≡ d = cc in
+    none other w (subst (λ (d : Data). SaysWork d w) same says.value.2)

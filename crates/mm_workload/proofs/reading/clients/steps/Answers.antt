@@ -1,0 +1,20 @@
+use Rattle.std.proofs.Common.{◌≡◌, ◌∙◌, ap, sym, rules, arith, Some, option_and_then}
+use Rattle.serde_json.specs.View.{view, items_view}
+use Rattle.serde_json.specs.Find.{as_array}
+use Rattle.mm_workload.specs.Json.{step_of, all_in}
+use Rattle.mm_workload.proofs.JsonLemmas.{all_in-over, all_in-within, goes_on-stop, goes_on-end}
+use Rattle.mm_workload.proofs.reading.clients.steps.Goals as goal
+
+pub returns-then-len-gt-MOST_STEPS-clause-malformed : goal.returns-then-len-gt-MOST_STEPS-clause-malformed
+returns-then-len-gt-MOST_STEPS-clause-malformed c = λ _.
+    let items = c.in-Some.items.now.items in
+    let is : as_array (view c.args.value.now) ≡ Some (items_view items) = search rules in
+    ap (option_and_then (all_in 0 256 step_of)) is ∙ all_in-over 0 256 step_of items (search rules)
+
+pub returns-clause-ok : goal.returns-clause-ok
+returns-clause-ok c =
+    let items = c.deref-item-items.result.now in
+    let is : as_array (view c.args.value.now) ≡ Some (items_view items) = search rules in
+    let within = all_in-within 0 256 step_of items (search rules) (search rules) in
+    ap (option_and_then (all_in 0 256 step_of)) is
+    ∙ (within ∙ goes_on-end step_of c.steps.made.items items c.steps.index (omega arith) c.steps.invariant.on)

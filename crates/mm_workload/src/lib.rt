@@ -1,0 +1,20 @@
+//! Workloads: a table's numbers, and what clients and transmitters are to do on it. Plain data, with no threads.
+//!
+//! - `step`: what a client does next.
+//! - `workload`: `Workload`, whose numbers are in their ranges.
+//! - `fault`: why there is no workload, and where it is malformed.
+//! - `reading`: a workload from the bytes of a JSON file.
+//! - `storms`: a workload from a seed.
+#![tactic(auto)]
+
+mod fault;
+mod reading;
+mod step;
+
+mod workload;
+
+pub use fault::{Place, StepFault, WorkFault};
+pub use mm_table::Config;
+pub use step::WorkStep;
+
+pub use workload::Workload;

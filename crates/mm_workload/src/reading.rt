@@ -1,0 +1,83 @@
+//! A workload from the bytes of a JSON file. `clients` reads the clients and their steps.
+//!
+//! Each function returns what its value says, or the place where it says nothing: nothing is read twice.
+ghost use Rattle.std.specs.Prelude.{◌≡◌, ◌≤◌, ◌<◌, Err, Some, None, MatchResult, IfOk, IfErr, codes, length};
+ghost use Rattle.serde_json.specs.View.{view};
+ghost use Rattle.mm_rules.specs.declared.config.Config.{Config};
+ghost use Rattle.mm_workload.specs.Work.{Work};
+ghost use Rattle.mm_workload.specs.Json.{whole_at, SaysConfig, SaysWork, Says, SaysNone};
+ghost use Rattle.mm_workload.specs.declared.fault.WorkFault.TheVariants.{Memory};
+
+mod clients;
+
+use crate::fault::{Place, WorkFault};
+use crate::workload::Workload;
+use clients::clients;
+use mm_table::Config;
+use serde_json::Value;
+use std::alloc::Global;
+
+/// The greatest number of bytes that may say a workload.
+const MOST_BYTES: usize = 1_048_576;
+
+/// The workload that these bytes say.
+pub(crate) fn read(alloc: Global, bytes: &[u8]) -> Result<Workload, WorkFault>
+    ensures ok { IfOk result (λ w. Says bytes.now w) }
+    ensures malformed { IfErr result (λ e. ¬ (e ≡ Memory) → SaysNone bytes.now) }
+    ensures memory { result ≡ Err Memory → (0 < length bytes.now) × (length bytes.now ≤ 1048576) }
+{
+    if bytes.len() > MOST_BYTES {
+        return Err(WorkFault::Malformed(Place::File));
+    }
+    match Value::from_slice(alloc, bytes) {
+        Ok(value) => work(alloc, &value),
+        Err(error) if error.is_memory() => Err(WorkFault::Memory),
+        Err(error) => Err(WorkFault::Malformed(Place::Json {
+            line: error.line(),
+            column: error.column(),
+        })),
+    }
+}
+
+/// The workload that this value says.
+fn work(alloc: Global, value: &Value) -> Result<Workload, WorkFault>
+    ensures ok { IfOk result (λ w. SaysWork (view value.now) w) }
+    ensures malformed { IfErr result (λ e. ¬ (e ≡ Memory) → (w : Work) → ¬ SaysWork (view value.now) w) }
+{
+    let config = config(value)?;
+    let transmitters = number(value, "transmitters", 0, 64)?;
+    let turns = number(value, "turns", 1, 1_000_000_000)?;
+    let clients = clients(alloc, value)?;
+    Ok(Workload::of(config, transmitters as u32, turns, clients))
+}
+
+/// The table's numbers.
+fn config(value: &Value) -> Result<Config, Place>
+    ensures { MatchResult result (λ c. SaysConfig (view value.now) c) (λ _. (c : Config) → ¬ SaysConfig (view value.now) c) }
+{
+    let most = u64::from(u32::MAX);
+    let processes = number(value, "processes", 0, most)?;
+    let resources = number(value, "resources", 0, most)?;
+    let label_limit = number(value, "label_limit", 0, u64::MAX)?;
+    let generation_limit = number(value, "generation_limit", 0, most)?;
+    Ok(Config {
+        processes: processes as u32,
+        resources: resources as u32,
+        label_limit,
+        generation_limit: generation_limit as u32,
+    })
+}
+
+/// The number under this key.
+fn number(value: &Value, key: &'static str, least: u64, most: u64) -> Result<u64, Place>
+    ensures { MatchResult result (λ n. whole_at least most key.now (view value.now) ≡ Some n)
+        (λ _. whole_at least most key.now (view value.now) ≡ None) }
+{
+    let Some(found) = value.get(key) else {
+        return Err(Place::Missing(key));
+    };
+    match found.as_u64() {
+        Some(number) if least <= number && number <= most => Ok(number),
+        _ => Err(Place::Number { key, least, most }),
+    }
+}
