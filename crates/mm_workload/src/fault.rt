@@ -19,7 +19,10 @@ pub enum Place {
     /// From here on the file is no JSON text in UTF-8. Line and column are those of `serde_json`, which often names the first
     /// character of a word or a number that does not fit.
     #[error("line {line}, column {column}: not JSON")]
-    Json { line: usize, column: usize },
+    Json {
+        line: usize,
+        column: usize,
+    },
     #[error("the key {0} is missing")]
     Missing(&'static str),
     #[error("{key} is not a whole number from {least} to {most}")]

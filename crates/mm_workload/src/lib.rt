@@ -10,11 +10,11 @@
 mod fault;
 mod reading;
 mod step;
-
+mod storms;
 mod workload;
 
 pub use fault::{Place, StepFault, WorkFault};
 pub use mm_table::Config;
 pub use step::WorkStep;
-
+pub use storms::storm;
 pub use workload::Workload;

@@ -22,11 +22,19 @@ impl Model for Workload {
 
     ghost Value = { Work };
 
-    ghost view = { λ w. record { config = w.config; transmitters = w.transmitters; turns = w.turns;
-        clients = map (λ c. c.items) w.clients.items } };
+    ghost view = { λ w. record {
+      config = w.config;
+      transmitters = w.transmitters;
+      turns = w.turns;
+      clients = map (λ c. c.items) w.clients.items;
+    } };
 
-    ghost invariant = { λ w. IsWithinLimits (record { config = w.config; transmitters = w.transmitters; turns = w.turns;
-        clients = map (λ c. c.items) w.clients.items }) };
+    ghost invariant = { λ w. IsWithinLimits (record {
+      config = w.config;
+      transmitters = w.transmitters;
+      turns = w.turns;
+      clients = map (λ c. c.items) w.clients.items;
+    }) };
 }
 
 impl Workload {
@@ -43,10 +51,18 @@ impl Workload {
         turns: u64,
         clients: Vec<Vec<WorkStep>>,
     ) -> Workload
-        requires { IsWithinLimits (record { config = config; transmitters = transmitters; turns = turns;
-            clients = map (λ c. c.items) clients.items }) }
-        ensures { result ≡ record { config = config; transmitters = transmitters; turns = turns;
-            clients = map (λ c. c.items) clients.items } }
+        requires { IsWithinLimits (record {
+          config = config;
+          transmitters = transmitters;
+          turns = turns;
+          clients = map (λ c. c.items) clients.items;
+        }) }
+        ensures { result ≡ record {
+          config = config;
+          transmitters = transmitters;
+          turns = turns;
+          clients = map (λ c. c.items) clients.items;
+        } }
     {
         Workload {
             config,

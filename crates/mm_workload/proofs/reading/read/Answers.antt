@@ -1,11 +1,6 @@
-use Rattle.std.proofs.Common.{◌≡◌, ◌∙◌, sym, refl, arith, rules, Ok, Err, MatchResult, IfErr, ◌<◌, ◌≤◌, length, List, [], ◌∷◌, ℕ, Some, None, Result}
-use Rattle.serde_json.specs.Data.{Data}
+use Rattle.std.proofs.Common.{◌≡◌, arith, rules, Some}
 use Rattle.serde_json.specs.View.{view}
 use Rattle.serde_json.specs.Read.{read}
-use Rattle.mm_workload.specs.Work.{Work}
-use Rattle.mm_workload.specs.Json.{SaysWork, Says, SaysNone}
-use Rattle.mm_workload.specs.declared.fault.WorkFault.{WorkFault}
-use Rattle.mm_workload.specs.declared.fault.WorkFault.TheVariants.{Memory}
 use Rattle.mm_workload.proofs.JsonLemmas.{says_none, some_bytes}
 use Rattle.mm_workload.proofs.reading.read.Goals as goal
 

@@ -1,4 +1,4 @@
-use Rattle.std.proofs.Common.{◌≡◌, ◌∙◌, ap, sym, rules, arith, ◌≤◌, length, map, Some, None, codes, option_and_then}
+use Rattle.std.proofs.Common.{◌≡◌, ◌∙◌, ap, rules, arith, ◌≤◌, length, map, Some, None, codes, option_and_then}
 use Rattle.serde_json.specs.View.{view, items_view}
 use Rattle.serde_json.specs.Find.{as_array, get}
 use Rattle.mm_workload.specs.Json.{steps_of, all_in}

@@ -1,0 +1,11 @@
+use Rattle.std.proofs.Common.{◌≡◌, []}
+use Rattle.std.specs.List.{fold}
+use Rattle.mm_workload.specs.Storm.{after, with_resource}
+use Rattle.mm_workload.proofs.StormLemmas.{given}
+use Rattle.mm_workload.proofs.storms.client.Given as goal
+
+abbrev pub invariant-draws : goal.invariant-draws
+invariant-draws l = record {
+  steps : l.steps.items ≡ fold with_resource [] (given l.counter l.initial.words);
+  words : l.words ≡ after l.counter l.initial.words;
+}

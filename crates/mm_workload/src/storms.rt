@@ -1,0 +1,90 @@
+//! A workload from a seed.
+ghost use Rattle.std.specs.Prelude.{◌≡◌, ◌≤◌, ◌+◌, MatchResult, IfOk, OnOk, map};
+ghost use Rattle.std.specs.List.{list_any};
+ghost use Rattle.mm_workload.specs.Storm.{acquires, after, client_of, clients_of, draws, generator, storm_of, with_resource};
+ghost use Rattle.mm_workload.specs.declared.fault.WorkFault.TheVariants.{Memory};
+
+use crate::fault::WorkFault;
+use crate::step::WorkStep;
+use crate::workload::Workload;
+use mm_table::Config;
+use rand_core::utils::NextWord;
+use rand_pcg::Lcg64Xsh32;
+use std::alloc::{AllocError, Global};
+
+/// How many resources there are.
+const RESOURCES: u32 = 8;
+
+/// The greatest number of words that give a client a resource.
+const MOST_DRAWS: u32 = 4;
+
+/// Returns the workload that is made from this seed: the same one for the same arguments. Takes memory; `O(clients)`.
+///
+/// The words are those of the generator PCG-XSH-RR, `rand_pcg`'s `Lcg64Xsh32::new(seed, 0)`, in the order in which it gives
+/// them. For each client in turn one word gives a count of 1 to 4, and then so many words each give one of 8 resources, which
+/// the client acquires in that order. A resource that the client has already is passed over. There are as many processes as
+/// clients.
+///
+/// Refused as `Memory` only where a request for memory was refused.
+pub fn storm(
+    alloc: Global,
+    seed: u64,
+    clients: u32,
+    transmitters: u32,
+) -> Result<Workload, WorkFault>
+    requires clients { (1 ≤ clients) × (clients ≤ 64) }
+    requires transmitters { transmitters ≤ 64 }
+    ensures { MatchResult result (λ w. w ≡ storm_of seed clients transmitters) (λ e. e ≡ Memory) }
+{
+    let config = Config {
+        processes: clients,
+        resources: RESOURCES,
+        label_limit: 1_000_000_000,
+        generation_limit: 9,
+    };
+    let clients = acquiring_clients(alloc, seed, clients)?;
+    Ok(Workload::of(config, transmitters, 10_000_000, clients))
+}
+
+/// The steps of so many clients.
+fn acquiring_clients(alloc: Global, seed: u64, count: u32) -> Result<Vec<Vec<WorkStep>>, AllocError>
+    ensures { IfOk result (λ v. map (λ c. c.items) v.items ≡ clients_of count (generator seed)) }
+{
+    let mut words = Lcg64Xsh32::new(seed, 0);
+    let mut clients = Vec::new(alloc);
+    'clients: for _ in 0..count {
+        clients.push(client(alloc, &mut words)?)?;
+    }
+    Ok(clients)
+}
+
+/// The steps of a client, by the next words.
+fn client(alloc: Global, words: &mut Lcg64Xsh32) -> Result<Vec<WorkStep>, AllocError>
+    ensures steps { IfOk result (λ v. v.items ≡ client_of words.old) }
+    ensures words { OnOk result (words.new ≡ after (1 + draws words.old) words.old) }
+{
+    let draws = 1 + words.next_word() % MOST_DRAWS;
+    let mut steps = Vec::new(alloc);
+    'draws: for _ in 0..draws {
+        let resource = words.next_word() % RESOURCES;
+        acquire(&mut steps, resource)?;
+    }
+    Ok(steps)
+}
+
+/// The client acquires the resource, unless it has it already.
+fn acquire(steps: &mut Vec<WorkStep>, resource: u32) -> Result<(), AllocError>
+    ensures { OnOk result (steps.new.items ≡ with_resource steps.old.items resource) }
+{
+    if !has(steps.as_slice(), resource) {
+        steps.push(WorkStep::Acquire(resource))?;
+    }
+    Ok(())
+}
+
+/// Whether one of the steps acquires the resource.
+fn has(steps: &[WorkStep], resource: u32) -> bool
+    ensures { result ≡ list_any (acquires resource) steps.now }
+{
+    steps.iter().any(|step| matches!(step, WorkStep::Acquire(had) if *had == resource))
+}
