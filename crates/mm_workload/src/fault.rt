@@ -6,32 +6,42 @@ use thiserror::Error;
 pub enum WorkFault {
     #[error("a request for memory was refused")]
     Memory,
-    /// The bytes of a file say no workload. The place is for a person: no clause says which of several is given.
+    /// The bytes of a file say no workload. The place is for a person: where more than one is at fault, no clause says which is
+    /// given.
     #[error("malformed workload: {0}")]
     Malformed(Place),
 }
 
-/// Where a workload is malformed, and why. Clients, and the steps of a client, count from 1.
+/// Where a workload is malformed, and why. Clients count from 1, and so do the steps of a client.
 #[derive(Clone, Copy, Debug, PartialEq, Eq, Error)]
 pub enum Place {
     #[error("the file is longer than 1048576 bytes")]
-    File,
-    /// From here on the file is no JSON text in UTF-8. Line and column are those of `serde_json`, which often names the first
-    /// character of a word or a number that does not fit.
-    #[error("line {line}, column {column}: not JSON")]
+    TooLong,
+    /// Not a JSON text in UTF-8, or one that `serde_json` refuses. Line and column are `serde_json`'s, which often names the
+    /// start of a word or a number.
+    #[error("line {line}, column {column}: no JSON that can be read")]
     Json {
         line: usize,
         column: usize,
     },
+    /// The file ends, and the JSON text does not.
+    #[error("line {line}, column {column}: the JSON text ends too soon")]
+    CutShort {
+        line: usize,
+        column: usize,
+    },
+    #[error("the file is not a JSON object")]
+    NotAnObject,
     #[error("the key {0} is missing")]
     Missing(&'static str),
-    #[error("{key} is not a whole number from {least} to {most}")]
+    /// The value of this key is not a whole number in this range.
+    #[error("the key {key} is not a whole number from {least} to {most}")]
     Number {
         key: &'static str,
         least: u64,
         most: u64,
     },
-    #[error("clients is not an array of 1 to 64 clients")]
+    #[error("the key clients is not an array of 1 to 64 clients")]
     Clients,
     #[error("client {0} is not an array of at most 256 steps")]
     Client(usize),

@@ -14,7 +14,7 @@ use crate::fault::{Place, WorkFault};
 use crate::workload::Workload;
 use clients::clients;
 use mm_table::Config;
-use serde_json::Value;
+use serde_json::{Error, Value};
 use std::alloc::Global;
 
 /// The greatest number of bytes that may say a workload.
@@ -27,15 +27,22 @@ pub(crate) fn read(alloc: Global, bytes: &[u8]) -> Result<Workload, WorkFault>
     ensures memory { result ≡ Err Memory → (0 < length bytes.now) × (length bytes.now ≤ 1048576) }
 {
     if bytes.len() > MOST_BYTES {
-        return Err(WorkFault::Malformed(Place::File));
+        return Err(WorkFault::Malformed(Place::TooLong));
     }
     match Value::from_slice(alloc, bytes) {
         Ok(value) => work(alloc, &value),
         Err(error) if error.is_memory() => Err(WorkFault::Memory),
-        Err(error) => Err(WorkFault::Malformed(Place::Json {
-            line: error.line(),
-            column: error.column(),
-        })),
+        Err(error) => Err(WorkFault::Malformed(place_of(&error))),
+    }
+}
+
+/// Where the text is at fault.
+fn place_of(error: &Error) -> Place {
+    let (line, column) = (error.line(), error.column());
+    if error.is_eof() {
+        Place::CutShort { line, column }
+    } else {
+        Place::Json { line, column }
     }
 }
 
@@ -74,10 +81,19 @@ fn number(value: &Value, key: &'static str, least: u64, most: u64) -> Result<u64
         (λ _. whole_at least most key.now (view value.now) ≡ None) }
 {
     let Some(found) = value.get(key) else {
-        return Err(Place::Missing(key));
+        return Err(missing(value, key));
     };
     match found.as_u64() {
         Some(number) if least <= number && number <= most => Ok(number),
         _ => Err(Place::Number { key, least, most }),
+    }
+}
+
+/// Why the value has nothing under this key.
+fn missing(value: &Value, key: &'static str) -> Place {
+    if value.is_object() {
+        Place::Missing(key)
+    } else {
+        Place::NotAnObject
     }
 }
