@@ -14,3 +14,4 @@ mod table;
 mod wake;
 mod watch;
 mod work;
+mod workload;

@@ -1,0 +1,68 @@
+//! Workloads from a seed.
+
+use crate::tests::same::same;
+use mm_workload::{Config, WorkStep, Workload, storm};
+use std::process::Abort;
+use std::test::Fail;
+
+/// What the clients of storms acquire, by seed: as another program computed it from the published algorithm of the generator.
+const ACQUIRED: [(u64, [&[u32]; 4]); 4] = [
+    (1, [&[5], &[6, 0], &[3], &[0, 4]]),
+    (2, [&[4, 3], &[7, 0, 6, 1], &[4, 6], &[6]]),
+    (3, [&[0, 4], &[3, 1, 0], &[2, 1, 4], &[6, 1, 0]]),
+    (u64::MAX, [&[0], &[3, 0, 4], &[5, 6, 1], &[1, 3]]),
+];
+
+/// Ends the test where the steps are not to acquire these resources.
+fn acquire(rt: &impl Abort, steps: &[WorkStep], resources: &[u32]) {
+    assert_eq!(rt; steps.len(), resources.len());
+    for (step, resource) in steps.iter().zip(resources.iter()) {
+        assert_eq!(rt; *step, WorkStep::Acquire(*resource));
+    }
+}
+
+#[test]
+fn words_are_those_of_the_generator(rt: HostRuntime) -> Result<(), Fail> {
+    for (seed, clients) in ACQUIRED {
+        let work = storm(rt.alloc(), seed, 4, 2)?;
+        assert_eq!(rt; work.clients().len(), 4);
+        for (steps, resources) in work.clients().iter().zip(clients.iter()) {
+            acquire(&rt, steps.as_slice(), resources);
+        }
+    }
+    Ok(())
+}
+
+#[test]
+fn numbers(rt: HostRuntime) -> Result<(), Fail> {
+    let work = storm(rt.alloc(), 7, 64, 0)?;
+    let config = Config {
+        processes: 64,
+        resources: 8,
+        label_limit: 1_000_000_000,
+        generation_limit: 9,
+    };
+    same(&rt, work.config(), config);
+    same(&rt, work.transmitters(), 0);
+    same(&rt, work.turns(), 10_000_000);
+    same(&rt, work.clients().len(), 64);
+    Ok(())
+}
+
+fn are_equal(rt: &impl Abort, one: &Workload, other: &Workload) {
+    assert_eq!(rt; one.config(), other.config());
+    assert_eq!(rt; one.transmitters(), other.transmitters());
+    assert_eq!(rt; one.turns(), other.turns());
+    assert_eq!(rt; one.clients().len(), other.clients().len());
+    for (a, b) in one.clients().iter().zip(other.clients().iter()) {
+        assert_eq!(rt; a.as_slice(), b.as_slice());
+    }
+}
+
+#[test]
+fn the_same_storm_made_twice(rt: HostRuntime) -> Result<(), Fail> {
+    let one = storm(rt.alloc(), 1, 8, 2)?;
+    let other = storm(rt.alloc(), 1, 8, 2)?;
+    are_equal(&rt, &one, &other);
+    Ok(())
+}
