@@ -72,13 +72,14 @@ impl Workload {
         }
     }
 
-    /// Returns the workload that the bytes of a JSON file say. Takes memory for the JSON value and the workload;
-    /// `O(bytes)`, and a look-up of a key takes a time that grows with the logarithm of the number of keys.
+    /// Returns the workload that the bytes of a JSON file say. They say one at most. Takes memory, for the JSON value and for the
+    /// workload; `O(n log n)` in the number of bytes, since an object's members are kept in the order of their keys.
     ///
     /// Refused as `Malformed` exactly where the bytes say none, also where there are more than 1,048,576 of them, and as
     /// `Memory` only where a request for memory was refused.
     pub fn read(alloc: Global, bytes: &[u8]) -> Result<Workload, WorkFault>
         ensures ok { IfOk result (λ w. Says bytes.now w) }
+        ensures only { IfOk result (λ w. (v : Work) → Says bytes.now v → v ≡ w) }
         ensures malformed { IfErr result (λ e. ¬ (e ≡ Memory) → SaysNone bytes.now) }
         ensures memory { result ≡ Err Memory → (0 < length bytes.now) × (length bytes.now ≤ 1048576) }
     {

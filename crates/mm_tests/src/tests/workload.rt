@@ -45,6 +45,20 @@ fn with_clients(alloc: Global, clients: usize, steps: usize) -> Result<String, F
     )
 }
 
+/// The text with one more key, whose value is this many arrays in one another.
+fn with_nested_arrays(alloc: Global, depth: usize) -> Result<String, Fail> {
+    let mut text = String::new(alloc);
+    text.push_str("]]],\"other\":")?;
+    for _ in 0..depth {
+        text.push('[')?;
+    }
+    for _ in 0..depth {
+        text.push(']')?;
+    }
+    text.push('}')?;
+    changed(alloc, "]]]}", text.as_str())
+}
+
 /// Ends the test where the workload's clients have other steps.
 fn has_steps(rt: &impl Abort, work: &Workload, clients: &[&[WorkStep]]) {
     assert_eq!(rt; work.clients().len(), clients.len());
@@ -137,5 +151,8 @@ fn other_texts_of_the_same(rt: HostRuntime) -> Result<(), Fail> {
             Some(WorkStep::Acquire(0)),
         );
     }
+    let nested = with_nested_arrays(rt.alloc(), 126)?;
+    let work = Workload::read(rt.alloc(), nested.as_bytes())?;
+    same(&rt, work.turns(), 10_000_000);
     Ok(())
 }

@@ -1,7 +1,7 @@
 //! Texts that are no workload, most of them made from one that is by one change, and where and why a person is told that they are
 //! malformed. No clause says which place is told.
 
-use crate::tests::workload::{CROSSWISE, changed, with_clients};
+use crate::tests::workload::{CROSSWISE, changed, with_clients, with_nested_arrays};
 use mm_workload::Workload;
 use std::alloc::Global;
 use std::process::Abort;
@@ -207,6 +207,20 @@ fn texts(rt: HostRuntime) -> Result<(), Fail> {
     ] {
         is_told(&rt, rt.alloc(), text.as_bytes(), told)?;
     }
+    change_is_told(
+        &rt,
+        rt.alloc(),
+        "{",
+        "\u{feff}{",
+        "line 1, column 1: no JSON that can be read",
+    )?;
+    let nested = with_nested_arrays(rt.alloc(), 127)?;
+    is_told(
+        &rt,
+        rt.alloc(),
+        nested.as_bytes(),
+        "line 1, column 332: no JSON that can be read",
+    )?;
     let mut bytes = Vec::new(rt.alloc());
     bytes.extend_from_slice(CROSSWISE.as_bytes())?;
     bytes.push(0xff)?;
