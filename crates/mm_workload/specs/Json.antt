@@ -56,6 +56,10 @@ steps_of d = option_and_then (all_in 0 256 step_of) (as_array d)
 abbrev pub clients_of : Data → Option (List (List WorkStep))
 clients_of d = option_and_then (all_in 1 64 steps_of) (as_array d)
 
+-- the clients under their key
+abbrev pub clients_in : Data → Option (List (List WorkStep))
+clients_in d = option_and_then clients_of (get (codes "clients") d)
+
 -- an object says these numbers of a table
 pub record SaysConfig (d : Data) (c : Config) : Type 0 where
   pub processes : whole_at 0 4294967295 (codes "processes") d ≡ Some c.processes
@@ -68,7 +72,7 @@ pub record SaysWork (d : Data) (w : Work) : Type 0 where
   pub config : SaysConfig d w.config
   pub transmitters : whole_at 0 64 (codes "transmitters") d ≡ Some w.transmitters
   pub turns : whole_at 1 1000000000 (codes "turns") d ≡ Some w.turns
-  pub clients : option_and_then clients_of (get (codes "clients") d) ≡ Some w.clients
+  pub clients : clients_in d ≡ Some w.clients
 
 -- at most 1,048,576 bytes say this workload: they are UTF-8, and the text of a JSON value that says it
 pub record Says (bytes : List ℕ) (w : Work) : Type 0 where

@@ -44,9 +44,9 @@ abbrev pub client_of : Lcg → List WorkStep
 client_of g = fold with_resource [] (drawn g)
 
 -- so many clients, each by the words that follow those of the client before it
-unfoldable pub clients_of : ℕ → Lcg → List (List WorkStep)
-clients_of zero g = []
-clients_of (suc n) g = client_of g ∷ clients_of n (after (1 + draws g) g)
+unfoldable pub clients_from : ℕ → Lcg → List (List WorkStep)
+clients_from zero g = []
+clients_from (suc n) g = client_of g ∷ clients_from n (after (1 + draws g) g)
 
 -- the storm: as many processes as clients, and numbers that leave room for each of them
 abbrev pub storm_of : ℕ → ℕ → ℕ → Work
@@ -54,5 +54,5 @@ storm_of seed clients transmitters = record {
   config = record { processes = clients; resources = 8; label_limit = 1000000000; generation_limit = 9 };
   transmitters = transmitters;
   turns = 10000000;
-  clients = clients_of clients (generator seed);
+  clients = clients_from clients (generator seed);
 }

@@ -1,7 +1,7 @@
 //! A workload from a seed.
 ghost use Rattle.std.specs.Prelude.{◌≡◌, ◌≤◌, ◌+◌, MatchResult, IfOk, OnOk, map};
 ghost use Rattle.std.specs.List.{list_any};
-ghost use Rattle.mm_workload.specs.Storm.{acquires, after, client_of, clients_of, draws, generator, storm_of, with_resource};
+ghost use Rattle.mm_workload.specs.Storm.{acquires, after, client_of, clients_from, draws, generator, storm_of, with_resource};
 ghost use Rattle.mm_workload.specs.declared.fault.WorkFault.TheVariants.{Memory};
 
 use crate::fault::WorkFault;
@@ -48,7 +48,7 @@ pub fn storm(
 
 /// The steps of so many clients.
 fn acquiring_clients(alloc: Global, seed: u64, count: u32) -> Result<Vec<Vec<WorkStep>>, AllocError>
-    ensures { IfOk result (λ v. map (λ c. c.items) v.items ≡ clients_of count (generator seed)) }
+    ensures { IfOk result (λ v. map (λ c. c.items) v.items ≡ clients_from count (generator seed)) }
 {
     let mut words = Lcg64Xsh32::new(seed, 0);
     let mut clients = Vec::new(alloc);

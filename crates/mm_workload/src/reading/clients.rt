@@ -1,10 +1,9 @@
 //! The clients of a workload, and their steps.
-ghost use Rattle.std.specs.Prelude.{◌≡◌, ◌≤◌, Some, None, MatchResult, IfOk, IfErr, codes, length, map, option_and_then};
+ghost use Rattle.std.specs.Prelude.{◌≡◌, ◌≤◌, Some, None, MatchResult, IfOk, IfErr, length, map};
 ghost use Rattle.std.specs.List.{All};
-ghost use Rattle.serde_json.specs.Find.{get};
 ghost use Rattle.serde_json.specs.View.{view};
 ghost use Rattle.mm_workload.specs.Work.{IsShort};
-ghost use Rattle.mm_workload.specs.Json.{clients_of, steps_of, step_of, step_by};
+ghost use Rattle.mm_workload.specs.Json.{clients_in, steps_of, step_of, step_by};
 ghost use Rattle.mm_workload.specs.declared.fault.WorkFault.TheVariants.{Memory};
 
 use crate::fault::{Place, StepFault, WorkFault};
@@ -18,8 +17,8 @@ const MOST_STEPS: usize = 256;
 
 /// The steps of each client.
 pub(crate) fn clients(alloc: Global, value: &Value) -> Result<Vec<Vec<WorkStep>>, WorkFault>
-    ensures ok { IfOk result (λ v. option_and_then clients_of (get (codes "clients") (view value.now)) ≡ Some (map (λ c. c.items) v.items)) }
-    ensures malformed { IfErr result (λ e. ¬ (e ≡ Memory) → option_and_then clients_of (get (codes "clients") (view value.now)) ≡ None) }
+    ensures ok { IfOk result (λ v. clients_in (view value.now) ≡ Some (map (λ c. c.items) v.items)) }
+    ensures malformed { IfErr result (λ e. ¬ (e ≡ Memory) → clients_in (view value.now) ≡ None) }
     ensures few { IfOk result (λ v. (1 ≤ length v.items) × (length v.items ≤ 64)) }
     ensures short { IfOk result (λ v. All IsShort (map (λ c. c.items) v.items)) }
 {

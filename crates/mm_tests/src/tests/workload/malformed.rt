@@ -167,7 +167,7 @@ fn clients(rt: HostRuntime) -> Result<(), Fail> {
     )
 }
 
-/// The file is one JSON object. Columns are those at which the text was changed, or one past a number that is too large.
+/// The file is one JSON object. Columns are those at which the text was changed, or one past what is too large or too deep.
 #[test]
 fn texts(rt: HostRuntime) -> Result<(), Fail> {
     for (other, told) in [
@@ -219,7 +219,7 @@ fn texts(rt: HostRuntime) -> Result<(), Fail> {
         &rt,
         rt.alloc(),
         nested.as_bytes(),
-        "line 1, column 332: no JSON that can be read",
+        "line 1, column 333: no JSON that can be read",
     )?;
     let mut bytes = Vec::new(rt.alloc());
     bytes.extend_from_slice(CROSSWISE.as_bytes())?;

@@ -1,7 +1,7 @@
 use Rattle.std.proofs.Common.{◌≡◌, arith, rules, Some}
 use Rattle.serde_json.specs.View.{view}
 use Rattle.serde_json.specs.Read.{read}
-use Rattle.mm_workload.proofs.JsonLemmas.{says_none, some_bytes}
+use Rattle.mm_workload.proofs.Lemmas.Says.{says_none, some_bytes}
 use Rattle.mm_workload.proofs.reading.read.Goals as goal
 
 pub returns-in-Ok-clause-malformed : goal.returns-in-Ok-clause-malformed

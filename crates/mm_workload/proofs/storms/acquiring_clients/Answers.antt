@@ -1,7 +1,7 @@
 use Rattle.std.proofs.Common.{◌∙◌, ap, sym, arith, map, [], ◌∷◌}
 use Rattle.std.proofs.lemmas.List.{map-append}
-use Rattle.mm_workload.specs.Storm.{clients_of}
-use Rattle.mm_workload.proofs.StormLemmas.{clients-more, clients-last}
+use Rattle.mm_workload.specs.Storm.{clients_from}
+use Rattle.mm_workload.proofs.Lemmas.Storm.{clients-more, clients-last}
 use Rattle.mm_workload.proofs.storms.acquiring_clients.Goals as goal
 
 pub clients-preserved : goal.clients-preserved
@@ -14,4 +14,4 @@ clients-preserved c =
 pub returns : goal.returns
 returns c =
     let made = map (λ k. k.items) c.clients.clients.items in
-    sym (clients-last c.args.count c.clients.counter made c.clients.words (omega arith)) ∙ (c.clients.invariant ∙ ap (clients_of c.args.count) c.new-words.ensures)
+    sym (clients-last c.args.count c.clients.counter made c.clients.words (omega arith)) ∙ (c.clients.invariant ∙ ap (clients_from c.args.count) c.new-words.ensures)

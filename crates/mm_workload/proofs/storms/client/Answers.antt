@@ -1,6 +1,6 @@
 use Rattle.std.proofs.Common.{◌≡◌, refl, arith, ◌+◌, ◌%◌}
 use Rattle.mm_workload.specs.Storm.{after, words}
-use Rattle.mm_workload.proofs.StormLemmas.{after-more, steps-more, client-is, after-client}
+use Rattle.mm_workload.proofs.Lemmas.Storm.{after-more, steps-more, client-is, after-client}
 use Rattle.mm_workload.proofs.storms.client.Goals as goal
 
 pub draws-init : goal.draws-init

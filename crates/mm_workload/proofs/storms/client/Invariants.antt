@@ -1,7 +1,7 @@
 use Rattle.std.proofs.Common.{◌≡◌, []}
 use Rattle.std.specs.List.{fold}
 use Rattle.mm_workload.specs.Storm.{after, with_resource}
-use Rattle.mm_workload.proofs.StormLemmas.{given}
+use Rattle.mm_workload.proofs.Lemmas.Storm.{given}
 use Rattle.mm_workload.proofs.storms.client.Given as goal
 
 abbrev pub invariant-draws : goal.invariant-draws

@@ -2,7 +2,7 @@ use Rattle.std.proofs.Common.{◌≡◌, ◌∙◌, ap, sym, subst, arith, lengt
 use Rattle.std.specs.List.{All}
 use Rattle.mm_workload.specs.Work.{IsShort}
 use Rattle.mm_workload.specs.Storm.{generator}
-use Rattle.mm_workload.proofs.StormLemmas.{clients-length, clients-are_short}
+use Rattle.mm_workload.proofs.Lemmas.Storm.{clients-length, clients-are_short}
 use Rattle.mm_workload.proofs.storms.storm.Goals as goal
 
 pub of-requires : goal.of-requires

@@ -2,7 +2,7 @@ use Rattle.std.proofs.Common.{◌≡◌, ◌∙◌, ap, rules, arith, ◌≤◌,
 use Rattle.serde_json.specs.View.{view, items_view}
 use Rattle.serde_json.specs.Find.{as_array, get}
 use Rattle.mm_workload.specs.Json.{steps_of, all_in}
-use Rattle.mm_workload.proofs.JsonLemmas.{all_in-over, all_in-under, all_in-within, goes_on-end, in_array}
+use Rattle.mm_workload.proofs.Lemmas.Items.{all_in-over, all_in-under, all_in-within, goes_on-end, in_array}
 use Rattle.mm_workload.proofs.reading.clients.clients.Goals.{then-is_empty-via-then-is_empty, then-is_empty-via-else-is_empty+then-len-gt-MOST_CLIENTS}
 use Rattle.mm_workload.proofs.reading.clients.clients.Goals as goal
 

@@ -2,7 +2,7 @@ use Rattle.std.proofs.Common.{◌≡◌, length, drop, map}
 use Rattle.std.specs.List.{All}
 use Rattle.mm_workload.specs.Work.{IsShort}
 use Rattle.mm_workload.specs.Json.{steps_of}
-use Rattle.mm_workload.proofs.JsonLemmas.{GoesOn}
+use Rattle.mm_workload.proofs.Lemmas.Items.{GoesOn}
 use Rattle.mm_workload.proofs.reading.clients.clients.Given as goal
 
 abbrev pub invariant-clients : goal.invariant-clients

@@ -2,7 +2,7 @@ use Rattle.std.proofs.Common.{◌≡◌, ◌∙◌, ap, rules, arith, Some, opti
 use Rattle.serde_json.specs.View.{view, items_view}
 use Rattle.serde_json.specs.Find.{as_array}
 use Rattle.mm_workload.specs.Json.{step_of, all_in}
-use Rattle.mm_workload.proofs.JsonLemmas.{all_in-over, all_in-within, goes_on-end}
+use Rattle.mm_workload.proofs.Lemmas.Items.{all_in-over, all_in-within, goes_on-end}
 use Rattle.mm_workload.proofs.reading.clients.steps.Goals as goal
 
 pub returns-then-len-gt-MOST_STEPS-clause-malformed : goal.returns-then-len-gt-MOST_STEPS-clause-malformed

@@ -1,6 +1,6 @@
 use Rattle.std.proofs.Common.{◌≡◌, length, drop}
 use Rattle.mm_workload.specs.Json.{step_of}
-use Rattle.mm_workload.proofs.JsonLemmas.{GoesOn}
+use Rattle.mm_workload.proofs.Lemmas.Items.{GoesOn}
 use Rattle.mm_workload.proofs.reading.clients.steps.Given as goal
 
 abbrev pub invariant-steps : goal.invariant-steps

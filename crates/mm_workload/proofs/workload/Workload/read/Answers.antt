@@ -1,4 +1,4 @@
-use Rattle.mm_workload.proofs.JsonLemmas.{says_no_other}
+use Rattle.mm_workload.proofs.Lemmas.Says.{says_no_other}
 use Rattle.mm_workload.proofs.workload.Workload.read.Goals as goal
 
 pub returns-clause-only : goal.returns-clause-only

@@ -10,7 +10,7 @@ use Rattle.rand_pcg.specs.Pcg.{pcg32}
 use Rattle.mm_workload.specs.declared.step.WorkStep.{WorkStep}
 use Rattle.mm_workload.specs.declared.step.WorkStep.TheVariants.{Acquire}
 use Rattle.mm_workload.specs.Work.{IsShort}
-use Rattle.mm_workload.specs.Storm.{acquires, after, client_of, clients_of, draws, drawn, with_resource, words}
+use Rattle.mm_workload.specs.Storm.{acquires, after, client_of, clients_from, draws, drawn, with_resource, words}
 
 after-suc : (n : ℕ) (g : Lcg) → after (suc n) g ≡ (pcg32 (after n g)).1
 unfolding after
@@ -57,29 +57,29 @@ after-client n g left now word step last at =
 
 -- one more client
 clients-next : (n i : ℕ) (made : List (List WorkStep)) (g : Lcg) → i < n →
-    made ++ clients_of (n - i) g ≡ (made ++ client_of g ∷ []) ++ clients_of (n - (i + 1)) (after (1 + draws g) g)
-unfolding clients_of
+    made ++ clients_from (n - i) g ≡ (made ++ client_of g ∷ []) ++ clients_from (n - (i + 1)) (after (1 + draws g) g)
+unfolding clients_from
 clients-next n i made g h =
     let e : n - i ≡ suc (n - (i + 1)) = omega arith in
-    ap (λ k. made ++ clients_of k g) e ∙ sym (append_assoc made (client_of g ∷ []) (clients_of (n - (i + 1)) (after (1 + draws g) g)))
+    ap (λ k. made ++ clients_from k g) e ∙ sym (append_assoc made (client_of g ∷ []) (clients_from (n - (i + 1)) (after (1 + draws g) g)))
 
 pub clients-more : (n i : ℕ) (made now all : List (List WorkStep)) (g left : Lcg) (client : List WorkStep) → i < n → client ≡ client_of g →
-    left ≡ after (1 + draws g) g → now ≡ made ++ client ∷ [] → made ++ clients_of (n - i) g ≡ all → now ++ clients_of (n - (i + 1)) left ≡ all
+    left ≡ after (1 + draws g) g → now ≡ made ++ client ∷ [] → made ++ clients_from (n - i) g ≡ all → now ++ clients_from (n - (i + 1)) left ≡ all
 clients-more n i made now all g left client h is at pushed on =
-    ap (λ m. m ++ clients_of (n - (i + 1)) left) pushed
-    ∙ (ap (λ c. (made ++ c ∷ []) ++ clients_of (n - (i + 1)) left) is
-    ∙ (ap (λ s. (made ++ client_of g ∷ []) ++ clients_of (n - (i + 1)) s) at
+    ap (λ m. m ++ clients_from (n - (i + 1)) left) pushed
+    ∙ (ap (λ c. (made ++ c ∷ []) ++ clients_from (n - (i + 1)) left) is
+    ∙ (ap (λ s. (made ++ client_of g ∷ []) ++ clients_from (n - (i + 1)) s) at
     ∙ (sym (clients-next n i made g h) ∙ on)))
 
 append_none : {X : Type 0} → (xs : List X) → xs ++ [] ≡ xs
 append_none [] = refl
 append_none (x ∷ xs) = ap (λ ys. x ∷ ys) (append_none xs)
 
-pub clients-last : (n i : ℕ) (made : List (List WorkStep)) (g : Lcg) → n ≤ i → made ++ clients_of (n - i) g ≡ made
-unfolding clients_of
+pub clients-last : (n i : ℕ) (made : List (List WorkStep)) (g : Lcg) → n ≤ i → made ++ clients_from (n - i) g ≡ made
+unfolding clients_from
 clients-last n i made g h =
     let e : n - i ≡ 0 = omega arith in
-    ap (λ k. made ++ clients_of k g) e ∙ append_none made
+    ap (λ k. made ++ clients_from k g) e ∙ append_none made
 
 -- how many clients and steps there are
 words-length : (n : ℕ) (g : Lcg) → length (words n g) ≡ n
@@ -100,13 +100,13 @@ steps-length had (r ∷ rs) = omega (arith, with_resource-length had r, steps-le
 client-is_short : (g : Lcg) → IsShort (client_of g)
 client-is_short g = grind (arith, common_steps, steps-length [] (drawn g), words-length (draws g) (after 1 g))
 
-pub clients-length : (n : ℕ) (g : Lcg) → length (clients_of n g) ≡ n
-unfolding clients_of
+pub clients-length : (n : ℕ) (g : Lcg) → length (clients_from n g) ≡ n
+unfolding clients_from
 clients-length zero g = refl
 clients-length (suc n) g = omega (arith, clients-length n (after (1 + draws g) g))
 
-pub clients-are_short : (n : ℕ) (g : Lcg) → All IsShort (clients_of n g)
-unfolding clients_of
+pub clients-are_short : (n : ℕ) (g : Lcg) → All IsShort (clients_from n g)
+unfolding clients_from
 clients-are_short zero g = λ k d h. absurd (omega arith)
 clients-are_short (suc n) g =
-    All-cons IsShort (client_of g) (clients_of n (after (1 + draws g) g)) (client-is_short g) (clients-are_short n (after (1 + draws g) g))
+    All-cons IsShort (client_of g) (clients_from n (after (1 + draws g) g)) (client-is_short g) (clients-are_short n (after (1 + draws g) g))
