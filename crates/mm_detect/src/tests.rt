@@ -1,11 +1,9 @@
 //! What no clause says: whole scripts with their text, and what command lines ask for.
 
-mod rows;
-
 use crate::command_line::{Request, request_of};
 use crate::ending::script_status;
 use mm_work::run_script;
-use rows::ROWS;
+use mm_rows::ROWS;
 use std::test::Fail;
 
 /// Each script is answered by its row, and none of them meets a fault.

@@ -1,17 +1,14 @@
-//! One module for each library, `shelf` for the shelves of mm_arena, and `wake` and `watch` for mm_examples.
+//! One module for each library, `shelf` for the shelves of mm_arena, and `wake` for mm_examples.
 
 mod arena;
-mod board;
 mod label;
 mod links;
 mod marks;
 mod owned;
 mod queue;
 mod same;
-mod shared;
 mod shelf;
 mod table;
 mod wake;
-mod watch;
 mod work;
 mod workload;

@@ -1,0 +1,11 @@
+use Rattle.mm_shared_times.proofs.main.Given as goal
+
+-- the ledgers that were just made
+abbrev pub ghosts-timed-A-Ledger : goal.ghosts-timed-A-Ledger
+ghosts-timed-A-Ledger g a = record { name = a.prepared.accepted.name; parts = a.prepared.accepted.parts }
+
+abbrev pub ghosts-timed-V-Ledger : goal.ghosts-timed-V-Ledger
+ghosts-timed-V-Ledger g a = record { name = a.prepared.verdicts.name; parts = a.prepared.verdicts.parts }
+
+abbrev pub ghosts-timed-B-Ledger : goal.ghosts-timed-B-Ledger
+ghosts-timed-B-Ledger g a = record { name = a.prepared.aborts.name; parts = a.prepared.aborts.parts }

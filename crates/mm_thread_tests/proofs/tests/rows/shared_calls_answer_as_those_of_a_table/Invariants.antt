@@ -1,0 +1,11 @@
+use Rattle.mm_thread_tests.proofs.tests.rows.shared_calls_answer_as_those_of_a_table.Given as goal
+
+-- the ledgers that were just made
+abbrev pub ghosts-side_by_side-A-Ledger : goal.ghosts-side_by_side-A-Ledger
+ghosts-side_by_side-A-Ledger g a = record { name = a.prepared.accepted.name; parts = a.prepared.accepted.parts }
+
+abbrev pub ghosts-side_by_side-V-Ledger : goal.ghosts-side_by_side-V-Ledger
+ghosts-side_by_side-V-Ledger g a = record { name = a.prepared.verdicts.name; parts = a.prepared.verdicts.parts }
+
+abbrev pub ghosts-side_by_side-B-Ledger : goal.ghosts-side_by_side-B-Ledger
+ghosts-side_by_side-B-Ledger g a = record { name = a.prepared.aborts.name; parts = a.prepared.aborts.parts }

@@ -1,0 +1,76 @@
+//! Threads that make deadlocks and break them.
+ghost use Rattle.std.specs.Prelude.{◌≡◌};
+
+use crate::tests::same::same;
+use crate::tests::shared::config;
+use crate::tests::shared::worker::Worker;
+use mm_shared::{Name, Prepared, Report};
+use std::alloc::{AllocError, Global};
+use std::marker::Brand;
+use std::process::Abort;
+use std::sync::Wait;
+use std::sync::ledger::Ledger;
+use std::test::Fail;
+use std::thread::{Threads, map_vec};
+
+/// How many threads there are. Each two of them make deadlocks with each other.
+const THREADS: u32 = 8;
+
+/// How many transactions each thread makes. Each one meets one of its partner's in a deadlock, which one of the two breaks. Each makes at
+/// least four calls that are accepted, so together they make a million.
+const ROUNDS: u64 = 31_250;
+
+fn sum(first: Report, second: Report) -> Report {
+    Report {
+        accepted: first.accepted.saturating_add(second.accepted),
+        verdicts: first.verdicts.saturating_add(second.verdicts),
+        aborts: first.aborts.saturating_add(second.aborts),
+    }
+}
+
+fn eight_threads<
+    N: Name + Send + Sync,
+    A: Ledger + Send + Sync,
+    V: Ledger + Send + Sync,
+    B: Ledger + Send + Sync,
+    R: Threads + Wait + Abort + Sync,
+>(rt: &R, alloc: Global, prepared: Prepared) -> Result<(), AllocError>
+    requires accepted { (prepared.accepted.name ≡ A.name) × (prepared.accepted.parts ≡ A.parts) }
+    requires verdicts { (prepared.verdicts.name ≡ V.name) × (prepared.verdicts.parts ≡ V.parts) }
+    requires aborts { (prepared.aborts.name ≡ B.name) × (prepared.aborts.parts ≡ B.parts) }
+{
+    let (table, mut pass) = prepared.open::<N, A, V, B>();
+    let mut workers = Vec::new(alloc);
+    for number in 0..THREADS {
+        if pass.parts() > 1 {
+            workers.push(Worker::new(number, pass.split(&table, 1)))?;
+        }
+    }
+    let shared = &table;
+    let ended = map_vec(
+        rt,
+        workers,
+        &|worker: Worker<N, A, V, B>| worker.work(rt, shared, ROUNDS),
+    )?;
+    let mut made = Report {
+        accepted: 0,
+        verdicts: 0,
+        aborts: 0,
+    };
+    for worker in ended {
+        made = sum(made, worker.made);
+        pass.join(&table, worker.pass);
+    }
+    let deadlocks = u64::from(THREADS) / 2 * ROUNDS;
+    assert!(rt; made.accepted >= 1_000_000);
+    same(rt, (made.verdicts, made.aborts), (deadlocks, deadlocks));
+    same(rt, table.close(pass).ok(), Some(made));
+    Ok(())
+}
+
+#[test]
+fn deadlocks_are_broken_and_counted(rt: HostRuntime) -> Result<(), Fail> {
+    let prepared = Prepared::new(rt.alloc(), config(THREADS, THREADS))?;
+    eight_threads::<Brand, Brand, Brand, Brand, _>(&rt, rt.alloc(), prepared)?;
+    Ok(())
+}
