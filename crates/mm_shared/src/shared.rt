@@ -23,8 +23,9 @@ use std::sync::{Mutex, Wait};
 #[derive(Drop)]
 pub struct SharedTable<N: Name, A: Ledger, V: Ledger, B: Ledger> {
     processes: u32,
-    /// It has cache lines of its own, so a thread that waits for the lock slows down nobody who reads what stands beside it.
-    lock: CachePadded<Mutex<Inside<N, A, V, B>>>,
+    /// The word of the lock has a cache line of its own: a thread that waits for it slows down neither the one that has the lock nor
+    /// those who read what stands beside it.
+    lock: CachePadded<Mutex<CachePadded<Inside<N, A, V, B>>>>,
 }
 
 impl<N: Name, A: Ledger, V: Ledger, B: Ledger> Model for SharedTable<N, A, V, B> {
@@ -45,7 +46,7 @@ impl<N: Name, A: Ledger, V: Ledger, B: Ledger> SharedTable<N, A, V, B> {
     {
         SharedTable {
             processes,
-            lock: CachePadded::new(Mutex::new(inside)),
+            lock: CachePadded::new(Mutex::new(CachePadded::new(inside))),
         }
     }
 
@@ -59,7 +60,7 @@ impl<N: Name, A: Ledger, V: Ledger, B: Ledger> SharedTable<N, A, V, B> {
     /// What stands behind the lock, which nobody else can take any more.
     pub(crate) fn into_inside(self) -> Inside<N, A, V, B> {
         let SharedTable { processes: _, lock } = self;
-        lock.into_inner().into_inner()
+        lock.into_inner().into_inner().into_inner()
     }
 
     /// How many processes the table has. Constant time, and takes no lock.
