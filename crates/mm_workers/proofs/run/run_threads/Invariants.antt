@@ -1,0 +1,11 @@
+use Rattle.mm_workers.proofs.run.run_threads.Given as goal
+
+-- the ledgers that were just made
+abbrev pub ghosts-run_on-A-Ledger : goal.ghosts-run_on-A-Ledger
+ghosts-run_on-A-Ledger g a = record { name = a.prepared.accepted.name; parts = a.prepared.accepted.parts }
+
+abbrev pub ghosts-run_on-V-Ledger : goal.ghosts-run_on-V-Ledger
+ghosts-run_on-V-Ledger g a = record { name = a.prepared.verdicts.name; parts = a.prepared.verdicts.parts }
+
+abbrev pub ghosts-run_on-B-Ledger : goal.ghosts-run_on-B-Ledger
+ghosts-run_on-B-Ledger g a = record { name = a.prepared.aborts.name; parts = a.prepared.aborts.parts }

@@ -1,0 +1,12 @@
+use Rattle.std.specs.Prelude.{◌≡◌, ◌+◌, ◌<◌, vec_len}
+use Rattle.std.specs.Vec.Iter.{into_iter_len}
+use Rattle.mm_workers.proofs.start.client_jobs.Given as goal
+
+abbrev pub invariant-loop-gate : goal.invariant-loop-gate
+invariant-loop-gate g l =
+    (goal.iterator-loop-gate g).can_next l.gate-iterator
+    × (goal.iterator-loop-gate g).is_finite l.gate-iterator
+    × (l.place + into_iter_len l.gate-iterator ≡ vec_len l.fn.gates)
+    × (vec_len l.jobs ≡ l.place)
+    × (l.pass.parts + vec_len l.jobs ≡ l.fn.pass.parts)
+    × (l.pass.aborts ≡ l.fn.pass.aborts)

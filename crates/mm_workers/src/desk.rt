@@ -1,0 +1,93 @@
+//! A shared table, as a worker with a pass calls it.
+ghost use Rattle.std.specs.Prelude.{◌≡◌};
+
+use crate::steps::Steps;
+use mm_shared::{
+    Acquired, Detected, Key, Name, Pass, Refusal, Released, Settled, SharedTable, Transmitted,
+};
+use std::marker::Model;
+use std::sync::Wait;
+use std::sync::ledger::Ledger;
+
+/// A shared table and a pass of it, at which one worker works. A contract sees it as the pass.
+///
+/// Each call takes the lock of the table.
+#[derive(Drop)]
+pub struct Desk<'a, N: Name, A: Ledger, V: Ledger, B: Ledger, R: Wait> {
+    rt: &'a R,
+    table: &'a SharedTable<N, A, V, B>,
+    pass: Pass<N, A, V, B>,
+}
+
+impl<'a, N: Name, A: Ledger, V: Ledger, B: Ledger, R: Wait> Model for Desk<'a, N, A, V, B, R> {
+    ghost use Rattle.mm_shared.specs.Shares.{Shares};
+
+    ghost Value = { Shares };
+
+    ghost view = { λ desk. desk.pass };
+}
+
+impl<'a, N: Name, A: Ledger, V: Ledger, B: Ledger, R: Wait> Desk<'a, N, A, V, B, R> {
+    /// A desk at this table, with this pass. Constant time.
+    pub fn new(
+        rt: &'a R,
+        table: &'a SharedTable<N, A, V, B>,
+        pass: Pass<N, A, V, B>,
+    ) -> Desk<'a, N, A, V, B, R>
+        ensures { result ≡ pass }
+    {
+        Desk { rt, table, pass }
+    }
+
+    /// Gives the pass back, with what was counted at the desk. Constant time.
+    pub fn into_pass(self) -> Pass<N, A, V, B>
+        ensures { result ≡ self.entry }
+    {
+        let Desk {
+            rt: _,
+            table: _,
+            pass,
+        } = self;
+        pass
+    }
+}
+
+impl<'a, N: Name, A: Ledger, V: Ledger, B: Ledger, R: Wait> Steps for Desk<'a, N, A, V, B, R> {
+    ghost shares = { λ desk. desk };
+
+    fn begin(&mut self) -> Result<Key, Refusal> {
+        self.table.begin(self.rt, &mut self.pass)
+    }
+
+    fn acquire(&mut self, key: Key, resource: u32) -> Result<Acquired, Refusal> {
+        self.table.acquire(self.rt, &mut self.pass, key, resource)
+    }
+
+    fn release(&mut self, key: Key, resource: u32) -> Result<Released, Refusal> {
+        self.table.release(self.rt, &mut self.pass, key, resource)
+    }
+
+    fn finish(&mut self, key: Key) -> Result<(), Refusal> {
+        self.table.finish(self.rt, &mut self.pass, key)
+    }
+
+    fn transmit(&mut self, key: Key) -> Result<Transmitted, Refusal> {
+        self.table.transmit(self.rt, &mut self.pass, key)
+    }
+
+    fn detect(&mut self, key: Key) -> Result<Detected, Refusal> {
+        self.table.detect(self.rt, &mut self.pass, key)
+    }
+
+    fn abort(&mut self, key: Key) -> Result<(), Refusal> {
+        self.table.abort(self.rt, &mut self.pass, key)
+    }
+
+    fn settle(&mut self) -> Result<Settled, Refusal> {
+        self.table.settle(self.rt, &mut self.pass)
+    }
+
+    fn tenant(&mut self, process: u32) -> Option<Key> {
+        self.table.tenant(self.rt, &mut self.pass, process)
+    }
+}

@@ -1,0 +1,42 @@
+//! The passes of workers that have ended become one again.
+ghost use Rattle.std.specs.Prelude.{◌≡◌, ◌+◌, ◌≤◌, [], vec_len, vec_capacity, count_by};
+ghost use Rattle.mm_workers.specs.End.{is_aborted};
+
+use crate::end::End;
+use crate::job::{Ended, Stopped};
+use mm_shared::{Name, Pass, SharedTable};
+use std::sync::ledger::Ledger;
+
+/// Joins the passes of the clients, and lists their ends in order.
+pub fn gather_clients<N: Name, A: Ledger, V: Ledger, B: Ledger>(
+    table: &SharedTable<N, A, V, B>,
+    pass: &mut Pass<N, A, V, B>,
+    ended: Vec<Ended<N, A, V, B>>,
+    ends: &mut Vec<End>,
+)
+    requires empty { vec_len ends.old ≡ 0 }
+    requires room { vec_len ended ≤ vec_capacity ends.old }
+    ensures each { vec_len ends.new ≡ vec_len ended }
+    ensures parts { pass.new.parts ≡ pass.old.parts + vec_len ended }
+    ensures aborts { pass.new.aborts ≡ pass.old.aborts + count_by is_aborted ends.new.items }
+{
+    for one in ended {
+        let (end, other) = one.into_parts();
+        pass.join(table, other);
+        ends.push_reserved(end);
+    }
+}
+
+/// Joins the passes of the transmitters.
+pub fn gather_transmitters<N: Name, A: Ledger, V: Ledger, B: Ledger>(
+    table: &SharedTable<N, A, V, B>,
+    pass: &mut Pass<N, A, V, B>,
+    stopped: Vec<Stopped<N, A, V, B>>,
+)
+    ensures parts { pass.new.parts ≡ pass.old.parts + vec_len stopped }
+    ensures aborts { pass.new.aborts ≡ pass.old.aborts }
+{
+    for one in stopped {
+        pass.join(table, one.into_pass());
+    }
+}

@@ -1,0 +1,149 @@
+//! What a worker's thread takes along, and what it gives back. Of a thread's result a proof knows what its type says, so each of these
+//! keeps its facts by its type.
+ghost use Rattle.std.specs.Prelude.{◌≡◌, ◌<◌};
+ghost use Rattle.mm_shared.specs.Shares.{less_parts};
+ghost use Rattle.mm_workers.specs.End.{aborts_of};
+
+use crate::client::Client;
+use crate::desk::Desk;
+use crate::end::End;
+use crate::gate::Gate;
+use crate::transmitter::Transmitter;
+use mm_shared::{Name, Pass, SharedTable};
+use mm_workload::WorkStep;
+use std::sync::Wait;
+use std::sync::ledger::Ledger;
+
+/// A client whose pass has one part, and has counted no abort.
+#[derive(Drop)]
+pub struct ClientJob<'a, N: Name, A: Ledger, V: Ledger, B: Ledger, R: Wait, G: Gate + Drop> {
+    client: Client<Desk<'a, N, A, V, B, R>, G>,
+    ghost one_part: { client.parts ≡ 1 },
+    ghost no_abort: { client.aborts ≡ 0 },
+}
+
+impl<'a, N: Name, A: Ledger, V: Ledger, B: Ledger, R: Wait, G: Gate + Drop> ClientJob<
+    'a,
+    N,
+    A,
+    V,
+    B,
+    R,
+    G,
+> {
+    /// A client with a part of this pass.
+    pub fn new(
+        rt: &'a R,
+        table: &'a SharedTable<N, A, V, B>,
+        pass: &mut Pass<N, A, V, B>,
+        gate: G,
+        work: Vec<WorkStep>,
+        turns: u64,
+    ) -> ClientJob<'a, N, A, V, B, R, G>
+        requires { 1 < pass.old.parts }
+        ensures { pass.new ≡ less_parts pass.old 1 }
+    {
+        let part = pass.split(table, 1);
+        ClientJob {
+            client: Client::new(Desk::new(rt, table, part), gate, work, turns),
+        }
+    }
+
+    /// Runs the client.
+    pub fn run(self) -> Ended<N, A, V, B> {
+        let ClientJob { mut client } = self;
+        let end = client.run();
+        Ended {
+            end,
+            pass: client.into_steps().into_pass(),
+        }
+    }
+}
+
+/// A transmitter whose pass has one part, and has counted no abort.
+#[derive(Drop)]
+pub struct TransmitterJob<'a, N: Name, A: Ledger, V: Ledger, B: Ledger, R: Wait, G: Gate + Drop> {
+    transmitter: Transmitter<Desk<'a, N, A, V, B, R>, G>,
+    ghost one_part: { transmitter.parts ≡ 1 },
+    ghost no_abort: { transmitter.aborts ≡ 0 },
+}
+
+impl<'a, N: Name, A: Ledger, V: Ledger, B: Ledger, R: Wait, G: Gate + Drop> TransmitterJob<
+    'a,
+    N,
+    A,
+    V,
+    B,
+    R,
+    G,
+> {
+    /// A transmitter with a part of this pass.
+    pub fn new(
+        rt: &'a R,
+        table: &'a SharedTable<N, A, V, B>,
+        pass: &mut Pass<N, A, V, B>,
+        gate: G,
+        turns: u64,
+    ) -> TransmitterJob<'a, N, A, V, B, R, G>
+        requires { 1 < pass.old.parts }
+        ensures { pass.new ≡ less_parts pass.old 1 }
+    {
+        let part = pass.split(table, 1);
+        TransmitterJob {
+            transmitter: Transmitter::new(
+                Desk::new(rt, table, part),
+                gate,
+                table.processes(),
+                turns,
+            ),
+        }
+    }
+
+    /// Runs the transmitter.
+    pub fn run(self) -> Stopped<N, A, V, B> {
+        let TransmitterJob { mut transmitter } = self;
+        transmitter.run();
+        Stopped {
+            pass: transmitter.into_steps().into_pass(),
+        }
+    }
+}
+
+/// A client's end and its pass, which counts the client's abort.
+#[derive(Drop)]
+pub struct Ended<N: Name, A: Ledger, V: Ledger, B: Ledger> {
+    end: End,
+    pass: Pass<N, A, V, B>,
+    ghost one_part: { pass.parts ≡ 1 },
+    ghost counted: { pass.aborts ≡ aborts_of end },
+}
+
+impl<N: Name, A: Ledger, V: Ledger, B: Ledger> Ended<N, A, V, B> {
+    /// The end, and the pass.
+    pub fn into_parts(self) -> (End, Pass<N, A, V, B>)
+        ensures one_part { result.1.parts ≡ 1 }
+        ensures counted { result.1.aborts ≡ aborts_of result.0 }
+    {
+        let Ended { end, pass } = self;
+        (end, pass)
+    }
+}
+
+/// The pass of a transmitter, which has counted no abort.
+#[derive(Drop)]
+pub struct Stopped<N: Name, A: Ledger, V: Ledger, B: Ledger> {
+    pass: Pass<N, A, V, B>,
+    ghost one_part: { pass.parts ≡ 1 },
+    ghost no_abort: { pass.aborts ≡ 0 },
+}
+
+impl<N: Name, A: Ledger, V: Ledger, B: Ledger> Stopped<N, A, V, B> {
+    /// The pass.
+    pub fn into_pass(self) -> Pass<N, A, V, B>
+        ensures one_part { result.parts ≡ 1 }
+        ensures no_abort { result.aborts ≡ 0 }
+    {
+        let Stopped { pass } = self;
+        pass
+    }
+}

@@ -1,0 +1,115 @@
+//! All workers of a workload, each on a thread of its own.
+ghost use Rattle.std.specs.Prelude.{◌≡◌, ◌+◌, ◌≤◌, Err, OnOk, IfOk, IfErr, length, vec_len, count_by};
+ghost use Rattle.mm_rules.specs.TableState.{IsInRange};
+ghost use Rattle.mm_rules.specs.Event.{Opens};
+ghost use Rattle.mm_shared.specs.Shares.{all_parts, empty_shares};
+ghost use Rattle.mm_workers.specs.End.{is_aborted};
+
+use crate::end::End;
+use crate::gate::Gate;
+use crate::gather::{gather_clients, gather_transmitters};
+use crate::job::{Ended, Stopped};
+use crate::start::{client_jobs, run_jobs, transmitter_jobs};
+use mm_shared::{Name, Pass, Prepared, Refusal, Report, SharedTable};
+use mm_workload::Workload;
+use std::alloc::{AllocError, Global};
+use std::marker::Brand;
+use std::sync::Wait;
+use std::sync::ledger::Ledger;
+use std::thread::Threads;
+
+/// What came of a workload.
+#[derive(Debug, Drop)]
+pub struct Outcome {
+    /// How each client ended, in the order of the clients.
+    pub ends: Vec<End>,
+    /// What the table counted.
+    pub report: Report,
+}
+
+/// Runs all clients and transmitters of a workload at once, each on a thread of its own, on a table that is opened for them, and waits
+/// until all have ended. There is one gate for each worker: those of the clients, in their order, and then those of the transmitters.
+///
+/// Refused as `BadConfig` or `Memory`, as `Table::open` is; then no worker starts. Also refused as `Memory` where other memory is refused
+/// or a thread cannot be started; those that run have ended then. Takes memory: `O(processes + resources + steps + workers)`.
+pub fn run_threads<R: Threads + Wait + Sync, G: Gate + Send + Drop>(
+    rt: &R,
+    alloc: Global,
+    workload: &Workload,
+    gates: Vec<G>,
+) -> Result<Outcome, Refusal>
+    requires gates { vec_len gates ≡ length workload.now.clients + workload.now.transmitters }
+    ensures each { IfOk result (λ outcome. vec_len outcome.ends ≡ length workload.now.clients) }
+    ensures aborts { IfOk result (λ outcome. count_by is_aborted outcome.ends.items ≡ outcome.report.aborts) }
+    ensures in_range { OnOk result (IsInRange workload.now.config) }
+    ensures refused { IfErr result (λ refusal. Opens workload.now.config (Err refusal)) }
+{
+    let prepared = Prepared::new(alloc, workload.config())?;
+    match run_on::<Brand, Brand, Brand, Brand, R, G>(rt, alloc, prepared, workload, gates) {
+        Ok(outcome) => Ok(outcome),
+        Err(_) => Err(Refusal::Memory),
+    }
+}
+
+/// Runs them on the table that was prepared.
+fn run_on<
+    N: Name + Send + Sync,
+    A: Ledger + Send + Sync,
+    V: Ledger + Send + Sync,
+    B: Ledger + Send + Sync,
+    R: Threads + Wait + Sync,
+    G: Gate + Send + Drop,
+>(
+    rt: &R,
+    alloc: Global,
+    prepared: Prepared,
+    workload: &Workload,
+    gates: Vec<G>,
+) -> Result<Outcome, AllocError>
+    requires accepted { (prepared.accepted.name ≡ A.name) × (prepared.accepted.parts ≡ A.parts) }
+    requires verdicts { (prepared.verdicts.name ≡ V.name) × (prepared.verdicts.parts ≡ V.parts) }
+    requires aborts { (prepared.aborts.name ≡ B.name) × (prepared.aborts.parts ≡ B.parts) }
+    requires gates { vec_len gates ≡ length workload.now.clients + workload.now.transmitters }
+    ensures each { IfOk result (λ outcome. vec_len outcome.ends ≡ length workload.now.clients) }
+    ensures aborts { IfOk result (λ outcome. count_by is_aborted outcome.ends.items ≡ outcome.report.aborts) }
+{
+    let (table, mut pass) = prepared.open::<N, A, V, B>();
+    let mut ends = Vec::with_capacity(alloc, workload.clients().len())?;
+    let (ended, stopped) = at_work(rt, alloc, &table, &mut pass, workload, gates)?;
+    gather_clients(&table, &mut pass, ended, &mut ends);
+    gather_transmitters(&table, &mut pass, stopped);
+    match table.close(pass) {
+        Ok(report) => Ok(Outcome { ends, report }),
+        Err(_) => unreachable!(),
+    }
+}
+
+/// Gives each worker a part of the pass, runs them all, and waits for them.
+fn at_work<
+    N: Name + Send + Sync,
+    A: Ledger + Send + Sync,
+    V: Ledger + Send + Sync,
+    B: Ledger + Send + Sync,
+    R: Threads + Wait + Sync,
+    G: Gate + Send + Drop,
+>(
+    rt: &R,
+    alloc: Global,
+    table: &SharedTable<N, A, V, B>,
+    pass: &mut Pass<N, A, V, B>,
+    workload: &Workload,
+    mut gates: Vec<G>,
+) -> Result<(Vec<Ended<N, A, V, B>>, Vec<Stopped<N, A, V, B>>), AllocError>
+    requires gates { vec_len gates ≡ length workload.now.clients + workload.now.transmitters }
+    requires pass { pass.old ≡ empty_shares all_parts }
+    ensures each { IfOk result (λ done. vec_len done.0 ≡ length workload.now.clients) }
+    ensures parts { IfOk result (λ done. pass.new.parts + vec_len done.0 + vec_len done.1 ≡ all_parts) }
+    ensures aborts { pass.new.aborts ≡ 0 }
+{
+    let clients = workload.clients();
+    let turns = workload.turns();
+    let transmitter_gates = gates.split_off(clients.len())?;
+    let clients = client_jobs(rt, alloc, table, pass, clients, turns, gates)?;
+    let transmitters = transmitter_jobs(rt, alloc, table, pass, workload, transmitter_gates)?;
+    run_jobs(rt, alloc, clients, transmitters)
+}
