@@ -1,7 +1,7 @@
 -- How clients end.
-use Rattle.std.specs.Prelude.{ℕ, Bool, true, false, cond, List, count_by}
+use Rattle.std.specs.Prelude.{ℕ, Bool, true, false, cond}
 use Rattle.mm_workers.specs.declared.end.End.{End}
-use Rattle.mm_workers.specs.declared.end.End.TheVariants.{Finished, Aborted, Spent, Refused}
+use Rattle.mm_workers.specs.declared.end.End.TheVariants.{Aborted}
 
 -- the client was aborted
 abbrev pub is_aborted : End → Bool

@@ -1,4 +1,4 @@
-use Rattle.std.specs.Prelude.{◌≡◌, ◌+◌, ◌<◌, vec_len}
+use Rattle.std.specs.Prelude.{◌≡◌, ◌+◌, vec_len}
 use Rattle.std.specs.Vec.Iter.{into_iter_len}
 use Rattle.mm_workers.proofs.start.client_jobs.Given as goal
 
