@@ -5,3 +5,4 @@ mod rows;
 mod same;
 mod shared;
 mod watch;
+mod workers;
