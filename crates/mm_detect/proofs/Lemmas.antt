@@ -1,2 +1,3 @@
 -- what clap's rules give for the words that a contract names
 pub mod CommandLine
+pub mod Workload

@@ -1,16 +1,53 @@
 -- What a command line asks for. The first word is the program's name.
-use Rattle.std.specs.Prelude.{◌≡◌, ◌⊎◌, List, [], ◌∷◌, Result, Ok, Err, codes, drop}
-use Rattle.clap.specs.Words.{App, Text, kind_of, new_app, with_subcommand}
+use Rattle.std.specs.Prelude.{◌≡◌, ◌⊎◌, ℕ, List, [], ◌∷◌, Bool, true, false, Option, Some, None, codes, drop}
+use Rattle.clap.specs.Words.{App, Rule, Text, kind_of, new_app, new_rule, with_rule, with_subcommand}
+use Rattle.clap.specs.declared.builder.action.ArgAction.TheVariants.{Set, SetTrue}
+use Rattle.clap.specs.declared.builder.value_parser.ValueParser.TheVariants.{Unsigned}
 use Rattle.clap.specs.declared.error.Error.{Error}
 use Rattle.clap.specs.declared.error.kind.ErrorKind.{ErrorKind}
 use Rattle.clap.specs.declared.error.kind.ErrorKind.TheVariants as kind
-use Rattle.clap.specs.declared.parser.matches.ArgMatches.{ArgMatches}
 use Rattle.mm_detect.specs.declared.command_line.Request.{Request}
-use Rattle.mm_detect.specs.declared.command_line.Request.TheVariants.{Script, Help, Wrong, Memory}
+use Rattle.mm_detect.specs.declared.command_line.Request.TheVariants.{Script, Threads, Storm, Help, Wrong, Memory}
 
--- the words that there are, as clap sees them: `script`, and what clap adds, which is `help`, `--help` and `-h`
+-- the flag `--verbose`, or `-v`
+abbrev pub verbose_rule : Rule
+verbose_rule = record (new_rule (codes "verbose")) { long = Some (codes "verbose"); short = Some 118; action = Some SetTrue }
+
+-- an option with a whole number in this range
+abbrev pub number_rule : Text → ℕ → ℕ → Text → Rule
+number_rule name least most default = record (new_rule name) {
+  long = Some name;
+  value_names = 1;
+  action = Some Set;
+  parser = Some (Unsigned least most);
+  defaults = default ∷ [];
+}
+
+-- the one file that has to be named
+abbrev pub file_rule : Rule
+file_rule = record (new_rule (codes "FILE")) { required = true; action = Some Set }
+
+abbrev pub script_app : App
+script_app = new_app (codes "script")
+
+abbrev pub threads_app : App
+threads_app = with_rule (with_rule (new_app (codes "threads")) file_rule) verbose_rule
+
+abbrev pub seed_rule : Rule
+seed_rule = number_rule (codes "seed") 0 18446744073709551615 (codes "1")
+
+abbrev pub clients_rule : Rule
+clients_rule = number_rule (codes "clients") 1 64 (codes "8")
+
+abbrev pub transmitters_rule : Rule
+transmitters_rule = number_rule (codes "transmitters") 0 64 (codes "2")
+
+abbrev pub storm_app : App
+storm_app = with_rule (with_rule (with_rule (with_rule (new_app (codes "storm")) seed_rule) clients_rule) transmitters_rule) verbose_rule
+
+-- the words that there are, as clap sees them, and what clap adds, which is `help`, `--help` and `-h`
 abbrev pub program : App
-program = with_subcommand (new_app (codes "mmdetect")) (new_app (codes "script")).top
+program = with_subcommand (with_subcommand (with_subcommand (new_app (codes "mmdetect")) script_app.top) threads_app.top) storm_app.top
 
 -- no word, or `script`
 abbrev pub AsksForScript : List Text → Type 0
@@ -21,15 +58,25 @@ abbrev pub AsksForHelp : List Text → Type 0
 AsksForHelp words = (drop 1 words ≡ codes "--help" ∷ []) ⊎ (drop 1 words ≡ codes "-h" ∷ [])
 
 -- what to do at an error of that kind
-abbrev pub request_at : ErrorKind → Error → Request
-request_at kind.DisplayHelp error = Help error
-request_at kind.OutOfMemory error = Memory
-request_at _ error = Wrong error
+abbrev pub request_by : ErrorKind → Error → Request
+request_by kind.DisplayHelp error = Help error
+request_by kind.OutOfMemory error = Memory
+request_by _ error = Wrong error
 
--- what to do with what clap answers
-abbrev pub request_by : Result ArgMatches Error → Request
-request_by (Ok matches) = Script
-request_by (Err error) = request_at (kind_of error) error
+-- what to do at an error
+abbrev pub request_at : Error → Request
+request_at error = request_by (kind_of error) error
+
+-- clap entered no subcommand, or `script`
+abbrev pub IsScriptName : Option Text → Type 0
+IsScriptName name = (name ≡ None) ⊎ (name ≡ Some (codes "script"))
+
+-- something is run
+abbrev pub runs : Request → Bool
+runs Script = true
+runs (Threads file verbose) = true
+runs (Storm options verbose) = true
+runs _ = false
 
 -- the request, where memory was not refused
 abbrev pub IsScript : Request → Type 0

@@ -1,12 +1,18 @@
 //! What the words of the command line ask for.
-ghost use Rattle.std.specs.Prelude.{◌≡◌, [], IfOk, map};
-ghost use Rattle.clap.specs.Words.{FailsBy, app_of, fault_of};
-ghost use Rattle.mm_detect.specs.CommandLine.{AsksForHelp, AsksForScript, IsHelp, IsScript, program, request_by};
-ghost use Rattle.mm_detect.specs.declared.command_line.Request.TheVariants.{Script};
+//!
+//! - `program`: the words that there are.
+//! - `options`: the numbers of a generated workload.
+ghost use Rattle.std.specs.Prelude.{◌≡◌, [], IfOk, true, map};
+ghost use Rattle.clap.specs.Words.{FailsBy, HasMatchesOf, fault_of, subcommand_name_of};
+ghost use Rattle.mm_detect.specs.CommandLine.{AsksForHelp, AsksForScript, IsHelp, IsScript, IsScriptName, program, request_at, runs};
 
-use crate::help::{ABOUT, AFTER, SCRIPT};
+mod options;
+mod program;
+
 use clap::error::ErrorKind;
-use clap::{ArgMatches, Command, Error};
+use clap::{ArgMatches, Error};
+pub use options::StormOptions;
+use program::command;
 use std::alloc::{AllocError, Global};
 use std::convert::AsStr;
 use std::{env, io};
@@ -16,6 +22,16 @@ use std::{env, io};
 pub enum Request {
     /// A script is to be run.
     Script,
+    /// The workload in this file is to be run.
+    Threads {
+        file: String,
+        verbose: bool,
+    },
+    /// A generated workload is to be run.
+    Storm {
+        options: StormOptions,
+        verbose: bool,
+    },
     /// Help, with its text.
     Help(Error),
     /// The words are no command line of this program; the text says why.
@@ -37,10 +53,7 @@ fn asked_or_refused(rt: &HostRuntime) -> Result<Request, AllocError> {
             Ok(request_of(alloc, words.as_slice()))
         }
         Err(fault) if fault.kind() == io::ErrorKind::OutOfMemory => Ok(Request::Memory),
-        Err(_) => {
-            let error = command(alloc)?.error(ErrorKind::InvalidValue, "a word is not UTF-8 text")?;
-            Ok(Request::Wrong(error))
-        }
+        Err(_) => wrong(alloc, "a word is not UTF-8 text"),
     }
 }
 
@@ -48,39 +61,76 @@ fn asked_or_refused(rt: &HostRuntime) -> Result<Request, AllocError> {
 pub fn request_of<S: AsStr>(alloc: Global, words: &[S]) -> Request
     ensures script { AsksForScript (map S.text words.now) → IsScript result }
     ensures help { AsksForHelp (map S.text words.now) → IsHelp result }
-    ensures faultless { result ≡ Script → fault_of program (map S.text words.now) ≡ [] }
+    ensures faultless { runs result ≡ true → fault_of program (map S.text words.now) ≡ [] }
 {
-    request_by(parsed(alloc, words))
-}
-
-/// Returns the request that follows from clap's result.
-fn request_by(outcome: Result<ArgMatches<'_>, Error>) -> Request
-    ensures { result ≡ request_by outcome.entry }
-{
-    match outcome {
-        Ok(_) => Request::Script,
-        Err(error) => match error.kind() {
-            ErrorKind::DisplayHelp => Request::Help(error),
-            ErrorKind::OutOfMemory => Request::Memory,
-            _ => Request::Wrong(error),
-        },
+    match parsed(alloc, words) {
+        Ok(matches) => by_matches(alloc, &matches),
+        Err(error) => by_error(error),
     }
 }
 
 fn parsed<'a, S: AsStr>(alloc: Global, words: &'a [S]) -> Result<ArgMatches<'a>, Error>
-    ensures { FailsBy (fault_of program (map S.text words.entry.now)) result }
+    ensures fails { FailsBy (fault_of program (map S.text words.entry.now)) result }
+    ensures matches { IfOk result (HasMatchesOf program (map S.text words.entry.now)) }
 {
     command(alloc)?.try_get_matches_from(words)
 }
 
-/// The words that there are.
-fn command<'a>(alloc: Global) -> Result<Command<'a>, AllocError>
-    ensures { IfOk result (λ made. app_of made ≡ program) }
+/// The request that follows from clap's error.
+fn by_error(error: Error) -> Request
+    ensures { result ≡ request_at error }
 {
-    let script = Command::new(alloc, "script").about(SCRIPT);
-    Command::new(alloc, "mmdetect")
-        .bin_name("mmdetect")?
-        .about(ABOUT)
-        .after_help(AFTER)
-        .subcommand(script)
+    match error.kind() {
+        ErrorKind::DisplayHelp => Request::Help(error),
+        ErrorKind::OutOfMemory => Request::Memory,
+        _ => Request::Wrong(error),
+    }
+}
+
+/// The request that follows from what clap found.
+fn by_matches(alloc: Global, matches: &ArgMatches<'_>) -> Request
+    ensures { IsScriptName (subcommand_name_of matches.now) → IsScript result }
+{
+    let asked = match matches.subcommand() {
+        Some(("threads", own)) => threads(alloc, own),
+        Some(("storm", own)) => storm(alloc, own),
+        _ => return Request::Script,
+    };
+    asked.unwrap_or(Request::Memory)
+}
+
+fn threads(alloc: Global, own: &ArgMatches<'_>) -> Result<Request, AllocError> {
+    let Some(file) = own.get_str("FILE") else {
+        return wrong(alloc, "the file is missing");
+    };
+    Ok(Request::Threads {
+        file: String::from_str(alloc, file)?,
+        verbose: own.get_flag("verbose"),
+    })
+}
+
+fn storm(alloc: Global, own: &ArgMatches<'_>) -> Result<Request, AllocError> {
+    let (Some(seed), Some(clients), Some(transmitters)) = (
+        own.get_one::<u64>("seed"),
+        own.get_one::<u32>("clients"),
+        own.get_one::<u32>("transmitters"),
+    ) else {
+        return wrong(alloc, "a number is missing");
+    };
+    if !(1..=64).contains(&clients) || transmitters > 64 {
+        return wrong(alloc, "a number is out of range");
+    }
+    Ok(Request::Storm {
+        options: StormOptions {
+            seed,
+            clients,
+            transmitters,
+        },
+        verbose: own.get_flag("verbose"),
+    })
+}
+
+fn wrong(alloc: Global, text: &str) -> Result<Request, AllocError> {
+    let error = command(alloc)?.error(ErrorKind::InvalidValue, text)?;
+    Ok(Request::Wrong(error))
 }

@@ -13,6 +13,8 @@ pub enum Ending {
     Helped(Result<(), ScriptFault>),
     /// The command line was wrong.
     Wrong,
+    /// A workload was run, or was refused: the lines that say so were printed, and the program exits with this status; or a fault came.
+    Worked(Result<u8, ScriptFault>),
     /// Memory for the command line was refused; the line that says so was printed, or a fault came.
     Refused(Result<(), ScriptFault>),
 }
@@ -25,9 +27,11 @@ pub fn status(ending: &Ending) -> u8
         Ending::Ran(outcome) => script_status(outcome),
         Ending::Helped(Ok(())) => 0,
         Ending::Wrong => 2,
+        Ending::Worked(Ok(status)) => *status,
         Ending::Refused(Ok(())) => 4,
         Ending::Helped(Err(_)) => 3,
         Ending::Refused(Err(_)) => 3,
+        Ending::Worked(Err(_)) => 3,
     }
 }
 
@@ -50,6 +54,7 @@ pub fn fault(ending: &Ending) -> Option<ScriptFault>
         Ending::Ran(outcome) => outcome.err(),
         Ending::Helped(told) => told.err(),
         Ending::Wrong => None,
+        Ending::Worked(told) => told.err(),
         Ending::Refused(told) => told.err(),
     }
 }

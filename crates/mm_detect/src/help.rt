@@ -3,10 +3,19 @@
 /// What the program does.
 pub const ABOUT: &str = "Finds deadlocks among transactions that lock resources of a table.";
 
-/// What the subcommand does.
+/// What the subcommands do.
 pub const SCRIPT: &str = "Runs a script from standard input to standard output";
 
-/// The script language and the exit statuses.
+pub const THREADS: &str =
+    "Runs the workload in FILE, each client and each transmitter on a thread of its own";
+
+pub const STORM: &str = "Runs a generated workload: the same one for the same numbers";
+
+/// What the flag does.
+pub const VERBOSE: &str =
+    "Says on standard error what is run, how far it is, how long it took, and where FILE is malformed";
+
+/// The script language, what workloads print, and the exit statuses.
 pub const AFTER: &str = "\
 A script is read from standard input, and each of its calls has one reply on standard output.
 Without a word mmdetect does what 'mmdetect script' does.
@@ -29,9 +38,14 @@ A key K or H is process.generation, a label B, V or U is counter.process, r is t
 A refused call has the reply 'refused N Name', a line that is no call 'malformed', a second table
 'table stands', and a call before any table 'no table'. Lines that are blank or begin with # have none.
 
+A workload is run by threads, each client one transaction. When all have ended, two lines are printed:
+  clients finished F aborted A spent S refused X
+  table verdicts V aborts B
+
 Exit statuses:
-  0  no line was malformed, or help was asked for
-  1  some line was malformed
+  0  script: no line was malformed; threads, storm: each client finished or aborted; help was asked for
+  1  script: some line was malformed; threads: 'malformed workload' printed
   2  the command line is wrong
   3  'read fault', 'write fault' or 'input too long' on standard error
-  4  memory for the command line was refused, and 'refused 10 Memory' printed";
+  4  a table, the start of a thread, or memory was refused, and 'refused N Name' printed
+  5  threads, storm: some client used all its turns or was refused";

@@ -2,34 +2,46 @@
 //!
 //! - `command_line`: what the words of the command line ask for.
 //! - `help`: the text of the help.
+//! - `file`: the bytes of a file.
+//! - `work`: runs of workloads. `work_end`: what came of one. `verbose`: what a person is told meanwhile.
 //! - `ending`: how a run of the program ends, and the status that it exits with.
 #![tactic(auto)]
 
 mod command_line;
 mod ending;
+mod file;
 mod help;
 #[cfg(test)]
 mod tests;
+mod verbose;
+mod work;
+mod work_end;
 
-use command_line::{Request, asked};
+use command_line::{Request, StormOptions, asked};
 use ending::{Ending, fault, status};
+use file::{Taken, taken_from};
+use mm_table::Refusal;
 use mm_work::{ScriptFault, run_script};
+use mm_workload::Workload;
+use std::alloc::Global;
+use std::io::Write;
 use std::process::ExitCode;
+use std::rt::Runtime;
+use std::sync::Wait;
+use std::thread::Threads;
+use verbose::told;
+use work::{WRITE_FAULT, generated, printed, storm_on, threads_on};
+use work_end::WorkEnd;
 
 fn main(rt: HostRuntime) -> ExitCode {
-    let ending = answer(&rt, asked(&rt));
-    if let Some(fault) = fault(&ending) {
-        // Where standard error cannot be written either, the status alone reports it.
-        let _ = eprintln!(rt; "{fault}");
-    }
-    ExitCode::from(status(&ending))
-}
-
-/// Does what the command line asks for.
-fn answer(rt: &HostRuntime, request: Request) -> Ending {
-    match request {
-        Request::Script => {
-            Ending::Ran(run_script(rt.alloc(), &mut rt.stdin(), &mut rt.stdout()))
+    let (alloc, mut output) = (rt.alloc(), rt.stdout());
+    let ending = match asked(&rt) {
+        Request::Script => Ending::Ran(run_script(alloc, &mut rt.stdin(), &mut output)),
+        Request::Threads { file, verbose } => {
+            Ending::Worked(threads(&rt, alloc, file.as_str(), verbose, &mut output))
+        }
+        Request::Storm { options, verbose } => {
+            Ending::Worked(stormed(&rt, alloc, options, verbose, &mut output))
         }
         Request::Help(text) => {
             Ending::Helped(print!(rt; "{text}").map_err(|_| ScriptFault::Write))
@@ -42,5 +54,62 @@ fn answer(rt: &HostRuntime, request: Request) -> Ending {
         Request::Memory => {
             Ending::Refused(println!(rt; "refused 10 Memory").map_err(|_| ScriptFault::Write))
         }
+    };
+    if let Some(fault) = fault(&ending) {
+        // Where standard error cannot be written either, the status alone reports it.
+        let _ = eprintln!(rt; "{fault}");
+    }
+    ExitCode::from(status(&ending))
+}
+
+/// Runs the workload in this file, and returns the status.
+fn threads<R: Runtime + Threads + Wait + Sync, W: Write>(
+    rt: &R,
+    alloc: Global,
+    file: &str,
+    verbose: bool,
+    output: &mut W,
+) -> Result<u8, ScriptFault> {
+    let bytes = match taken_from(rt, alloc, file) {
+        Taken::Bytes(bytes) => bytes,
+        Taken::Memory => {
+            return written(printed(&WorkEnd::Refused(Refusal::Memory), output));
+        }
+        Taken::Fault(error) => {
+            if verbose {
+                let _ = eprintln!(rt; "{file}: {error}");
+            }
+            return Err(ScriptFault::Read);
+        }
+    };
+    let bytes = bytes.as_slice();
+    written(if verbose {
+        told(rt, alloc, file, Workload::read(alloc, bytes), output)
+    } else {
+        threads_on(rt, alloc, bytes, output)
+    })
+}
+
+/// Runs the workload that is generated from these numbers, and returns the status.
+fn stormed<R: Runtime + Threads + Wait + Sync, W: Write>(
+    rt: &R,
+    alloc: Global,
+    options: StormOptions,
+    verbose: bool,
+    output: &mut W,
+) -> Result<u8, ScriptFault> {
+    written(if verbose {
+        told(rt, alloc, "storm", generated(alloc, options), output)
+    } else {
+        storm_on(rt, alloc, options, output)
+    })
+}
+
+/// The status of a run whose lines were written, else the fault.
+fn written(status: u8) -> Result<u8, ScriptFault> {
+    if status == WRITE_FAULT {
+        Err(ScriptFault::Write)
+    } else {
+        Ok(status)
     }
 }

@@ -1,5 +1,7 @@
 //! What no clause says: whole scripts with their text, and what command lines ask for.
 
+mod workloads;
+
 use crate::command_line::{Request, request_of};
 use crate::ending::script_status;
 use mm_rows::ROWS;
@@ -43,7 +45,13 @@ fn help_is_asked_for(rt: HostRuntime) -> Result<(), Fail> {
             return Err(Fail::from("help was asked for"));
         };
         let printed = format!(in rt.alloc(); "{text}")?;
-        for told in ["transmit K", "refused N Name", "Exit statuses:"] {
+        for told in [
+            "transmit K",
+            "refused N Name",
+            "threads",
+            "storm",
+            "Exit statuses:",
+        ] {
             assert!(rt; printed.as_str().contains(told), "{word} tells {told}");
         }
     }
@@ -64,10 +72,87 @@ fn other_words_are_wrong(rt: HostRuntime) -> Result<(), Fail> {
         ["mmdetect", "help", "fly"].as_slice(),
         ["mmdetect", "--version"].as_slice(),
         ["mmdetect", ""].as_slice(),
+        ["mmdetect", "threads"].as_slice(),
+        ["mmdetect", "threads", "one", "two"].as_slice(),
+        ["mmdetect", "storm", "extra"].as_slice(),
+        ["mmdetect", "storm", "--seed", "18446744073709551616"].as_slice(),
+        ["mmdetect", "storm", "--seed", "-1"].as_slice(),
+        ["mmdetect", "storm", "--clients", "0"].as_slice(),
+        ["mmdetect", "storm", "--clients", "65"].as_slice(),
+        ["mmdetect", "storm", "--transmitters", "65"].as_slice(),
+        ["mmdetect", "storm", "--clients"].as_slice(),
+        ["mmdetect", "storm", "--clients", "8", "--clients", "8"].as_slice(),
+        ["mmdetect", "script", "--verbose"].as_slice(),
     ] {
         assert!(rt;
             matches!(request_of(rt.alloc(), words), Request::Wrong(_)),
             "{words:?}"
+        );
+    }
+    Ok(())
+}
+
+/// A workload is asked for by its file.
+#[test]
+fn a_file_is_asked_for(rt: HostRuntime) -> Result<(), Fail> {
+    for (words, is_verbose) in [
+        (["mmdetect", "threads", "a file.json"].as_slice(), false),
+        (
+            ["mmdetect", "threads", "a file.json", "--verbose"].as_slice(),
+            true,
+        ),
+        (
+            ["mmdetect", "threads", "-v", "a file.json"].as_slice(),
+            true,
+        ),
+    ] {
+        let Request::Threads { file, verbose } = request_of(rt.alloc(), words) else {
+            return Err(Fail::from("a workload was asked for"));
+        };
+        assert_eq!(rt; file.as_str(), "a file.json");
+        assert_eq!(rt; verbose, is_verbose);
+    }
+    Ok(())
+}
+
+/// A storm is asked for by three numbers, each with a default and a range.
+#[test]
+fn a_storm_is_asked_for(rt: HostRuntime) -> Result<(), Fail> {
+    for (words, seed, clients, transmitters) in [
+        (["mmdetect", "storm"].as_slice(), 1, 8, 2),
+        (["mmdetect", "storm", "--seed", "0"].as_slice(), 0, 8, 2),
+        (
+            ["mmdetect", "storm", "--clients", "64", "--transmitters=64"].as_slice(),
+            1,
+            64,
+            64,
+        ),
+        (
+            ["mmdetect", "storm", "--transmitters", "0", "--clients", "1"].as_slice(),
+            1,
+            1,
+            0,
+        ),
+        (
+            [
+                "mmdetect",
+                "storm",
+                "--verbose",
+                "--seed",
+                "18446744073709551615",
+            ]
+            .as_slice(),
+            18_446_744_073_709_551_615u64,
+            8,
+            2,
+        ),
+    ] {
+        let Request::Storm { options, .. } = request_of(rt.alloc(), words) else {
+            return Err(Fail::from("a storm was asked for"));
+        };
+        assert_eq!(rt;
+            (options.seed, options.clients, options.transmitters),
+            (seed, clients, transmitters)
         );
     }
     Ok(())

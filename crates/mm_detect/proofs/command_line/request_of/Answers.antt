@@ -1,15 +1,25 @@
 use Rattle.std.proofs.Common.{subst, sym, map, List}
 use Rattle.clap.specs.Words.{Text, fault_of}
 use Rattle.mm_detect.specs.CommandLine.{IsHelp, IsScript, program}
-use Rattle.mm_detect.proofs.Lemmas.CommandLine.{script_by, script_when, help_by, help_when}
+use Rattle.mm_detect.proofs.Lemmas.CommandLine.{script_by, script_at_error, script_named, help_by, help_at_error, no_matches}
 use Rattle.mm_detect.proofs.command_line.request_of.Goals as goal
 
-pub returns-clause-script : goal.returns-clause-script
-returns-clause-script g c =
+pub returns-in-Ok-clause-script : goal.returns-in-Ok-clause-script
+returns-in-Ok-clause-script g c =
     let words : List Text = map g.S.AsStr.text c.args.words.now in
-    λ asks. subst IsScript (sym c.request_by.ensures) (script_when c.parsed.result (fault_of program words) (script_by words asks) c.parsed.ensures)
+    λ asks. c.by_matches.ensures (script_named words c.in-Ok.matches asks c.in-Ok.ensures.matches)
 
-pub returns-clause-help : goal.returns-clause-help
-returns-clause-help g c =
+pub returns-in-Ok-clause-help : goal.returns-in-Ok-clause-help
+returns-in-Ok-clause-help g c =
     let words : List Text = map g.S.AsStr.text c.args.words.now in
-    λ asks. subst IsHelp (sym c.request_by.ensures) (help_when c.parsed.result (fault_of program words) (help_by words asks) c.parsed.ensures)
+    λ asks. absurd (no_matches c.in-Ok.matches (fault_of program words) (help_by words asks) c.in-Ok.ensures.fails)
+
+pub returns-in-Err-clause-script : goal.returns-in-Err-clause-script
+returns-in-Err-clause-script g c =
+    let words : List Text = map g.S.AsStr.text c.args.words.now in
+    λ asks. subst IsScript (sym c.by_error.ensures) (script_at_error c.in-Err.error (fault_of program words) (script_by words asks) c.in-Err.ensures.fails)
+
+pub returns-in-Err-clause-help : goal.returns-in-Err-clause-help
+returns-in-Err-clause-help g c =
+    let words : List Text = map g.S.AsStr.text c.args.words.now in
+    λ asks. subst IsHelp (sym c.by_error.ensures) (help_at_error c.in-Err.error (fault_of program words) (help_by words asks) c.in-Err.ensures.fails)

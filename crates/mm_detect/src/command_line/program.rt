@@ -1,0 +1,80 @@
+//! The words that there are: a function for each subcommand.
+ghost use Rattle.std.specs.Prelude.{◌≡◌, IfOk, false};
+ghost use Rattle.clap.specs.Words.{app_of, rule_of};
+ghost use Rattle.clap.specs.declared.builder.command.Command.TheViews.{out-Command as fields_of};
+ghost use Rattle.mm_detect.specs.CommandLine.{number_rule, program, script_app, storm_app, threads_app, verbose_rule};
+
+use crate::help::{ABOUT, AFTER, SCRIPT, STORM, THREADS, VERBOSE};
+use clap::builder::ValueParser;
+use clap::{Arg, ArgAction, Command};
+use std::alloc::{AllocError, Global};
+
+/// The whole program.
+pub fn command<'a>(alloc: Global) -> Result<Command<'a>, AllocError>
+    ensures { IfOk result (λ made. app_of made ≡ program) }
+{
+    let script = script_command(alloc);
+    let threads = threads_command(alloc)?;
+    let storm = storm_command(alloc)?;
+    Command::new(alloc, "mmdetect")
+        .bin_name("mmdetect")?
+        .about(ABOUT)
+        .after_help(AFTER)
+        .subcommand(script)?
+        .subcommand(threads)?
+        .subcommand(storm)
+}
+
+fn script_command<'a>(alloc: Global) -> Command<'a>
+    ensures { (app_of result ≡ script_app) × ((fields_of result).has_globals ≡ false) }
+{
+    Command::new(alloc, "script").about(SCRIPT)
+}
+
+fn threads_command<'a>(alloc: Global) -> Result<Command<'a>, AllocError>
+    ensures { IfOk result (λ made. (app_of made ≡ threads_app) × ((fields_of made).has_globals ≡ false)) }
+{
+    let file = Arg::new(alloc, "FILE")
+        .required(true)
+        .action(ArgAction::Set);
+    Command::new(alloc, "threads")
+        .about(THREADS)
+        .arg(file)?
+        .arg(verbose(alloc))
+}
+
+fn storm_command<'a>(alloc: Global) -> Result<Command<'a>, AllocError>
+    ensures { IfOk result (λ made. (app_of made ≡ storm_app) × ((fields_of made).has_globals ≡ false)) }
+{
+    Command::new(alloc, "storm")
+        .about(STORM)
+        .arg(number(alloc, "seed", 0, u64::MAX, "1"))?
+        .arg(number(alloc, "clients", 1, 64, "8"))?
+        .arg(number(alloc, "transmitters", 0, 64, "2"))?
+        .arg(verbose(alloc))
+}
+
+/// The flag `--verbose`.
+fn verbose<'a>(alloc: Global) -> Arg<'a>
+    ensures rule { rule_of result ≡ verbose_rule }
+    ensures local { result.global ≡ false }
+{
+    Arg::new(alloc, "verbose")
+        .long("verbose")
+        .short('v')
+        .action(ArgAction::SetTrue)
+        .help(VERBOSE)
+}
+
+/// An option `--name N` with a whole number in this range.
+fn number<'a>(alloc: Global, name: &'a str, least: u64, most: u64, default: &'a str) -> Arg<'a>
+    ensures rule { rule_of result ≡ number_rule name.entry.now least most default.entry.now }
+    ensures local { result.global ≡ false }
+{
+    Arg::new(alloc, name)
+        .long(name)
+        .value_name("N")
+        .action(ArgAction::Set)
+        .value_parser(ValueParser::unsigned(least, most))
+        .default_value(default)
+}

@@ -1,0 +1,174 @@
+//! What a person is told on standard error while a workload is run. Where that cannot be written, it is not told, and the run goes on.
+ghost use Rattle.std.specs.Prelude.{◌≡◌, ◌+◌, length, vec_len};
+
+use crate::work::printed;
+use crate::work_end::WorkEnd;
+use mm_table::Refusal;
+use mm_workers::{End, Outcome, SharedGate, run_threads, shared_gates};
+use mm_workload::{WorkFault, Workload};
+use std::alloc::Global;
+use std::io::{Eprint, Write};
+use std::sync::Wait;
+use std::sync::atomic::AtomicBool;
+use std::sync::atomic::Ordering::SeqCst;
+use std::thread;
+use std::thread::{Scope, Threads};
+use std::time::{Clock, Duration, Instant};
+
+/// Runs the workload, if there is one, prints what came of it as without the flag, and returns the status. `name` is what the workload
+/// comes from.
+pub fn told<R: Clock + Eprint + Threads + Wait + Sync, W: Write>(
+    rt: &R,
+    alloc: Global,
+    name: &str,
+    read: Result<Workload, WorkFault>,
+    writer: &mut W,
+) -> u8 {
+    let end = match read {
+        Ok(work) => told_end(rt, alloc, name, &work),
+        Err(WorkFault::Malformed(place)) => {
+            let _ = eprintln!(rt; "{name}: {place}");
+            WorkEnd::Malformed(place)
+        }
+        Err(WorkFault::Memory) => WorkEnd::Refused(Refusal::Memory),
+    };
+    printed(&end, writer)
+}
+
+/// Runs the workload, and tells what is run, how far it is, and how it ended.
+fn told_end<R: Clock + Eprint + Threads + Wait + Sync>(
+    rt: &R,
+    alloc: Global,
+    name: &str,
+    work: &Workload,
+) -> WorkEnd {
+    tell_what(rt, name, work);
+    let begun = Instant::now(rt).ok();
+    match run(rt, alloc, work) {
+        Ok(outcome) => {
+            tell_ends(rt, outcome.ends.as_slice());
+            tell_took(rt, begun, outcome.report.accepted);
+            WorkEnd::Ran(outcome)
+        }
+        Err(refusal) => WorkEnd::Refused(refusal),
+    }
+}
+
+fn tell_what(rt: &(impl Clock + Eprint), name: &str, work: &Workload) {
+    let config = work.config();
+    let (clients, transmitters) = (work.clients().len(), work.transmitters());
+    let _ = eprintln!(rt;
+        "{name}: clients {clients}, transmitters {transmitters}, turns of each {}",
+        work.turns()
+    );
+    let _ = eprintln!(rt;
+        "{name}: processes {}, resources {}, label limit {}, generation limit {}",
+        config.processes, config.resources, config.label_limit, config.generation_limit
+    );
+}
+
+/// Tells of each client that did not finish how it ended. Clients count from 1.
+fn tell_ends(rt: &(impl Clock + Eprint), ends: &[End]) {
+    for (place, end) in ends.iter().enumerate() {
+        let client = place.wrapping_add(1);
+        let _ = match end {
+            End::Finished => Ok(()),
+            End::Aborted => eprintln!(rt; "client {client} aborted"),
+            End::Spent => eprintln!(rt; "client {client} spent: it used all of its turns"),
+            End::Refused(number) => eprintln!(rt; "client {client} refused {number}"),
+        };
+    }
+}
+
+/// Tells how long it took, and how many calls of the table were accepted.
+fn tell_took(rt: &(impl Clock + Eprint), begun: Option<Instant>, accepted: u64) {
+    let took = match begun {
+        Some(begun) => begun.elapsed(rt).ok(),
+        None => None,
+    };
+    let _ = match took {
+        Some(took) => eprintln!(rt;
+            "took {}.{:06} s, calls accepted {accepted}",
+            took.as_secs(),
+            took.subsec_micros()
+        ),
+        None => eprintln!(rt; "calls accepted {accepted}"),
+    };
+}
+
+/// Runs all workers of the workload beside a thread that watches them.
+fn run<R: Clock + Eprint + Threads + Wait + Sync>(
+    rt: &R,
+    alloc: Global,
+    work: &Workload,
+) -> Result<Outcome, Refusal> {
+    let clients = work.clients().len() as u32;
+    let workers = clients + work.transmitters();
+    let Ok(mut gates) = shared_gates(rt, alloc, clients, workers + 1) else {
+        return Err(Refusal::Memory);
+    };
+    let Some(gate) = gates.pop() else {
+        return Err(Refusal::Memory);
+    };
+    let watch = Watch {
+        gate,
+        clients,
+        is_over: AtomicBool::new(false),
+    };
+    thread::scope(
+        thread::scope_env(),
+        rt,
+        |scope| -> Result<Outcome, Refusal>
+            requires { vec_len gates ≡ length work.now.clients + work.now.transmitters }
+        { run_watched(scope, rt, alloc, work, gates, &watch) },
+    )
+}
+
+/// Runs all workers of the workload, and the watch until they have ended.
+fn run_watched<'s, 'e, R: Clock + Eprint + Threads + Wait + Sync>(
+    scope: &'s Scope<'s, &'e ()>,
+    rt: &'e R,
+    alloc: Global,
+    work: &Workload,
+    gates: Vec<SharedGate<'e, R>>,
+    watch: &'e Watch<'e, R>,
+) -> Result<Outcome, Refusal>
+    requires { vec_len gates ≡ length work.now.clients + work.now.transmitters }
+{
+    // A run that cannot be watched is run all the same.
+    let _watcher = scope.spawn(move || watch.run(rt));
+    let outcome = run_threads(rt, alloc, work, gates);
+    watch.is_over.store(true, SeqCst);
+    outcome
+}
+
+/// What a thread says of a run while it goes on.
+#[derive(Drop)]
+struct Watch<'a, R: Wait> {
+    gate: SharedGate<'a, R>,
+    clients: u32,
+    is_over: AtomicBool,
+}
+
+impl<'a, R: Clock + Eprint + Wait> Watch<'a, R> {
+    /// Says every second how many clients have ended, until the run is over.
+    fn run(&self, rt: &R) {
+        for round in 1..u64::MAX {
+            if self.is_over.load(SeqCst) {
+                return;
+            }
+            thread::sleep(rt, Duration::from_millis(10));
+            if round % 100 == 0 {
+                self.say(rt, round / 100);
+            }
+        }
+    }
+
+    fn say(&self, rt: &R, seconds: u64) {
+        let ended = self.gate.counts().left;
+        let _ = eprintln!(rt;
+            "after {seconds} s: clients ended {ended} of {}",
+            self.clients
+        );
+    }
+}

@@ -1,0 +1,94 @@
+//! Runs of workloads, on threads.
+ghost use Rattle.std.specs.Prelude.{◌≡◌, ◌≢◌, ◌⊎◌, IfErr};
+ghost use Rattle.mm_workload.specs.Json.{SaysNone};
+ghost use Rattle.mm_workload.specs.declared.fault.WorkFault.TheVariants.{Memory};
+ghost use Rattle.mm_detect.specs.WorkEnd.{EndsAs, work_status};
+
+use crate::command_line::StormOptions;
+use crate::work_end::WorkEnd;
+use mm_table::Refusal;
+use mm_workers::{Outcome, run_threads, shared_gates};
+use mm_workload::{WorkFault, Workload, storm};
+use std::alloc::Global;
+use std::io::Write;
+use std::sync::Wait;
+use std::thread::Threads;
+
+/// The status of a run whose lines could not be written.
+pub const WRITE_FAULT: u8 = 3;
+
+/// Runs the workload that the bytes of a file say, prints what came of it, and returns the status that the program exits with: as
+/// `WorkEnd::status`, and 3 where a line could not be written. Takes memory.
+pub fn threads_on<R: Threads + Wait + Sync, W: Write>(
+    rt: &R,
+    alloc: Global,
+    bytes: &[u8],
+    writer: &mut W,
+) -> u8
+    ensures malformed { result ≡ 1 → SaysNone bytes.now }
+{
+    let end = end_of(rt, alloc, Workload::read(alloc, bytes));
+    printed(&end, writer)
+}
+
+/// Runs the workload that is generated from these numbers, as `threads_on` runs that of a file.
+pub fn storm_on<R: Threads + Wait + Sync, W: Write>(
+    rt: &R,
+    alloc: Global,
+    options: StormOptions,
+    writer: &mut W,
+) -> u8
+    ensures { result ≢ 1 }
+{
+    let end = end_of(rt, alloc, generated(alloc, options));
+    printed(&end, writer)
+}
+
+/// The workload that is generated from these numbers.
+pub fn generated(alloc: Global, options: StormOptions) -> Result<Workload, WorkFault>
+    ensures { IfErr result (λ fault. fault ≡ Memory) }
+{
+    storm(alloc, options.seed, options.clients, options.transmitters)
+}
+
+/// Runs the workload, if there is one.
+fn end_of<R: Threads + Wait + Sync>(
+    rt: &R,
+    alloc: Global,
+    read: Result<Workload, WorkFault>,
+) -> WorkEnd
+    ensures { EndsAs read result }
+{
+    match read {
+        Ok(work) => match run(rt, alloc, &work) {
+            Ok(outcome) => WorkEnd::Ran(outcome),
+            Err(refusal) => WorkEnd::Refused(refusal),
+        },
+        Err(WorkFault::Malformed(place)) => WorkEnd::Malformed(place),
+        Err(WorkFault::Memory) => WorkEnd::Refused(Refusal::Memory),
+    }
+}
+
+/// Runs all workers of the workload.
+fn run<R: Threads + Wait + Sync>(
+    rt: &R,
+    alloc: Global,
+    work: &Workload,
+) -> Result<Outcome, Refusal> {
+    let clients = work.clients().len() as u32;
+    let workers = clients + work.transmitters();
+    match shared_gates(rt, alloc, clients, workers) {
+        Ok(gates) => run_threads(rt, alloc, work, gates),
+        Err(_) => Err(Refusal::Memory),
+    }
+}
+
+/// Prints what came of a workload, and returns the status.
+pub fn printed<W: Write>(end: &WorkEnd, writer: &mut W) -> u8
+    ensures { (result ≡ 3) ⊎ (result ≡ work_status end.now) }
+{
+    if writeln!(writer, "{end}").is_err() || writer.flush().is_err() {
+        return WRITE_FAULT;
+    }
+    end.status()
+}

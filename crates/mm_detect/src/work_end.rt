@@ -1,0 +1,93 @@
+//! What came of a workload: the lines that are printed, and the status that the program exits with.
+ghost use Rattle.std.specs.Prelude.{◌≡◌};
+ghost use Rattle.std.specs.List.{list_all};
+ghost use Rattle.mm_detect.specs.WorkEnd.{work_status, has_ended};
+
+use mm_table::Refusal;
+use mm_workers::{End, Outcome};
+use mm_workload::Place;
+use std::fmt;
+use std::fmt::{Display, Formatter};
+
+/// What came of a workload.
+#[derive(Debug, Drop)]
+pub enum WorkEnd {
+    /// It was run, and all clients have ended.
+    Ran(Outcome),
+    /// The file says no workload, since it is malformed at this place.
+    Malformed(Place),
+    /// The table, the start of a thread, or memory was refused.
+    Refused(Refusal),
+}
+
+impl WorkEnd {
+    /// The status: 0 where each client finished or was aborted, 5 where some client used up its turns or was refused, 1 where the file is
+    /// malformed, and 4 where something else was refused.
+    pub fn status(&self) -> u8
+        ensures { result ≡ work_status self.now }
+    {
+        match self {
+            WorkEnd::Ran(outcome) if all_have_ended(outcome.ends.as_slice()) => 0,
+            WorkEnd::Ran(_) => 5,
+            WorkEnd::Malformed(_) => 1,
+            WorkEnd::Refused(_) => 4,
+        }
+    }
+}
+
+/// Whether each client finished or was aborted.
+fn all_have_ended(ends: &[End]) -> bool
+    ensures { result ≡ list_all has_ended ends.now }
+{
+    ends.iter()
+        .all(|end| matches!(end, End::Finished | End::Aborted))
+}
+
+/// How many clients ended in each way.
+#[derive(Clone, Copy, Debug, PartialEq, Eq)]
+struct Counted {
+    finished: usize,
+    aborted: usize,
+    spent: usize,
+    refused: usize,
+}
+
+fn count_of(ends: &[End]) -> Counted {
+    Counted {
+        finished: ends.iter().filter(|end| **end == End::Finished).count(),
+        aborted: ends.iter().filter(|end| **end == End::Aborted).count(),
+        spent: ends.iter().filter(|end| **end == End::Spent).count(),
+        refused: ends
+            .iter()
+            .filter(|end| matches!(end, End::Refused(_)))
+            .count(),
+    }
+}
+
+impl Display for WorkEnd {
+    fn fmt<W: fmt::Write>(&self, f: &mut Formatter<W>) -> fmt::Result {
+        let outcome = match self {
+            WorkEnd::Ran(outcome) => outcome,
+            WorkEnd::Malformed(_) => return f.write_str("malformed workload"),
+            WorkEnd::Refused(refusal) => {
+                return write!(f, "refused {} {}", refusal.number(), refusal.name());
+            }
+        };
+        let Counted {
+            finished,
+            aborted,
+            spent,
+            refused,
+        } = count_of(outcome.ends.as_slice());
+        write!(
+            f,
+            "clients finished {finished} aborted {aborted} spent {spent} refused {refused}\n"
+        )?;
+        let report = outcome.report;
+        write!(
+            f,
+            "table verdicts {} aborts {}",
+            report.verdicts, report.aborts
+        )
+    }
+}
