@@ -181,4 +181,9 @@ impl Table {
     pub fn verdicts(&self) -> u64 {
         self.verdicts
     }
+
+    /// The live key of the process, if it has one.
+    pub fn tenant(&self, process: u32) -> Option<Key> {
+        self.processes.get(process as usize).filter(|tenant| tenant.is_live).map(|_| self.key(process))
+    }
 }

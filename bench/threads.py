@@ -1,4 +1,4 @@
-"""Runs the proved shared table and the plain one behind a lock in turn, and prints nanoseconds a call: the least, and the median."""
+"""Runs programs of threads, the proved one and the plain one in turn, and prints what they take: the best turn, and the median."""
 
 import os
 import statistics
@@ -6,33 +6,73 @@ import subprocess
 import sys
 
 HERE = os.path.dirname(os.path.abspath(__file__))
-PROGRAMS = [os.path.join(HERE, "..", "crates", "mm_shared_times", "out", "mm_shared_times"), os.path.join(HERE, "out", "shared")]
+PROVED = os.path.join(HERE, "..", "crates", "mm_shared_times", "out", "mm_shared_times")
 CALLS = 18  # of a transaction: begin, 16 acquires, finish
 TRANSACTIONS = 200_000  # of all threads together
+STORM_TRANSACTIONS = 1_000  # of all clients of all storms together
 TURNS = 25
 
 
-def call_time(program, threads):
-    """Nanoseconds a call, of one run."""
-    command = [program, str(threads), str(TRANSACTIONS // threads)]
-    nanoseconds, done = subprocess.run(command, capture_output=True, text=True, check=True).stdout.split()
-    if int(done) != TRANSACTIONS // threads * threads:
-        sys.exit("%s did %s transactions" % (program, done))
-    return int(nanoseconds) / (int(done) * CALLS)
+def numbers(*command):
+    """The numbers that a run prints."""
+    words = [str(word) for word in command]
+    return [int(word) for word in subprocess.run(words, capture_output=True, text=True, check=True).stdout.split()]
 
 
-def main():
-    """One line for each number of threads."""
-    print("%-50s %4s %11s %11s %6s" % ("shared table: begin, 16 acquires, finish", "", "proved", "plain", "ratio"))
+def call_time(command, threads):
+    """Nanoseconds a call, of one run with so many threads at a shared table."""
+    count = TRANSACTIONS // threads
+    nanoseconds, done = numbers(*command, threads, count)
+    if done != threads * count:
+        sys.exit("%s did %d transactions" % (command, done))
+    return nanoseconds / (done * CALLS)
+
+
+def storm_rate(command, clients):
+    """Transactions a second, of one run of storms with so many clients."""
+    count = STORM_TRANSACTIONS // clients
+    nanoseconds, finished, aborted = numbers(*command, clients, count)
+    if finished + aborted != clients * count:
+        sys.exit("%s: %d clients finished, %d were aborted" % (command, finished, aborted))
+    return (finished + aborted) * 1e9 / nanoseconds
+
+
+def in_turn(measure, commands, number):
+    """What is measured of each command, so many times."""
+    taken = [[] for _ in commands]
+    for _ in range(TURNS):
+        for command, results in zip(commands, taken):
+            results.append(measure(command, number))
+    return taken
+
+
+def head(text):
+    print("%-50s %4s %11s %11s %6s" % (text, "", "proved", "plain", "ratio"))
+
+
+def line(text, number, proved, plain, unit):
+    print("%-50s %4d %11.2f %11.2f %6.2f  %s" % (text, number, proved, plain, proved / plain, unit), flush=True)
+
+
+def shared_table():
+    """One line for each number of threads, and its median."""
+    head("shared table: begin, 16 acquires, finish")
+    commands = [[PROVED], [os.path.join(HERE, "out", "shared")]]
     for threads in (1, 2, 4):
-        times = [[], []]
-        for _ in range(TURNS):
-            for program, taken in zip(PROGRAMS, times):
-                taken.append(call_time(program, threads))
+        times = in_turn(call_time, commands, threads)
         for name, pick in (("least", min), ("median", statistics.median)):
-            proved, plain = (pick(taken) for taken in times)
-            text = "by %d threads, %s of %d" % (threads, name, TURNS)
-            print("%-50s %4d %11.2f %11.2f %6.2f  ns a call" % (text, threads, proved, plain, proved / plain))
+            line("by %d threads, %s of %d" % (threads, name, TURNS), threads, *map(pick, times), "ns a call")
 
 
-main()
+def storms():
+    """One line for each number of clients, and its median. More is better."""
+    head("storms: transactions a second")
+    commands = [[PROVED, "storm"], [os.path.join(HERE, "out", "storm")]]
+    for clients in (1, 2, 4, 8):
+        rates = in_turn(storm_rate, commands, clients)
+        for name, pick in (("most", max), ("median", statistics.median)):
+            line("by %d clients, %s of %d" % (clients, name, TURNS), clients, *map(pick, rates), "a second")
+
+
+shared_table()
+storms()

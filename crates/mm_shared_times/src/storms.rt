@@ -1,0 +1,77 @@
+//! Storms, each run by threads of its own.
+ghost use Rattle.std.specs.Prelude.{◌≤◌};
+
+use crate::clock::{nanoseconds_since, now};
+use mm_workers::{End, Outcome, run_threads, shared_gates};
+use mm_workload::{Workload, storm};
+use std::alloc::Global;
+use std::sync::Wait;
+use std::thread::Threads;
+use std::time::Clock;
+
+/// How many transmitters each storm has.
+const TRANSMITTERS: u32 = 2;
+
+/// What came of storms.
+#[derive(Clone, Copy)]
+pub struct Storms {
+    /// How long they ran, from the opening of each table to its end.
+    pub nanoseconds: u64,
+    /// How many clients finished.
+    pub finished: u64,
+    /// How many clients were aborted.
+    pub aborted: u64,
+}
+
+impl Storms {
+    /// One storm more.
+    fn add(&mut self, nanoseconds: u64, outcome: &Outcome) {
+        let aborted = number_of(outcome, End::Aborted);
+        let finished = number_of(outcome, End::Finished);
+        self.nanoseconds = self.nanoseconds.wrapping_add(nanoseconds);
+        self.finished = self.finished.wrapping_add(finished);
+        self.aborted = self.aborted.wrapping_add(aborted);
+    }
+}
+
+/// How many clients ended so.
+fn number_of(outcome: &Outcome, end: End) -> u64 {
+    outcome.ends.iter().filter(|other| **other == end).count() as u64
+}
+
+/// Runs a workload on a table that is opened for it. `None` where memory is refused.
+fn run_workload<R: Threads + Wait + Sync>(
+    rt: &R,
+    alloc: Global,
+    workload: &Workload,
+) -> Option<Outcome> {
+    let clients = workload.clients().len() as u32;
+    let workers = clients + workload.transmitters();
+    let gates = shared_gates(rt, alloc, clients, workers).ok()?;
+    run_threads(rt, alloc, workload, gates).ok()
+}
+
+/// Runs the storms of seeds 1 to `count`, one after another, each with so many clients. To make a storm takes no part of the time.
+/// `None` where memory is refused.
+pub fn run_storms<R: Threads + Wait + Clock + Sync>(
+    rt: &R,
+    alloc: Global,
+    clients: u32,
+    count: u32,
+) -> Option<Storms>
+    requires { (1 ≤ clients) × (clients ≤ 64) }
+{
+    let mut storms = Storms {
+        nanoseconds: 0,
+        finished: 0,
+        aborted: 0,
+    };
+    for place in 0..count {
+        let seed = u64::from(place) + 1;
+        let workload = storm(alloc, seed, clients, TRANSMITTERS).ok()?;
+        let start = now(rt);
+        let outcome = run_workload(rt, alloc, &workload)?;
+        storms.add(nanoseconds_since(rt, start), &outcome);
+    }
+    Some(storms)
+}
