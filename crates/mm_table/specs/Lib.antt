@@ -6,6 +6,7 @@ pub use Rattle.mm_rules.specs.Change
 pub use Rattle.mm_rules.specs.Event
 pub use Rattle.mm_rules.specs.Laws
 pub use Rattle.mm_settle.specs.Touched
+pub use Rattle.mm_settle.specs.Shown
 pub use Rattle.mm_rules.specs.declared.config
 pub use Rattle.mm_rules.specs.declared.refusal
 pub use Rattle.mm_rules.specs.declared.reply

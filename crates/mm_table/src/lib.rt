@@ -3,14 +3,16 @@
 //! The rules that it keeps, and the plain data of calls, are those of mm_rules.
 //!
 //! - `table`: `Table`, with one method for each event and each read.
+//! - `laws`: facts about all tables, as the contracts of functions that do nothing: those of mm_rules and of mm_settle.
 //! - `records`: how a table is kept. Nothing else depends on it.
 #![tactic(auto)]
 
+pub mod laws;
 mod records;
 mod table;
 
 pub use mm_rules::{
     Acquired, Config, Detected, Key, Label, Mode, Refusal, Released, Settled, State, Totals,
-    Transmitted, laws,
+    Transmitted,
 };
 pub use table::Table;

@@ -1,12 +1,13 @@
-ghost use Rattle.std.specs.Prelude.{◌≡◌, ◌≤◌, ◌||◌, ℕ, false, length, replicate, IfOk, IfErr, vec_capacity};
+ghost use Rattle.std.specs.Prelude.{◌≡◌, ◌≢◌, ◌≤◌, ◌<◌, ◌||◌, ℕ, false, length, replicate, IfOk, IfErr, IfSome, vec_capacity};
 ghost use Rattle.mm_marks.specs.Marks.{has, members};
+ghost use Rattle.mm_rules.specs.TableState.{public_of, holder_of};
 ghost use Rattle.mm_rules.specs.Event.{Opens, Step, Begin, Acquire, Release, Finish, Transmit, Detect, Abort, Settle, state_of, owner_told, tenant_of};
 ghost use Rattle.mm_rules.specs.Laws.{Laws, HasSoundVerdicts};
 ghost use Rattle.mm_settle.specs.Touched.{changed_processes};
 
 use crate::records::Records;
 use crate::{
-    Acquired, Config, Detected, Key, Refusal, Released, Settled, State, Totals, Transmitted,
+    Acquired, Config, Detected, Key, Label, Refusal, Released, Settled, State, Totals, Transmitted,
 };
 use mm_marks::Marks;
 use std::alloc::Global;
@@ -250,6 +251,27 @@ impl Table {
         ensures { result ≡ tenant_of self.now process }
     {
         self.records.tenant(process)
+    }
+
+    /// The public label of the process, which has it also while it has no transaction.
+    ///
+    /// Changes nothing and is not counted. Constant time.
+    pub fn public_label(&self, process: u32) -> Label
+        requires { process < self.now.config.processes }
+        ensures { result ≡ public_of self.now process }
+    {
+        self.records.public(process)
+    }
+
+    /// The process of the transaction for which that of this process waits: another one. `None` where it does not wait, or is not one
+    /// of the table's.
+    ///
+    /// Changes nothing and is not counted. Constant time.
+    pub fn holder(&self, process: u32) -> Option<u32>
+        ensures holder { result ≡ holder_of self.now process }
+        ensures another { IfSome result (λ holder. (holder < self.now.config.processes) × (holder ≢ process)) }
+    {
+        self.records.holder_at(process)
     }
 
     /// What was counted since the opening. Changes nothing and is not counted. Constant time.

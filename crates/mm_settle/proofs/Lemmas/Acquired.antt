@@ -12,7 +12,7 @@ use Rattle.mm_settle.specs.private.Added.{Adds}
 use Rattle.mm_settle.proofs.Lemmas.Waiters.{waited_front}
 use Rattle.mm_settle.proofs.Lemmas.Touched.{unchanged_then, touches_nobody, touches_one, block_else, block_rises, owner_else}
 
-queue_else : (s : TableState) (w : Wait) (k : ℕ) → k ≢ w.key.process → IsUnchanged s (record s { waits = s.waits ++ w ∷ [] }) k
+pub queue_else : (s : TableState) (w : Wait) (k : ℕ) → k ≢ w.key.process → IsUnchanged s (record s { waits = s.waits ++ w ∷ [] }) k
 queue_else s w k apart =
     let same = waited_front s.waits w k (λ e. apart (sym e)) in
     record {

@@ -101,7 +101,7 @@ impl Records {
     }
 
     /// The public label of a process.
-    pub(super) fn public(&self, process: u32) -> Label
+    pub fn public(&self, process: u32) -> Label
         requires { process < self.now.config.processes }
         ensures { result ≡ public_of self.now process }
     {

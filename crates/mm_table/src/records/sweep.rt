@@ -13,7 +13,7 @@ use mm_marks::Marks;
 
 impl Records {
     /// The holder of a process; `None` where it does not wait, or is not one of the table's.
-    fn holder_at(&self, process: u32) -> Option<u32>
+    pub fn holder_at(&self, process: u32) -> Option<u32>
         ensures holder { result ≡ holder_of self.now process }
         ensures in_range { IfSome result (λ holder. (holder < self.now.config.processes) × (process < self.now.config.processes)) }
     {

@@ -1,0 +1,17 @@
+use Rattle.std.proofs.Common.{◌≡◌, ◌≢◌, ◌<◌, ℕ, Option, Some, None, IfSome, subst, sym, ap, ◌∙◌}
+use Rattle.mm_rules.specs.TableState.{TableState, holder_of}
+use Rattle.mm_rules.specs.Laws.{Laws}
+use Rattle.mm_rules.proofs.States.Lookups.{holder_within, holder_apart}
+use Rattle.mm_table.proofs.table.Table.holder.Goals as goal
+
+another : (s : TableState) (n : ℕ) (o : Option ℕ) → Laws s → o ≡ holder_of s n → IfSome o (λ h. (h < s.config.processes) × (h ≢ n))
+another s n None laws is = tt
+another s n (Some h) laws is = (
+  (holder_within s laws.lawful.well_formed n h (sym is)).1,
+  λ e. holder_apart s laws.lawful.well_formed n h (sym is) (sym e),
+)
+
+pub returns-clause-another : goal.returns-clause-another
+returns-clause-another c =
+    let s = c.args.self.now in
+    another s c.args.process c.holder_at.result (subst Laws c.self.view_is c.self.invariant.laws) (c.holder_at.ensures.holder ∙ ap (λ (t : TableState). holder_of t c.args.process) c.self.view_is)
