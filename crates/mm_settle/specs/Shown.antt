@@ -6,7 +6,7 @@ use Rattle.mm_rules.specs.declared.refusal.Refusal.{Refusal}
 use Rattle.mm_rules.specs.declared.reply.Acquired.TheVariants.{Granted, Waits}
 use Rattle.mm_rules.specs.declared.reply.Transmitted.TheVariants.{Raised, Still}
 use Rattle.mm_rules.specs.TableState.{TableState, public_of, holder_of}
-use Rattle.mm_rules.specs.Event.{Event, Begin, Acquire, Release, Finish, Transmit, Detect, Abort, Settle, GiveUp, Answer, Step}
+use Rattle.mm_rules.specs.Event.{Event, Begin, Acquire, Transmit, Detect, Settle, GiveUp, Answer, Step}
 use Rattle.mm_rules.specs.Laws.{Laws}
 use Rattle.mm_settle.specs.Touched.{changed_processes}
 
@@ -23,6 +23,7 @@ pub record Shows (s : TableState) (n : ℕ) (l : Label) (h : Option ℕ) : Type 
 
 -- those that may show something else after an event, by its reply: nobody, the caller's process alone, or some of the changed
 abbrev pub shown_anew : (e : Event) → Result (Answer e) Refusal → TableState → TableState → List ℕ
+shown_anew e (Err refusal) s t = []
 shown_anew Begin (Ok key) s t = []
 shown_anew (Acquire k r) (Ok Granted) s t = []
 shown_anew (Acquire k r) (Ok (Waits h label)) s t = k.process ∷ []
@@ -31,15 +32,15 @@ shown_anew (Transmit k) (Ok Still) s t = []
 shown_anew (Detect k) (Ok answer) s t = []
 shown_anew (GiveUp k) (Ok answer) s t = k.process ∷ []
 shown_anew e (Ok answer) s t = changed_processes s t
-shown_anew e (Err refusal) s t = []
 
 -- what is known of what they show: who waits shows the label and the holder of the answer, who is raised the label of the answer and the same
 -- holder, and a settle leaves all holders as they were
 abbrev pub ShownBy : (e : Event) → Result (Answer e) Refusal → TableState → TableState → Type 0
+ShownBy e (Err refusal) s t = Unit {0}
 ShownBy (Acquire k r) (Ok (Waits h label)) s t = Shows t k.process label (Some h.process)
 ShownBy (Transmit k) (Ok (Raised label)) s t = Shows t k.process label (holder_of s k.process)
 ShownBy Settle (Ok answer) s t = (n : ℕ) → holder_of t n ≡ holder_of s n
-ShownBy e reply s t = Unit {0}
+ShownBy e (Ok answer) s t = Unit {0}
 
 -- what an event changes of what processes show
 pub record ChangesShown (e : Event) (reply : Result (Answer e) Refusal) (s t : TableState) : Type 0 where

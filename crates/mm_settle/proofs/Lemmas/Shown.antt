@@ -1,5 +1,5 @@
 -- What each event changes of what processes show.
-use Rattle.std.proofs.Common.{◌≡◌, ◌≢◌, ◌<◌, ◌+◌, ◌++◌, ℕ, Bool, true, false, not, nat_le, nat_eq, List, [], ◌∷◌, length, fold, slice_set, count_by, Option, Some, None, option_map, option_and_then, Result, Ok, Err, MatchBool, IsTrue, zero, suc, inl, inr, refl, sym, ap, ◌∙◌, arith, get_or-set_same, get_or-set_other}
+use Rattle.std.proofs.Common.{◌≡◌, ◌≢◌, ◌<◌, ◌+◌, ◌++◌, ℕ, Bool, true, false, nat_eq, List, [], ◌∷◌, length, fold, Option, Some, None, Result, Ok, Err, MatchBool, IsTrue, zero, suc, inl, inr, refl, ap, ◌∙◌, arith, get_or-set_same, get_or-set_other}
 use Rattle.std.specs.Option.{option_map_or}
 use Rattle.std.specs.List.{range_with_len, AllByRecursion}
 use Rattle.std.proofs.lemmas.Bool.{cases_Bool, eq-eqb, not-false}
@@ -15,27 +15,22 @@ use Rattle.mm_rules.specs.declared.reply.Transmitted.{Transmitted}
 use Rattle.mm_rules.specs.declared.reply.Detected.{Detected}
 use Rattle.mm_rules.specs.declared.reply.Settled.{Settled}
 use Rattle.mm_rules.specs.declared.reply.Transmitted.TheVariants.{Raised, Still}
-use Rattle.mm_rules.specs.TableState.{TableState, Wait, public_of, holder_of, owner_of, wait_of, waited_for, is_waiting, waiting_processes, graph_of, is_live}
-use Rattle.mm_rules.specs.Change.{label_against, block, activate, hand_over, vacate, abort, greater_label, transmit, can_detect, detect, swept}
-use Rattle.mm_rules.specs.Event.{Event, Begin, Acquire, Release, Finish, Transmit, Detect, Abort, Settle, GiveUp, Answer, Outcome, Gives, Step, Tests, allowed, decided, outcome, Settles, settled, counts_exhausted, begin_tests, acquire_tests, acquire_answer, acquire_change, release_tests, finish_tests, waiting_tests, abort_tests, settle_tests, give_up_tests}
+use Rattle.mm_rules.specs.TableState.{TableState, Wait, public_of, holder_of, owner_of, wait_of, waited_for, waiting_processes, is_live}
+use Rattle.mm_rules.specs.Change.{label_against, block, hand_over, vacate, abort, greater_label, transmit, can_detect, detect, swept}
+use Rattle.mm_rules.specs.Event.{Event, Begin, Acquire, Release, Finish, Transmit, Detect, Abort, Settle, GiveUp, Gives, Step, Tests, allowed, decided, outcome, Settles, settled, counts_exhausted, begin_tests, acquire_tests, acquire_answer, acquire_change, release_tests, finish_tests, waiting_tests, abort_tests, settle_tests, give_up_tests}
 use Rattle.mm_rules.specs.Laws.{Laws}
-use Rattle.mm_rules.specs.Graph.{Graph}
 use Rattle.mm_rules.proofs.States.Detect.{detect_still, detect_convicts}
-use Rattle.mm_rules.proofs.States.DetectAll.{detects_graph}
 use Rattle.mm_rules.proofs.States.Lookups.{live_within, none_of_is_some, holder_is}
 use Rattle.mm_rules.proofs.States.Outcome.{counting, tests_false}
 use Rattle.mm_rules.proofs.States.Transmit.{shown}
 use Rattle.mm_settle.specs.Touched.{IsUnchanged, is_changed, changed_processes}
-use Rattle.mm_settle.specs.Shown.{ShowsTheSame, Shows, shown_anew, ShownBy, ChangesShown, ShownChangesAreTold}
+use Rattle.mm_settle.specs.Shown.{ShowsTheSame, ChangesShown, ShownChangesAreTold}
 use Rattle.mm_settle.proofs.Lemmas.Acquired.{queue_else, touches_grant}
 use Rattle.mm_settle.proofs.Lemmas.Frames.{transmit_holder}
 use Rattle.mm_settle.proofs.Lemmas.Told.{unchanged_is}
 use Rattle.mm_settle.proofs.Lemmas.Touched.{unchanged_then, block_else, activate_else}
 
 -- ---- whoever is as it was shows what it showed
-
-shows_same : (s : TableState) (n : ℕ) → ShowsTheSame s s n
-shows_same s n = record { public = refl; holder = refl }
 
 unchanged_shows : (s t : TableState) (n : ℕ) → IsUnchanged s t n → ShowsTheSame s t n
 unchanged_shows s t n same = record { public = same.public; holder = same.holder }
@@ -64,12 +59,15 @@ gives_by P tests old answer new refused accepted reply t gives = by (allowed tes
     by (Err refusal) is given = rw (given.0, given.1) (refused refusal)
     by (Ok u) is given = rw (given.0, given.1) (accepted (tests_false tests is) (new.totals.accepted + 1))
 
+-- a refused event changes nothing
+refused_shown : (e : Event) (refusal : Refusal) (s : TableState) → ChangesShown e (Err refusal) s s
+refused_shown e refusal s = record { others = λ n within out. record { public = refl; holder = refl }; within = λ n among. absurd among; shown = tt }
+
 -- ---- begin and detect: nobody shows anything else
 
 begin_shown : (s t : TableState) (reply : Result Key Refusal) → Step Begin s reply t → ChangesShown Begin reply s t
 begin_shown s t reply step =
-    gives_by (λ reply t. ChangesShown Begin reply s t) (begin_tests s) s _ _
-    (λ refusal. record { others = λ n within out. shows_same s n; within = λ n among. absurd among; shown = tt })
+    gives_by (λ reply t. ChangesShown Begin reply s t) (begin_tests s) s _ _ (λ refusal. refused_shown Begin refusal s)
     (λ tests m. record { others = λ n within out. record { public = refl; holder = refl }; within = λ n among. absurd among; shown = tt })
     reply t step
 
@@ -81,8 +79,7 @@ detect_shows s n k = elim (cases_Bool (can_detect s n)) [
 
 detect_shown : (s t : TableState) (k : Key) (reply : Result Detected Refusal) → Step (Detect k) s reply t → ChangesShown (Detect k) reply s t
 detect_shown s t k reply step =
-    gives_by (λ reply t. ChangesShown (Detect k) reply s t) (waiting_tests s k) s _ _
-    (λ refusal. record { others = λ n within out. shows_same s n; within = λ n among. absurd among; shown = tt })
+    gives_by (λ reply t. ChangesShown (Detect k) reply s t) (waiting_tests s k) s _ _ (λ refusal. refused_shown (Detect k) refusal s)
     (λ tests m. record {
       others = λ n within out. let same = detect_shows s k.process n in record { public = same.public; holder = same.holder };
       within = λ n among. absurd among;
@@ -135,8 +132,7 @@ module _ (s : TableState) (k : Key) (r m : ℕ) (laws : Laws s) where
 
 acquire_shown : (s t : TableState) (k : Key) (r : ℕ) (reply : Result Acquired Refusal) → Laws s → Step (Acquire k r) s reply t → ChangesShown (Acquire k r) reply s t
 acquire_shown s t k r reply laws step =
-    gives_by (λ reply t. ChangesShown (Acquire k r) reply s t) (acquire_tests s k r) s _ _
-    (λ refusal. record { others = λ n within out. shows_same s n; within = λ n among. absurd among; shown = tt })
+    gives_by (λ reply t. ChangesShown (Acquire k r) reply s t) (acquire_tests s k r) s _ _ (λ refusal. refused_shown (Acquire k r) refusal s)
     (λ tests m. acquire_by s k r m laws (owner_of s r) refl (not-false (is_live s k) tests.1.0) (none_of_is_some (wait_of s k.process) tests.1.1.1.0))
     reply t step
 
@@ -154,8 +150,7 @@ module _ (s : TableState) (k : Key) (m : ℕ) (here : k.process < s.config.proce
 transmit_shown : (s t : TableState) (k : Key) (reply : Result Transmitted Refusal) → Laws s → Step (Transmit k) s reply t → ChangesShown (Transmit k) reply s t
 transmit_shown s t k reply laws step =
     let sizes = laws.lawful.well_formed.sizes in
-    gives_by (λ reply t. ChangesShown (Transmit k) reply s t) (waiting_tests s k) s _ _
-    (λ refusal. record { others = λ n within out. shows_same s n; within = λ n among. absurd among; shown = tt })
+    gives_by (λ reply t. ChangesShown (Transmit k) reply s t) (waiting_tests s k) s _ _ (λ refusal. refused_shown (Transmit k) refusal s)
     (λ tests m. transmit_by s k m (live_within s k sizes (not-false (is_live s k) tests.1.0)) sizes.public (greater_label s k.process))
     reply t step
 
@@ -176,8 +171,7 @@ detects_holder s (n ∷ ns) k = detects_holder (detect s n) ns k ∙ (detect_sho
 settle_by : (s t : TableState) (n : ℕ) (reply : Result Settled Refusal) → Gives (settled s n) reply t → ChangesShown Settle reply s t
 settle_by s t n reply gives =
     let last = swept s n in
-    gives_by (λ reply t. ChangesShown Settle reply s t) (settle_tests s) s _ _
-    (λ refusal. record { others = λ n within out. shows_same s n; within = λ n among. absurd among; shown = tt })
+    gives_by (λ reply t. ChangesShown Settle reply s t) (settle_tests s) s _ _ (λ refusal. refused_shown Settle refusal s)
     (λ tests m. record {
       others = λ k within out. untold_shows s (counting (fold detect last (waiting_processes last)) m) k within out;
       within = λ k told. told_within s (counting (fold detect last (waiting_processes last)) m) k told;
@@ -194,30 +188,26 @@ settle_shown s t reply false (n, settles, step) = settle_by s t n reply step
 
 release_shown : (s t : TableState) (k : Key) (r : ℕ) (reply : Result Released Refusal) → Step (Release k r) s reply t → ChangesShown (Release k r) reply s t
 release_shown s t k r reply step =
-    gives_by (λ reply t. ChangesShown (Release k r) reply s t) (release_tests s k r) s _ _
-    (λ refusal. record { others = λ n within out. shows_same s n; within = λ n among. absurd among; shown = tt })
+    gives_by (λ reply t. ChangesShown (Release k r) reply s t) (release_tests s k r) s _ _ (λ refusal. refused_shown (Release k r) refusal s)
     (λ tests m. record { others = λ n within out. untold_shows s (counting (hand_over s r) m) n within out; within = λ n told. told_within s (counting (hand_over s r) m) n told; shown = tt })
     reply t step
 
 finish_shown : (s t : TableState) (k : Key) (reply : Result (Unit {0}) Refusal) → Step (Finish k) s reply t → ChangesShown (Finish k) reply s t
 finish_shown s t k reply step =
-    gives_by (λ reply t. ChangesShown (Finish k) reply s t) (finish_tests s k) s _ _
-    (λ refusal. record { others = λ n within out. shows_same s n; within = λ n among. absurd among; shown = tt })
+    gives_by (λ reply t. ChangesShown (Finish k) reply s t) (finish_tests s k) s _ _ (λ refusal. refused_shown (Finish k) refusal s)
     (λ tests m. record { others = λ n within out. untold_shows s (counting (vacate s k.process) m) n within out; within = λ n told. told_within s (counting (vacate s k.process) m) n told; shown = tt })
     reply t step
 
 abort_shown : (s t : TableState) (k : Key) (reply : Result (Unit {0}) Refusal) → Step (Abort k) s reply t → ChangesShown (Abort k) reply s t
 abort_shown s t k reply step =
-    gives_by (λ reply t. ChangesShown (Abort k) reply s t) (abort_tests s k) s _ _
-    (λ refusal. record { others = λ n within out. shows_same s n; within = λ n among. absurd among; shown = tt })
+    gives_by (λ reply t. ChangesShown (Abort k) reply s t) (abort_tests s k) s _ _ (λ refusal. refused_shown (Abort k) refusal s)
     (λ tests m. record { others = λ n within out. untold_shows s (counting (abort s k.process) m) n within out; within = λ n told. told_within s (counting (abort s k.process) m) n told; shown = tt })
     reply t step
 
 give_up_shown : (s t : TableState) (k : Key) (reply : Result (Unit {0}) Refusal) → Laws s → Step (GiveUp k) s reply t → ChangesShown (GiveUp k) reply s t
 give_up_shown s t k reply laws step =
     let sizes = laws.lawful.well_formed.sizes in
-    gives_by (λ reply t. ChangesShown (GiveUp k) reply s t) (give_up_tests s k) s _ _
-    (λ refusal. record { others = λ n within out. shows_same s n; within = λ n among. absurd among; shown = tt })
+    gives_by (λ reply t. ChangesShown (GiveUp k) reply s t) (give_up_tests s k) s _ _ (λ refusal. refused_shown (GiveUp k) refusal s)
     (λ tests m. record {
       others = λ n within out. let same = activate_else s k.process n (λ e. out (inl e)) in record { public = same.public; holder = same.holder };
       within = λ n among. only n k.process s.config.processes (live_within s k sizes (not-false (is_live s k) tests.1.0)) among;
