@@ -1,2 +1,4 @@
 pub mod Shares
 pub mod Booked
+pub mod Published
+pub mod Hints

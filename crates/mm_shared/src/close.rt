@@ -2,9 +2,9 @@
 ghost use Rattle.std.specs.Prelude.{◌≡◌, ◌≢◌, IfOk, IfErr};
 ghost use Rattle.mm_shared.specs.Shares.{all_parts};
 
-use crate::name::Name;
 use crate::pass::{ALL_PARTS, Pass};
 use crate::shared::SharedTable;
+use mm_board::Name;
 use mm_table::Refusal;
 use std::sync::ledger::Ledger;
 use thiserror::Error;

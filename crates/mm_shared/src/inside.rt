@@ -1,14 +1,18 @@
 //! The value behind the lock of a shared table.
-ghost use Rattle.std.specs.Prelude.{◌≡◌, ◌+◌, OnOk, OnErr, IfOk};
+ghost use Rattle.std.specs.Prelude.{◌≡◌, ◌+◌, ◌≤◌, OnOk, OnErr, IfOk, Ok, vec_capacity};
+ghost use Rattle.mm_arena.specs.declared.key.Key.{Key};
+ghost use Rattle.mm_board.specs.Views.{label_at, NoneFalls};
+ghost use Rattle.mm_label.specs.Label.{Label};
 ghost use Rattle.mm_rules.specs.Event.{Step, Begin, Acquire, Release, Finish, Transmit, Detect, Abort, Settle, state_of, owner_told, tenant_of};
 ghost use Rattle.mm_rules.specs.Laws.{HasSoundVerdicts, verdicts_made};
 ghost use Rattle.mm_shared.specs.Booked.{Booked};
+ghost use Rattle.mm_shared.specs.Published.{AppendsOnly, IsPublished};
 
 use crate::close::Report;
-use crate::name::Name;
 use crate::pass::Pass;
+use crate::publish::{publish, publish_labels};
+use mm_board::{Board, Name, Publisher};
 use mm_table::{Acquired, Detected, Key, Refusal, Released, Settled, State, Table, Transmitted};
-use std::marker::PhantomData;
 use std::sync::ledger::{Book, Ledger};
 
 /// The value behind the lock: a table, and the books of three ledgers that count its accepted events, its verdicts and its aborts.
@@ -17,30 +21,40 @@ use std::sync::ledger::{Book, Ledger};
 /// hold of whatever a thread finds behind the lock. Only `Prepared::open` makes one.
 #[derive(Drop)]
 pub struct Inside<N: Name, A: Ledger, V: Ledger, B: Ledger> {
-    board: PhantomData<N>,
     table: Table,
+    /// The one that stores on the board.
+    publisher: Publisher<N>,
+    /// Whom the last event changed that lists them, with room for each process.
+    woken: Vec<u32>,
     accepted: Book<A>,
     verdicts: Book<V>,
     aborts: Book<B>,
+    ghost room: { table.config.processes ≤ vec_capacity woken },
+    ghost published: { IsPublished publisher table },
     ghost booked: { Booked table.totals accepted.total verdicts.total aborts.total },
 }
 
 /// Each event is the one call of its name on the table; a shared call makes it under the lock. Where it is accepted, it adds one to the
 /// pass's first share, its new verdicts to the second, and one to the third where it is an abort; where it is refused, nothing changes.
 impl<N: Name, A: Ledger, V: Ledger, B: Ledger> Inside<N, A, V, B> {
-    /// The table and books that stand in a new shared table.
+    /// The table, the publisher and the books that stand in a new shared table.
     pub(crate) fn new(
         table: Table,
+        publisher: Publisher<N>,
+        woken: Vec<u32>,
         accepted: Book<A>,
         verdicts: Book<V>,
         aborts: Book<B>,
     ) -> Inside<N, A, V, B>
-        requires { Booked table.totals accepted.total verdicts.total aborts.total }
+        requires room { table.config.processes ≤ vec_capacity woken }
+        requires published { IsPublished publisher table }
+        requires booked { Booked table.totals accepted.total verdicts.total aborts.total }
         ensures { result.table ≡ table }
     {
         Inside {
-            board: PhantomData,
             table,
+            publisher,
+            woken,
             accepted,
             verdicts,
             aborts,
@@ -50,14 +64,17 @@ impl<N: Name, A: Ledger, V: Ledger, B: Ledger> Inside<N, A, V, B> {
     /// `Table::begin`: starts a transaction in the first free process, and returns its key.
     ///
     /// Refused as `CountsExhausted` or `Full`. Constant time.
-    pub fn begin(&mut self, pass: &mut Pass<N, A, V, B>) -> Result<Key, Refusal>
+    pub fn begin(&mut self, _board: &Board<N>, pass: &mut Pass<N, A, V, B>) -> Result<Key, Refusal>
         ensures step { Step Begin self.old.table result self.new.table }
         ensures first { OnOk result (pass.new.accepted ≡ pass.old.accepted + 1) }
         ensures second { pass.new.verdicts ≡ pass.old.verdicts }
         ensures third { pass.new.aborts ≡ pass.old.aborts }
         ensures others { pass.new.parts ≡ pass.old.parts }
+        ensures seen { pass.new.seen ≡ pass.old.seen }
+        ensures appends { AppendsOnly self.old.publisher self.new.publisher self.new.table }
         ensures refused { OnErr result (pass.new ≡ pass.old) }
     {
+        self.table.keeps_laws();
         let key = self.table.begin()?;
         pass.count_accepted(&mut self.accepted);
         Ok(key)
@@ -68,6 +85,7 @@ impl<N: Name, A: Ledger, V: Ledger, B: Ledger> Inside<N, A, V, B> {
     /// Refused as `CountsExhausted`, `Stale`, `NoResource`, `Waiting`, `AlreadyOwns` or `LabelsExhausted`. Constant time.
     pub fn acquire(
         &mut self,
+        board: &Board<N>,
         pass: &mut Pass<N, A, V, B>,
         key: Key,
         resource: u32,
@@ -77,10 +95,22 @@ impl<N: Name, A: Ledger, V: Ledger, B: Ledger> Inside<N, A, V, B> {
         ensures second { pass.new.verdicts ≡ pass.old.verdicts }
         ensures third { pass.new.aborts ≡ pass.old.aborts }
         ensures others { pass.new.parts ≡ pass.old.parts }
+        ensures seen { (holder : Key) (label : Label) → result ≡ Ok (Acquired.Waits holder label) → label_at pass.new.seen.labels key.process ≡ label }
+        ensures rises { NoneFalls pass.old.seen.labels pass.new.seen.labels }
+        ensures appends { AppendsOnly self.old.publisher self.new.publisher self.new.table }
         ensures refused { OnErr result (pass.new ≡ pass.old) }
     {
+        self.table.keeps_laws();
+        self.publisher.fits(board);
         let answer = self.table.acquire(key, resource)?;
         pass.count_accepted(&mut self.accepted);
+        let Acquired::Waits { holder, label } = answer else {
+            return Ok(answer);
+        };
+        self.publisher.store_label(board, key.process, label);
+        self.publisher
+            .store_holder(board, key.process, Some(holder.process));
+        self.publisher.show(board, &mut pass.reader);
         Ok(answer)
     }
 
@@ -89,6 +119,7 @@ impl<N: Name, A: Ledger, V: Ledger, B: Ledger> Inside<N, A, V, B> {
     /// Refused as `CountsExhausted`, `Stale`, `NoResource`, `Waiting`, `NotOwner` or `LabelsExhausted`. `O(waiters of the resource)`.
     pub fn release(
         &mut self,
+        board: &Board<N>,
         pass: &mut Pass<N, A, V, B>,
         key: Key,
         resource: u32,
@@ -98,9 +129,13 @@ impl<N: Name, A: Ledger, V: Ledger, B: Ledger> Inside<N, A, V, B> {
         ensures second { pass.new.verdicts ≡ pass.old.verdicts }
         ensures third { pass.new.aborts ≡ pass.old.aborts }
         ensures others { pass.new.parts ≡ pass.old.parts }
+        ensures seen { pass.new.seen ≡ pass.old.seen }
+        ensures appends { AppendsOnly self.old.publisher self.new.publisher self.new.table }
         ensures refused { OnErr result (pass.new ≡ pass.old) }
     {
-        let answer = self.table.release(key, resource)?;
+        self.table.keeps_laws();
+        let answer = self.table.release_waking(key, resource, &mut self.woken)?;
+        publish(&mut self.publisher, board, &self.table, &self.woken);
         pass.count_accepted(&mut self.accepted);
         Ok(answer)
     }
@@ -108,15 +143,24 @@ impl<N: Name, A: Ledger, V: Ledger, B: Ledger> Inside<N, A, V, B> {
     /// `Table::finish`: ends the transaction, hands over all that it owns, and frees its slot.
     ///
     /// Refused as `CountsExhausted`, `Stale`, `Waiting` or `LabelsExhausted`. `O(its resources + their waiters)`.
-    pub fn finish(&mut self, pass: &mut Pass<N, A, V, B>, key: Key) -> Result<(), Refusal>
+    pub fn finish(
+        &mut self,
+        board: &Board<N>,
+        pass: &mut Pass<N, A, V, B>,
+        key: Key,
+    ) -> Result<(), Refusal>
         ensures step { Step (Finish key) self.old.table result self.new.table }
         ensures first { OnOk result (pass.new.accepted ≡ pass.old.accepted + 1) }
         ensures second { pass.new.verdicts ≡ pass.old.verdicts }
         ensures third { pass.new.aborts ≡ pass.old.aborts }
         ensures others { pass.new.parts ≡ pass.old.parts }
+        ensures seen { pass.new.seen ≡ pass.old.seen }
+        ensures appends { AppendsOnly self.old.publisher self.new.publisher self.new.table }
         ensures refused { OnErr result (pass.new ≡ pass.old) }
     {
-        self.table.finish(key)?;
+        self.table.keeps_laws();
+        self.table.finish_waking(key, &mut self.woken)?;
+        publish(&mut self.publisher, board, &self.table, &self.woken);
         pass.count_accepted(&mut self.accepted);
         Ok(())
     }
@@ -126,6 +170,7 @@ impl<N: Name, A: Ledger, V: Ledger, B: Ledger> Inside<N, A, V, B> {
     /// Refused as `CountsExhausted`, `Stale` or `NotWaiting`. Constant time.
     pub fn transmit(
         &mut self,
+        board: &Board<N>,
         pass: &mut Pass<N, A, V, B>,
         key: Key,
     ) -> Result<Transmitted, Refusal>
@@ -134,10 +179,20 @@ impl<N: Name, A: Ledger, V: Ledger, B: Ledger> Inside<N, A, V, B> {
         ensures second { pass.new.verdicts ≡ pass.old.verdicts }
         ensures third { pass.new.aborts ≡ pass.old.aborts }
         ensures others { pass.new.parts ≡ pass.old.parts }
+        ensures seen { (label : Label) → result ≡ Ok (Transmitted.Raised label) → label_at pass.new.seen.labels key.process ≡ label }
+        ensures rises { NoneFalls pass.old.seen.labels pass.new.seen.labels }
+        ensures appends { AppendsOnly self.old.publisher self.new.publisher self.new.table }
         ensures refused { OnErr result (pass.new ≡ pass.old) }
     {
+        self.table.keeps_laws();
+        self.publisher.fits(board);
         let answer = self.table.transmit(key)?;
         pass.count_accepted(&mut self.accepted);
+        let Transmitted::Raised(label) = answer else {
+            return Ok(answer);
+        };
+        self.publisher.store_label(board, key.process, label);
+        self.publisher.show(board, &mut pass.reader);
         Ok(answer)
     }
 
@@ -145,14 +200,22 @@ impl<N: Name, A: Ledger, V: Ledger, B: Ledger> Inside<N, A, V, B> {
     /// pass's second share; one that stands already adds nothing.
     ///
     /// Refused as `CountsExhausted`, `Stale` or `NotWaiting`. Constant time.
-    pub fn detect(&mut self, pass: &mut Pass<N, A, V, B>, key: Key) -> Result<Detected, Refusal>
+    pub fn detect(
+        &mut self,
+        _board: &Board<N>,
+        pass: &mut Pass<N, A, V, B>,
+        key: Key,
+    ) -> Result<Detected, Refusal>
         ensures step { Step (Detect key) self.old.table result self.new.table }
         ensures first { OnOk result (pass.new.accepted ≡ pass.old.accepted + 1) }
         ensures second { IfOk result (λ answer. pass.new.verdicts ≡ pass.old.verdicts + verdicts_made (Detect key) answer) }
         ensures third { pass.new.aborts ≡ pass.old.aborts }
         ensures others { pass.new.parts ≡ pass.old.parts }
+        ensures seen { pass.new.seen ≡ pass.old.seen }
+        ensures appends { AppendsOnly self.old.publisher self.new.publisher self.new.table }
         ensures refused { OnErr result (pass.new ≡ pass.old) }
     {
+        self.table.keeps_laws();
         let answer = self.table.detect(key)?;
         let new_verdicts = match answer {
             Detected::Deadlock(_) => 1,
@@ -167,15 +230,24 @@ impl<N: Name, A: Ledger, V: Ledger, B: Ledger> Inside<N, A, V, B> {
     /// `Table::abort`: ends a transaction with a verdict, as `finish` ends an active one. It adds one to the pass's third share.
     ///
     /// Refused as `CountsExhausted`, `Stale`, `NoVerdict` or `LabelsExhausted`. `O(its resources + their waiters)`.
-    pub fn abort(&mut self, pass: &mut Pass<N, A, V, B>, key: Key) -> Result<(), Refusal>
+    pub fn abort(
+        &mut self,
+        board: &Board<N>,
+        pass: &mut Pass<N, A, V, B>,
+        key: Key,
+    ) -> Result<(), Refusal>
         ensures step { Step (Abort key) self.old.table result self.new.table }
         ensures first { OnOk result (pass.new.accepted ≡ pass.old.accepted + 1) }
         ensures second { pass.new.verdicts ≡ pass.old.verdicts }
         ensures third { OnOk result (pass.new.aborts ≡ pass.old.aborts + 1) }
         ensures others { pass.new.parts ≡ pass.old.parts }
+        ensures seen { pass.new.seen ≡ pass.old.seen }
+        ensures appends { AppendsOnly self.old.publisher self.new.publisher self.new.table }
         ensures refused { OnErr result (pass.new ≡ pass.old) }
     {
-        self.table.abort(key)?;
+        self.table.keeps_laws();
+        self.table.abort_waking(key, &mut self.woken)?;
+        publish(&mut self.publisher, board, &self.table, &self.woken);
         pass.count_accepted(&mut self.accepted);
         pass.count_abort(&mut self.aborts);
         Ok(())
@@ -185,15 +257,23 @@ impl<N: Name, A: Ledger, V: Ledger, B: Ledger> Inside<N, A, V, B> {
     /// pass's second share.
     ///
     /// Refused as `CountsExhausted`. It costs what `Table::settle` costs.
-    pub fn settle(&mut self, pass: &mut Pass<N, A, V, B>) -> Result<Settled, Refusal>
+    pub fn settle(
+        &mut self,
+        board: &Board<N>,
+        pass: &mut Pass<N, A, V, B>,
+    ) -> Result<Settled, Refusal>
         ensures step { Step Settle self.old.table result self.new.table }
         ensures first { OnOk result (pass.new.accepted ≡ pass.old.accepted + 1) }
         ensures second { IfOk result (λ answer. pass.new.verdicts ≡ pass.old.verdicts + answer.verdicts) }
         ensures third { pass.new.aborts ≡ pass.old.aborts }
         ensures others { pass.new.parts ≡ pass.old.parts }
+        ensures seen { pass.new.seen ≡ pass.old.seen }
+        ensures appends { AppendsOnly self.old.publisher self.new.publisher self.new.table }
         ensures refused { OnErr result (pass.new ≡ pass.old) }
     {
-        let answer = self.table.settle()?;
+        self.table.keeps_laws();
+        let answer = self.table.settle_waking(&mut self.woken)?;
+        publish_labels(&mut self.publisher, board, &self.table, &self.woken);
         pass.count_accepted(&mut self.accepted);
         pass.count_verdicts(&mut self.verdicts, answer.verdicts);
         Ok(answer)
@@ -251,6 +331,7 @@ impl<N: Name, A: Ledger, V: Ledger, B: Ledger> Inside<N, A, V, B> {
     pub fn verdicts_are_sound(&self)
         ensures sound { HasSoundVerdicts self.now.table }
         ensures booked { Booked self.now.table.totals self.now.accepted.total self.now.verdicts.total self.now.aborts.total }
+        ensures published { IsPublished self.now.publisher self.now.table }
     {
         self.table.verdicts_are_sound();
     }

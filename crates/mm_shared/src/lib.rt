@@ -1,27 +1,33 @@
-//! A lock table that threads share: a `Table` of mm_table behind one lock, with three ledgers that count what each thread's calls did.
+//! A lock table that threads share: a `Table` of mm_table behind one lock, with a board of mm_board, on which its labels and holders are
+//! read without the lock, and three ledgers that count what each thread's calls did.
 //!
-//! - `name`: the type that names the board of a shared table.
-//! - `prepared`: `Prepared`, a table and three ledgers that have no names yet.
-//! - `pass`: `Pass`, what a thread has of the ledgers.
+//! - `prepared`: `Prepared`, a table, a board and three ledgers that have no names yet.
+//! - `pass`: `Pass`, what a thread has of the ledgers and has seen of the board.
 //! - `inside`: `Inside`, the value behind the lock.
-//! - `shared`: `SharedTable`, whose calls take the lock.
+//! - `publish`: what is stored on the board after an event.
+//! - `shared`: `SharedTable`, whose events and reads take the lock.
+//! - `look`: its calls that read the board, and take no lock.
+//! - `hint`: what a look at the board suggests.
 //! - `close`: the end of a shared table.
 #![tactic(auto)]
 
 mod close;
+mod hint;
 mod inside;
-mod name;
+mod look;
 mod pass;
 mod prepared;
+mod publish;
 mod shared;
 
 pub use close::{CloseRefused, Report};
+pub use hint::{Hint, HintKind};
 pub use inside::Inside;
+pub use mm_board::Name;
 pub use mm_table::{
     Acquired, Config, Detected, Key, Label, Mode, Refusal, Released, Settled, State, Transmitted,
     laws,
 };
-pub use name::Name;
 pub use pass::{ALL_PARTS, Pass};
 pub use prepared::Prepared;
 pub use shared::SharedTable;

@@ -1,12 +1,12 @@
-//! What a thread has of the ledgers of a shared table.
+//! What a thread has of the ledgers of a shared table, and what it has seen of its board.
 ghost use Rattle.std.specs.Prelude.{◌≡◌, ◌+◌, ◌<◌, ◌≤◌};
 ghost use Rattle.mm_shared.specs.Shares.{empty_shares, joined, less_parts};
 
-use crate::name::Name;
 use crate::shared::SharedTable;
+use mm_board::{Name, Reader};
 use std::fmt;
 use std::fmt::{Debug, Formatter};
-use std::marker::{Model, PhantomData};
+use std::marker::Model;
 use std::sync::ledger::{Book, Ledger, Share};
 
 /// How many parts each ledger of a shared table has. The first pass has them all.
@@ -15,13 +15,14 @@ pub const ALL_PARTS: u64 = 1_048_576;
 /// A thread's leave to call a shared table, which counts what its calls did.
 ///
 /// A pass has parts of the table's three ledgers, and a share of each: the accepted events, the new verdicts and the accepted aborts of
-/// the calls that were made with it. A contract sees these four numbers (`Shares`). Only the parts are there when the program runs.
+/// the calls that were made with it. It also reads the table's board, and has seen a label of each process there. A contract sees these
+/// four numbers and what was seen (`Shares`). Only the parts are there when the program runs.
 ///
 /// The first pass comes from `Prepared::open`, and each other one is split off another. A pass that is dropped takes its parts along:
 /// then no pass has all parts again, and the table cannot be closed.
 #[derive(Drop)]
 pub struct Pass<N: Name, A: Ledger, V: Ledger, B: Ledger> {
-    board: PhantomData<N>,
+    pub(crate) reader: Reader<N>,
     accepted: Share<A>,
     verdicts: Share<V>,
     aborts: Share<B>,
@@ -34,14 +35,15 @@ impl<N: Name, A: Ledger, V: Ledger, B: Ledger> Model for Pass<N, A, V, B> {
 
     ghost Value = { Shares };
 
-    ghost view = { λ p. record { parts = p.parts; accepted = p.accepted.amount; verdicts = p.verdicts.amount; aborts = p.aborts.amount } };
+    ghost view = { λ p. record { parts = p.parts; accepted = p.accepted.amount; verdicts = p.verdicts.amount; aborts = p.aborts.amount; seen = p.reader } };
 
     ghost invariant = { λ p. (0 < p.parts) × (p.accepted.parts ≡ p.parts) × (p.verdicts.parts ≡ p.parts) × (p.aborts.parts ≡ p.parts) };
 }
 
 impl<N: Name, A: Ledger, V: Ledger, B: Ledger> Pass<N, A, V, B> {
-    /// A pass of these shares, each of which has so many parts.
+    /// A pass of this reader and these shares, each of which has so many parts.
     pub(crate) fn new(
+        reader: Reader<N>,
         accepted: Share<A>,
         verdicts: Share<V>,
         aborts: Share<B>,
@@ -49,10 +51,10 @@ impl<N: Name, A: Ledger, V: Ledger, B: Ledger> Pass<N, A, V, B> {
     ) -> Pass<N, A, V, B>
         requires some { 0 < parts }
         requires parts { (accepted.parts ≡ parts) × (verdicts.parts ≡ parts) × (aborts.parts ≡ parts) }
-        ensures { result ≡ record { parts = parts; accepted = accepted.amount; verdicts = verdicts.amount; aborts = aborts.amount } }
+        ensures { result ≡ record { parts = parts; accepted = accepted.amount; verdicts = verdicts.amount; aborts = aborts.amount; seen = reader } }
     {
         Pass {
-            board: PhantomData,
+            reader,
             accepted,
             verdicts,
             aborts,
@@ -67,23 +69,24 @@ impl<N: Name, A: Ledger, V: Ledger, B: Ledger> Pass<N, A, V, B> {
         self.parts
     }
 
-    /// Gives some of its parts to a new pass, for another thread. The new pass has counted nothing; what this one has counted stays
-    /// with it, and so does at least one part.
+    /// Gives some of its parts to a new pass, for another thread. The new pass has counted nothing, and has seen what this one has; what
+    /// this one has counted stays with it, and so does at least one part.
     ///
     /// Constant time. It takes no lock and no memory.
-    pub fn split(&mut self, _table: &SharedTable<N, A, V, B>, parts: u64) -> Pass<N, A, V, B>
+    pub fn split(&mut self, table: &SharedTable<N, A, V, B>, parts: u64) -> Pass<N, A, V, B>
         requires { (1 ≤ parts) × (parts < self.old.parts) }
-        ensures given { result ≡ empty_shares parts }
+        ensures given { result ≡ empty_shares parts self.old.seen.labels }
         ensures kept { self.new ≡ less_parts self.old parts }
     {
         self.parts -= parts;
+        let reader = self.reader.split(&table.board);
         let accepted = self.accepted.split_off(parts, 0);
         let verdicts = self.verdicts.split_off(parts, 0);
         let aborts = self.aborts.split_off(parts, 0);
-        Pass::new(accepted, verdicts, aborts, parts)
+        Pass::new(reader, accepted, verdicts, aborts, parts)
     }
 
-    /// Takes in the parts and the shares of another pass.
+    /// Takes in the parts and the shares of another pass. What that one has seen goes with it.
     ///
     /// Constant time. It takes no lock and no memory.
     pub fn join(&mut self, table: &SharedTable<N, A, V, B>, other: Pass<N, A, V, B>)
@@ -91,7 +94,7 @@ impl<N: Name, A: Ledger, V: Ledger, B: Ledger> Pass<N, A, V, B> {
     {
         table.ledgers_have_all_parts();
         let Pass {
-            board: _,
+            reader: _,
             accepted,
             verdicts,
             aborts,

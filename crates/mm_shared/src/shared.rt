@@ -1,13 +1,16 @@
 //! The table that threads share.
-ghost use Rattle.std.specs.Prelude.{◌≡◌, ◌+◌, OnOk, OnErr, IfOk};
+ghost use Rattle.std.specs.Prelude.{◌≡◌, ◌+◌, OnOk, OnErr, IfOk, Ok};
+ghost use Rattle.mm_arena.specs.declared.key.Key.{Key};
+ghost use Rattle.mm_board.specs.Views.{label_at, NoneFalls};
+ghost use Rattle.mm_label.specs.Label.{Label};
 ghost use Rattle.mm_rules.specs.Event.{Detect};
 ghost use Rattle.mm_rules.specs.Laws.{verdicts_made};
 ghost use Rattle.mm_shared.specs.Shares.{all_parts};
 
 use crate::inside::Inside;
-use crate::name::Name;
 use crate::pass::Pass;
 use crossbeam_utils::CachePadded;
+use mm_board::{Board, Name};
 use mm_table::{Acquired, Detected, Key, Refusal, Released, Settled, State, Transmitted};
 use std::fmt;
 use std::fmt::{Debug, Formatter};
@@ -15,13 +18,15 @@ use std::marker::Model;
 use std::sync::ledger::Ledger;
 use std::sync::{Mutex, Wait};
 
-/// A lock table that threads share by reference: an `Inside` behind one lock.
+/// A lock table that threads share by reference: an `Inside` behind one lock, and beside it the board on which its labels and holders are
+/// read without the lock.
 ///
 /// A contract sees it as its number of processes. Each event and each read takes the lock, makes the one call of its name on the value
 /// behind it, and lets go: it may wait for the lock, and its cost is said from then on. The contract of such a call says what it does to
 /// the pass. It cannot say what it found behind the lock, or did there; what holds there at any time is said by the type `Inside`.
 #[derive(Drop)]
 pub struct SharedTable<N: Name, A: Ledger, V: Ledger, B: Ledger> {
+    pub(crate) board: Board<N>,
     processes: u32,
     /// The word of the lock has a cache line of its own: a thread that waits for it slows down neither the one that has the lock nor
     /// those who read what stands beside it.
@@ -36,15 +41,21 @@ impl<N: Name, A: Ledger, V: Ledger, B: Ledger> Model for SharedTable<N, A, V, B>
 
     ghost view = { λ t. t.processes };
 
-    ghost invariant = { λ t. (A.parts ≡ all_parts) × (V.parts ≡ all_parts) × (B.parts ≡ all_parts) };
+    ghost invariant = { λ t. (t.board ≡ t.processes) × (A.parts ≡ all_parts) × (V.parts ≡ all_parts) × (B.parts ≡ all_parts) };
 }
 
 impl<N: Name, A: Ledger, V: Ledger, B: Ledger> SharedTable<N, A, V, B> {
-    pub(crate) fn new(inside: Inside<N, A, V, B>, processes: u32) -> SharedTable<N, A, V, B>
-        requires { (A.parts ≡ all_parts) × (V.parts ≡ all_parts) × (B.parts ≡ all_parts) }
+    pub(crate) fn new(
+        board: Board<N>,
+        inside: Inside<N, A, V, B>,
+        processes: u32,
+    ) -> SharedTable<N, A, V, B>
+        requires board { board ≡ processes }
+        requires parts { (A.parts ≡ all_parts) × (V.parts ≡ all_parts) × (B.parts ≡ all_parts) }
         ensures { result ≡ processes }
     {
         SharedTable {
+            board,
             processes,
             lock: CachePadded::new(Mutex::new(CachePadded::new(inside))),
         }
@@ -59,7 +70,11 @@ impl<N: Name, A: Ledger, V: Ledger, B: Ledger> SharedTable<N, A, V, B> {
 
     /// What stands behind the lock, which nobody else can take any more.
     pub(crate) fn into_inside(self) -> Inside<N, A, V, B> {
-        let SharedTable { processes: _, lock } = self;
+        let SharedTable {
+            board: _,
+            processes: _,
+            lock,
+        } = self;
         lock.into_inner().into_inner().into_inner()
     }
 
@@ -78,9 +93,10 @@ impl<N: Name, A: Ledger, V: Ledger, B: Ledger> SharedTable<N, A, V, B> {
         ensures second { pass.new.verdicts ≡ pass.old.verdicts }
         ensures third { pass.new.aborts ≡ pass.old.aborts }
         ensures others { pass.new.parts ≡ pass.old.parts }
+        ensures seen { pass.new.seen ≡ pass.old.seen }
         ensures refused { OnErr result (pass.new ≡ pass.old) }
     {
-        self.lock.lock(rt).begin(pass)
+        self.lock.lock(rt).begin(&self.board, pass)
     }
 
     /// `Table::acquire`: grants a free resource; for an owned one the transaction waits, last in its queue, with a fresh label.
@@ -97,9 +113,11 @@ impl<N: Name, A: Ledger, V: Ledger, B: Ledger> SharedTable<N, A, V, B> {
         ensures second { pass.new.verdicts ≡ pass.old.verdicts }
         ensures third { pass.new.aborts ≡ pass.old.aborts }
         ensures others { pass.new.parts ≡ pass.old.parts }
+        ensures seen { (holder : Key) (label : Label) → result ≡ Ok (Acquired.Waits holder label) → label_at pass.new.seen.labels key.process ≡ label }
+        ensures rises { NoneFalls pass.old.seen.labels pass.new.seen.labels }
         ensures refused { OnErr result (pass.new ≡ pass.old) }
     {
-        self.lock.lock(rt).acquire(pass, key, resource)
+        self.lock.lock(rt).acquire(&self.board, pass, key, resource)
     }
 
     /// `Table::release`: hands the resource over to its longest waiter, or frees it.
@@ -116,9 +134,10 @@ impl<N: Name, A: Ledger, V: Ledger, B: Ledger> SharedTable<N, A, V, B> {
         ensures second { pass.new.verdicts ≡ pass.old.verdicts }
         ensures third { pass.new.aborts ≡ pass.old.aborts }
         ensures others { pass.new.parts ≡ pass.old.parts }
+        ensures seen { pass.new.seen ≡ pass.old.seen }
         ensures refused { OnErr result (pass.new ≡ pass.old) }
     {
-        self.lock.lock(rt).release(pass, key, resource)
+        self.lock.lock(rt).release(&self.board, pass, key, resource)
     }
 
     /// `Table::finish`: ends the transaction, hands over all that it owns, and frees its slot.
@@ -134,9 +153,10 @@ impl<N: Name, A: Ledger, V: Ledger, B: Ledger> SharedTable<N, A, V, B> {
         ensures second { pass.new.verdicts ≡ pass.old.verdicts }
         ensures third { pass.new.aborts ≡ pass.old.aborts }
         ensures others { pass.new.parts ≡ pass.old.parts }
+        ensures seen { pass.new.seen ≡ pass.old.seen }
         ensures refused { OnErr result (pass.new ≡ pass.old) }
     {
-        self.lock.lock(rt).finish(pass, key)
+        self.lock.lock(rt).finish(&self.board, pass, key)
     }
 
     /// `Table::transmit`: the waiting transaction takes over its holder's public label where that is greater.
@@ -152,9 +172,11 @@ impl<N: Name, A: Ledger, V: Ledger, B: Ledger> SharedTable<N, A, V, B> {
         ensures second { pass.new.verdicts ≡ pass.old.verdicts }
         ensures third { pass.new.aborts ≡ pass.old.aborts }
         ensures others { pass.new.parts ≡ pass.old.parts }
+        ensures seen { (label : Label) → result ≡ Ok (Transmitted.Raised label) → label_at pass.new.seen.labels key.process ≡ label }
+        ensures rises { NoneFalls pass.old.seen.labels pass.new.seen.labels }
         ensures refused { OnErr result (pass.new ≡ pass.old) }
     {
-        self.lock.lock(rt).transmit(pass, key)
+        self.lock.lock(rt).transmit(&self.board, pass, key)
     }
 
     /// `Table::detect`: gives the waiting transaction a verdict where its label has come round to its holder. A new verdict adds one to the
@@ -171,9 +193,10 @@ impl<N: Name, A: Ledger, V: Ledger, B: Ledger> SharedTable<N, A, V, B> {
         ensures second { IfOk result (λ answer. pass.new.verdicts ≡ pass.old.verdicts + verdicts_made (Detect key) answer) }
         ensures third { pass.new.aborts ≡ pass.old.aborts }
         ensures others { pass.new.parts ≡ pass.old.parts }
+        ensures seen { pass.new.seen ≡ pass.old.seen }
         ensures refused { OnErr result (pass.new ≡ pass.old) }
     {
-        self.lock.lock(rt).detect(pass, key)
+        self.lock.lock(rt).detect(&self.board, pass, key)
     }
 
     /// `Table::abort`: ends a transaction with a verdict, as `finish` ends an active one. It adds one to the pass's third share.
@@ -189,9 +212,10 @@ impl<N: Name, A: Ledger, V: Ledger, B: Ledger> SharedTable<N, A, V, B> {
         ensures second { pass.new.verdicts ≡ pass.old.verdicts }
         ensures third { OnOk result (pass.new.aborts ≡ pass.old.aborts + 1) }
         ensures others { pass.new.parts ≡ pass.old.parts }
+        ensures seen { pass.new.seen ≡ pass.old.seen }
         ensures refused { OnErr result (pass.new ≡ pass.old) }
     {
-        self.lock.lock(rt).abort(pass, key)
+        self.lock.lock(rt).abort(&self.board, pass, key)
     }
 
     /// `Table::settle`: transmits and detects for all that wait, until neither has anything left to do. It adds the new verdicts to the
@@ -203,9 +227,10 @@ impl<N: Name, A: Ledger, V: Ledger, B: Ledger> SharedTable<N, A, V, B> {
         ensures second { IfOk result (λ answer. pass.new.verdicts ≡ pass.old.verdicts + answer.verdicts) }
         ensures third { pass.new.aborts ≡ pass.old.aborts }
         ensures others { pass.new.parts ≡ pass.old.parts }
+        ensures seen { pass.new.seen ≡ pass.old.seen }
         ensures refused { OnErr result (pass.new ≡ pass.old) }
     {
-        self.lock.lock(rt).settle(pass)
+        self.lock.lock(rt).settle(&self.board, pass)
     }
 
     /// `Table::state`: what the transaction does, and its two labels.

@@ -1,14 +1,44 @@
-use Rattle.std.proofs.Common.{rules}
+use Rattle.std.proofs.Common.{List, ℕ, sym, subst, ◌∙◌, arith}
 use Rattle.mm_rules.specs.Event.{Release}
-use Rattle.mm_shared.proofs.Counted.{refused_totals, accepted_totals}
+use Rattle.mm_shared.specs.Published.{IsToPublish}
+use Rattle.mm_shared.proofs.Counted.{room_stays, refused_booked, accepted_booked}
+use Rattle.mm_shared.proofs.Publishing.{left_after, refused_published}
 use Rattle.mm_shared.proofs.inside.Inside.release.Goals as goal
 
 pub invariant_of-self : goal.invariant_of-self
 invariant_of-self g c =
-    let kept = refused_totals (Release c.args.key c.args.resource) c.args.self.now.table c.release.new.self c.release.result c.release.ensures in
-    search (rules, kept)
+    let e = Release c.args.key c.args.resource in
+    let old = c.args.self.now in
+    let s = old.table in
+    let t = c.release_waking.new.self in
+    let said = c.release_waking.result in
+    let step = c.release_waking.ensures.step in
+    record {
+      room = room_stays e s t said step _ _ c.release_waking.ensures.room old.room;
+      published = refused_published e old.publisher s t said step c.keeps_laws.ensures old.published _ c.in_err-answer.was;
+      booked = refused_booked e s t said step _ _ _ _ c.in_err-answer.was old.booked;
+    }
+
+pub publish-requires : goal.publish-requires
+publish-requires g c =
+    let e = Release c.args.key c.args.resource in
+    let old = c.args.self.now in
+    let s = old.table in
+    let t = c.release_waking.new.self in
+    let said = c.release_waking.result in
+    let step = c.release_waking.ensures.step in
+    subst (λ (ns : List ℕ). IsToPublish ns old.publisher t) (sym (c.deref.ensures.value ∙ c.release_waking.ensures.woken)) (left_after e old.publisher s t said step c.keeps_laws.ensures old.published _ c.in_ok-answer.was)
 
 pub invariant_of-self-2 : goal.invariant_of-self-2
 invariant_of-self-2 g c =
-    let made = accepted_totals (Release c.args.key c.args.resource) c.args.self.now.table c.release.new.self c.release.result c.release.ensures in
-    search (rules, made)
+    let e = Release c.args.key c.args.resource in
+    let old = c.args.self.now in
+    let s = old.table in
+    let t = c.release_waking.new.self in
+    let said = c.release_waking.result in
+    let step = c.release_waking.ensures.step in
+    record {
+      room = room_stays e s t said step _ _ c.release_waking.ensures.room old.room;
+      published = c.publish.ensures.published;
+      booked = accepted_booked e s t said step _ _ _ _ _ _ _ c.in_ok-answer.was old.booked c.count_accepted.ensures.book (omega arith) (omega arith);
+    }

@@ -1,14 +1,85 @@
-use Rattle.std.proofs.Common.{rules}
+use Rattle.std.proofs.Common.{Ok, ap, refl, ◌∙◌, arith}
+use Rattle.mm_board.specs.declared.views.Published.{Published}
 use Rattle.mm_rules.specs.Event.{Transmit}
-use Rattle.mm_shared.proofs.Counted.{refused_totals, accepted_totals}
+use Rattle.mm_shared.proofs.Counted.{room_stays, refused_booked, accepted_booked}
+use Rattle.mm_shared.proofs.Publishing.{left_after, refused_published, then_shown, unraised_published, raise_stored}
 use Rattle.mm_shared.proofs.inside.Inside.transmit.Goals as goal
 
 pub invariant_of-self : goal.invariant_of-self
 invariant_of-self g c =
-    let kept = refused_totals (Transmit c.args.key) c.args.self.now.table c.transmit.new.self c.transmit.result c.transmit.ensures in
-    search (rules, kept)
+    let e = Transmit c.args.key in
+    let old = c.args.self.now in
+    let s = old.table in
+    let t = c.transmit.new.self in
+    let said = c.transmit.result in
+    let step = c.transmit.ensures in
+    record {
+      room = room_stays e s t said step _ _ refl old.room;
+      published = refused_published e old.publisher s t said step c.keeps_laws.ensures old.published _ c.in_err-answer.was;
+      booked = refused_booked e s t said step _ _ _ _ c.in_err-answer.was old.booked;
+    }
+
+pub invariant_of-self-in_default : goal.invariant_of-self-in_default
+invariant_of-self-in_default g c =
+    let e = Transmit c.args.key in
+    let old = c.args.self.now in
+    let s = old.table in
+    let t = c.transmit.new.self in
+    let said = c.transmit.result in
+    let step = c.transmit.ensures in
+    let left = left_after e old.publisher s t said step c.keeps_laws.ensures old.published _ c.in_ok-answer.was in
+    record {
+      room = room_stays e s t said step _ _ refl old.room;
+      published = unraised_published old.publisher s t c.args.key c.in_ok-answer.answer c.in_default.not-Raised left;
+      booked = accepted_booked e s t said step _ _ _ _ _ _ _ c.in_ok-answer.was old.booked c.count_accepted.ensures.book (omega arith) (omega arith);
+    }
+
+pub store_label-requires-clause-process_in_range : goal.store_label-requires-clause-process_in_range
+store_label-requires-clause-process_in_range g c =
+    let e = Transmit c.args.key in
+    let old = c.args.self.now in
+    let s = old.table in
+    let t = c.transmit.new.self in
+    let said = c.transmit.result in
+    let step = c.transmit.ensures in
+    omega (arith, (raise_stored old.publisher s t c.args.key c.keeps_laws.ensures old.published said step c.in-Raised.label (c.in_ok-answer.was ∙ ap Ok c.in-Raised.is)).within, c.fits.ensures.histories)
+
+pub store_label-requires-clause-rises : goal.store_label-requires-clause-rises
+store_label-requires-clause-rises g c =
+    let e = Transmit c.args.key in
+    let old = c.args.self.now in
+    let s = old.table in
+    let t = c.transmit.new.self in
+    let said = c.transmit.result in
+    let step = c.transmit.ensures in
+    (raise_stored old.publisher s t c.args.key c.keeps_laws.ensures old.published said step c.in-Raised.label (c.in_ok-answer.was ∙ ap Ok c.in-Raised.is)).rises
 
 pub invariant_of-self-2 : goal.invariant_of-self-2
 invariant_of-self-2 g c =
-    let made = accepted_totals (Transmit c.args.key) c.args.self.now.table c.transmit.new.self c.transmit.result c.transmit.ensures in
-    search (rules, made)
+    let e = Transmit c.args.key in
+    let old = c.args.self.now in
+    let s = old.table in
+    let t = c.transmit.new.self in
+    let said = c.transmit.result in
+    let step = c.transmit.ensures in
+    let stored = c.store_label.ensures.stored in
+    let may = raise_stored old.publisher s t c.args.key c.keeps_laws.ensures old.published said step c.in-Raised.label (c.in_ok-answer.was ∙ ap Ok c.in-Raised.is) in
+    let shown = then_shown old.publisher _ _ c.show.new.self t c.args.key.process _ stored (ap (λ (q : Published). q.histories) c.show.ensures.met) (ap (λ (q : Published). q.holders) c.show.ensures.met) may in
+    record {
+      room = room_stays e s t said step _ _ refl old.room;
+      published = shown.0;
+      booked = accepted_booked e s t said step _ _ _ _ _ _ _ c.in_ok-answer.was old.booked c.count_accepted.ensures.book (omega arith) (omega arith);
+    }
+
+pub returns-clause-appends : goal.returns-clause-appends
+returns-clause-appends g c =
+    let e = Transmit c.args.key in
+    let old = c.args.self.now in
+    let s = old.table in
+    let t = c.transmit.new.self in
+    let said = c.transmit.result in
+    let step = c.transmit.ensures in
+    let stored = c.store_label.ensures.stored in
+    let may = raise_stored old.publisher s t c.args.key c.keeps_laws.ensures old.published said step c.in-Raised.label (c.in_ok-answer.was ∙ ap Ok c.in-Raised.is) in
+    let shown = then_shown old.publisher _ _ c.show.new.self t c.args.key.process _ stored (ap (λ (q : Published). q.histories) c.show.ensures.met) (ap (λ (q : Published). q.holders) c.show.ensures.met) may in
+    shown.1

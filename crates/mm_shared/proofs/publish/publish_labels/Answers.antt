@@ -1,0 +1,27 @@
+use Rattle.std.proofs.Common.{arith, slice_index, subst, sym}
+use Rattle.mm_board.specs.declared.views.Published.{Published}
+use Rattle.mm_shared.specs.Published.{HoldersAreShown}
+use Rattle.mm_shared.proofs.Publishing.{listed_within, label_stored_at, appends_at}
+use Rattle.mm_shared.proofs.publish.publish_labels.Goals as goal
+
+pub public_label-requires : goal.public_label-requires
+public_label-requires g c = listed_within c.loop-process.process-index c.args.processes.now c.loop-process.publisher c.args.table.now c.loop-process-test.true c.loop-process.invariant.left
+
+pub store_label-requires-clause-process_in_range : goal.store_label-requires-clause-process_in_range
+store_label-requires-clause-process_in_range g c =
+    let within = listed_within c.loop-process.process-index c.args.processes.now c.loop-process.publisher c.args.table.now c.loop-process-test.true c.loop-process.invariant.left in
+    omega (arith, within, c.fits.ensures.histories, c.requires.labels.histories)
+
+pub loop-process-preserved : goal.loop-process-preserved
+loop-process-preserved g c =
+    let i = c.loop-process.process-index in
+    let ns = c.args.processes.now in
+    let s = c.args.table.now in
+    let now = c.loop-process.publisher in
+    let kept = c.loop-process.invariant in
+    let within = listed_within i ns now s c.loop-process-test.true kept.left in
+    record {
+      left = label_stored_at i ns now c.store_label.new.self s c.public_label.result c.loop-process-test.true kept.left c.store_label.ensures.stored c.public_label.ensures kept.holders;
+      holders = subst (λ (p : Published). HoldersAreShown p s) (sym c.store_label.ensures.stored) kept.holders;
+      appends = appends_at c.args.publisher.now now c.store_label.new.self s (slice_index ns i) c.public_label.result kept.appends (omega (arith, within, kept.left.histories)) c.store_label.ensures.stored c.public_label.ensures;
+    }

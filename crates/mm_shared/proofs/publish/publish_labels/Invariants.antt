@@ -1,0 +1,10 @@
+use Rattle.std.proofs.Common.{drop}
+use Rattle.mm_shared.specs.Published.{AppendsOnly, HoldersAreShown, IsToPublish}
+use Rattle.mm_shared.proofs.publish.publish_labels.Given as goal
+
+abbrev pub invariant-loop-process : goal.invariant-loop-process
+invariant-loop-process g l = record {
+  left : IsToPublish (drop l.process-index l.processes) l.publisher l.table;
+  holders : HoldersAreShown l.publisher l.table;
+  appends : AppendsOnly l.initial.publisher l.publisher l.table;
+}

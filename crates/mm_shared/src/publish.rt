@@ -1,0 +1,42 @@
+//! What is stored on the board after an event.
+ghost use Rattle.std.specs.Prelude.{◌≡◌};
+ghost use Rattle.mm_shared.specs.Published.{AppendsOnly, HoldersAreShown, IsPublished, IsToPublish};
+
+use mm_board::{Board, Name, Publisher};
+use mm_table::Table;
+
+/// Stores the public label and the holder that each of these processes has in the table. `O(processes listed)`.
+pub(crate) fn publish<N: Name>(
+    publisher: &mut Publisher<N>,
+    board: &Board<N>,
+    table: &Table,
+    processes: &[u32],
+)
+    requires { IsToPublish processes.now publisher.old table.now }
+    ensures published { IsPublished publisher.new table.now }
+    ensures appends { AppendsOnly publisher.old publisher.new table.now }
+{
+    publisher.fits(board);
+    for process in processes {
+        publisher.store_label(board, *process, table.public_label(*process));
+        publisher.store_holder(board, *process, table.holder(*process));
+    }
+}
+
+/// Stores the public labels of these processes, the holders of which the board shows already. `O(processes listed)`.
+pub(crate) fn publish_labels<N: Name>(
+    publisher: &mut Publisher<N>,
+    board: &Board<N>,
+    table: &Table,
+    processes: &[u32],
+)
+    requires labels { IsToPublish processes.now publisher.old table.now }
+    requires holders { HoldersAreShown publisher.old table.now }
+    ensures published { IsPublished publisher.new table.now }
+    ensures appends { AppendsOnly publisher.old publisher.new table.now }
+{
+    publisher.fits(board);
+    for process in processes {
+        publisher.store_label(board, *process, table.public_label(*process));
+    }
+}
