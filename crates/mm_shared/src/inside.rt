@@ -107,10 +107,10 @@ impl<N: Name, A: Ledger, V: Ledger, B: Ledger> Inside<N, A, V, B> {
         let Acquired::Waits { holder, label } = answer else {
             return Ok(answer);
         };
-        self.publisher.store_label(board, key.process, label);
-        self.publisher
-            .store_holder(board, key.process, Some(holder.process));
-        self.publisher.show(board, &mut pass.reader);
+        let publisher = &mut self.publisher;
+        publisher.store_label(board, key.process, label);
+        publisher.store_holder(board, key.process, Some(holder.process));
+        publisher.show(board, &mut pass.reader);
         Ok(answer)
     }
 

@@ -33,6 +33,7 @@ fn run_both<
     B: Ledger + Send + Sync,
     R: Threads + Wait + Sync,
 >(rt: &R, prepared: Prepared) -> Option<Outcome>
+    requires board { prepared.board ≡ N.board }
     requires accepted { (prepared.accepted.name ≡ A.name) × (prepared.accepted.parts ≡ A.parts) }
     requires verdicts { (prepared.verdicts.name ≡ V.name) × (prepared.verdicts.parts ≡ V.parts) }
     requires aborts { (prepared.aborts.name ≡ B.name) × (prepared.aborts.parts ≡ B.parts) }

@@ -1,6 +1,9 @@
 use Rattle.mm_shared_times.proofs.main.Given as goal
 
--- the ledgers that were just made
+-- the board and the ledgers that were just made
+abbrev pub ghosts-timed-N-Name : goal.ghosts-timed-N-Name
+ghosts-timed-N-Name g a = record { board = a.prepared.board }
+
 abbrev pub ghosts-timed-A-Ledger : goal.ghosts-timed-A-Ledger
 ghosts-timed-A-Ledger g a = record { name = a.prepared.accepted.name; parts = a.prepared.accepted.parts }
 

@@ -63,6 +63,7 @@ fn side_by_side<N: Name, A: Ledger, V: Ledger, B: Ledger, R: Wait + Abort>(
     table: &mut Table,
     row: &Row,
 ) -> Result<(), Fail>
+    requires board { prepared.board ≡ N.board }
     requires accepted { (prepared.accepted.name ≡ A.name) × (prepared.accepted.parts ≡ A.parts) }
     requires verdicts { (prepared.verdicts.name ≡ V.name) × (prepared.verdicts.parts ≡ V.parts) }
     requires aborts { (prepared.aborts.name ≡ B.name) × (prepared.aborts.parts ≡ B.parts) }

@@ -1,6 +1,9 @@
 use Rattle.mm_two_threads.proofs.main.Given as goal
 
--- the ledgers that were just made
+-- the board and the ledgers that were just made
+abbrev pub ghosts-run_both-N-Name : goal.ghosts-run_both-N-Name
+ghosts-run_both-N-Name g a = record { board = a.prepared.board }
+
 abbrev pub ghosts-run_both-A-Ledger : goal.ghosts-run_both-A-Ledger
 ghosts-run_both-A-Ledger g a = record { name = a.prepared.accepted.name; parts = a.prepared.accepted.parts }
 

@@ -33,6 +33,7 @@ fn keep_a_pass<
     B: Ledger + Drop,
     R: Wait + Abort,
 >(rt: &R, alloc: Global, prepared: Prepared) -> Result<(), AllocError>
+    requires board { prepared.board ≡ N.board }
     requires accepted { (prepared.accepted.name ≡ A.name) × (prepared.accepted.parts ≡ A.parts) }
     requires verdicts { (prepared.verdicts.name ≡ V.name) × (prepared.verdicts.parts ≡ V.parts) }
     requires aborts { (prepared.aborts.name ≡ B.name) × (prepared.aborts.parts ≡ B.parts) }
@@ -70,6 +71,7 @@ fn a_kept_pass_is_missed_at_the_end(rt: HostRuntime) -> Result<(), Fail> {
 fn open_and_close<N: Name, A: Ledger, V: Ledger, B: Ledger>(
     prepared: Prepared,
 ) -> (u32, u64, Option<Report>)
+    requires board { prepared.board ≡ N.board }
     requires accepted { (prepared.accepted.name ≡ A.name) × (prepared.accepted.parts ≡ A.parts) }
     requires verdicts { (prepared.verdicts.name ≡ V.name) × (prepared.verdicts.parts ≡ V.parts) }
     requires aborts { (prepared.aborts.name ≡ B.name) × (prepared.aborts.parts ≡ B.parts) }

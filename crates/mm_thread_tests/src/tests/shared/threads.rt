@@ -55,6 +55,7 @@ fn two_threads<
     B: Ledger + Send + Sync,
     R: Threads + Wait + Abort + Sync,
 >(rt: &R, prepared: Prepared)
+    requires board { prepared.board ≡ N.board }
     requires accepted { (prepared.accepted.name ≡ A.name) × (prepared.accepted.parts ≡ A.parts) }
     requires verdicts { (prepared.verdicts.name ≡ V.name) × (prepared.verdicts.parts ≡ V.parts) }
     requires aborts { (prepared.aborts.name ≡ B.name) × (prepared.aborts.parts ≡ B.parts) }

@@ -1,6 +1,9 @@
 use Rattle.mm_thread_tests.proofs.tests.rows.shared_calls_answer_as_those_of_a_table.Given as goal
 
--- the ledgers that were just made
+-- the board and the ledgers that were just made
+abbrev pub ghosts-side_by_side-N-Name : goal.ghosts-side_by_side-N-Name
+ghosts-side_by_side-N-Name g a = record { board = a.prepared.board }
+
 abbrev pub ghosts-side_by_side-A-Ledger : goal.ghosts-side_by_side-A-Ledger
 ghosts-side_by_side-A-Ledger g a = record { name = a.prepared.accepted.name; parts = a.prepared.accepted.parts }
 

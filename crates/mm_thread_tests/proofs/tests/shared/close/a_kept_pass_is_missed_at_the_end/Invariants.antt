@@ -1,6 +1,9 @@
 use Rattle.mm_thread_tests.proofs.tests.shared.close.a_kept_pass_is_missed_at_the_end.Given as goal
 
--- the ledgers that were just made
+-- the board and the ledgers that were just made
+abbrev pub ghosts-keep_a_pass-N-Name : goal.ghosts-keep_a_pass-N-Name
+ghosts-keep_a_pass-N-Name g a = record { board = a.prepared.board }
+
 abbrev pub ghosts-keep_a_pass-A-Ledger : goal.ghosts-keep_a_pass-A-Ledger
 ghosts-keep_a_pass-A-Ledger g a = record { name = a.prepared.accepted.name; parts = a.prepared.accepted.parts }
 

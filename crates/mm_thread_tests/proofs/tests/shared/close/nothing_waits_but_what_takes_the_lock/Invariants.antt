@@ -1,6 +1,9 @@
 use Rattle.mm_thread_tests.proofs.tests.shared.close.nothing_waits_but_what_takes_the_lock.Given as goal
 
--- the ledgers that were just made
+-- the board and the ledgers that were just made
+abbrev pub ghosts-open_and_close-N-Name : goal.ghosts-open_and_close-N-Name
+ghosts-open_and_close-N-Name g a = record { board = a.prepared.board }
+
 abbrev pub ghosts-open_and_close-A-Ledger : goal.ghosts-open_and_close-A-Ledger
 ghosts-open_and_close-A-Ledger g a = record { name = a.prepared.accepted.name; parts = a.prepared.accepted.parts }
 

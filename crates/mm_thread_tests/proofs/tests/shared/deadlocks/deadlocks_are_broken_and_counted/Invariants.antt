@@ -1,6 +1,9 @@
 use Rattle.mm_thread_tests.proofs.tests.shared.deadlocks.deadlocks_are_broken_and_counted.Given as goal
 
--- the ledgers that were just made
+-- the board and the ledgers that were just made
+abbrev pub ghosts-eight_threads-N-Name : goal.ghosts-eight_threads-N-Name
+ghosts-eight_threads-N-Name g a = record { board = a.prepared.board }
+
 abbrev pub ghosts-eight_threads-A-Ledger : goal.ghosts-eight_threads-A-Ledger
 ghosts-eight_threads-A-Ledger g a = record { name = a.prepared.accepted.name; parts = a.prepared.accepted.parts }
 

@@ -1,6 +1,9 @@
 use Rattle.mm_thread_tests.proofs.tests.shared.threads.two_threads_begin_and_finish.Given as goal
 
--- the ledgers that were just made
+-- the board and the ledgers that were just made
+abbrev pub ghosts-two_threads-N-Name : goal.ghosts-two_threads-N-Name
+ghosts-two_threads-N-Name g a = record { board = a.prepared.board }
+
 abbrev pub ghosts-two_threads-A-Ledger : goal.ghosts-two_threads-A-Ledger
 ghosts-two_threads-A-Ledger g a = record { name = a.prepared.accepted.name; parts = a.prepared.accepted.parts }
 
