@@ -1,12 +1,14 @@
 //! A table that nobody shares, as a worker calls it.
+ghost use Rattle.std.specs.Prelude.{[]};
+ghost use Rattle.mm_board.specs.Views.{new_seen};
 
 use crate::steps::Steps;
 use mm_shared::{Acquired, Detected, Key, Refusal, Released, Settled, Transmitted};
 use mm_table::Table;
 
-/// The three counts are those of the table, and there are no parts.
+/// The three counts are those of the table; there are no parts, and no board was seen.
 impl Steps for Table {
-    ghost shares = { λ table. record { parts = 0; accepted = table.totals.accepted; verdicts = table.totals.verdicts; aborts = table.totals.aborts } };
+    ghost shares = { λ table. record { parts = 0; accepted = table.totals.accepted; verdicts = table.totals.verdicts; aborts = table.totals.aborts; seen = new_seen [] } };
 
     fn begin(&mut self) -> Result<Key, Refusal> {
         Table::begin(self)

@@ -2,7 +2,7 @@
 ghost use Rattle.std.specs.Prelude.{◌≡◌, ◌+◌, ◌≤◌, Err, OnOk, IfOk, IfErr, length, vec_len, count_by};
 ghost use Rattle.mm_rules.specs.TableState.{IsInRange};
 ghost use Rattle.mm_rules.specs.Event.{Opens};
-ghost use Rattle.mm_shared.specs.Shares.{all_parts, empty_shares};
+ghost use Rattle.mm_shared.specs.Shares.{all_parts};
 ghost use Rattle.mm_workers.specs.End.{is_aborted};
 
 use crate::end::End;
@@ -66,6 +66,7 @@ fn run_on<
     workload: &Workload,
     gates: Vec<G>,
 ) -> Result<Outcome, AllocError>
+    requires board { prepared.board ≡ N.board }
     requires accepted { (prepared.accepted.name ≡ A.name) × (prepared.accepted.parts ≡ A.parts) }
     requires verdicts { (prepared.verdicts.name ≡ V.name) × (prepared.verdicts.parts ≡ V.parts) }
     requires aborts { (prepared.aborts.name ≡ B.name) × (prepared.aborts.parts ≡ B.parts) }
@@ -101,7 +102,7 @@ fn at_work<
     mut gates: Vec<G>,
 ) -> Result<(Vec<Ended<N, A, V, B>>, Vec<Stopped<N, A, V, B>>), AllocError>
     requires gates { vec_len gates ≡ length workload.now.clients + workload.now.transmitters }
-    requires pass { pass.old ≡ empty_shares all_parts }
+    requires pass { (pass.old.parts ≡ all_parts) × (pass.old.aborts ≡ 0) }
     ensures each { IfOk result (λ done. vec_len done.0 ≡ length workload.now.clients) }
     ensures parts { IfOk result (λ done. pass.new.parts + vec_len done.0 + vec_len done.1 ≡ all_parts) }
     ensures aborts { pass.new.aborts ≡ 0 }

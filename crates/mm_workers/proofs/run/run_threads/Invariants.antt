@@ -1,6 +1,9 @@
 use Rattle.mm_workers.proofs.run.run_threads.Given as goal
 
--- the ledgers that were just made
+-- the board and the ledgers that were just made
+abbrev pub ghosts-run_on-N-Name : goal.ghosts-run_on-N-Name
+ghosts-run_on-N-Name g a = record { board = a.prepared.board }
+
 abbrev pub ghosts-run_on-A-Ledger : goal.ghosts-run_on-A-Ledger
 ghosts-run_on-A-Ledger g a = record { name = a.prepared.accepted.name; parts = a.prepared.accepted.parts }
 
