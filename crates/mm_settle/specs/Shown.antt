@@ -1,12 +1,12 @@
 -- What a process shows to all, its public label and its holder, and what each event changes of it.
-use Rattle.std.specs.Prelude.{◌≡◌, ◌<◌, ℕ, List, [], ◌∷◌, Option, Some, Result, Ok, Err}
+use Rattle.std.specs.Prelude.{◌≡◌, ◌<◌, ℕ, List, [], ◌∷◌, Option, Some, None, Result, Ok, Err}
 use Rattle.mm_label.specs.Label.{Label}
 use Rattle.mm_lists.specs.Members.{Among}
 use Rattle.mm_rules.specs.declared.refusal.Refusal.{Refusal}
 use Rattle.mm_rules.specs.declared.reply.Acquired.TheVariants.{Granted, Waits}
 use Rattle.mm_rules.specs.declared.reply.Transmitted.TheVariants.{Raised, Still}
-use Rattle.mm_rules.specs.TableState.{TableState, public_of, holder_of}
-use Rattle.mm_rules.specs.Event.{Event, Begin, Acquire, Transmit, Detect, Settle, GiveUp, Answer, Step}
+use Rattle.mm_rules.specs.TableState.{TableState, public_of, holder_of, wait_of}
+use Rattle.mm_rules.specs.Event.{Event, Begin, Acquire, Release, Finish, Transmit, Detect, Abort, Settle, GiveUp, Answer, Step}
 use Rattle.mm_rules.specs.Laws.{Laws}
 use Rattle.mm_settle.specs.Touched.{changed_processes}
 
@@ -14,6 +14,10 @@ use Rattle.mm_settle.specs.Touched.{changed_processes}
 pub record ShowsTheSame (s t : TableState) (n : ℕ) : Type 0 where
   pub public : public_of t n ≡ public_of s n
   pub holder : holder_of t n ≡ holder_of s n
+
+-- those that wait for nothing show the label that they showed
+abbrev pub IdleShowTheSame : TableState → TableState → Type 0
+IdleShowTheSame s t = (n : ℕ) → wait_of t n ≡ None → public_of t n ≡ public_of s n
 
 -- process n is one of the table's, and shows this label and this holder
 pub record Shows (s : TableState) (n : ℕ) (l : Label) (h : Option ℕ) : Type 0 where
@@ -34,11 +38,14 @@ shown_anew (GiveUp k) (Ok answer) s t = k.process ∷ []
 shown_anew e (Ok answer) s t = changed_processes s t
 
 -- what is known of what they show: who waits shows the label and the holder of the answer, who is raised the label of the answer and the same
--- holder, and a settle leaves all holders as they were
+-- holder, an end leaves the labels of those as they were that wait for nothing then, and a settle all holders
 abbrev pub ShownBy : (e : Event) → Result (Answer e) Refusal → TableState → TableState → Type 0
 ShownBy e (Err refusal) s t = Unit {0}
 ShownBy (Acquire k r) (Ok (Waits h label)) s t = Shows t k.process label (Some h.process)
 ShownBy (Transmit k) (Ok (Raised label)) s t = Shows t k.process label (holder_of s k.process)
+ShownBy (Release k r) (Ok answer) s t = IdleShowTheSame s t
+ShownBy (Finish k) (Ok answer) s t = IdleShowTheSame s t
+ShownBy (Abort k) (Ok answer) s t = IdleShowTheSame s t
 ShownBy Settle (Ok answer) s t = (n : ℕ) → holder_of t n ≡ holder_of s n
 ShownBy e (Ok answer) s t = Unit {0}
 

@@ -1,9 +1,10 @@
 //! Facts about all tables. Each function does nothing; its contract is the fact, over the definitions of `specs/`.
 ghost use Rattle.mm_settle.specs.Shown.{ShownChangesAreTold};
 
-/// Whoever is not told by an event shows the public label and the holder that it showed. Told are nobody by begin and detect, nor where an
-/// event is refused; the caller's own process by an acquire that waits and a transmit that raises, with what it shows then; and by the
-/// others those whom they changed, of which a settle leaves the holders as they were.
+/// What each event changes of what processes show, their public labels and holders. A refused event, a begin and a detect change nothing
+/// of it; an acquire that waits and a transmit that raises change the caller's own process, which then shows what the answer says; the
+/// others change some of `changed_processes`. A release, a finish and an abort give no new label to those that wait for nothing
+/// afterwards, and a settle no new holder to anybody.
 pub fn shown_changes_are_told()
     ensures { ShownChangesAreTold }
 {}

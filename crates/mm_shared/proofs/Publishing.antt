@@ -9,21 +9,21 @@ use Rattle.mm_board.specs.Views.{last_label, history, current_label, current_hol
 use Rattle.mm_board.proofs.Current.{current_label_stored, current_holder_stored}
 use Rattle.mm_board.proofs.Histories.{length-with_label, history_here, history_else}
 use Rattle.mm_board.proofs.Order.{label_le_same}
+use Rattle.mm_rules.specs.declared.config.Config.{Config}
 use Rattle.mm_rules.specs.declared.refusal.Refusal.{Refusal}
 use Rattle.mm_rules.specs.declared.reply.Acquired.{Acquired}
 use Rattle.mm_rules.specs.declared.reply.Acquired.TheVariants.{Granted, Waits}
 use Rattle.mm_rules.specs.declared.reply.Transmitted.{Transmitted}
 use Rattle.mm_rules.specs.declared.reply.Transmitted.TheVariants.{Raised, Still}
-use Rattle.mm_rules.specs.declared.reply.Settled.{Settled}
-use Rattle.mm_rules.specs.TableState.{TableState, public_of, holder_of}
-use Rattle.mm_rules.specs.Event.{Event, Acquire, Transmit, Settle, Answer, Step}
+use Rattle.mm_rules.specs.TableState.{TableState, public_of, holder_of, wait_of}
+use Rattle.mm_rules.specs.Event.{Event, Acquire, Transmit, Answer, Step}
 use Rattle.mm_rules.specs.Laws.{Laws}
 use Rattle.mm_rules.proofs.States.Config.{event_config}
 use Rattle.mm_rules.proofs.States.EventsKeepLaws.{event_keeps}
 use Rattle.mm_rules.proofs.States.Lookups.{holder_within, holder_apart}
-use Rattle.mm_settle.specs.Shown.{Shows, shown_anew, ShownBy, ChangesShown}
+use Rattle.mm_settle.specs.Shown.{Shows, shown_anew, ShownBy, ChangesShown, IdleShowTheSame}
 use Rattle.mm_settle.proofs.Lemmas.Shown.{shown_changes_are_told}
-use Rattle.mm_shared.specs.Published.{IsPublished, AppendsOnly, IsToPublish, HoldersAreShown}
+use Rattle.mm_shared.specs.Published.{IsShown, IsPublished, AppendsOnly, IsToPublish, HoldersAreShown, IdleAreShown}
 
 -- ---- what is appended
 
@@ -62,29 +62,37 @@ module _ (x : ℕ) (ns : List ℕ) (p : Published) (s : TableState) (left : IsTo
   other n apart out (inl e) = apart e
   other n apart out (inr later) = out later
 
-  pub label_stored : current_holder p x ≡ holder_of s x → IsToPublish ns (with_label p x (public_of s x)) s
-  label_stored held =
+  -- once x is shown it is left no more
+  done : IsShown p s x → IsToPublish ns p s
+  done shown = record {
+    histories = left.histories;
+    holders = left.holders;
+    within = λ n later. left.within n (inr later);
+    below = left.below;
+    others = λ n within out. elim (cases_eq n x) [ inl e ↦ rw e shown | inr apart ↦ left.others n within (other n apart out) ];
+  }
+
+  label_now : current_label (with_label p x (public_of s x)) x ≡ public_of s x
+  label_now = current_label_stored p x (public_of s x) (omega (arith, here, left.histories))
+
+  label_put : IsToPublish (x ∷ ns) (with_label p x (public_of s x)) s
+  label_put =
       let l = public_of s x in
-      let inside : x < length p.histories = omega (arith, here, left.histories) in
-      let now : current_label (with_label p x l) x ≡ l = current_label_stored p x l inside in
       record {
         histories = length-with_label p x l ∙ left.histories;
         holders = left.holders;
-        within = λ n later. left.within n (inr later);
+        within = left.within;
         below = λ n within. elim (cases_eq n x) [
-          | inl e ↦ rw (e, now) (label_le_same l)
+          | inl e ↦ rw (e, label_now) (label_le_same l)
           | inr apart ↦ subst (λ ls. IsTrue (label_le (last_label ls) (public_of s n))) (sym (history_else p x l n apart)) (left.below n within)
         ];
-        others = λ n within out. elim (cases_eq n x) [
-          | inl e ↦ rw e (record { label = now; holder = held })
-          | inr apart ↦
-              let shown = left.others n within (other n apart out) in
-              record { label = ap last_label (history_else p x l n apart) ∙ shown.label; holder = shown.holder }
-        ];
+        others = λ n within out.
+            let shown = left.others n within out in
+            record { label = ap last_label (history_else p x l n (λ e. out (inl e))) ∙ shown.label; holder = shown.holder };
       }
 
-  pub holder_stored : IsToPublish (x ∷ ns) (with_holder p x (holder_of s x)) s
-  holder_stored = record {
+  holder_put : IsToPublish (x ∷ ns) (with_holder p x (holder_of s x)) s
+  holder_put = record {
     histories = left.histories;
     holders = length-set p.holders x (holder_of s x) ∙ left.holders;
     within = left.within;
@@ -94,10 +102,19 @@ module _ (x : ℕ) (ns : List ℕ) (p : Published) (s : TableState) (left : IsTo
         record { label = shown.label; holder = get_or-set_other p.holders x n (holder_of s x) None (λ e. out (inl e)) ∙ shown.holder };
   }
 
+module _ (x : ℕ) (ns : List ℕ) (p : Published) (s : TableState) (left : IsToPublish (x ∷ ns) p s) where
+  -- its label was stored, and its holder stands there
+  pub label_stored : current_holder p x ≡ holder_of s x → IsToPublish ns (with_label p x (public_of s x)) s
+  label_stored held = done x ns (with_label p x (public_of s x)) s (label_put x ns p s left) (record { label = label_now x ns p s left; holder = held })
+
+  -- its holder was stored, and its label stands there
+  pub holder_stored : current_label p x ≡ public_of s x → IsToPublish ns (with_holder p x (holder_of s x)) s
+  holder_stored shown =
+      let inside : x < length p.holders = omega (arith, left.within x (inl refl), left.holders) in
+      done x ns (with_holder p x (holder_of s x)) s (holder_put x ns p s left) (record { label = shown; holder = current_holder_stored p x (holder_of s x) inside })
+
 pub both_stored : (x : ℕ) (ns : List ℕ) (p : Published) (s : TableState) → IsToPublish (x ∷ ns) p s → IsToPublish ns (with_holder (with_label p x (public_of s x)) x (holder_of s x)) s
-both_stored x ns p s left =
-    let inside : x < length p.holders = omega (arith, left.within x (inl refl), left.holders) in
-    label_stored x ns (with_holder p x (holder_of s x)) s (holder_stored x ns p s left) (current_holder_stored p x (holder_of s x) inside)
+both_stored x ns p s left = holder_stored x ns (with_label p x (public_of s x)) s (label_put x ns p s left) (label_now x ns p s left)
 
 -- ---- along a list
 
@@ -116,6 +133,14 @@ label_stored_at i ns p q s l inside left stored is held =
     subst (λ r. IsToPublish (drop (i + 1) ns) r s) (sym (stored ∙ ap (with_label p x) is))
     (label_stored x (drop (i + 1) ns) p s (left_at i ns p s inside left) (held x (listed_within i ns p s inside left)))
 
+-- its holder was stored, and its label stands there
+pub holder_stored_at : (i : ℕ) (ns : List ℕ) (p q : Published) (s : TableState) (h : Option ℕ) → i < length ns → IsToPublish (drop i ns) p s
+    → q ≡ with_holder p (slice_index ns i) h → h ≡ holder_of s (slice_index ns i) → IdleAreShown p s → wait_of s (slice_index ns i) ≡ None → IsToPublish (drop (i + 1) ns) q s
+holder_stored_at i ns p q s h inside left stored has idle waits =
+    let x = slice_index ns i in
+    subst (λ r. IsToPublish (drop (i + 1) ns) r s) (sym (stored ∙ ap (with_holder p x) has))
+    (holder_stored x (drop (i + 1) ns) p s (left_at i ns p s inside left) (idle x (listed_within i ns p s inside left) waits))
+
 -- both were stored
 pub both_stored_at : (i : ℕ) (ns : List ℕ) (p q r : Published) (s : TableState) (l : Label) (h : Option ℕ) → i < length ns → IsToPublish (drop i ns) p s
     → q ≡ with_label p (slice_index ns i) l → l ≡ public_of s (slice_index ns i) → r ≡ with_holder q (slice_index ns i) h → h ≡ holder_of s (slice_index ns i) → IsToPublish (drop (i + 1) ns) r s
@@ -127,6 +152,14 @@ both_stored_at i ns p q r s l h inside left first is second has =
 -- a label that was stored is one more of what was appended
 pub appends_at : (p q r : Published) (s : TableState) (x : ℕ) (l : Label) → AppendsOnly p q s → x < length q.histories → r ≡ with_label q x l → l ≡ public_of s x → AppendsOnly p r s
 appends_at p q r s x l before inside stored is = subst (λ r. AppendsOnly p r s) (sym (stored ∙ ap (with_label q x) is)) (appends_more p q s x before inside)
+
+-- the labels of those that wait for nothing still stand there
+pub idle_at : (p q : Published) (s : TableState) (x : ℕ) (l : Label) → IdleAreShown p s → x < length p.histories → q ≡ with_label p x l → l ≡ public_of s x → IdleAreShown q s
+idle_at p q s x l shown inside stored is n within idle =
+    ap (λ q. current_label q n) (stored ∙ ap (with_label p x) is) ∙ elim (cases_eq n x) [
+      | inl e ↦ rw e (current_label_stored p x (public_of s x) inside)
+      | inr apart ↦ ap last_label (history_else p x (public_of s x) n apart) ∙ shown n within idle
+    ]
 
 -- ---- at the end
 
@@ -149,18 +182,20 @@ module _ (e : Event) (p : Published) (s t : TableState) (reply : Result (Answer 
   pub changes : ChangesShown e reply s t
   changes = shown_changes_are_told e s t reply step laws
 
+  back_within : (n : ℕ) → n < t.config.processes → n < s.config.processes
+  back_within n within = subst (λ (c : Config). n < c.processes) (event_config e s t reply step) within
+
   pub to_publish : IsToPublish (shown_anew e reply s t) p t
   to_publish =
       let size : t.config.processes ≡ s.config.processes = ap (λ c. c.processes) (event_config e s t reply step) in
-      let back : (n : ℕ) → n < t.config.processes → n < s.config.processes = λ n within. subst (λ k. n < k) size within in
       record {
         histories = published.histories ∙ sym size;
         holders = published.holders ∙ sym size;
         within = λ n told. subst (λ k. n < k) (sym size) (changes.within n told);
-        below = λ n within. subst (λ l. IsTrue (label_le l (public_of t n))) (sym (published.shown n (back n within)).label) ((event_keeps e s t reply step laws).rise n);
+        below = λ n within. subst (λ l. IsTrue (label_le l (public_of t n))) (sym (published.shown n (back_within n within)).label) ((event_keeps e s t reply step laws).rise n);
         others = λ n within out.
-            let was = published.shown n (back n within) in
-            let same = changes.others n (back n within) out in
+            let was = published.shown n (back_within n within) in
+            let same = changes.others n (back_within n within) out in
             record { label = was.label ∙ sym same.public; holder = was.holder ∙ sym same.holder };
       }
 
@@ -171,12 +206,17 @@ module _ (e : Event) (p : Published) (s t : TableState) (reply : Result (Answer 
   pub refused_published : (refusal : Refusal) → reply ≡ Err refusal → IsPublished p t
   refused_published refusal is = all_stored p t (left_after (Err refusal) is)
 
--- a settle leaves all holders as they were
-pub holders_stand : (p : Published) (s t : TableState) (reply : Result Settled Refusal) → Step Settle s reply t → Laws s → IsPublished p s → (answer : Settled) → reply ≡ Ok answer → HoldersAreShown p t
-holders_stand p s t reply step laws published answer is n within =
-    let stand : ShownBy Settle (Ok answer) s t = subst (λ (r : Result Settled Refusal). ShownBy Settle r s t) is (changes Settle p s t reply step laws published).shown in
-    let size = ap (λ c. c.processes) (event_config Settle s t reply step) in
-    (published.shown n (omega arith)).holder ∙ sym (stand n)
+  -- what is known of those that show something else
+  pub known : (r : Result (Answer e) Refusal) → reply ≡ r → ShownBy e r s t
+  known r is = subst (λ (r : Result (Answer e) Refusal). ShownBy e r s t) is changes.shown
+
+  -- where holders are as they were, they stand on the board already
+  pub holders_stand : ((n : ℕ) → holder_of t n ≡ holder_of s n) → HoldersAreShown p t
+  holders_stand stand n within = (published.shown n (back_within n within)).holder ∙ sym (stand n)
+
+  -- and so do the labels of those that wait for nothing, where they are as they were
+  pub idle_stand : IdleShowTheSame s t → IdleAreShown p t
+  idle_stand stand n within idle = (published.shown n (back_within n within)).label ∙ sym (stand n idle)
 
 -- ---- one process, with what the answer tells
 

@@ -1,10 +1,10 @@
 -- What the board shows of the table behind the lock.
-use Rattle.std.specs.Prelude.{ℕ, ◌≡◌, ◌<◌, ◌++◌, List, length, replicate, IsTrue}
+use Rattle.std.specs.Prelude.{ℕ, ◌≡◌, ◌<◌, ◌++◌, List, length, replicate, None, IsTrue}
 use Rattle.mm_board.specs.declared.views.Published.{Published}
 use Rattle.mm_board.specs.Views.{history, current_label, current_holder}
 use Rattle.mm_label.specs.Label.{label_le}
 use Rattle.mm_lists.specs.Members.{Among}
-use Rattle.mm_rules.specs.TableState.{TableState, public_of, holder_of}
+use Rattle.mm_rules.specs.TableState.{TableState, public_of, holder_of, wait_of}
 
 -- the board shows of process n its public label and its holder
 pub record IsShown (p : Published) (s : TableState) (n : ℕ) : Type 0 where
@@ -32,3 +32,7 @@ pub record IsToPublish (ns : List ℕ) (p : Published) (s : TableState) : Type 0
 -- each process has its holder on the board
 abbrev pub HoldersAreShown : Published → TableState → Type 0
 HoldersAreShown p s = (n : ℕ) → n < s.config.processes → current_holder p n ≡ holder_of s n
+
+-- each process that waits for nothing has its label on the board
+abbrev pub IdleAreShown : Published → TableState → Type 0
+IdleAreShown p s = (n : ℕ) → n < s.config.processes → wait_of s n ≡ None → current_label p n ≡ public_of s n

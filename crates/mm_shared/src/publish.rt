@@ -1,25 +1,30 @@
 //! What is stored on the board after an event.
 ghost use Rattle.std.specs.Prelude.{◌≡◌};
-ghost use Rattle.mm_shared.specs.Published.{AppendsOnly, HoldersAreShown, IsPublished, IsToPublish};
+ghost use Rattle.mm_shared.specs.Published.{AppendsOnly, HoldersAreShown, IdleAreShown, IsPublished, IsToPublish};
 
 use mm_board::{Board, Name, Publisher};
 use mm_table::Table;
 
-/// Stores the public label and the holder that each of these processes has in the table. `O(processes listed)`.
+/// Stores the holder that each of these processes has in the table, and the public label of those that have one. The board shows the
+/// labels of the others already. `O(processes listed)`.
 pub(crate) fn publish<N: Name>(
     publisher: &mut Publisher<N>,
     board: &Board<N>,
     table: &Table,
     processes: &[u32],
 )
-    requires { IsToPublish processes.now publisher.old table.now }
+    requires left { IsToPublish processes.now publisher.old table.now }
+    requires idle { IdleAreShown publisher.old table.now }
     ensures published { IsPublished publisher.new table.now }
     ensures appends { AppendsOnly publisher.old publisher.new table.now }
 {
     publisher.fits(board);
     for process in processes {
-        publisher.store_label(board, *process, table.public_label(*process));
-        publisher.store_holder(board, *process, table.holder(*process));
+        let holder = table.holder(*process);
+        if holder.is_some() {
+            publisher.store_label(board, *process, table.public_label(*process));
+        }
+        publisher.store_holder(board, *process, holder);
     }
 }
 

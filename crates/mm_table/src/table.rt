@@ -1,6 +1,6 @@
-ghost use Rattle.std.specs.Prelude.{◌≡◌, ◌≢◌, ◌≤◌, ◌<◌, ◌||◌, ℕ, false, length, replicate, IfOk, IfErr, IfSome, vec_capacity};
+ghost use Rattle.std.specs.Prelude.{◌≡◌, ◌≢◌, ◌≤◌, ◌<◌, ◌||◌, ℕ, false, length, replicate, IfOk, IfErr, IfSome, IfNone, None, vec_capacity};
 ghost use Rattle.mm_marks.specs.Marks.{has, members};
-ghost use Rattle.mm_rules.specs.TableState.{public_of, holder_of};
+ghost use Rattle.mm_rules.specs.TableState.{public_of, holder_of, wait_of};
 ghost use Rattle.mm_rules.specs.Event.{Opens, Step, Begin, Acquire, Release, Finish, Transmit, Detect, Abort, Settle, state_of, owner_told, tenant_of};
 ghost use Rattle.mm_rules.specs.Laws.{Laws, HasSoundVerdicts};
 ghost use Rattle.mm_settle.specs.Touched.{changed_processes};
@@ -270,6 +270,7 @@ impl Table {
     pub fn holder(&self, process: u32) -> Option<u32>
         ensures holder { result ≡ holder_of self.now process }
         ensures another { IfSome result (λ holder. (holder < self.now.config.processes) × (holder ≢ process)) }
+        ensures idle { IfNone result (wait_of self.now process ≡ None) }
     {
         self.records.holder_at(process)
     }

@@ -15,11 +15,14 @@ use Rattle.mm_rules.specs.declared.reply.Transmitted.{Transmitted}
 use Rattle.mm_rules.specs.declared.reply.Detected.{Detected}
 use Rattle.mm_rules.specs.declared.reply.Settled.{Settled}
 use Rattle.mm_rules.specs.declared.reply.Transmitted.TheVariants.{Raised, Still}
-use Rattle.mm_rules.specs.TableState.{TableState, Wait, public_of, holder_of, owner_of, wait_of, waited_for, waiting_processes, is_live}
-use Rattle.mm_rules.specs.Change.{label_against, block, hand_over, vacate, abort, greater_label, transmit, can_detect, detect, swept}
+use Rattle.mm_rules.specs.TableState.{TableState, Wait, public_of, holder_of, has_verdict, owner_of, wait_of, waited_for, waiting_processes, is_live}
+use Rattle.mm_rules.specs.Change.{label_against, block, hand_over, vacate, vacate_fits, withdraw, abort, greater_label, transmit, can_detect, detect, swept}
 use Rattle.mm_rules.specs.Event.{Event, Begin, Acquire, Release, Finish, Transmit, Detect, Abort, Settle, GiveUp, Gives, Step, Tests, allowed, decided, outcome, Settles, settled, counts_exhausted, begin_tests, acquire_tests, acquire_answer, acquire_change, release_tests, finish_tests, waiting_tests, abort_tests, settle_tests, give_up_tests}
 use Rattle.mm_rules.specs.Laws.{Laws}
+use Rattle.mm_rules.proofs.States.Abort.{fits_still}
+use Rattle.mm_rules.proofs.States.Activate.{waits_no_longer}
 use Rattle.mm_rules.proofs.States.Detect.{detect_still, detect_convicts}
+use Rattle.mm_rules.proofs.States.GiveUp.{withdraw_keeps}
 use Rattle.mm_rules.proofs.States.Lookups.{live_within, none_of_is_some, holder_is}
 use Rattle.mm_rules.proofs.States.Outcome.{counting, tests_false}
 use Rattle.mm_rules.proofs.States.Transmit.{shown}
@@ -27,6 +30,7 @@ use Rattle.mm_settle.specs.Touched.{IsUnchanged, is_changed, changed_processes}
 use Rattle.mm_settle.specs.Shown.{ShowsTheSame, ChangesShown, ShownChangesAreTold}
 use Rattle.mm_settle.proofs.Lemmas.Acquired.{queue_else, touches_grant}
 use Rattle.mm_settle.proofs.Lemmas.Frames.{transmit_holder}
+use Rattle.mm_settle.proofs.Lemmas.Idle.{hand_over_idle, vacate_idle}
 use Rattle.mm_settle.proofs.Lemmas.Told.{unchanged_is}
 use Rattle.mm_settle.proofs.Lemmas.Touched.{unchanged_then, block_else, activate_else}
 
@@ -186,22 +190,29 @@ settle_shown s t reply false (n, settles, step) = settle_by s t n reply step
 
 -- ---- the ends, and who gives up
 
-release_shown : (s t : TableState) (k : Key) (r : ℕ) (reply : Result Released Refusal) → Step (Release k r) s reply t → ChangesShown (Release k r) reply s t
-release_shown s t k r reply step =
+release_shown : (s t : TableState) (k : Key) (r : ℕ) (reply : Result Released Refusal) → Laws s → Step (Release k r) s reply t → ChangesShown (Release k r) reply s t
+release_shown s t k r reply laws step =
     gives_by (λ reply t. ChangesShown (Release k r) reply s t) (release_tests s k r) s _ _ (λ refusal. refused_shown (Release k r) refusal s)
-    (λ tests m. record { others = λ n within out. untold_shows s (counting (hand_over s r) m) n within out; within = λ n told. told_within s (counting (hand_over s r) m) n told; shown = tt })
+    (λ tests m. record { others = λ n within out. untold_shows s (counting (hand_over s r) m) n within out; within = λ n told. told_within s (counting (hand_over s r) m) n told; shown = λ n idle. hand_over_idle s r laws n idle })
     reply t step
 
-finish_shown : (s t : TableState) (k : Key) (reply : Result (Unit {0}) Refusal) → Step (Finish k) s reply t → ChangesShown (Finish k) reply s t
-finish_shown s t k reply step =
+finish_shown : (s t : TableState) (k : Key) (reply : Result (Unit {0}) Refusal) → Laws s → Step (Finish k) s reply t → ChangesShown (Finish k) reply s t
+finish_shown s t k reply laws step =
     gives_by (λ reply t. ChangesShown (Finish k) reply s t) (finish_tests s k) s _ _ (λ refusal. refused_shown (Finish k) refusal s)
-    (λ tests m. record { others = λ n within out. untold_shows s (counting (vacate s k.process) m) n within out; within = λ n told. told_within s (counting (vacate s k.process) m) n told; shown = tt })
+    (λ tests m. record { others = λ n within out. untold_shows s (counting (vacate s k.process) m) n within out; within = λ n told. told_within s (counting (vacate s k.process) m) n told; shown = λ n idle. vacate_idle s k.process laws (none_of_is_some (wait_of s k.process) tests.1.1.0) (not-false (vacate_fits s k.process) tests.1.1.1.0) n idle })
     reply t step
 
-abort_shown : (s t : TableState) (k : Key) (reply : Result (Unit {0}) Refusal) → Step (Abort k) s reply t → ChangesShown (Abort k) reply s t
-abort_shown s t k reply step =
+abort_shown : (s t : TableState) (k : Key) (reply : Result (Unit {0}) Refusal) → Laws s → Step (Abort k) s reply t → ChangesShown (Abort k) reply s t
+abort_shown s t k reply laws step =
     gives_by (λ reply t. ChangesShown (Abort k) reply s t) (abort_tests s k) s _ _ (λ refusal. refused_shown (Abort k) refusal s)
-    (λ tests m. record { others = λ n within out. untold_shows s (counting (abort s k.process) m) n within out; within = λ n told. told_within s (counting (abort s k.process) m) n told; shown = tt })
+    (λ tests m. record {
+      others = λ n within out. untold_shows s (counting (abort s k.process) m) n within out;
+      within = λ n told. told_within s (counting (abort s k.process) m) n told;
+      shown = λ i idle.
+          let n = k.process in
+          let withdrawn = (withdraw_keeps s n laws (not-false (has_verdict s n) tests.1.1.0)).laws in
+          vacate_idle (withdraw s n) n withdrawn (waits_no_longer s n) (fits_still s n laws (not-false (vacate_fits s n) tests.1.1.1.0)) i idle;
+    })
     reply t step
 
 give_up_shown : (s t : TableState) (k : Key) (reply : Result (Unit {0}) Refusal) → Laws s → Step (GiveUp k) s reply t → ChangesShown (GiveUp k) reply s t
@@ -220,10 +231,10 @@ give_up_shown s t k reply laws step =
 pub shown_changes_are_told : ShownChangesAreTold
 shown_changes_are_told Begin s t reply step laws = begin_shown s t reply step
 shown_changes_are_told (Acquire k r) s t reply step laws = acquire_shown s t k r reply laws step
-shown_changes_are_told (Release k r) s t reply step laws = release_shown s t k r reply step
-shown_changes_are_told (Finish k) s t reply step laws = finish_shown s t k reply step
+shown_changes_are_told (Release k r) s t reply step laws = release_shown s t k r reply laws step
+shown_changes_are_told (Finish k) s t reply step laws = finish_shown s t k reply laws step
 shown_changes_are_told (Transmit k) s t reply step laws = transmit_shown s t k reply laws step
 shown_changes_are_told (Detect k) s t reply step laws = detect_shown s t k reply step
-shown_changes_are_told (Abort k) s t reply step laws = abort_shown s t k reply step
+shown_changes_are_told (Abort k) s t reply step laws = abort_shown s t k reply laws step
 shown_changes_are_told Settle s t reply step laws = settle_shown s t reply (counts_exhausted s) step
 shown_changes_are_told (GiveUp k) s t reply step laws = give_up_shown s t k reply laws step

@@ -113,7 +113,7 @@ block_else s n h k apart = record {
   verdict = refl;
 }
 
-blocks_else : (s : TableState) (h : ℕ) (ws : List Wait) (k : ℕ) → ((w : Wait) → Among w ws → k ≢ w.key.process) → IsUnchanged s (blocked_on s h ws) k
+pub blocks_else : (s : TableState) (h : ℕ) (ws : List Wait) (k : ℕ) → ((w : Wait) → Among w ws → k ≢ w.key.process) → IsUnchanged s (blocked_on s h ws) k
 blocks_else s h [] k apart = unchanged s k
 blocks_else s h (w ∷ ws) k apart =
     unchanged_then s (block s w.key.process h) (blocked_on (block s w.key.process h) h ws) k (block_else s w.key.process h k (apart w (inl refl)))

@@ -42,7 +42,7 @@ touches_apart s t u a b c first second either =
     (λ n changed same. elim (either n) [ inl before ↦ changed (unchanged_back s t u n before same) | inr after ↦ changed after ])
 
 -- either it waits for r, or it does not
-waits_or : (o : Option ℕ) (r : ℕ) → (o ≡ Some r) ⊎ (o ≢ Some r)
+pub waits_or : (o : Option ℕ) (r : ℕ) → (o ≡ Some r) ⊎ (o ≢ Some r)
 waits_or None r = inr (λ e. cc)
 waits_or (Some q) r = elim (cases_eq q r) [ inl e ↦ inl (ap Some e) | inr apart ↦ inr (λ e. apart (cc)) ]
 
@@ -53,7 +53,7 @@ held_at_first s n k holds = unchanged s k
 
 module _ (s t : TableState) (n r : ℕ) (key : Key) (laws : Laws t) (owned : owner_of t r ≡ Some key) (its : key.process ≡ n) (held : HeldAreUnchanged s t n) where
   -- whoever waits for r has n as holder
-  holds : (k : ℕ) → wait_of t k ≡ Some r → holder_of t k ≡ Some n
+  pub holds : (k : ℕ) → wait_of t k ≡ Some r → holder_of t k ≡ Some n
   holds k waits = ap (λ o. option_map (λ (j : Key). j.process) (option_and_then (owner_of t) o)) waits ∙ ap (option_map (λ (j : Key). j.process)) owned ∙ ap Some its
 
   pub touches_next : (a b c : List Bool) → Touches s t a b → AddsAll (waiters_of t r) b c → Touches s (hand_over t r) a c

@@ -1,7 +1,9 @@
-use Rattle.std.proofs.Common.{arith, slice_index, subst, sym}
+use Rattle.std.proofs.Common.{◌≡◌, ◌<◌, ℕ, Bool, false, Option, Some, None, is_some, IfNone, length, slice_index, subst, sym, ap, ◌∙◌, arith}
 use Rattle.mm_board.specs.declared.views.Published.{Published}
-use Rattle.mm_shared.specs.Published.{AppendsOnly}
-use Rattle.mm_shared.proofs.Publishing.{listed_within, both_stored_at, appends_at}
+use Rattle.mm_board.specs.Views.{with_label, with_holder}
+use Rattle.mm_shared.specs.Published.{AppendsOnly, IdleAreShown}
+use Rattle.mm_shared.proofs.Publishing.{listed_within, both_stored_at, holder_stored_at, appends_at, idle_at}
+use Rattle.mm_shared.proofs.publish.publish.Goals.{then-is_some, else-is_some}
 use Rattle.mm_shared.proofs.publish.publish.Goals as goal
 
 pub public_label-requires : goal.public_label-requires
@@ -10,24 +12,49 @@ public_label-requires g c = listed_within c.loop-process.process-index c.args.pr
 pub store_label-requires-clause-process_in_range : goal.store_label-requires-clause-process_in_range
 store_label-requires-clause-process_in_range g c =
     let within = listed_within c.loop-process.process-index c.args.processes.now c.loop-process.publisher c.args.table.now c.loop-process-test.true c.loop-process.invariant.left in
-    omega (arith, within, c.fits.ensures.histories, c.requires.histories)
+    omega (arith, within, c.fits.ensures.histories, c.requires.left.histories)
 
 pub store_holder-requires-clause-process_in_range : goal.store_holder-requires-clause-process_in_range
 store_holder-requires-clause-process_in_range g c =
     let within = listed_within c.loop-process.process-index c.args.processes.now c.loop-process.publisher c.args.table.now c.loop-process-test.true c.loop-process.invariant.left in
-    omega (arith, within, c.fits.ensures.histories, c.requires.histories)
+    omega (arith, within, c.fits.ensures.histories, c.requires.left.histories)
+
+-- who has no holder waits for nothing
+waits_not : (holder : Option ℕ) (found : Bool) (Idle : Type 0) → found ≡ is_some holder → found ≡ false → IfNone holder Idle → Idle
+waits_not None found Idle is none idle = idle
+waits_not (Some h) found Idle is none idle = absurd (cc)
 
 pub loop-process-preserved : goal.loop-process-preserved
 loop-process-preserved g c =
     let i = c.loop-process.process-index in
     let ns = c.args.processes.now in
+    let x = slice_index ns i in
     let s = c.args.table.now in
+    let first = c.args.publisher.now in
     let now = c.loop-process.publisher in
+    let then = c.if-is_some.publisher in
+    let after = c.store_holder.new.self in
+    let holder = c.holder-holder.result in
+    let listed = c.loop-process-test.true in
     let kept = c.loop-process.invariant in
-    let within = listed_within i ns now s c.loop-process-test.true kept.left in
-    let appended = appends_at c.args.publisher.now now c.store_label.new.self s (slice_index ns i) c.public_label.result kept.appends (omega (arith, within, kept.left.histories)) c.store_label.ensures.stored c.public_label.ensures in
-    record {
-      left = both_stored_at i ns now c.store_label.new.self c.store_holder.new.self s c.public_label.result c.holder.result c.loop-process-test.true kept.left
-          c.store_label.ensures.stored c.public_label.ensures c.store_holder.ensures.stored c.holder.ensures.holder;
-      appends = subst (λ (p : Published). AppendsOnly c.args.publisher.now p s) (sym c.store_holder.ensures.stored) appended;
-    }
+    let stored = c.store_holder.ensures.stored in
+    let has = c.holder-holder.ensures.holder in
+    elim c.if-is_some.branch [
+      | then-is_some w ↦
+          let l = w.public_label.result in
+          let is = w.public_label.ensures in
+          let put : then ≡ with_label now x l = w.publisher-is ∙ w.store_label.ensures.stored in
+          let inside : x < length now.histories = omega (arith, listed_within i ns now s listed kept.left, kept.left.histories) in
+          record {
+            left = both_stored_at i ns now then after s l holder listed kept.left put is stored has;
+            idle = subst (λ (p : Published). IdleAreShown p s) (sym stored) (idle_at now then s x l kept.idle inside put is);
+            appends = subst (λ (p : Published). AppendsOnly first p s) (sym stored) (appends_at first now then s x l kept.appends inside put is);
+          }
+      | else-is_some w ↦
+          let put : after ≡ with_holder now x holder = stored ∙ ap (λ (p : Published). with_holder p x holder) w.publisher-is in
+          record {
+            left = holder_stored_at i ns now after s holder listed kept.left put has kept.idle (waits_not holder c.is_some.result _ c.is_some.ensures w.if-is_some.false c.holder-holder.ensures.idle);
+            idle = subst (λ (p : Published). IdleAreShown p s) (sym put) kept.idle;
+            appends = subst (λ (p : Published). AppendsOnly first p s) (sym put) kept.appends;
+          }
+    ]

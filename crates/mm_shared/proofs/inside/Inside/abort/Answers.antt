@@ -2,7 +2,7 @@ use Rattle.std.proofs.Common.{List, ℕ, sym, subst, ◌∙◌, arith}
 use Rattle.mm_rules.specs.Event.{Abort}
 use Rattle.mm_shared.specs.Published.{IsToPublish}
 use Rattle.mm_shared.proofs.Counted.{room_stays, refused_booked, accepted_booked}
-use Rattle.mm_shared.proofs.Publishing.{left_after, refused_published}
+use Rattle.mm_shared.proofs.Publishing.{left_after, known, idle_stand, refused_published}
 use Rattle.mm_shared.proofs.inside.Inside.abort.Goals as goal
 
 pub invariant_of-self : goal.invariant_of-self
@@ -27,7 +27,10 @@ publish-requires g c =
     let t = c.abort_waking.new.self in
     let said = c.abort_waking.result in
     let step = c.abort_waking.ensures.step in
-    subst (λ (ns : List ℕ). IsToPublish ns old.publisher t) (sym (c.deref.ensures.value ∙ c.abort_waking.ensures.woken)) (left_after e old.publisher s t said step c.keeps_laws.ensures old.published _ c.in_ok-abort_waking.was)
+    record {
+      left = subst (λ (ns : List ℕ). IsToPublish ns old.publisher t) (sym (c.deref.ensures.value ∙ c.abort_waking.ensures.woken)) (left_after e old.publisher s t said step c.keeps_laws.ensures old.published _ c.in_ok-abort_waking.was);
+      idle = idle_stand e old.publisher s t said step c.keeps_laws.ensures old.published (known e old.publisher s t said step c.keeps_laws.ensures old.published _ c.in_ok-abort_waking.was);
+    }
 
 pub invariant_of-self-2 : goal.invariant_of-self-2
 invariant_of-self-2 g c =

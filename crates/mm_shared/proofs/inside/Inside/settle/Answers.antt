@@ -2,7 +2,7 @@ use Rattle.std.proofs.Common.{List, ℕ, sym, subst, ◌∙◌, arith}
 use Rattle.mm_rules.specs.Event.{Settle}
 use Rattle.mm_shared.specs.Published.{IsToPublish}
 use Rattle.mm_shared.proofs.Counted.{room_stays, refused_booked, accepted_booked}
-use Rattle.mm_shared.proofs.Publishing.{holders_stand, left_after, refused_published}
+use Rattle.mm_shared.proofs.Publishing.{left_after, known, holders_stand, refused_published}
 use Rattle.mm_shared.proofs.inside.Inside.settle.Goals as goal
 
 pub invariant_of-self : goal.invariant_of-self
@@ -29,7 +29,7 @@ publish_labels-requires g c =
     let step = c.settle_waking.ensures.step in
     record {
       labels = subst (λ (ns : List ℕ). IsToPublish ns old.publisher t) (sym (c.deref.ensures.value ∙ c.settle_waking.ensures.woken)) (left_after e old.publisher s t said step c.keeps_laws.ensures old.published _ c.in_ok-answer.was);
-      holders = holders_stand old.publisher s t said step c.keeps_laws.ensures old.published _ c.in_ok-answer.was;
+      holders = holders_stand e old.publisher s t said step c.keeps_laws.ensures old.published (known e old.publisher s t said step c.keeps_laws.ensures old.published _ c.in_ok-answer.was);
     }
 
 pub invariant_of-self-2 : goal.invariant_of-self-2
