@@ -23,7 +23,8 @@ use Rattle.mm_rules.proofs.States.EventsKeepLaws.{event_keeps}
 use Rattle.mm_rules.proofs.States.Lookups.{holder_within, holder_apart}
 use Rattle.mm_settle.specs.Shown.{Shows, shown_anew, ShownBy, ChangesShown, IdleShowTheSame}
 use Rattle.mm_settle.proofs.Lemmas.Shown.{shown_changes_are_told}
-use Rattle.mm_shared.specs.Published.{IsShown, IsPublished, AppendsOnly, IsToPublish, HoldersAreShown, IdleAreShown}
+use Rattle.mm_shared.specs.Published.{IsShown, IsPublished, AppendsOnly}
+use Rattle.mm_shared.specs.private.Publishing.{IsToPublish, HoldersAreShown, IdleAreShown}
 
 -- ---- what is appended
 

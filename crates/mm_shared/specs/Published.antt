@@ -1,10 +1,8 @@
 -- What the board shows of the table behind the lock.
-use Rattle.std.specs.Prelude.{ℕ, ◌≡◌, ◌<◌, ◌++◌, List, length, replicate, None, IsTrue}
+use Rattle.std.specs.Prelude.{ℕ, ◌≡◌, ◌<◌, ◌++◌, length, replicate}
 use Rattle.mm_board.specs.declared.views.Published.{Published}
 use Rattle.mm_board.specs.Views.{history, current_label, current_holder}
-use Rattle.mm_label.specs.Label.{label_le}
-use Rattle.mm_lists.specs.Members.{Among}
-use Rattle.mm_rules.specs.TableState.{TableState, public_of, holder_of, wait_of}
+use Rattle.mm_rules.specs.TableState.{TableState, public_of, holder_of}
 
 -- the board shows of process n its public label and its holder
 pub record IsShown (p : Published) (s : TableState) (n : ℕ) : Type 0 where
@@ -20,19 +18,3 @@ pub record IsPublished (p : Published) (s : TableState) : Type 0 where
 -- of each process nothing was stored but the public label that it has at s, any number of times
 abbrev pub AppendsOnly : Published → Published → TableState → Type 0
 AppendsOnly before after s = (n : ℕ) → (times : ℕ) × (history after n ≡ history before n ++ replicate times (public_of s n))
-
--- the board shows the table but for these processes, and no label there is above the table's
-pub record IsToPublish (ns : List ℕ) (p : Published) (s : TableState) : Type 0 where
-  pub histories : length p.histories ≡ s.config.processes
-  pub holders : length p.holders ≡ s.config.processes
-  pub within : (n : ℕ) → Among n ns → n < s.config.processes
-  pub below : (n : ℕ) → n < s.config.processes → IsTrue (label_le (current_label p n) (public_of s n))
-  pub others : (n : ℕ) → n < s.config.processes → (Among n ns → ⊥) → IsShown p s n
-
--- each process has its holder on the board
-abbrev pub HoldersAreShown : Published → TableState → Type 0
-HoldersAreShown p s = (n : ℕ) → n < s.config.processes → current_holder p n ≡ holder_of s n
-
--- each process that waits for nothing has its label on the board
-abbrev pub IdleAreShown : Published → TableState → Type 0
-IdleAreShown p s = (n : ℕ) → n < s.config.processes → wait_of s n ≡ None → current_label p n ≡ public_of s n

@@ -15,10 +15,12 @@ use mm_board::{Board, Name, Publisher};
 use mm_table::{Acquired, Detected, Key, Refusal, Released, Settled, State, Table, Transmitted};
 use std::sync::ledger::{Book, Ledger};
 
-/// The value behind the lock: a table, and the books of three ledgers that count its accepted events, its verdicts and its aborts.
+/// The value behind the lock: a table, the publisher of its board, and the books of three ledgers that count its accepted events, its
+/// verdicts and its aborts.
 ///
-/// The books equal the table's totals in every value of this type, and the table keeps all laws of mm_rules by its own type. So both
-/// hold of whatever a thread finds behind the lock. Only `Prepared::open` makes one.
+/// In every value of this type the board shows each process's public label and holder, and the books equal the table's totals; and the
+/// table keeps all laws of mm_rules by its own type. So all of this holds of whatever a thread finds behind the lock. Only
+/// `Prepared::open` makes one.
 #[derive(Drop)]
 pub struct Inside<N: Name, A: Ledger, V: Ledger, B: Ledger> {
     table: Table,
@@ -36,6 +38,8 @@ pub struct Inside<N: Name, A: Ledger, V: Ledger, B: Ledger> {
 
 /// Each event is the one call of its name on the table; a shared call makes it under the lock. Where it is accepted, it adds one to the
 /// pass's first share, its new verdicts to the second, and one to the third where it is an abort; where it is refused, nothing changes.
+///
+/// Before an accepted event returns, it stores on the board what it changed of public labels and holders, and nothing else.
 impl<N: Name, A: Ledger, V: Ledger, B: Ledger> Inside<N, A, V, B> {
     /// The table, the publisher and the books that stand in a new shared table.
     pub(crate) fn new(
@@ -81,6 +85,7 @@ impl<N: Name, A: Ledger, V: Ledger, B: Ledger> Inside<N, A, V, B> {
     }
 
     /// `Table::acquire`: grants a free resource; for an owned one the transaction waits, last in its queue, with a fresh label.
+    /// Where it waits, the board is then shown to the pass, which so has seen that label.
     ///
     /// Refused as `CountsExhausted`, `Stale`, `NoResource`, `Waiting`, `AlreadyOwns` or `LabelsExhausted`. Constant time.
     pub fn acquire(
@@ -166,6 +171,7 @@ impl<N: Name, A: Ledger, V: Ledger, B: Ledger> Inside<N, A, V, B> {
     }
 
     /// `Table::transmit`: the waiting transaction takes over its holder's public label where that is greater.
+    /// Where it does, the board is then shown to the pass, which so has seen that label.
     ///
     /// Refused as `CountsExhausted`, `Stale` or `NotWaiting`. Constant time.
     pub fn transmit(
@@ -327,7 +333,7 @@ impl<N: Name, A: Ledger, V: Ledger, B: Ledger> Inside<N, A, V, B> {
 
     /// Does nothing. Its contract is what holds of any value behind the lock, whatever was called and by whom: no owner or wait names a
     /// freed key, private labels are distinct, each standing verdict names a transaction on a cycle of waits whose private label is
-    /// that cycle's greatest, no cycle has two, and the books equal the table's totals.
+    /// that cycle's greatest, no cycle has two, the books equal the table's totals, and the board shows each public label and holder.
     pub fn verdicts_are_sound(&self)
         ensures sound { HasSoundVerdicts self.now.table }
         ensures booked { Booked self.now.table.totals self.now.accepted.total self.now.verdicts.total self.now.aborts.total }

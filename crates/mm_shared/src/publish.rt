@@ -1,6 +1,7 @@
 //! What is stored on the board after an event.
 ghost use Rattle.std.specs.Prelude.{◌≡◌};
-ghost use Rattle.mm_shared.specs.Published.{AppendsOnly, HoldersAreShown, IdleAreShown, IsPublished, IsToPublish};
+ghost use Rattle.mm_shared.specs.Published.{AppendsOnly, IsPublished};
+ghost use Rattle.mm_shared.specs.private.Publishing.{HoldersAreShown, IdleAreShown, IsToPublish};
 
 use mm_board::{Board, Name, Publisher};
 use mm_table::Table;

@@ -100,6 +100,7 @@ impl<N: Name, A: Ledger, V: Ledger, B: Ledger> SharedTable<N, A, V, B> {
     }
 
     /// `Table::acquire`: grants a free resource; for an owned one the transaction waits, last in its queue, with a fresh label.
+    /// Where it waits, the pass has seen that label on the board afterwards.
     ///
     /// Refused as `CountsExhausted`, `Stale`, `NoResource`, `Waiting`, `AlreadyOwns` or `LabelsExhausted`. Constant time.
     pub fn acquire<R: Wait>(
@@ -160,6 +161,7 @@ impl<N: Name, A: Ledger, V: Ledger, B: Ledger> SharedTable<N, A, V, B> {
     }
 
     /// `Table::transmit`: the waiting transaction takes over its holder's public label where that is greater.
+    /// Where it does, the pass has seen that label on the board afterwards.
     ///
     /// Refused as `CountsExhausted`, `Stale` or `NotWaiting`. Constant time.
     pub fn transmit<R: Wait>(

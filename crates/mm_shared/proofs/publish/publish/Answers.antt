@@ -1,7 +1,8 @@
 use Rattle.std.proofs.Common.{◌≡◌, ◌<◌, ℕ, Bool, false, Option, Some, None, is_some, IfNone, length, slice_index, subst, sym, ap, ◌∙◌, arith}
 use Rattle.mm_board.specs.declared.views.Published.{Published}
 use Rattle.mm_board.specs.Views.{with_label, with_holder}
-use Rattle.mm_shared.specs.Published.{AppendsOnly, IdleAreShown}
+use Rattle.mm_shared.specs.Published.{AppendsOnly}
+use Rattle.mm_shared.specs.private.Publishing.{IdleAreShown}
 use Rattle.mm_shared.proofs.Publishing.{listed_within, both_stored_at, holder_stored_at, appends_at, idle_at}
 use Rattle.mm_shared.proofs.publish.publish.Goals.{then-is_some, else-is_some}
 use Rattle.mm_shared.proofs.publish.publish.Goals as goal

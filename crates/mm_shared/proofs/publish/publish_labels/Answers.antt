@@ -1,6 +1,6 @@
 use Rattle.std.proofs.Common.{arith, slice_index, subst, sym}
 use Rattle.mm_board.specs.declared.views.Published.{Published}
-use Rattle.mm_shared.specs.Published.{HoldersAreShown}
+use Rattle.mm_shared.specs.private.Publishing.{HoldersAreShown}
 use Rattle.mm_shared.proofs.Publishing.{listed_within, label_stored_at, appends_at}
 use Rattle.mm_shared.proofs.publish.publish_labels.Goals as goal
 

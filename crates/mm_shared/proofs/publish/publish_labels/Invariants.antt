@@ -1,5 +1,6 @@
 use Rattle.std.proofs.Common.{drop}
-use Rattle.mm_shared.specs.Published.{AppendsOnly, HoldersAreShown, IsToPublish}
+use Rattle.mm_shared.specs.Published.{AppendsOnly}
+use Rattle.mm_shared.specs.private.Publishing.{HoldersAreShown, IsToPublish}
 use Rattle.mm_shared.proofs.publish.publish_labels.Given as goal
 
 abbrev pub invariant-loop-process : goal.invariant-loop-process

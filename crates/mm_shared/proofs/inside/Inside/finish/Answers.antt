@@ -1,6 +1,6 @@
 use Rattle.std.proofs.Common.{List, ℕ, sym, subst, ◌∙◌, arith}
 use Rattle.mm_rules.specs.Event.{Finish}
-use Rattle.mm_shared.specs.Published.{IsToPublish}
+use Rattle.mm_shared.specs.private.Publishing.{IsToPublish}
 use Rattle.mm_shared.proofs.Counted.{room_stays, refused_booked, accepted_booked}
 use Rattle.mm_shared.proofs.Publishing.{left_after, known, idle_stand, refused_published}
 use Rattle.mm_shared.proofs.inside.Inside.finish.Goals as goal
