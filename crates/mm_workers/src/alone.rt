@@ -1,10 +1,14 @@
 //! A table that nobody shares, as a worker calls it.
-ghost use Rattle.std.specs.Prelude.{[]};
+ghost use Rattle.std.specs.Prelude.{[], ◌≡◌, IfSome};
 ghost use Rattle.mm_board.specs.Views.{new_seen};
+ghost use Rattle.mm_workers.specs.Hints.{IsHintOf};
 
 use crate::steps::Steps;
-use mm_shared::{Acquired, Detected, Key, Refusal, Released, Settled, Transmitted};
+use mm_shared::{
+    Acquired, Config, Detected, Hint, HintKind, Key, Refusal, Released, Settled, Transmitted,
+};
 use mm_table::Table;
+use std::cmp::Ordering;
 
 /// The three counts are those of the table; there are no parts, and no board was seen.
 impl Steps for Table {
@@ -45,4 +49,34 @@ impl Steps for Table {
     fn tenant(&mut self, process: u32) -> Option<Key> {
         Table::tenant(self, process)
     }
+
+    fn scan(&mut self, from: u32) -> Option<Hint> {
+        for process in from..Config::MOST_PROCESSES {
+            if let Some(hint) = look(self, process) {
+                return Some(hint);
+            }
+        }
+        None
+    }
+}
+
+/// Looks at one process. `None` where it waits for nobody, or where the holder's public label is below its own. Constant time.
+fn look(table: &Table, process: u32) -> Option<Hint>
+    ensures process { IfSome result (λ hint. hint.process ≡ process) }
+    ensures hint { IfSome result (IsHintOf table.now) }
+{
+    let holder = table.holder(process)?;
+    table.keeps_laws(); // by which who waits is a process of the table
+    let own = table.public_label(process);
+    let its = table.public_label(holder);
+    let kind = match own.cmp(&its) {
+        Ordering::Less => HintKind::Raise,
+        Ordering::Equal => HintKind::Equal,
+        Ordering::Greater => return None,
+    };
+    Some(Hint {
+        process,
+        holder,
+        kind,
+    })
 }

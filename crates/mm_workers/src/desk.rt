@@ -3,7 +3,7 @@ ghost use Rattle.std.specs.Prelude.{◌≡◌};
 
 use crate::steps::Steps;
 use mm_shared::{
-    Acquired, Detected, Key, Name, Pass, Refusal, Released, Settled, SharedTable, Transmitted,
+    Acquired, Detected, Hint, Key, Name, Pass, Refusal, Released, Settled, SharedTable, Transmitted,
 };
 use std::marker::Model;
 use std::sync::Wait;
@@ -11,7 +11,7 @@ use std::sync::ledger::Ledger;
 
 /// A shared table and a pass of it, at which one worker works. A contract sees it as the pass.
 ///
-/// Each call takes the lock of the table.
+/// Each call but `scan` takes the lock of the table.
 #[derive(Drop)]
 pub struct Desk<'a, N: Name, A: Ledger, V: Ledger, B: Ledger, R: Wait> {
     rt: &'a R,
@@ -89,5 +89,9 @@ impl<'a, N: Name, A: Ledger, V: Ledger, B: Ledger, R: Wait> Steps for Desk<'a, N
 
     fn tenant(&mut self, process: u32) -> Option<Key> {
         self.table.tenant(self.rt, &mut self.pass, process)
+    }
+
+    fn scan(&mut self, from: u32) -> Option<Hint> {
+        self.table.scan(&mut self.pass, from)
     }
 }

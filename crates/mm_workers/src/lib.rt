@@ -27,7 +27,7 @@ pub use client::Client;
 pub use desk::Desk;
 pub use end::End;
 pub use gate::Gate;
-pub use mm_shared::Report;
+pub use mm_shared::{Hint, HintKind, Report};
 pub use run::{Outcome, run_threads};
 pub use shared_gate::{Counts, SharedGate, shared_gates};
 pub use steps::Steps;

@@ -4,9 +4,10 @@ ghost use Rattle.mm_rules.specs.Event.{Detect};
 ghost use Rattle.mm_rules.specs.Laws.{verdicts_made};
 ghost use Rattle.mm_shared.specs.Shares.{Shares};
 
-use mm_shared::{Acquired, Detected, Key, Refusal, Released, Settled, Transmitted};
+use mm_shared::{Acquired, Detected, Hint, Key, Refusal, Released, Settled, Transmitted};
 
-/// What a worker needs of a table: its eight events, and who lives in a process. A `Desk` meets it, and so does a `Table`.
+/// What a worker needs of a table: its eight events, who lives in a process, and a look for labels to pass on. A `Desk` meets it, and so
+/// does a `Table`.
 ///
 /// An event that is accepted adds one to the first of three counts, its new verdicts to the second, and one to the third where it is an
 /// abort. No call moves the parts, and one that is refused moves nothing. Each call refuses and costs what the call of its name of `Table` does.
@@ -81,4 +82,15 @@ pub trait Steps {
     /// The live key of the process, if it has one. It is not counted.
     fn tenant(&mut self, process: u32) -> Option<Key>
         ensures { shares self.new ≡ shares self.old };
+
+    /// Looks at the processes from `from` on, by rising number, and returns the first that waits for another one whose public label is
+    /// seen above its own or is the same. `None` where there is none. It is not counted.
+    ///
+    /// A hint promises nothing of the table, which others may change: the event that follows it makes its own test.
+    /// `O(processes looked at)`.
+    fn scan(&mut self, from: u32) -> Option<Hint>
+        ensures first { (shares self.new).accepted ≡ (shares self.old).accepted }
+        ensures second { (shares self.new).verdicts ≡ (shares self.old).verdicts }
+        ensures third { (shares self.new).aborts ≡ (shares self.old).aborts }
+        ensures others { (shares self.new).parts ≡ (shares self.old).parts };
 }

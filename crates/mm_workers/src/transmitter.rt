@@ -3,11 +3,12 @@ ghost use Rattle.std.specs.Prelude.{◌≡◌};
 
 use crate::gate::Gate;
 use crate::steps::Steps;
+use mm_shared::{Detected, Hint, HintKind, Transmitted};
 use std::marker::Model;
 use std::thread;
 
-/// A worker that transmits and detects for whoever lives in each process, by rising number, again and again, until all clients have left
-/// or its turns are used up. A turn is one such sweep. It never aborts.
+/// A worker that looks for a process whose label may be raised or whose verdict may be due, and transmits or detects for whoever lives
+/// there, again and again, until all clients have left or its turns are used up. A turn is one such look. It never aborts.
 ///
 /// A contract sees it as its table.
 #[derive(Drop)]
@@ -50,30 +51,51 @@ impl<S: Steps + Drop, G: Gate + Drop> Transmitter<S, G> {
         steps
     }
 
-    /// Works until all clients have left, or the turns are used up. `O(turns * processes)` calls, each of constant time.
+    /// Works until all clients have left, or the turns are used up. `O(turns)` calls.
+    ///
+    /// A turn looks from its place on, at first process 0. With a hint it makes the one event that the hint suggests, and its next place is
+    /// behind that process. Without one its next place is process 0, and it has made no other call of the table.
     pub fn run(&mut self)
         ensures third { (S.shares self.new).aborts ≡ (S.shares self.old).aborts }
         ensures others { (S.shares self.new).parts ≡ (S.shares self.old).parts }
     {
+        let mut place = 0;
         for _ in 0..self.turns {
             if self.gate.over() {
                 return;
             }
-            self.sweep();
-            thread::yield_now();
+            let hint = self.steps.scan(place);
+            place = self.place_after(hint);
+            if !self.follow(hint) {
+                thread::yield_now();
+            }
         }
     }
 
-    /// One turn. What a process answers is left aside: who lives there may be gone between two calls.
-    fn sweep(&mut self)
+    /// The process from which the next turn looks.
+    fn place_after(&self, hint: Option<Hint>) -> u32 {
+        let Some(hint) = hint else {
+            return 0;
+        };
+        let next = hint.process.saturating_add(1);
+        if next < self.processes { next } else { 0 }
+    }
+
+    /// Makes the event that a hint suggests, for whoever lives in its process. `false` where it changed nothing: there is no hint, nobody
+    /// lives there, or the labels are others by now.
+    fn follow(&mut self, hint: Option<Hint>) -> bool
         ensures third { (S.shares self.new).aborts ≡ (S.shares self.old).aborts }
         ensures others { (S.shares self.new).parts ≡ (S.shares self.old).parts }
     {
-        for process in 0..self.processes {
-            if let Some(key) = self.steps.tenant(process) {
-                let _ = self.steps.transmit(key);
-                let _ = self.steps.detect(key);
-            }
+        let Some(hint) = hint else {
+            return false;
+        };
+        let Some(key) = self.steps.tenant(hint.process) else {
+            return false;
+        };
+        match hint.kind {
+            HintKind::Raise => matches!(self.steps.transmit(key), Ok(Transmitted::Raised(_))),
+            HintKind::Equal => matches!(self.steps.detect(key), Ok(Detected::Deadlock(_))),
         }
     }
 }
