@@ -1,35 +1,14 @@
 //! One client on a table that nobody shares. Expected ends and totals are counted by hand, from the rules of docs/WORKLOADS.md.
 
 use crate::tests::same::same;
+use crate::tests::workers::open_gate::OpenGate;
 use mm_shared::{Config, Key};
 use mm_table::{Table, Totals};
-use mm_workers::{Client, End, Gate};
+use mm_workers::{Client, End};
 use mm_workload::WorkStep;
 use std::cell::Cell;
 use std::process::Abort;
 use std::test::Fail;
-
-/// A gate that lets everybody pass, is never over, and counts who leaves.
-#[derive(Drop)]
-struct OpenGate<'a> {
-    left: &'a Cell<u32>,
-}
-
-impl<'a> Gate for OpenGate<'a> {
-    fn arrive(&mut self) {}
-
-    fn may_pass(&mut self, _arrivals: u32) -> bool {
-        true
-    }
-
-    fn leave(&mut self) {
-        self.left.set(self.left.get().saturating_add(1));
-    }
-
-    fn over(&mut self) -> bool {
-        false
-    }
-}
 
 /// So many processes and one resource, where labels and generations end at 9.
 fn config(processes: u32) -> Config {
@@ -44,7 +23,11 @@ fn config(processes: u32) -> Config {
 /// Runs a client on the table. Ends the test unless it ends so, and leaves once.
 fn ends<R: Abort>(rt: &R, table: Table, work: Vec<WorkStep>, turns: u64, expected: End) -> Table {
     let left = Cell::new(0);
-    let mut client = Client::new(table, OpenGate { left: &left }, work, turns);
+    let gate = OpenGate {
+        left: &left,
+        over: false,
+    };
+    let mut client = Client::new(table, gate, work, turns);
     same(rt, client.run(), expected);
     same(rt, left.get(), 1);
     client.into_steps()

@@ -1,0 +1,246 @@
+//! One transmitter on steps that note its calls: on a fake, on a table that nobody shares, and on a shared one. Expected calls are those
+//! of the rules of docs/WORKLOADS.md, by hand.
+ghost use Rattle.std.specs.Prelude.{◌≡◌};
+
+use crate::tests::same::same;
+use crate::tests::workers::fake::Fake;
+use crate::tests::workers::open_gate::OpenGate;
+use crate::tests::workers::recorder::{Call, Recorder};
+use mm_label::Label;
+use mm_shared::{Config, Detected, Key, Name, Prepared, Refusal, Transmitted};
+use mm_table::{Table, Totals};
+use mm_workers::{Desk, Hint, HintKind, Report, Steps, Transmitter};
+use std::alloc::{AllocError, Global};
+use std::cell::Cell;
+use std::marker::Brand;
+use std::process::Abort;
+use std::sync::Wait;
+use std::sync::ledger::Ledger;
+use std::test::Fail;
+
+/// The configuration of the tables: four processes and four resources.
+const FOUR: Config = Config {
+    processes: 4,
+    resources: 4,
+    label_limit: 100,
+    generation_limit: 9,
+};
+
+/// The first key of this process.
+fn first_key(process: u32) -> Key {
+    Key {
+        process,
+        generation: 1,
+    }
+}
+
+fn hint(process: u32, holder: u32, kind: HintKind) -> Option<Hint> {
+    Some(Hint {
+        process,
+        holder,
+        kind,
+    })
+}
+
+/// Runs a transmitter for four processes, and gives back the table and its calls.
+fn transmit<S: Steps + Drop>(
+    alloc: Global,
+    steps: S,
+    turns: u64,
+    over: bool,
+) -> Result<Recorder<S>, AllocError> {
+    let recorder = Recorder {
+        steps,
+        calls: Vec::with_capacity(alloc, 100)?,
+    };
+    let left = Cell::new(0);
+    let gate = OpenGate { left: &left, over };
+    let mut transmitter = Transmitter::new(recorder, gate, 4, turns);
+    transmitter.run();
+    Ok(transmitter.into_steps())
+}
+
+#[test]
+fn without_a_hint_it_looks_alone(rt: HostRuntime) -> Result<(), Fail> {
+    let fake = Fake {
+        hint: None,
+        tenant: Some(first_key(0)),
+    };
+    let came = transmit(rt.alloc(), fake, 100, false)?;
+    same(&rt, came.calls.len(), 100);
+    for call in &came.calls {
+        same(&rt, *call, Call::Scan(0, None));
+    }
+    Ok(())
+}
+
+#[test]
+fn once_all_clients_have_left_it_calls_nothing(rt: HostRuntime) -> Result<(), Fail> {
+    let fake = Fake {
+        hint: None,
+        tenant: None,
+    };
+    let came = transmit(rt.alloc(), fake, 100, true)?;
+    same(&rt, came.calls.len(), 0);
+    Ok(())
+}
+
+#[test]
+fn behind_the_last_process_it_begins_anew(rt: HostRuntime) -> Result<(), Fail> {
+    let raise = hint(3, 1, HintKind::Raise);
+    let tenant = Some(first_key(3));
+    let fake = Fake {
+        hint: raise,
+        tenant,
+    };
+    let came = transmit(rt.alloc(), fake, 2, false)?;
+    let calls = [
+        Call::Scan(0, raise),
+        Call::Tenant(3, tenant),
+        Call::Transmit(first_key(3), Err(Refusal::Stale)),
+        Call::Scan(0, None),
+    ];
+    same(&rt, came.calls.as_slice(), calls.as_slice());
+    Ok(())
+}
+
+#[test]
+fn whoever_is_gone_is_passed_by(rt: HostRuntime) -> Result<(), Fail> {
+    let equal = hint(1, 3, HintKind::Equal);
+    let fake = Fake {
+        hint: equal,
+        tenant: None,
+    };
+    let came = transmit(rt.alloc(), fake, 3, false)?;
+    let calls = [
+        Call::Scan(0, equal),
+        Call::Tenant(1, None),
+        Call::Scan(2, None),
+        Call::Scan(0, None),
+    ];
+    same(&rt, came.calls.as_slice(), calls.as_slice());
+    Ok(())
+}
+
+/// Two transactions that own a resource each, and wait for that of the other.
+fn wait_crosswise<S: Steps>(steps: &mut S) -> Result<(), Refusal> {
+    let first = steps.begin()?;
+    let second = steps.begin()?;
+    steps.acquire(first, 0)?;
+    steps.acquire(second, 1)?;
+    steps.acquire(first, 1)?;
+    steps.acquire(second, 0)?;
+    Ok(())
+}
+
+/// What four turns make of it: the first takes over the label of the second, which has its own back then and gets a verdict; the third
+/// turn comes to the end; and the fourth finds no verdict for the first.
+fn calls_of_four_turns() -> [Call; 10] {
+    let (first, second) = (first_key(0), first_key(1));
+    let label = Label::of_word(131073); // 2.1
+    [
+        Call::Scan(0, hint(0, 1, HintKind::Raise)),
+        Call::Tenant(0, Some(first)),
+        Call::Transmit(first, Ok(Transmitted::Raised(label))),
+        Call::Scan(1, hint(1, 0, HintKind::Equal)),
+        Call::Tenant(1, Some(second)),
+        Call::Detect(second, Ok(Detected::Deadlock(label))),
+        Call::Scan(2, None),
+        Call::Scan(0, hint(0, 1, HintKind::Equal)),
+        Call::Tenant(0, Some(first)),
+        Call::Detect(first, Ok(Detected::Clear)),
+    ]
+}
+
+#[test]
+fn a_deadlock_on_a_table_alone(rt: HostRuntime) -> Result<(), Fail> {
+    let mut table = Table::open(rt.alloc(), FOUR)?;
+    wait_crosswise(&mut table)?;
+    let Recorder { steps, calls } = transmit(rt.alloc(), table, 4, false)?;
+    same(&rt, calls.as_slice(), calls_of_four_turns().as_slice());
+    let totals = Totals {
+        accepted: 9,
+        verdicts: 1,
+        aborts: 0,
+    };
+    same(&rt, steps.totals(), totals);
+    Ok(())
+}
+
+/// Three transactions that own a resource each, and wait for that of the next: under 1.0, 1.1 and 2.2.
+fn wait_in_a_ring<S: Steps>(steps: &mut S) -> Result<(), Refusal> {
+    let first = steps.begin()?;
+    let second = steps.begin()?;
+    let third = steps.begin()?;
+    steps.acquire(first, 0)?;
+    steps.acquire(second, 1)?;
+    steps.acquire(third, 2)?;
+    steps.acquire(first, 1)?;
+    steps.acquire(second, 2)?;
+    steps.acquire(third, 0)?;
+    Ok(())
+}
+
+#[test]
+fn a_ring_of_three_on_a_table_alone(rt: HostRuntime) -> Result<(), Fail> {
+    let mut table = Table::open(rt.alloc(), FOUR)?;
+    wait_in_a_ring(&mut table)?;
+    let came = transmit(rt.alloc(), table, 6, false)?;
+    let (first, second, third) = (first_key(0), first_key(1), first_key(2));
+    let greatest = Label::of_word(131074); // 2.2
+    let calls = [
+        Call::Scan(0, hint(0, 1, HintKind::Raise)),
+        Call::Tenant(0, Some(first)),
+        Call::Transmit(first, Ok(Transmitted::Raised(Label::of_word(65537)))), // 1.1
+        Call::Scan(1, hint(1, 2, HintKind::Raise)),
+        Call::Tenant(1, Some(second)),
+        Call::Transmit(second, Ok(Transmitted::Raised(greatest))),
+        Call::Scan(2, None),
+        Call::Scan(0, hint(0, 1, HintKind::Raise)),
+        Call::Tenant(0, Some(first)),
+        Call::Transmit(first, Ok(Transmitted::Raised(greatest))),
+        Call::Scan(1, hint(1, 2, HintKind::Equal)),
+        Call::Tenant(1, Some(second)),
+        Call::Detect(second, Ok(Detected::Clear)),
+        Call::Scan(2, hint(2, 0, HintKind::Equal)),
+        Call::Tenant(2, Some(third)),
+        Call::Detect(third, Ok(Detected::Deadlock(greatest))),
+    ];
+    same(&rt, came.calls.as_slice(), calls.as_slice());
+    Ok(())
+}
+
+/// The deadlock of two at a desk of a shared table.
+fn four_turns_at_a_desk<
+    N: Name + Drop,
+    A: Ledger + Drop,
+    V: Ledger + Drop,
+    B: Ledger + Drop,
+    R: Wait + Abort,
+>(rt: &R, alloc: Global, prepared: Prepared) -> Result<(), Fail>
+    requires board { prepared.board ≡ N.board }
+    requires accepted { (prepared.accepted.name ≡ A.name) × (prepared.accepted.parts ≡ A.parts) }
+    requires verdicts { (prepared.verdicts.name ≡ V.name) × (prepared.verdicts.parts ≡ V.parts) }
+    requires aborts { (prepared.aborts.name ≡ B.name) × (prepared.aborts.parts ≡ B.parts) }
+{
+    let (table, pass) = prepared.open::<N, A, V, B>();
+    let mut desk = Desk::new(rt, &table, pass);
+    wait_crosswise(&mut desk)?;
+    let Recorder { steps, calls } = transmit(alloc, desk, 4, false)?;
+    same(rt, calls.as_slice(), calls_of_four_turns().as_slice());
+    let pass = steps.into_pass();
+    let report = Report {
+        accepted: 9,
+        verdicts: 1,
+        aborts: 0,
+    };
+    same(rt, table.close(pass).ok(), Some(report));
+    Ok(())
+}
+
+#[test]
+fn a_deadlock_on_a_shared_table(rt: HostRuntime) -> Result<(), Fail> {
+    let prepared = Prepared::new(rt.alloc(), FOUR)?;
+    four_turns_at_a_desk::<Brand, Brand, Brand, Brand, _>(&rt, rt.alloc(), prepared)?;
+    Ok(())
+}
