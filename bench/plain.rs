@@ -49,6 +49,11 @@ impl Label {
     fn counter(self) -> u64 {
         self.0 >> 16
     }
+
+    #[allow(dead_code)] // for those who store it
+    pub fn word(self) -> u64 {
+        self.0
+    }
 }
 
 pub struct Config {
@@ -180,6 +185,11 @@ impl Table {
     /// How many verdicts were given.
     pub fn verdicts(&self) -> u64 {
         self.verdicts
+    }
+
+    /// The public label of the process.
+    pub fn public_label(&self, process: u32) -> Label {
+        self.processes[process as usize].public
     }
 
     /// The live key of the process, if it has one.

@@ -10,6 +10,17 @@ PROVED = os.path.join(HERE, "..", "crates", "mm_shared_times", "out", "mm_shared
 CALLS = 18  # of a transaction: begin, 16 acquires, finish
 TRANSACTIONS = 200_000  # of all threads together
 STORM_TRANSACTIONS = 1_000  # of all clients of all storms together
+# Works at a board, with how many calls each repetition makes, and how often it is repeated in a turn.
+WORKS = {
+    "grants": ("begin, acquire, release, finish", 4, 100_000),
+    "blocks": ("two transactions, one waits for the other", 7, 50_000),
+    "deadlocks": ("deadlock of two, from begin to finish", 10, 30_000),
+    "hand-overs": ("hand-over with 16 waiters, and acquire", 2, 20_000),
+    "peeks": ("peek", 1, 2_000_000),
+    "peeks-beside": ("peek, beside a thread that writes", 1, 2_000_000),
+    "scans": ("scan where nobody waits, a process", 1, 0),
+}
+SCANNED = 4_000_000  # processes looked at in a turn
 TURNS = 25
 
 
@@ -74,5 +85,24 @@ def storms():
             line("by %d clients, %s of %d" % (clients, name, TURNS), clients, *map(pick, rates), "a second")
 
 
+def work_time(command, name, processes):
+    """Nanoseconds a call, or a process of a scan, of one run."""
+    _, calls, count = WORKS[name]
+    count = count or SCANNED // processes
+    calls = processes if name == "scans" else calls
+    return numbers(*command, name, processes, count)[0] / (count * calls)
+
+
+def board():
+    """One line for each work and each number of processes: the least."""
+    head("shared table with its board, nanoseconds a call")
+    commands = [[PROVED, "board"], [os.path.join(HERE, "out", "board")]]
+    for name, (text, _, _) in WORKS.items():
+        for processes in (64, 4096):
+            times = in_turn(lambda command, number: work_time(command, name, number), commands, processes)
+            line(text, processes, *map(min, times), "ns")
+
+
 shared_table()
+board()
 storms()

@@ -4,7 +4,11 @@
 //! `mm_shared_times storm CLIENTS COUNT`: the storms of seeds 1 to COUNT with so many clients, one after another. It prints how many
 //! nanoseconds that took, and how many clients finished and how many were aborted.
 //!
+//! `mm_shared_times board WORK PROCESSES COUNT`: one thread does this work COUNT times on a table of so many processes. It prints how many
+//! nanoseconds that took.
+//!
 //! - `clock`: how long something took.
+//! - `board`: works that store on the board, or read it. `calls`: the calls of which they are made.
 //! - `rounds`: what one thread does.
 //! - `threads`: threads that are at work at once.
 //! - `storms`: storms, one after another.
@@ -12,11 +16,14 @@
 
 ghost use Rattle.std.specs.Prelude.{◌≡◌};
 
+mod board;
+mod calls;
 mod clock;
 mod rounds;
 mod storms;
 mod threads;
 
+use board::{Work, timed_work};
 use mm_shared::{Config, Prepared};
 use std::marker::Brand;
 use std::{env, io};
@@ -34,9 +41,9 @@ fn number(word: Option<String>) -> u32 {
 }
 
 /// The numbers of the table that threads share.
-fn config() -> Config {
+fn config(processes: u32) -> Config {
     Config {
-        processes: MOST_THREADS,
+        processes,
         resources: 1024,
         label_limit: Config::GREATEST_LABEL_LIMIT,
         generation_limit: u32::MAX,
@@ -58,12 +65,24 @@ fn main(rt: HostRuntime) -> io::Result<()> {
         };
         return println!(rt; "{} {} {}", done.nanoseconds, done.finished, done.aborted);
     }
+    if first.as_str() == "board" {
+        let Some(work) = words.next().and_then(|name| Work::named(name.as_str())) else {
+            return Ok(());
+        };
+        let Ok(prepared) = Prepared::new(rt.alloc(), config(number(words.next()))) else {
+            return Ok(());
+        };
+        let count = number(words.next());
+        let nanoseconds =
+            timed_work::<Brand, Brand, Brand, Brand, _>(&rt, prepared, work, count);
+        return println!(rt; "{nanoseconds}");
+    }
     let threads = number(Some(first)).min(MOST_THREADS);
     let count = number(words.next());
     if threads == 0 {
         return Ok(());
     }
-    let Ok(prepared) = Prepared::new(rt.alloc(), config()) else {
+    let Ok(prepared) = Prepared::new(rt.alloc(), config(MOST_THREADS)) else {
         return Ok(());
     };
     let (nanoseconds, done) = timed::<Brand, Brand, Brand, Brand, _>(

@@ -1,0 +1,132 @@
+//! Calls of a shared table by one thread, again and again.
+
+use mm_shared::{Key, Name, Pass, Refusal, Released, SharedTable};
+use std::sync::Wait;
+use std::sync::ledger::Ledger;
+
+/// How many wait where a resource is handed over.
+const WAITERS: u32 = 16;
+
+/// One transaction that waits for nobody.
+fn grant<N: Name, A: Ledger, V: Ledger, B: Ledger, R: Wait>(
+    rt: &R,
+    table: &SharedTable<N, A, V, B>,
+    pass: &mut Pass<N, A, V, B>,
+) -> Result<(), Refusal> {
+    let key = table.begin(rt, pass)?;
+    table.acquire(rt, pass, key, 0)?;
+    table.release(rt, pass, key, 0)?;
+    table.finish(rt, pass, key)
+}
+
+/// Two transactions, one of which waits for the other.
+pub fn block<N: Name, A: Ledger, V: Ledger, B: Ledger, R: Wait>(
+    rt: &R,
+    table: &SharedTable<N, A, V, B>,
+    pass: &mut Pass<N, A, V, B>,
+) -> Result<(), Refusal> {
+    let first = table.begin(rt, pass)?;
+    let second = table.begin(rt, pass)?;
+    table.acquire(rt, pass, first, 0)?;
+    table.acquire(rt, pass, second, 0)?;
+    table.release(rt, pass, first, 0)?;
+    table.finish(rt, pass, second)?;
+    table.finish(rt, pass, first)
+}
+
+/// Two transactions that wait for each other. The second one is aborted.
+fn deadlock<N: Name, A: Ledger, V: Ledger, B: Ledger, R: Wait>(
+    rt: &R,
+    table: &SharedTable<N, A, V, B>,
+    pass: &mut Pass<N, A, V, B>,
+) -> Result<(), Refusal> {
+    let first = table.begin(rt, pass)?;
+    let second = table.begin(rt, pass)?;
+    table.acquire(rt, pass, first, 0)?;
+    table.acquire(rt, pass, second, 1)?;
+    table.acquire(rt, pass, first, 1)?;
+    table.acquire(rt, pass, second, 0)?;
+    table.transmit(rt, pass, first)?;
+    table.detect(rt, pass, second)?;
+    table.abort(rt, pass, second)?;
+    table.finish(rt, pass, first)
+}
+
+/// Hands the resource over, and waits for it again. Returns who has it then.
+fn hand_over<N: Name, A: Ledger, V: Ledger, B: Ledger, R: Wait>(
+    rt: &R,
+    table: &SharedTable<N, A, V, B>,
+    pass: &mut Pass<N, A, V, B>,
+    owner: Key,
+) -> Result<Key, Refusal> {
+    let released = table.release(rt, pass, owner, 0)?;
+    table.acquire(rt, pass, owner, 0)?;
+    match released {
+        Released::To(next) => Ok(next),
+        Released::Free => Ok(owner),
+    }
+}
+
+/// One who has the resource, and sixteen who wait for it. Returns the one who has it.
+pub fn crowd<N: Name, A: Ledger, V: Ledger, B: Ledger, R: Wait>(
+    rt: &R,
+    table: &SharedTable<N, A, V, B>,
+    pass: &mut Pass<N, A, V, B>,
+) -> Result<Key, Refusal> {
+    let owner = table.begin(rt, pass)?;
+    table.acquire(rt, pass, owner, 0)?;
+    for _ in 0..WAITERS {
+        let waiter = table.begin(rt, pass)?;
+        table.acquire(rt, pass, waiter, 0)?;
+    }
+    Ok(owner)
+}
+
+/// Hands the resource over so many times.
+pub fn hand_overs<N: Name, A: Ledger, V: Ledger, B: Ledger, R: Wait>(
+    rt: &R,
+    table: &SharedTable<N, A, V, B>,
+    pass: &mut Pass<N, A, V, B>,
+    first: Key,
+    count: u32,
+) {
+    let mut owner = first;
+    for _ in 0..count {
+        if let Ok(next) = hand_over(rt, table, pass, owner) {
+            owner = next;
+        }
+    }
+}
+
+pub fn grants<N: Name, A: Ledger, V: Ledger, B: Ledger, R: Wait>(
+    rt: &R,
+    table: &SharedTable<N, A, V, B>,
+    pass: &mut Pass<N, A, V, B>,
+    count: u32,
+) {
+    for _ in 0..count {
+        let _ = grant(rt, table, pass);
+    }
+}
+
+pub fn blocks<N: Name, A: Ledger, V: Ledger, B: Ledger, R: Wait>(
+    rt: &R,
+    table: &SharedTable<N, A, V, B>,
+    pass: &mut Pass<N, A, V, B>,
+    count: u32,
+) {
+    for _ in 0..count {
+        let _ = block(rt, table, pass);
+    }
+}
+
+pub fn deadlocks<N: Name, A: Ledger, V: Ledger, B: Ledger, R: Wait>(
+    rt: &R,
+    table: &SharedTable<N, A, V, B>,
+    pass: &mut Pass<N, A, V, B>,
+    count: u32,
+) {
+    for _ in 0..count {
+        let _ = deadlock(rt, table, pass);
+    }
+}
