@@ -88,12 +88,7 @@ fn peeks_beside<
     V: Ledger + Send + Sync,
     B: Ledger + Send + Sync,
     R: Threads + Wait + Clock + Sync,
->(
-    rt: &R,
-    table: &SharedTable<N, A, V, B>,
-    pass: &mut Pass<N, A, V, B>,
-    count: u32,
-) -> u64 {
+>(rt: &R, table: &SharedTable<N, A, V, B>, pass: &mut Pass<N, A, V, B>, count: u32) -> u64 {
     if pass.parts() < 2 {
         return 0;
     }
@@ -135,12 +130,7 @@ pub fn timed_work<
     V: Ledger + Send + Sync,
     B: Ledger + Send + Sync,
     R: Threads + Wait + Clock + Sync,
->(
-    rt: &R,
-    prepared: Prepared,
-    work: Work,
-    count: u32,
-) -> u64
+>(rt: &R, prepared: Prepared, work: Work, count: u32) -> u64
     requires board { prepared.board ≡ N.board }
     requires accepted { (prepared.accepted.name ≡ A.name) × (prepared.accepted.parts ≡ A.parts) }
     requires verdicts { (prepared.verdicts.name ≡ V.name) × (prepared.verdicts.parts ≡ V.parts) }

@@ -73,8 +73,7 @@ fn main(rt: HostRuntime) -> io::Result<()> {
             return Ok(());
         };
         let count = number(words.next());
-        let nanoseconds =
-            timed_work::<Brand, Brand, Brand, Brand, _>(&rt, prepared, work, count);
+        let nanoseconds = timed_work::<Brand, Brand, Brand, Brand, _>(&rt, prepared, work, count);
         return println!(rt; "{nanoseconds}");
     }
     let threads = number(Some(first)).min(MOST_THREADS);
