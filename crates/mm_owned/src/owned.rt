@@ -98,6 +98,7 @@ impl Owned {
         requires { resource < length self.now.owners }
         ensures listed { IsNext self.now resource result }
         ensures unowned { owner_at self.now resource ≡ None → IsNone result }
+        ensures matched { ListsMatchOwners self.now }
     {
         self.resources[resource as usize].links.next.get()
     }

@@ -1,6 +1,6 @@
 -- A walk through a list, by `first` and `next`.
 use Rattle.std.specs.Prelude.{◌==◌, if◌then◌else◌}
-use Rattle.std.proofs.Common.{◌≡◌, ℕ, List, [], ◌∷◌, ◌++◌, Option, Some, None, refl, sym, ap, subst, ◌∙◌, inl, inr}
+use Rattle.std.proofs.Common.{◌≡◌, ◌≢◌, ℕ, List, [], ◌∷◌, ◌++◌, Option, Some, None, refl, sym, ap, subst, ◌∙◌, inl, inr}
 use Rattle.std.proofs.lemmas.Bool.{eq-eqb, ne_eqb}
 use Rattle.mm_lists.specs.Members.{Among, NoRepeat}
 use Rattle.mm_lists.proofs.Lemmas.Among.{among_right}
@@ -43,6 +43,14 @@ module _ (s : Ownership) (n r : ℕ) (next : Option ℕ) (among : Among r (list_
       let cut = cut_at r (list_at s n) among in
       let first = sym (is_next n cut.earlier cut.later cut.whole) ∙ is in
       subst (Among q) (sym cut.whole) (among_right cut.earlier (r ∷ cut.later) q (inr (Among-head cut.later q first)))
+
+  -- it is another one
+  pub next-apart : NoRepeat (list_at s n) → (q : ℕ) → next ≡ Some q → q ≢ r
+  next-apart once q is same =
+      let cut = cut_at r (list_at s n) among in
+      let apart = AreApart-cut cut.earlier r cut.later (subst NoRepeat cut.whole once) in
+      let first = sym (is_next n cut.earlier cut.later cut.whole) ∙ is in
+      apart.not_later (subst (λ x. Among x cut.later) same (Among-head cut.later q first))
 
   -- from r on, the list is r and what is left from the next on
   pub rest_from-next : NoRepeat (list_at s n) → rest_from (list_at s n) (Some r) ≡ r ∷ rest_from (list_at s n) next

@@ -74,7 +74,7 @@ module _ (old s : TableState) (n r : ℕ) (way : IsUnderWay old s n) (among : Am
       let before = owned_before q parts.1 in
       (filter_keeps (owns s n) (range_with_len 0 s.config.resources) q (in_range_still q parts.0) before.0, before.1)
 
-  stays_in : (q : ℕ) → Among q (resources_of s n) → q ≢ r → Among q (resources_of (hand_over s r) n)
+  pub stays_in : (q : ℕ) → Among q (resources_of s n) → q ≢ r → Among q (resources_of (hand_over s r) n)
   stays_in q found apart =
       let its : (k : Key) × (owner_of s q ≡ Some k) × (k.process ≡ n) = way.now.owned q found in
       let now : owner_of (hand_over s r) q ≡ Some its.0 = over.owners q apart ∙ its.1 in

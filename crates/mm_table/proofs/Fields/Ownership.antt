@@ -1,12 +1,13 @@
 -- Who owns what: the sizes after a resource is given or freed, and that the list of each process has what it owns by the state.
-use Rattle.std.proofs.Common.{nat_eq, true, false, IsTrue, ◌≡◌, ℕ, ◌<◌, List, [], ◌∷◌, Option, Some, None, option_map, inl, inr, refl, ap, sym, ◌∙◌, arith, subst, length-set}
+use Rattle.std.proofs.Common.{nat_eq, true, false, IsTrue, ◌≡◌, ◌≢◌, ℕ, ◌<◌, List, [], ◌∷◌, Option, Some, None, option_map, inl, inr, refl, ap, sym, ◌∙◌, arith, subst, length-set}
 use Rattle.std.proofs.lemmas.Bool.{cases_Bool, eq-eqb, eqb-true}
 use Rattle.std.proofs.lemmas.List.{length-map}
 use Rattle.std.specs.List.{range_with_len}
 use Rattle.std.specs.Option.{option_map_or}
 use Rattle.mm_arena.specs.declared.key.Key.{Key}
-use Rattle.mm_lists.specs.Members.{Among, without}
-use Rattle.mm_owned.specs.Owned.{Ownership, ListsMatchOwners, owner_at, list_at, head, given, freed}
+use Rattle.mm_lists.specs.Members.{Among, NoRepeat, without}
+use Rattle.mm_owned.specs.Owned.{Ownership, ListsMatchOwners, IsNext, owner_at, list_at, head, given, freed}
+use Rattle.mm_owned.proofs.Lemmas.Walk.{Among-next, next-apart}
 use Rattle.mm_owned.proofs.Lemmas.ListsMatchOwners.{in_range}
 use Rattle.mm_rules.specs.declared.config.Config.{Config}
 use Rattle.mm_table.specs.declared.records.Records.TheInside.{Inside}
@@ -17,7 +18,7 @@ use Rattle.mm_rules.specs.Change.{hand_over_fits, vacate_fits}
 use Rattle.mm_table.specs.private.Records.{AreSized, IsConsistent, state_of_records}
 use Rattle.mm_lists.proofs.Lemmas.Filter.{filter_gives, filter_keeps}
 use Rattle.mm_lists.proofs.Lemmas.Among.{list_all_at, list_all_from}
-use Rattle.mm_lists.proofs.Lemmas.Range.{among_range}
+use Rattle.mm_lists.proofs.Lemmas.Range.{among_range, among_range_gives}
 
 -- ---- sizes
 
@@ -66,6 +67,10 @@ listed t s fits is matched = subst (λ (u : TableState). Listed u t.owned) is (r
   all = λ n r own. (matched.listed n r).1 (by_owner (owner_at t.owned r) n own);
 })
 
+pub below : (s : TableState) (n r : ℕ) → Among r (resources_of s n) → r < s.config.resources
+below s n r among =
+    omega (arith, (among_range_gives 0 s.config.resources r (filter_gives (owns s n) (range_with_len 0 s.config.resources) r among).0).1)
+
 module _ (s : TableState) (owned : Ownership) (lists : Listed s owned) (n : ℕ) where
   pub in_resources : (r : ℕ) → Among r (list_at owned n) → Among r (resources_of s n)
   in_resources r among =
@@ -73,6 +78,13 @@ module _ (s : TableState) (owned : Ownership) (lists : Listed s owned) (n : ℕ)
 
   of_resources : (r : ℕ) → Among r (resources_of s n) → Among r (list_at owned n)
   of_resources r among = lists.all n r (filter_gives (owns s n) (range_with_len 0 s.config.resources) r among).1
+
+  -- what follows r in its list is owned as well, and is another resource
+  pub follows : (r : ℕ) (next : Option ℕ) → NoRepeat (list_at owned n) → IsNext owned r next → Among r (resources_of s n)
+      → (q : ℕ) → next ≡ Some q → Among q (resources_of s n) × (q ≢ r)
+  follows r next once is_next among q is =
+      let listed = of_resources r among in
+      (in_resources q (Among-next owned n r next listed is_next q is), next-apart owned n r next listed is_next once q is)
 
   -- the limit, by the list
   pub some_past : (r : ℕ) → Among r (list_at owned n) → hand_over_fits s r ≡ false → vacate_fits s n ≡ false

@@ -86,8 +86,15 @@ impl Records {
         ensures state { self.new ≡ fold hand_over self.old (resources_of self.old process) }
         ensures touched { IsVacating self.old process self.new touched.old touched.new }
     {
-        while let Some(resource) = self.owned.first(process) {
+        let mut next = self.owned.first(process);
+        while let Some(resource) = next {
+            // Read before the hand-over, which writes the links: so it does not wait for them.
+            let following = self.owned.next(resource);
             self.hand_over(resource, touched);
+            next = match following {
+                Some(_) => following,
+                None => self.owned.first(process),
+            };
         }
     }
 

@@ -1,14 +1,18 @@
-use Rattle.std.proofs.Common.{length}
+use Rattle.std.proofs.Common.{◌≡◌, ℕ, [], Some, None, length}
+use Rattle.mm_lists.specs.Members.{Among}
 use Rattle.mm_rules.specs.TableState.{resources_of}
 use Rattle.mm_rules.proofs.States.HandOverAll.{IsUnderWay}
 use Rattle.mm_settle.specs.private.Vacating.{IsVacating}
 use Rattle.mm_table.proofs.records.Records.hand_over_all.Given as goal
 
-abbrev pub invariant-loop-resource : goal.invariant-loop-resource
-invariant-loop-resource l = record {
+-- `next` is owned still; where there is none, nothing is
+abbrev pub invariant-loop-next : goal.invariant-loop-next
+invariant-loop-next l = record {
   way : IsUnderWay l.fn.self l.self l.process;
   vacating : IsVacating l.fn.self l.process l.self l.fn.touched l.touched;
+  owned : (r : ℕ) → l.next ≡ Some r → Among r (resources_of l.self l.process);
+  none : l.next ≡ None → resources_of l.self l.process ≡ [];
 }
 
-abbrev pub decreases-loop-resource : goal.decreases-loop-resource
-decreases-loop-resource l = length (resources_of l.self l.process)
+abbrev pub decreases-loop-next : goal.decreases-loop-next
+decreases-loop-next l = length (resources_of l.self l.process)
