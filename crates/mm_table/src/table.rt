@@ -110,7 +110,7 @@ impl Table {
         ensures room { vec_capacity wake.new ≡ vec_capacity wake.old }
     {
         let answer = self.records.release(key, resource, &mut self.touched);
-        move_listing(&mut self.touched, &mut self.changed, wake);
+        self.touched.move_all(&mut self.changed, wake);
         answer
     }
 
@@ -135,7 +135,7 @@ impl Table {
         ensures room { vec_capacity wake.new ≡ vec_capacity wake.old }
     {
         let answer = self.records.finish(key, &mut self.touched);
-        move_listing(&mut self.touched, &mut self.changed, wake);
+        self.touched.move_all(&mut self.changed, wake);
         answer
     }
 
@@ -180,7 +180,7 @@ impl Table {
         ensures room { vec_capacity wake.new ≡ vec_capacity wake.old }
     {
         let answer = self.records.abort(key, &mut self.touched);
-        move_listing(&mut self.touched, &mut self.changed, wake);
+        self.touched.move_all(&mut self.changed, wake);
         answer
     }
 
@@ -309,18 +309,4 @@ fn empty_set(alloc: Global, processes: u32) -> Result<Marks, Refusal>
         return Err(Refusal::Memory);
     };
     Ok(set)
-}
-
-/// Moves all members of a set into another one, and lists them by rising number.
-fn move_listing(from: &mut Marks, to: &mut Marks, list: &mut Vec<u32>)
-    requires sized { length to.old ≡ length from.old }
-    requires room { length from.old ≤ vec_capacity list.old }
-    ensures listed { list.new.items ≡ members from.old }
-    ensures emptied { from.new ≡ replicate (length from.old) false }
-    ensures union { (k : ℕ) → has to.new k ≡ (has to.old k || has from.old k) }
-    ensures sized { length to.new ≡ length to.old }
-    ensures room { vec_capacity list.new ≡ vec_capacity list.old }
-{
-    to.add_all(from);
-    from.take_all(list);
 }

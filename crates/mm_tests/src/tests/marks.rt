@@ -18,18 +18,20 @@ fn takes_the_first_from_a_place(rt: HostRuntime) -> Result<(), Fail> {
 
 // The second example of README.md.
 #[test]
-fn adds_lists_and_clears(rt: HostRuntime) -> Result<(), Fail> {
+fn moves_lists_and_clears(rt: HostRuntime) -> Result<(), Fail> {
     let mut marks = Marks::new(rt.alloc(), 200)?;
     let mut other = Marks::new(rt.alloc(), 200)?;
     let mut list = Vec::with_capacity(rt.alloc(), 200)?;
     other.add(64);
     other.add(7);
     marks.add(130);
-    marks.add_all(&other);
+    other.move_all(&mut marks, &mut list);
+    same(&rt, list.as_slice(), &[7, 64]);
+    same(&rt, other.next(0), None);
     marks.take_all(&mut list);
     same(&rt, list.as_slice(), &[7, 64, 130]);
     same(&rt, marks.next(0), None);
-    same(&rt, other.next(8), Some(64));
+    other.add(64);
     other.clear();
     same(&rt, other.next(0), None);
     Ok(())
