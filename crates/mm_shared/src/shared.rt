@@ -16,7 +16,7 @@ use std::fmt;
 use std::fmt::{Debug, Formatter};
 use std::marker::Model;
 use std::sync::ledger::Ledger;
-use std::sync::{Mutex, Wait};
+use std::sync::{Mutex, MutexGuard, Wait};
 
 /// A lock table that threads share by reference: an `Inside` behind one lock, and beside it the board on which its labels and holders are
 /// read without the lock.
@@ -78,6 +78,21 @@ impl<N: Name, A: Ledger, V: Ledger, B: Ledger> SharedTable<N, A, V, B> {
         lock.into_inner().into_inner().into_inner()
     }
 
+    /// Takes the lock: in place where it is free, since `lock` itself is too long for that.
+    #[inline(always)]
+    fn locked<R: Wait>(&self, rt: &R) -> MutexGuard<'_, CachePadded<Inside<N, A, V, B>>> {
+        match self.lock.try_lock() {
+            Some(guard) => guard,
+            None => self.awaited(rt),
+        }
+    }
+
+    /// Waits for the lock, and takes it.
+    #[inline(never)]
+    fn awaited<R: Wait>(&self, rt: &R) -> MutexGuard<'_, CachePadded<Inside<N, A, V, B>>> {
+        self.lock.lock(rt)
+    }
+
     /// How many processes the table has. Constant time, and takes no lock.
     pub fn processes(&self) -> u32
         ensures { result ≡ self.now }
@@ -96,13 +111,15 @@ impl<N: Name, A: Ledger, V: Ledger, B: Ledger> SharedTable<N, A, V, B> {
         ensures seen { pass.new.seen ≡ pass.old.seen }
         ensures refused { OnErr result (pass.new ≡ pass.old) }
     {
-        self.lock.lock(rt).begin(&self.board, pass)
+        self.locked(rt).begin(&self.board, pass)
     }
 
     /// `Table::acquire`: grants a free resource; for an owned one the transaction waits, last in its queue, with a fresh label.
     /// Where it waits, the pass has seen that label on the board afterwards.
     ///
     /// Refused as `CountsExhausted`, `Stale`, `NoResource`, `Waiting`, `AlreadyOwns` or `LabelsExhausted`. Constant time.
+    // In place: the call most made, and a granted one does less than a call from here would cost.
+    #[inline(always)]
     pub fn acquire<R: Wait>(
         &self,
         rt: &R,
@@ -118,7 +135,7 @@ impl<N: Name, A: Ledger, V: Ledger, B: Ledger> SharedTable<N, A, V, B> {
         ensures rises { NoneFalls pass.old.seen.labels pass.new.seen.labels }
         ensures refused { OnErr result (pass.new ≡ pass.old) }
     {
-        self.lock.lock(rt).acquire(&self.board, pass, key, resource)
+        self.locked(rt).acquire(&self.board, pass, key, resource)
     }
 
     /// `Table::release`: hands the resource over to its longest waiter, or frees it.
@@ -138,7 +155,7 @@ impl<N: Name, A: Ledger, V: Ledger, B: Ledger> SharedTable<N, A, V, B> {
         ensures seen { pass.new.seen ≡ pass.old.seen }
         ensures refused { OnErr result (pass.new ≡ pass.old) }
     {
-        self.lock.lock(rt).release(&self.board, pass, key, resource)
+        self.locked(rt).release(&self.board, pass, key, resource)
     }
 
     /// `Table::finish`: ends the transaction, hands over all that it owns, and frees its slot.
@@ -157,7 +174,7 @@ impl<N: Name, A: Ledger, V: Ledger, B: Ledger> SharedTable<N, A, V, B> {
         ensures seen { pass.new.seen ≡ pass.old.seen }
         ensures refused { OnErr result (pass.new ≡ pass.old) }
     {
-        self.lock.lock(rt).finish(&self.board, pass, key)
+        self.locked(rt).finish(&self.board, pass, key)
     }
 
     /// `Table::transmit`: the waiting transaction takes over its holder's public label where that is greater.
@@ -178,7 +195,7 @@ impl<N: Name, A: Ledger, V: Ledger, B: Ledger> SharedTable<N, A, V, B> {
         ensures rises { NoneFalls pass.old.seen.labels pass.new.seen.labels }
         ensures refused { OnErr result (pass.new ≡ pass.old) }
     {
-        self.lock.lock(rt).transmit(&self.board, pass, key)
+        self.locked(rt).transmit(&self.board, pass, key)
     }
 
     /// `Table::detect`: gives the waiting transaction a verdict where its label has come round to its holder. A new verdict adds one to the
@@ -198,7 +215,7 @@ impl<N: Name, A: Ledger, V: Ledger, B: Ledger> SharedTable<N, A, V, B> {
         ensures seen { pass.new.seen ≡ pass.old.seen }
         ensures refused { OnErr result (pass.new ≡ pass.old) }
     {
-        self.lock.lock(rt).detect(&self.board, pass, key)
+        self.locked(rt).detect(&self.board, pass, key)
     }
 
     /// `Table::abort`: ends a transaction with a verdict, as `finish` ends an active one. It adds one to the pass's third share.
@@ -217,7 +234,7 @@ impl<N: Name, A: Ledger, V: Ledger, B: Ledger> SharedTable<N, A, V, B> {
         ensures seen { pass.new.seen ≡ pass.old.seen }
         ensures refused { OnErr result (pass.new ≡ pass.old) }
     {
-        self.lock.lock(rt).abort(&self.board, pass, key)
+        self.locked(rt).abort(&self.board, pass, key)
     }
 
     /// `Table::settle`: transmits and detects for all that wait, until neither has anything left to do. It adds the new verdicts to the
@@ -232,7 +249,7 @@ impl<N: Name, A: Ledger, V: Ledger, B: Ledger> SharedTable<N, A, V, B> {
         ensures seen { pass.new.seen ≡ pass.old.seen }
         ensures refused { OnErr result (pass.new ≡ pass.old) }
     {
-        self.lock.lock(rt).settle(&self.board, pass)
+        self.locked(rt).settle(&self.board, pass)
     }
 
     /// `Table::state`: what the transaction does, and its two labels.
@@ -246,7 +263,7 @@ impl<N: Name, A: Ledger, V: Ledger, B: Ledger> SharedTable<N, A, V, B> {
     ) -> Result<State, Refusal>
         ensures { _pass.new ≡ _pass.old }
     {
-        self.lock.lock(rt).state(key)
+        self.locked(rt).state(key)
     }
 
     /// `Table::owner`: the key that owns the resource; `None` where it is free.
@@ -260,7 +277,7 @@ impl<N: Name, A: Ledger, V: Ledger, B: Ledger> SharedTable<N, A, V, B> {
     ) -> Result<Option<Key>, Refusal>
         ensures { _pass.new ≡ _pass.old }
     {
-        self.lock.lock(rt).owner(resource)
+        self.locked(rt).owner(resource)
     }
 
     /// `Table::tenant`: the live key of the process; `None` where it has none, or is not one of the table's.
@@ -269,7 +286,7 @@ impl<N: Name, A: Ledger, V: Ledger, B: Ledger> SharedTable<N, A, V, B> {
     pub fn tenant<R: Wait>(&self, rt: &R, _pass: &mut Pass<N, A, V, B>, process: u32) -> Option<Key>
         ensures { _pass.new ≡ _pass.old }
     {
-        self.lock.lock(rt).tenant(process)
+        self.locked(rt).tenant(process)
     }
 }
 
