@@ -8,8 +8,8 @@
 mod script;
 
 pub use mm_workers::{
-    Client, Counts, Desk, End, Gate, Outcome, Report, SharedGate, Steps, Transmitter, run_threads,
-    shared_gates,
+    Client, Counts, Desk, End, Gate, Hint, HintKind, Outcome, Report, SharedGate, Steps,
+    Transmitter, run_threads, shared_gates,
 };
 pub use mm_workload::{Config, Place, StepFault, WorkFault, WorkStep, Workload, storm};
 pub use script::{ScriptFault, run_script};
