@@ -3,7 +3,7 @@
 //! - `command_line`: what the words of the command line ask for.
 //! - `help`: the text of the help.
 //! - `file`: the bytes of a file.
-//! - `work`: runs of workloads. `work_end`: what came of one. `verbose`: what a person is told meanwhile.
+//! - `work`: runs of workloads. `work_end`: what came of one. `verbose`: what is printed meanwhile for a person.
 //! - `ending`: how a run of the program ends, and the status that it exits with.
 #![tactic(auto)]
 
@@ -29,7 +29,7 @@ use std::process::ExitCode;
 use std::rt::Runtime;
 use std::sync::Wait;
 use std::thread::Threads;
-use verbose::told;
+use verbose::run_verbose;
 use work::{WRITE_FAULT, generated, printed, storm_on, threads_on};
 use work_end::WorkEnd;
 
@@ -84,7 +84,7 @@ fn threads<R: Runtime + Threads + Wait + Sync, W: Write>(
     };
     let bytes = bytes.as_slice();
     written(if verbose {
-        told(rt, alloc, file, Workload::read(alloc, bytes), output)
+        run_verbose(rt, alloc, file, Workload::read(alloc, bytes), output)
     } else {
         threads_on(rt, alloc, bytes, output)
     })
@@ -99,7 +99,7 @@ fn stormed<R: Runtime + Threads + Wait + Sync, W: Write>(
     output: &mut W,
 ) -> Result<u8, ScriptFault> {
     written(if verbose {
-        told(rt, alloc, "storm", generated(alloc, options), output)
+        run_verbose(rt, alloc, "storm", generated(alloc, options), output)
     } else {
         storm_on(rt, alloc, options, output)
     })

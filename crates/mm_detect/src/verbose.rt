@@ -1,5 +1,7 @@
-//! What a person is told on standard error while a workload is run. Where that cannot be written, it is not told, and the run goes on.
-ghost use Rattle.std.specs.Prelude.{◌≡◌, ◌+◌, length, vec_len};
+//! What is printed on standard error for a person while a workload is run. Where that cannot be written, it is left out, and the run goes on.
+ghost use Rattle.std.specs.Prelude.{◌≡◌, ◌≢◌, ◌+◌, IsErrAnd, length, vec_len};
+ghost use Rattle.mm_workload.specs.declared.fault.WorkFault.TheVariants.{Memory};
+ghost use Rattle.mm_detect.specs.WorkEnd.{work_status};
 
 use crate::work::printed;
 use crate::work_end::WorkEnd;
@@ -17,15 +19,17 @@ use std::time::{Clock, Duration, Instant};
 
 /// Runs the workload, if there is one, prints what came of it as without the flag, and returns the status. `name` is what the workload
 /// comes from.
-pub fn told<R: Clock + Eprint + Threads + Wait + Sync, W: Write>(
+pub fn run_verbose<R: Clock + Eprint + Threads + Wait + Sync, W: Write>(
     rt: &R,
     alloc: Global,
     name: &str,
     read: Result<Workload, WorkFault>,
     writer: &mut W,
-) -> u8 {
+) -> u8
+    ensures { result ≡ 1 → IsErrAnd read (λ fault. ¬ (fault ≡ Memory)) }
+{
     let end = match read {
-        Ok(work) => told_end(rt, alloc, name, &work),
+        Ok(work) => verbose_end(rt, alloc, name, &work),
         Err(WorkFault::Malformed(place)) => {
             let _ = eprintln!(rt; "{name}: {place}");
             WorkEnd::Malformed(place)
@@ -35,26 +39,28 @@ pub fn told<R: Clock + Eprint + Threads + Wait + Sync, W: Write>(
     printed(&end, writer)
 }
 
-/// Runs the workload, and tells what is run, how far it is, and how it ended.
-fn told_end<R: Clock + Eprint + Threads + Wait + Sync>(
+/// Runs the workload, and prints what is run, how far it is, and how it ended.
+fn verbose_end<R: Clock + Eprint + Threads + Wait + Sync>(
     rt: &R,
     alloc: Global,
     name: &str,
     work: &Workload,
-) -> WorkEnd {
-    tell_what(rt, name, work);
+) -> WorkEnd
+    ensures { work_status result ≢ 1 }
+{
+    print_workload(rt, name, work);
     let begun = Instant::now(rt).ok();
     match run(rt, alloc, work) {
         Ok(outcome) => {
-            tell_ends(rt, outcome.ends.as_slice());
-            tell_took(rt, begun, outcome.report.accepted);
+            print_ends(rt, outcome.ends.as_slice());
+            print_duration(rt, begun, outcome.report.accepted);
             WorkEnd::Ran(outcome)
         }
         Err(refusal) => WorkEnd::Refused(refusal),
     }
 }
 
-fn tell_what(rt: &(impl Clock + Eprint), name: &str, work: &Workload) {
+fn print_workload(rt: &(impl Clock + Eprint), name: &str, work: &Workload) {
     let config = work.config();
     let (clients, transmitters) = (work.clients().len(), work.transmitters());
     let _ = eprintln!(rt;
@@ -67,8 +73,8 @@ fn tell_what(rt: &(impl Clock + Eprint), name: &str, work: &Workload) {
     );
 }
 
-/// Tells of each client that did not finish how it ended. Clients count from 1.
-fn tell_ends(rt: &(impl Clock + Eprint), ends: &[End]) {
+/// Prints of each client that did not finish how it ended. Clients count from 1.
+fn print_ends(rt: &(impl Clock + Eprint), ends: &[End]) {
     for (place, end) in ends.iter().enumerate() {
         let client = place.wrapping_add(1);
         let _ = match end {
@@ -80,8 +86,8 @@ fn tell_ends(rt: &(impl Clock + Eprint), ends: &[End]) {
     }
 }
 
-/// Tells how long it took, and how many calls of the table were accepted.
-fn tell_took(rt: &(impl Clock + Eprint), begun: Option<Instant>, accepted: u64) {
+/// Prints how long it took, and how many calls of the table were accepted.
+fn print_duration(rt: &(impl Clock + Eprint), begun: Option<Instant>, accepted: u64) {
     let took = match begun {
         Some(begun) => begun.elapsed(rt).ok(),
         None => None,
@@ -142,7 +148,7 @@ fn run_watched<'s, 'e, R: Clock + Eprint + Threads + Wait + Sync>(
     outcome
 }
 
-/// What a thread says of a run while it goes on.
+/// What a thread prints of a run while it goes on.
 #[derive(Drop)]
 struct Watch<'a, R: Wait> {
     gate: SharedGate<'a, R>,
@@ -151,7 +157,7 @@ struct Watch<'a, R: Wait> {
 }
 
 impl<'a, R: Clock + Eprint + Wait> Watch<'a, R> {
-    /// Says every second how many clients have ended, until the run is over.
+    /// Prints every second how many clients have ended, until the run is over.
     fn run(&self, rt: &R) {
         for round in 1..u64::MAX {
             if self.is_over.load(SeqCst) {
@@ -159,12 +165,12 @@ impl<'a, R: Clock + Eprint + Wait> Watch<'a, R> {
             }
             thread::sleep(rt, Duration::from_millis(10));
             if round % 100 == 0 {
-                self.say(rt, round / 100);
+                self.print(rt, round / 100);
             }
         }
     }
 
-    fn say(&self, rt: &R, seconds: u64) {
+    fn print(&self, rt: &R, seconds: u64) {
         let ended = self.gate.counts().left;
         let _ = eprintln!(rt;
             "after {seconds} s: clients ended {ended} of {}",

@@ -1,6 +1,7 @@
 //! Runs of workloads, on threads.
-ghost use Rattle.std.specs.Prelude.{◌≡◌, ◌≢◌, ◌⊎◌, IfErr};
+ghost use Rattle.std.specs.Prelude.{◌≡◌, ◌≢◌, ◌⊎◌, MatchResult};
 ghost use Rattle.mm_workload.specs.Json.{SaysNone};
+ghost use Rattle.mm_workload.specs.Storm.{storm_of};
 ghost use Rattle.mm_workload.specs.declared.fault.WorkFault.TheVariants.{Memory};
 ghost use Rattle.mm_detect.specs.WorkEnd.{EndsAs, work_status};
 
@@ -46,7 +47,7 @@ pub fn storm_on<R: Threads + Wait + Sync, W: Write>(
 
 /// The workload that is generated from these numbers.
 pub fn generated(alloc: Global, options: StormOptions) -> Result<Workload, WorkFault>
-    ensures { IfErr result (λ fault. fault ≡ Memory) }
+    ensures { MatchResult result (λ work. work ≡ storm_of options.seed options.clients options.transmitters) (λ fault. fault ≡ Memory) }
 {
     storm(alloc, options.seed, options.clients, options.transmitters)
 }
