@@ -1,6 +1,13 @@
-//! The word that keeps a holder: 0 for none, and else the number of the process and one.
+//! A holder, and the word that keeps it: 0 for none, and else the number of the process and one.
 ghost use Rattle.std.specs.Prelude.{◌≡◌, ◌<◌, ◌^◌};
 ghost use Rattle.mm_board.specs.Views.{holder_of};
+
+/// A process that was seen to have a holder.
+#[derive(Clone, Copy, Debug, PartialEq, Eq)]
+pub struct Waiter {
+    pub process: u32,
+    pub holder: u32,
+}
 
 /// The word that keeps this holder.
 #[inline]

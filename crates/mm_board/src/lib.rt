@@ -5,7 +5,7 @@
 //! - `board`: `RawBoard`, a board before it has a name, and `Board`, the words that all threads share.
 //! - `publisher`: `Publisher`, the one who stores.
 //! - `reader`: `Reader`, who loads.
-//! - `holder`: the word that keeps a holder.
+//! - `holder`: `Waiter`, a process that has a holder, and the word that keeps one.
 //! - `views`: what contracts know of the publisher and of a reader.
 //! - `rule`: the rule that holds between any two steps, and the names of boards.
 //! - `steps`: the kinds of step.
@@ -22,6 +22,7 @@ mod steps;
 mod views;
 
 pub use board::{Board, MOST_PROCESSES, RawBoard};
+pub use holder::Waiter;
 pub use memory::Memory;
 pub use publisher::Publisher;
 pub use reader::Reader;

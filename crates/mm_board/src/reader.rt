@@ -1,10 +1,11 @@
 //! Who loads labels and holders.
-ghost use Rattle.std.specs.Prelude.{◌≡◌, ◌<◌, length, IfSome, IsTrue};
+ghost use Rattle.std.specs.Prelude.{◌≡◌, ◌≤◌, ◌<◌, length, IfSome, IsTrue};
 ghost use Rattle.mm_label.specs.Label.{label_le};
 ghost use Rattle.mm_board.specs.Views.{label_at, with_seen, new_seen, IsAnother};
 
 use crate::board::Board;
 use crate::holder;
+use crate::holder::Waiter;
 use crate::rule::Name;
 use crate::steps::{LoadsHolder, LoadsLabel, Splits};
 use crate::views::View;
@@ -57,12 +58,40 @@ impl<N: Name> Reader<N> {
         ensures holder { IfSome result (λ holder. IsAnother board.now process holder) }
         ensures same { self.new ≡ self.old }
     {
-        let place = board.processes as usize + process as usize;
+        self.holder_among(board, board.processes, process)
+    }
+
+    /// `read_holder` of a board that has so many processes.
+    #[inline]
+    fn holder_among(&mut self, board: &Board<N>, processes: u32, process: u32) -> Option<u32>
+        requires number { processes ≡ board.now }
+        requires process { process < board.now }
+        ensures holder { IfSome result (λ holder. IsAnother board.now process holder) }
+        ensures same { self.new ≡ self.old }
+    {
+        let place = processes as usize + process as usize;
         let word = board
             .table
             .shared
             .load::<LoadsHolder>(&mut self.seat, place);
         holder::of_word(word)
+    }
+
+    /// Loads the holders of the processes from this one on, by rising number, until there is one. `None` where none of them had one as
+    /// its word was loaded. `O(processes looked at)`: one load for each.
+    pub fn next_waiter(&mut self, board: &Board<N>, from: u32) -> Option<Waiter>
+        ensures process { IfSome result (λ waiter. (from ≤ waiter.process) × (waiter.process < board.now)) }
+        ensures holder { IfSome result (λ waiter. IsAnother board.now waiter.process waiter.holder) }
+        ensures same { self.new ≡ self.old }
+    {
+        // A number of its own, which need not be read again after each load.
+        let processes = board.processes;
+        for process in from..processes {
+            if let Some(holder) = self.holder_among(board, processes, process) {
+                return Some(Waiter { process, holder });
+            }
+        }
+        None
     }
 
     /// Another reader, which has seen the same labels and has loaded none. Constant time: one load.

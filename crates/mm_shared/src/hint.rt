@@ -1,9 +1,9 @@
 //! What a look at the board suggests.
 ghost use Rattle.std.specs.Prelude.{◌≡◌, ◌<◌, IfSome};
-ghost use Rattle.mm_board.specs.Views.{NoneFalls};
+ghost use Rattle.mm_board.specs.Views.{IsAnother, NoneFalls};
 ghost use Rattle.mm_shared.specs.Hints.{IsHint};
 
-use mm_board::{Board, Name, Reader};
+use mm_board::{Board, Name, Reader, Waiter};
 
 /// How the two labels compare that were seen.
 #[derive(Clone, Copy, Debug, PartialEq, Eq)]
@@ -25,14 +25,15 @@ pub struct Hint {
     pub kind: HintKind,
 }
 
-/// Looks at one process. `None` where it has no holder, or where the holder's label is seen below its own.
-fn look<N: Name>(board: &Board<N>, reader: &mut Reader<N>, process: u32) -> Option<Hint>
-    requires { process < board.now }
-    ensures hint { IfSome result (λ hint. IsHint board.now process reader.new.labels hint) }
+/// Looks at the labels of a process and of its holder. `None` where the holder's is seen below its own.
+fn hint_of<N: Name>(board: &Board<N>, reader: &mut Reader<N>, waiter: Waiter) -> Option<Hint>
+    requires process { waiter.process < board.now }
+    requires holder { IsAnother board.now waiter.process waiter.holder }
+    ensures hint { IfSome result (λ hint. IsHint board.now waiter.process reader.new.labels hint) }
     ensures rises { NoneFalls reader.old.labels reader.new.labels }
 {
     reader.fits(board);
-    let holder = reader.read_holder(board, process)?;
+    let Waiter { process, holder } = waiter;
     let own = reader.read_label(board, process);
     let its = reader.read_label(board, holder);
     if own < its {
@@ -61,10 +62,15 @@ pub(crate) fn first_hint<N: Name>(
     ensures hint { IfSome result (λ hint. IsHint board.now from reader.new.labels hint) }
     ensures rises { NoneFalls reader.old.labels reader.new.labels }
 {
-    for process in from..board.processes() {
-        if let Some(hint) = look(board, reader, process) {
-            return Some(hint);
+    let processes = board.processes();
+    let mut next = from;
+    while next < processes {
+        let waiter = reader.next_waiter(board, next)?;
+        let hint = hint_of(board, reader, waiter);
+        if hint.is_some() {
+            return hint;
         }
+        next = waiter.process + 1;
     }
     None
 }

@@ -3,7 +3,7 @@ ghost use Rattle.mm_label.specs.Label.{opening_label};
 ghost use Rattle.mm_board.specs.Views.{processes_of, current_label};
 
 use crate::tests::same::same;
-use mm_board::{Board, Name, Publisher, RawBoard, Reader};
+use mm_board::{Board, Name, Publisher, RawBoard, Reader, Waiter};
 use mm_label::Label;
 use std::marker::Brand;
 use std::process::Abort;
@@ -28,6 +28,9 @@ fn store_read_and_show<N: Name, R: Abort>(rt: &R, raw: RawBoard)
     same(rt, reader.read_label(&board, 1), label(4, 1));
     publisher.store_holder(&board, 0, Some(1));
     same(rt, reader.read_holder(&board, 0), Some(1));
+    let waiter = Waiter { process: 0, holder: 1 };
+    same(rt, reader.next_waiter(&board, 0), Some(waiter));
+    same(rt, reader.next_waiter(&board, 1), None);
     publisher.store_holder(&board, 0, None);
     same(rt, reader.read_holder(&board, 0), None);
     let mut other = reader.split(&board);

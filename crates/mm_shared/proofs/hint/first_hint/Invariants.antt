@@ -1,5 +1,12 @@
+use Rattle.std.proofs.Common.{◌≤◌, ◌-◌}
 use Rattle.mm_board.specs.Views.{NoneFalls}
 use Rattle.mm_shared.proofs.hint.first_hint.Given as goal
 
-abbrev pub invariant-loop-process : goal.invariant-loop-process
-invariant-loop-process g l = NoneFalls l.initial.reader.labels l.reader.labels
+abbrev pub invariant-loop-next : goal.invariant-loop-next
+invariant-loop-next g l = record {
+  onward : l.fn.from ≤ l.next;
+  rises : NoneFalls l.fn.reader.labels l.reader.labels;
+}
+
+abbrev pub decreases-loop-next : goal.decreases-loop-next
+decreases-loop-next g l = l.board - l.next
