@@ -2,6 +2,7 @@
 
 mod close;
 mod deadlocks;
+mod labels;
 mod look;
 mod threads;
 mod worker;

@@ -3,8 +3,8 @@ ghost use Rattle.std.specs.Prelude.{◌≡◌};
 
 use crate::tests::same::same;
 use crate::tests::shared::config;
-use crate::tests::shared::worker::Worker;
-use mm_shared::{Name, Prepared, Report};
+use crate::tests::shared::worker::{NOTHING, Worker};
+use mm_shared::{Name, Prepared};
 use std::alloc::{AllocError, Global};
 use std::marker::Brand;
 use std::process::Abort;
@@ -19,14 +19,6 @@ const THREADS: u32 = 8;
 /// How many transactions each thread makes. Each one meets one of its partner's in a deadlock, which one of the two breaks. Each makes at
 /// least four calls that are accepted, so together they make a million.
 const ROUNDS: u64 = 31_250;
-
-fn sum(first: Report, second: Report) -> Report {
-    Report {
-        accepted: first.accepted.saturating_add(second.accepted),
-        verdicts: first.verdicts.saturating_add(second.verdicts),
-        aborts: first.aborts.saturating_add(second.aborts),
-    }
-}
 
 fn eight_threads<
     N: Name + Send + Sync,
@@ -53,14 +45,9 @@ fn eight_threads<
         workers,
         &|worker: Worker<N, A, V, B>| worker.work(rt, shared, ROUNDS),
     )?;
-    let mut made = Report {
-        accepted: 0,
-        verdicts: 0,
-        aborts: 0,
-    };
+    let mut made = NOTHING;
     for worker in ended {
-        made = sum(made, worker.made);
-        pass.join(&table, worker.pass);
+        worker.join_to(&table, &mut pass, &mut made);
     }
     let deadlocks = u64::from(THREADS) / 2 * ROUNDS;
     assert!(rt; made.accepted >= 1_000_000);

@@ -5,6 +5,13 @@ use std::sync::Wait;
 use std::sync::ledger::Ledger;
 use std::thread;
 
+/// What was made at first.
+pub const NOTHING: Report = Report {
+    accepted: 0,
+    verdicts: 0,
+    aborts: 0,
+};
+
 /// A thread's number, its pass, and how many of its calls were accepted, gave a verdict, or were accepted aborts.
 ///
 /// Its own resource has its number. Its partner has that number with the last bit turned.
@@ -20,11 +27,7 @@ impl<N: Name, A: Ledger, V: Ledger, B: Ledger> Worker<N, A, V, B> {
         Worker {
             number,
             pass,
-            made: Report {
-                accepted: 0,
-                verdicts: 0,
-                aborts: 0,
-            },
+            made: NOTHING,
         }
     }
 
@@ -126,5 +129,18 @@ impl<N: Name, A: Ledger, V: Ledger, B: Ledger> Worker<N, A, V, B> {
         if accepted {
             self.made.accepted = self.made.accepted.saturating_add(1);
         }
+    }
+
+    /// Joins its pass to this one, and adds what it made to this report.
+    pub fn join_to(
+        self,
+        table: &SharedTable<N, A, V, B>,
+        pass: &mut Pass<N, A, V, B>,
+        made: &mut Report,
+    ) {
+        made.accepted = made.accepted.saturating_add(self.made.accepted);
+        made.verdicts = made.verdicts.saturating_add(self.made.verdicts);
+        made.aborts = made.aborts.saturating_add(self.made.aborts);
+        pass.join(table, self.pass);
     }
 }
