@@ -10,6 +10,8 @@ PROVED = os.path.join(HERE, "..", "crates", "mm_shared_times", "out", "mm_shared
 CALLS = 18  # of a transaction: begin, 16 acquires, finish
 TRANSACTIONS = 200_000  # of all threads together
 STORM_TRANSACTIONS = 1_000  # of all clients of all storms together
+LONG_TRANSACTIONS = 20_000  # of all clients of a long storm together
+KINDS = ("scanning", "asking")  # of transmitters
 # Works at a board, with how many calls each repetition makes, and how often it is repeated in a turn.
 WORKS = {
     "grants": ("begin, acquire, release, finish", 4, 100_000),
@@ -57,12 +59,13 @@ def in_turn(measure, commands, number):
     return taken
 
 
-def head(text):
-    print("%-50s %4s %11s %11s %6s" % (text, "", "proved", "plain", "ratio"))
+def head(text, first="proved", second="plain"):
+    print("%-50s %4s %11s %11s %6s" % (text, "", first, second, "ratio"))
 
 
-def line(text, number, proved, plain, unit):
-    print("%-50s %4d %11.2f %11.2f %6.2f  %s" % (text, number, proved, plain, proved / plain, unit), flush=True)
+def line(text, number, first, second, unit):
+    ratio = "%6.2f" % (first / second) if second else "%6s" % "-"
+    print("%-50s %4d %11.2f %11.2f %s  %s" % (text, number, first, second, ratio, unit), flush=True)
 
 
 def shared_table():
@@ -83,6 +86,30 @@ def storms():
         rates = in_turn(storm_rate, commands, clients)
         for name, pick in (("most", max), ("median", statistics.median)):
             line("by %d clients, %s of %d" % (clients, name, TURNS), clients, *map(pick, rates), "a second")
+
+
+def long_storm(command, clients):
+    """Of one run of a long storm: transactions a second, and for each transaction the calls that took the lock, those of them that
+    transmitters made, and the acquires that had to wait."""
+    count = LONG_TRANSACTIONS // clients
+    nanoseconds, finished, aborted, waits, of_clients, of_transmitters = numbers(*command, clients, count)
+    done = finished + aborted
+    if done != clients * count:
+        sys.exit("%s: %d transactions finished, %d were aborted" % (command, finished, aborted))
+    return done * 1e9 / nanoseconds, (of_clients + of_transmitters) / done, of_transmitters / done, waits / done
+
+
+def transmitters():
+    """For each number of clients, long storms beside transmitters of either kind."""
+    head("long storms: transactions a second", *KINDS)
+    commands = [[PROVED, "transmitters", kind] for kind in KINDS]
+    for clients in (1, 2, 4, 8):
+        runs = [list(zip(*taken)) for taken in in_turn(long_storm, commands, clients)]
+        rates, *others = zip(*runs)
+        for name, pick in (("most", max), ("median", statistics.median)):
+            line("by %d clients, %s of %d" % (clients, name, TURNS), clients, *map(pick, rates), "a second")
+        for name, each in zip(("calls that took the lock", "of them by transmitters", "acquires that waited"), others):
+            line("  %s, median" % name, clients, *map(statistics.median, each), "a transaction")
 
 
 def work_time(command, name, processes):
@@ -106,3 +133,4 @@ def board():
 shared_table()
 board()
 storms()
+transmitters()

@@ -4,6 +4,10 @@
 //! `mm_shared_times storm CLIENTS COUNT`: the storms of seeds 1 to COUNT with so many clients, one after another. It prints how many
 //! nanoseconds that took, and how many clients finished and how many were aborted.
 //!
+//! `mm_shared_times transmitters KIND CLIENTS COUNT`: so many clients make COUNT transactions each, one after another, those of the storms of
+//! seeds 1 to COUNT, beside transmitters that are `scanning` or `asking`. It prints how many nanoseconds that took, how many transactions
+//! finished and how many were aborted, how many acquires had to wait, and how many calls of clients and of transmitters took the lock.
+//!
 //! `mm_shared_times board WORK PROCESSES COUNT`: one thread does this work COUNT times on a table of so many processes. It prints how many
 //! nanoseconds that took.
 //!
@@ -12,18 +16,27 @@
 //! - `rounds`: what one thread does.
 //! - `threads`: threads that are at work at once.
 //! - `storms`: storms, one after another.
+//! - `long_storm`: a storm that goes on, beside transmitters of either kind. `kinds`: the two kinds. `asking`: those that ask for every
+//!   tenant. `countdown`: their gate. `counted`: a table that counts how often it is called.
 #![tactic(auto)]
 
 ghost use Rattle.std.specs.Prelude.{◌≡◌};
 
+mod asking;
 mod board;
 mod calls;
 mod clock;
+mod countdown;
+mod counted;
+mod kinds;
+mod long_storm;
 mod rounds;
 mod storms;
 mod threads;
 
 use board::{Work, timed_work};
+use kinds::Kind;
+use long_storm::run_long_storm;
 use mm_shared::{Config, Prepared};
 use std::marker::Brand;
 use std::{env, io};
@@ -31,6 +44,12 @@ use storms::run_storms;
 use threads::timed;
 
 const MOST_THREADS: u32 = 64;
+
+/// How many resources there are, but for a long storm.
+const RESOURCES: u32 = 1024;
+
+/// How many resources a storm has.
+const STORM_RESOURCES: u32 = 8;
 
 /// The number that a word of the command line is; 0 where it is none.
 fn number(word: Option<String>) -> u32 {
@@ -41,10 +60,10 @@ fn number(word: Option<String>) -> u32 {
 }
 
 /// The numbers of the table that threads share.
-fn config(processes: u32) -> Config {
+fn config(processes: u32, resources: u32) -> Config {
     Config {
         processes,
-        resources: 1024,
+        resources,
         label_limit: Config::GREATEST_LABEL_LIMIT,
         generation_limit: u32::MAX,
     }
@@ -65,11 +84,29 @@ fn main(rt: HostRuntime) -> io::Result<()> {
         };
         return println!(rt; "{} {} {}", done.nanoseconds, done.finished, done.aborted);
     }
+    if first.as_str() == "transmitters" {
+        let Some(kind) = words.next().and_then(|name| Kind::named(name.as_str())) else {
+            return Ok(());
+        };
+        let clients = number(words.next()).clamp(1, MOST_THREADS);
+        let Ok(prepared) = Prepared::new(rt.alloc(), config(clients, STORM_RESOURCES)) else {
+            return Ok(());
+        };
+        let count = number(words.next());
+        let alloc = rt.alloc();
+        let done = run_long_storm::<Brand, Brand, Brand, Brand, _>(
+            &rt, alloc, prepared, kind, clients, count,
+        );
+        return match done {
+            Ok(done) => println!(rt; "{done}"),
+            Err(_) => Ok(()),
+        };
+    }
     if first.as_str() == "board" {
         let Some(work) = words.next().and_then(|name| Work::named(name.as_str())) else {
             return Ok(());
         };
-        let Ok(prepared) = Prepared::new(rt.alloc(), config(number(words.next()))) else {
+        let Ok(prepared) = Prepared::new(rt.alloc(), config(number(words.next()), RESOURCES)) else {
             return Ok(());
         };
         let count = number(words.next());
@@ -81,7 +118,7 @@ fn main(rt: HostRuntime) -> io::Result<()> {
     if threads == 0 {
         return Ok(());
     }
-    let Ok(prepared) = Prepared::new(rt.alloc(), config(MOST_THREADS)) else {
+    let Ok(prepared) = Prepared::new(rt.alloc(), config(MOST_THREADS, RESOURCES)) else {
         return Ok(());
     };
     let (nanoseconds, done) = timed::<Brand, Brand, Brand, Brand, _>(

@@ -12,7 +12,7 @@ use std::thread::{Scope, Threads};
 use std::time::Clock;
 
 /// A pass for each thread.
-fn passes<N: Name, A: Ledger, V: Ledger, B: Ledger>(
+pub fn passes<N: Name, A: Ledger, V: Ledger, B: Ledger>(
     alloc: Global,
     table: &SharedTable<N, A, V, B>,
     pass: &mut Pass<N, A, V, B>,
