@@ -8,7 +8,7 @@ use crate::kinds::{Kind, TURNS};
 use crate::threads::passes;
 use mm_shared::{Name, Pass, Prepared, SharedTable};
 use mm_workers::{Client, Desk, End};
-use mm_workload::{WorkFault, WorkStep, storm};
+use mm_workload::{WorkFault, WorkStep, Workload, storm};
 use std::alloc::{AllocError, Global};
 use std::fmt::{Display, Formatter};
 use std::sync::Wait;
@@ -99,23 +99,29 @@ impl<N: Name, A: Ledger, V: Ledger, B: Ledger> Job<N, A, V, B> {
     }
 }
 
-/// The work that this client has in the storms of seeds 1 to `count`.
-fn works_of(
-    alloc: Global,
-    client: usize,
-    clients: u32,
-    count: u32,
-) -> Result<Vec<Vec<WorkStep>>, WorkFault>
+/// The steps of all transactions of each client: those that it has in the storms of seeds 1 to `count`.
+fn all_works(alloc: Global, clients: u32, count: u32) -> Result<Vec<Vec<Vec<WorkStep>>>, WorkFault>
     requires { (1 ≤ clients) × (clients ≤ 64) }
 {
-    let mut works = Vec::with_capacity(alloc, count as usize)?;
+    let mut works = Vec::with_capacity(alloc, clients as usize)?;
+    for _ in 0..clients {
+        works.push(Vec::with_capacity(alloc, count as usize)?)?;
+    }
     for place in 0..count {
         let workload = storm(alloc, u64::from(place) + 1, clients, 0)?;
-        if let Some(work) = workload.clients().get(client) {
-            works.push(work.clone()?)?;
-        }
+        add_works(&mut works, &workload)?;
     }
     Ok(works)
+}
+
+/// Adds to the steps of each client those that it has in this storm.
+fn add_works(works: &mut [Vec<Vec<WorkStep>>], workload: &Workload) -> Result<(), AllocError> {
+    for place in 0..works.len() {
+        if let Some(work) = workload.clients().get(place) {
+            works[place].push(work.clone()?)?;
+        }
+    }
+    Ok(())
 }
 
 /// A job for each client.
@@ -123,15 +129,11 @@ fn all_jobs<N: Name, A: Ledger, V: Ledger, B: Ledger>(
     alloc: Global,
     table: &SharedTable<N, A, V, B>,
     pass: &mut Pass<N, A, V, B>,
-    clients: u32,
-    count: u32,
-) -> Result<Vec<Job<N, A, V, B>>, WorkFault>
-    requires { (1 ≤ clients) × (clients ≤ 64) }
-{
-    let mut jobs = Vec::with_capacity(alloc, clients as usize)?;
-    for client in 0..clients {
+    works: Vec<Vec<Vec<WorkStep>>>,
+) -> Result<Vec<Job<N, A, V, B>>, AllocError> {
+    let mut jobs = Vec::with_capacity(alloc, works.len())?;
+    for works in works {
         if pass.parts() > 1 {
-            let works = works_of(alloc, client as usize, clients, count)?;
             let pass = pass.split(table, 1);
             jobs.push(Job { pass, works })?;
         }
@@ -229,7 +231,8 @@ pub fn run_long_storm<
     requires clients { (1 ≤ clients) × (clients ≤ 64) }
 {
     let (table, mut pass) = prepared.open::<N, A, V, B>();
-    let jobs = all_jobs(alloc, &table, &mut pass, clients, count)?;
+    let works = all_works(alloc, clients, count)?;
+    let jobs = all_jobs(alloc, &table, &mut pass, works)?;
     let passes = passes(alloc, &table, &mut pass, TRANSMITTERS)?;
     let transactions = u64::from(clients) * u64::from(count);
     Ok(at_once(rt, alloc, &table, jobs, passes, kind, transactions)?)
