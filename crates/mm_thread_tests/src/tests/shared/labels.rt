@@ -14,13 +14,14 @@ use std::sync::atomic::AtomicBool;
 use std::sync::atomic::Ordering::SeqCst;
 use std::sync::ledger::Ledger;
 use std::test::Fail;
+use std::thread;
 use std::thread::{Threads, join, map_vec};
 
 /// How many pairs of threads there are. The two of a pair make deadlocks with each other.
 const PAIRS: u32 = 3;
 
 /// How many transactions each thread of a pair makes, and how many deadlocks the pair, before it asks whether enough labels were read.
-const ROUNDS: u64 = 2000;
+const ROUNDS: u64 = 1500;
 
 /// How many labels are read at least, from the first one on that rose.
 const READS: u64 = 1_000_000;
@@ -125,6 +126,7 @@ impl<N: Name, A: Ledger, V: Ledger, B: Ledger> Reader<N, A, V, B> {
             if reader.reads >= READS {
                 signals.enough.store(true, SeqCst);
             }
+            thread::yield_now();
         }
         reader
     }
