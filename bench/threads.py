@@ -10,7 +10,7 @@ PROVED = os.path.join(HERE, "..", "crates", "mm_shared_times", "out", "mm_shared
 CALLS = 18  # of a transaction: begin, 16 acquires, finish
 TRANSACTIONS = 200_000  # of all threads together
 STORM_TRANSACTIONS = 1_000  # of all clients of all storms together
-LONG_TRANSACTIONS = 20_000  # of all clients of a long storm together
+LONG_TRANSACTIONS = 100_000  # of all clients of a long storm together
 KINDS = ("scanning", "asking")  # of transmitters
 # Works at a board, with how many calls each repetition makes, and how often it is repeated in a turn.
 WORKS = {

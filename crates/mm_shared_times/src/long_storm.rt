@@ -6,11 +6,12 @@ use crate::countdown::Countdown;
 use crate::counted::{Calls, Counted};
 use crate::kinds::{Kind, TURNS};
 use crate::threads::passes;
-use mm_shared::{Name, Pass, Prepared, SharedTable};
+use mm_shared::{Config, Name, Pass, Prepared, SharedTable};
 use mm_workers::{Client, Desk, End};
 use mm_workload::{WorkFault, WorkStep, Workload, storm};
 use std::alloc::{AllocError, Global};
 use std::fmt::{Display, Formatter};
+use std::marker::Brand;
 use std::sync::Wait;
 use std::sync::atomic::AtomicU64;
 use std::sync::ledger::Ledger;
@@ -20,6 +21,9 @@ use std::{fmt, thread};
 
 /// How many transmitters there are.
 const TRANSMITTERS: u32 = 2;
+
+/// How many resources the table of a storm has.
+const RESOURCES: u32 = 8;
 
 /// What came of a long storm, or of one of its clients.
 #[derive(Clone, Copy)]
@@ -208,9 +212,8 @@ fn at_once<
     Ok(done)
 }
 
-/// A long storm of so many clients, each of which makes `count` transactions: those that its client makes in the storms of seeds 1 to
-/// `count`. It is timed from the start of the first thread to the end of the last.
-pub fn run_long_storm<
+/// The long storm on the table that was prepared for it.
+fn run_on<
     N: Name + Send + Sync,
     A: Ledger + Send + Sync,
     V: Ledger + Send + Sync,
@@ -220,20 +223,40 @@ pub fn run_long_storm<
     rt: &R,
     alloc: Global,
     prepared: Prepared,
+    works: Vec<Vec<Vec<WorkStep>>>,
     kind: Kind,
-    clients: u32,
-    count: u32,
-) -> Result<LongStorm, WorkFault>
+    transactions: u64,
+) -> Result<LongStorm, AllocError>
     requires board { prepared.board ≡ N.board }
     requires accepted { (prepared.accepted.name ≡ A.name) × (prepared.accepted.parts ≡ A.parts) }
     requires verdicts { (prepared.verdicts.name ≡ V.name) × (prepared.verdicts.parts ≡ V.parts) }
     requires aborts { (prepared.aborts.name ≡ B.name) × (prepared.aborts.parts ≡ B.parts) }
-    requires clients { (1 ≤ clients) × (clients ≤ 64) }
 {
     let (table, mut pass) = prepared.open::<N, A, V, B>();
-    let works = all_works(alloc, clients, count)?;
     let jobs = all_jobs(alloc, &table, &mut pass, works)?;
     let passes = passes(alloc, &table, &mut pass, TRANSMITTERS)?;
+    at_once(rt, alloc, &table, jobs, passes, kind, transactions)
+}
+
+/// A long storm of so many clients, each of which makes `count` transactions: those that its client makes in the storms of seeds 1 to
+/// `count`. It is timed from the start of the first thread to the end of the last. `None` where memory is refused.
+pub fn run_long_storm<R: Threads + Wait + Clock + Sync>(
+    rt: &R,
+    alloc: Global,
+    kind: Kind,
+    clients: u32,
+    count: u32,
+) -> Option<LongStorm>
+    requires { (1 ≤ clients) × (clients ≤ 64) }
+{
+    let config = Config {
+        processes: clients,
+        resources: RESOURCES,
+        label_limit: Config::GREATEST_LABEL_LIMIT,
+        generation_limit: u32::MAX,
+    };
+    let prepared = Prepared::new(alloc, config).ok()?;
+    let works = all_works(alloc, clients, count).ok()?;
     let transactions = u64::from(clients) * u64::from(count);
-    Ok(at_once(rt, alloc, &table, jobs, passes, kind, transactions)?)
+    run_on::<Brand, Brand, Brand, Brand, R>(rt, alloc, prepared, works, kind, transactions).ok()
 }

@@ -45,12 +45,6 @@ use threads::timed;
 
 const MOST_THREADS: u32 = 64;
 
-/// How many resources there are, but for a long storm.
-const RESOURCES: u32 = 1024;
-
-/// How many resources a storm has.
-const STORM_RESOURCES: u32 = 8;
-
 /// The number that a word of the command line is; 0 where it is none.
 fn number(word: Option<String>) -> u32 {
     match word {
@@ -60,10 +54,10 @@ fn number(word: Option<String>) -> u32 {
 }
 
 /// The numbers of the table that threads share.
-fn config(processes: u32, resources: u32) -> Config {
+fn config(processes: u32) -> Config {
     Config {
         processes,
-        resources,
+        resources: 1024,
         label_limit: Config::GREATEST_LABEL_LIMIT,
         generation_limit: u32::MAX,
     }
@@ -89,24 +83,17 @@ fn main(rt: HostRuntime) -> io::Result<()> {
             return Ok(());
         };
         let clients = number(words.next()).clamp(1, MOST_THREADS);
-        let Ok(prepared) = Prepared::new(rt.alloc(), config(clients, STORM_RESOURCES)) else {
+        let count = number(words.next());
+        let Some(done) = run_long_storm(&rt, rt.alloc(), kind, clients, count) else {
             return Ok(());
         };
-        let count = number(words.next());
-        let alloc = rt.alloc();
-        let done = run_long_storm::<Brand, Brand, Brand, Brand, _>(
-            &rt, alloc, prepared, kind, clients, count,
-        );
-        return match done {
-            Ok(done) => println!(rt; "{done}"),
-            Err(_) => Ok(()),
-        };
+        return println!(rt; "{done}");
     }
     if first.as_str() == "board" {
         let Some(work) = words.next().and_then(|name| Work::named(name.as_str())) else {
             return Ok(());
         };
-        let Ok(prepared) = Prepared::new(rt.alloc(), config(number(words.next()), RESOURCES)) else {
+        let Ok(prepared) = Prepared::new(rt.alloc(), config(number(words.next()))) else {
             return Ok(());
         };
         let count = number(words.next());
@@ -118,7 +105,7 @@ fn main(rt: HostRuntime) -> io::Result<()> {
     if threads == 0 {
         return Ok(());
     }
-    let Ok(prepared) = Prepared::new(rt.alloc(), config(MOST_THREADS, RESOURCES)) else {
+    let Ok(prepared) = Prepared::new(rt.alloc(), config(MOST_THREADS)) else {
         return Ok(());
     };
     let (nanoseconds, done) = timed::<Brand, Brand, Brand, Brand, _>(

@@ -24,15 +24,3 @@ ghosts-timed_work-V-Ledger g a = record { name = a.prepared.verdicts.name; parts
 
 abbrev pub ghosts-timed_work-B-Ledger : goal.ghosts-timed_work-B-Ledger
 ghosts-timed_work-B-Ledger g a = record { name = a.prepared.aborts.name; parts = a.prepared.aborts.parts }
-
-abbrev pub ghosts-run_long_storm-N-Name : goal.ghosts-run_long_storm-N-Name
-ghosts-run_long_storm-N-Name g a = record { board = a.prepared.board }
-
-abbrev pub ghosts-run_long_storm-A-Ledger : goal.ghosts-run_long_storm-A-Ledger
-ghosts-run_long_storm-A-Ledger g a = record { name = a.prepared.accepted.name; parts = a.prepared.accepted.parts }
-
-abbrev pub ghosts-run_long_storm-V-Ledger : goal.ghosts-run_long_storm-V-Ledger
-ghosts-run_long_storm-V-Ledger g a = record { name = a.prepared.verdicts.name; parts = a.prepared.verdicts.parts }
-
-abbrev pub ghosts-run_long_storm-B-Ledger : goal.ghosts-run_long_storm-B-Ledger
-ghosts-run_long_storm-B-Ledger g a = record { name = a.prepared.aborts.name; parts = a.prepared.aborts.parts }
