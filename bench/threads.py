@@ -10,7 +10,7 @@ PROVED = os.path.join(HERE, "..", "crates", "mm_shared_times", "out", "mm_shared
 CALLS = 18  # of a transaction: begin, 16 acquires, finish
 TRANSACTIONS = 200_000  # of all threads together
 STORM_TRANSACTIONS = 1_000  # of all clients of all storms together
-LONG_TRANSACTIONS = 100_000  # of all clients of a long storm together
+LONG_TRANSACTIONS = 400_000  # of all clients of a long storm together
 KINDS = ("scanning", "asking")  # of transmitters
 # Works at a board, with how many calls each repetition makes, and how often it is repeated in a turn.
 WORKS = {
@@ -24,6 +24,7 @@ WORKS = {
 }
 SCANNED = 4_000_000  # processes looked at in a turn
 TURNS = 25
+LONG_TURNS = 9  # of long storms
 
 
 def numbers(*command):
@@ -50,10 +51,10 @@ def storm_rate(command, clients):
     return (finished + aborted) * 1e9 / nanoseconds
 
 
-def in_turn(measure, commands, number):
+def in_turn(measure, commands, number, turns=TURNS):
     """What is measured of each command, so many times."""
     taken = [[] for _ in commands]
-    for _ in range(TURNS):
+    for _ in range(turns):
         for command, results in zip(commands, taken):
             results.append(measure(command, number))
     return taken
@@ -104,10 +105,10 @@ def transmitters():
     head("long storms: transactions a second", *KINDS)
     commands = [[PROVED, "transmitters", kind] for kind in KINDS]
     for clients in (1, 2, 4, 8):
-        runs = [list(zip(*taken)) for taken in in_turn(long_storm, commands, clients)]
+        runs = [list(zip(*taken)) for taken in in_turn(long_storm, commands, clients, LONG_TURNS)]
         rates, *others = zip(*runs)
         for name, pick in (("most", max), ("median", statistics.median)):
-            line("by %d clients, %s of %d" % (clients, name, TURNS), clients, *map(pick, rates), "a second")
+            line("by %d clients, %s of %d" % (clients, name, LONG_TURNS), clients, *map(pick, rates), "a second")
         for name, each in zip(("calls that took the lock", "of them by transmitters", "acquires that waited"), others):
             line("  %s, median" % name, clients, *map(statistics.median, each), "a transaction")
 
