@@ -28,7 +28,7 @@ impl Calls {
         }
     }
 
-    fn locks(&mut self) {
+    fn count_locking(&mut self) {
         self.locking = self.locking.wrapping_add(1);
     }
 }
@@ -64,12 +64,12 @@ impl<S: Steps + Drop> Steps for Counted<S> {
     ghost shares = { λ steps. S.shares steps };
 
     fn begin(&mut self) -> Result<Key, Refusal> {
-        self.calls.locks();
+        self.calls.count_locking();
         self.steps.begin()
     }
 
     fn acquire(&mut self, key: Key, resource: u32) -> Result<Acquired, Refusal> {
-        self.calls.locks();
+        self.calls.count_locking();
         let acquired = self.steps.acquire(key, resource);
         if let Ok(Acquired::Waits { .. }) = acquired {
             self.calls.waits = self.calls.waits.wrapping_add(1);
@@ -78,37 +78,37 @@ impl<S: Steps + Drop> Steps for Counted<S> {
     }
 
     fn release(&mut self, key: Key, resource: u32) -> Result<Released, Refusal> {
-        self.calls.locks();
+        self.calls.count_locking();
         self.steps.release(key, resource)
     }
 
     fn finish(&mut self, key: Key) -> Result<(), Refusal> {
-        self.calls.locks();
+        self.calls.count_locking();
         self.steps.finish(key)
     }
 
     fn transmit(&mut self, key: Key) -> Result<Transmitted, Refusal> {
-        self.calls.locks();
+        self.calls.count_locking();
         self.steps.transmit(key)
     }
 
     fn detect(&mut self, key: Key) -> Result<Detected, Refusal> {
-        self.calls.locks();
+        self.calls.count_locking();
         self.steps.detect(key)
     }
 
     fn abort(&mut self, key: Key) -> Result<(), Refusal> {
-        self.calls.locks();
+        self.calls.count_locking();
         self.steps.abort(key)
     }
 
     fn settle(&mut self) -> Result<Settled, Refusal> {
-        self.calls.locks();
+        self.calls.count_locking();
         self.steps.settle()
     }
 
     fn tenant(&mut self, process: u32) -> Option<Key> {
-        self.calls.locks();
+        self.calls.count_locking();
         self.steps.tenant(process)
     }
 
