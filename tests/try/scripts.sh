@@ -1,0 +1,101 @@
+# Part of tests/try_program: scripts from files, from pipes and typed, and devices that fail.
+first_run='table 4 4 100 9
+begin
+begin
+acquire 0.1 0
+acquire 1.1 1
+acquire 0.1 1
+acquire 1.1 0
+state 0.1
+state 1.1'
+first_replies='ok
+key 0.1
+key 1.1
+granted
+granted
+waits 1.1 1.0
+waits 0.1 2.1
+waiting 1 1.0 1.0
+waiting 0 2.1 2.1'
+
+case_is "an empty script"
+run < /dev/null > "$work/out" 2> "$work/err"
+ends 0 "" "" $?
+
+# Files.
+case_is "a script from a file"
+printf '%s\n' "$first_run" > "$work/script"
+run < "$work/script" > "$work/out" 2> "$work/err"
+ends 0 "$first_replies" "" $?
+case_is "the word script"
+run script < "$work/script" > "$work/out" 2> "$work/err"
+ends 0 "$first_replies" "" $?
+case_is "the example"
+run < examples/first_run.script > "$work/out" 2> "$work/err"
+ends 0 "$first_replies" "" $?
+case_is "a malformed line"
+printf 'fly\nbegin' | run > "$work/out" 2> "$work/err"
+ends 1 $'malformed\nno table' "" $?
+
+# Lines that are typed: each reply is there before the next line is given.
+case_is "typed lines"
+mkfifo "$work/lines" "$work/replies"
+run < "$work/lines" > "$work/replies" 2> "$work/err" &
+child=$!
+exec 3> "$work/lines" 4< "$work/replies"
+mapfile -t lines <<< "$first_run"
+mapfile -t replies <<< "$first_replies"
+for i in "${!lines[@]}"; do
+  # (a program that has ended is no signal for this script)
+  if ! (trap '' PIPE && printf '%s\n' "${lines[i]}" >&3) 2> /dev/null; then
+    fails "the program ended before '${lines[i]}'"
+    break
+  fi
+  if ! read -r -t 10 -u 4 reply; then
+    fails "no reply to '${lines[i]}'"
+    break
+  fi
+  same "the reply to '${lines[i]}'" "${replies[i]}" "$reply"
+  sleep 0.05
+done
+exec 3>&-
+cat <&4 > "$work/out"
+exec 4<&-
+wait "$child"
+ends 0 "" "" $?
+
+case_is "a pipe that closes early"
+yes begin | head -n 200000 > "$work/long"
+{ run < "$work/long" 2> "$work/err"; echo $? > "$work/status"; } | head -n 1 > "$work/out"
+ends 3 "no table" "write fault" "$(cat "$work/status")"
+
+# Devices that fail.
+case_is "a full device"
+run < "$work/script" > /dev/full 2> "$work/err"
+status=$?
+: > "$work/out"
+ends 3 "" "write fault" $status
+case_is "help into a full device"
+run --help > /dev/full 2> "$work/err"
+ends 3 "" "write fault" $?
+case_is "a directory as standard input"
+run < / > "$work/out" 2> "$work/err"
+ends 3 "" "read fault" $?
+case_is "a closed standard input"
+run <&- > "$work/out" 2> "$work/err"
+ends 3 "" "read fault" $?
+case_is "a closed standard output"
+run < "$work/script" >&- 2> "$work/err"
+status=$?
+: > "$work/out"
+ends 3 "" "write fault" $status
+case_is "help into a closed standard output"
+run --help >&- 2> "$work/err"
+ends 3 "" "write fault" $?
+case_is "a read fault that cannot be told"
+: > "$work/err"
+run < / > "$work/out" 2>&-
+ends 3 "" "" $?
+case_is "a script that is too long"
+head -c 16777217 /dev/zero | tr '\0' '\n' | run > "$work/out" 2> "$work/err"
+ends 3 "" "input too long" $?

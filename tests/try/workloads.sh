@@ -1,0 +1,138 @@
+# Part of tests/try_program: workloads and storms.
+
+# Workloads. Each file is run without a flag and with --verbose: the same is on standard output.
+none_left_over='spent 0 refused 0'
+crosswise_lines="clients finished 1 aborted 1 $none_left_over
+table verdicts 1 aborts 1"
+
+# workload NAME STATUS OUTPUT ERRORS: the file 'workload' is run
+workload() {
+  case_is "$1"
+  run threads "$work/workload" > "$work/out" 2> "$work/err"
+  ends "$2" "$3" "" $?
+  case_is "$1, with --verbose"
+  run threads "$work/workload" --verbose > "$work/out" 2> "$work/err"
+  ends "$2" "$3" "$4" $?
+}
+
+# malformed NAME TEXT PLACE: the file with this text is malformed there
+malformed() {
+  printf '%s' "$2" > "$work/workload"
+  workload "$1" 1 "malformed workload" "$work/workload: $3"
+}
+
+# with_clients CLIENTS: a workload of these clients
+with_clients() {
+  printf '{"processes":2,"resources":2,"label_limit":1000,"generation_limit":9,"transmitters":1,"turns":1000000,"clients":%s}' "$1"
+}
+
+for example in "crosswise 1 1" "philosophers 4 1" "hot_resource 8 0" "chain 5 0"; do
+  read -r file finished aborted <<< "$example"
+  cp "examples/workloads/$file.json" "$work/workload"
+  workload "the workload $file" 0 "clients finished $finished aborted $aborted $none_left_over
+table verdicts $aborted aborts $aborted" some
+done
+case_is "what --verbose says of a workload"
+run threads --verbose examples/workloads/crosswise.json > "$work/out" 2> "$work/err"
+ends 0 "$crosswise_lines" some $?
+reports "examples/workloads/crosswise.json: clients 2, transmitters 1, turns of each 10000000"
+reports "examples/workloads/crosswise.json: processes 2, resources 2, label limit 1000, generation limit 9"
+reports " aborted"
+reports "calls accepted "
+case_is "a workload from a pipe"
+run threads /dev/stdin < examples/workloads/crosswise.json > "$work/out" 2> "$work/err"
+ends 0 "$crosswise_lines" "" $?
+
+case_is "a workload that is not there"
+run threads "$work/nothing" > "$work/out" 2> "$work/err"
+ends 3 "" "read fault" $?
+case_is "a workload that is not there, with --verbose"
+run threads "$work/nothing" --verbose > "$work/out" 2> "$work/err"
+ends 3 "" some $?
+reports "$work/nothing: "
+same "the last line on standard error" "read fault" "$(tail -n 1 "$work/err")"
+case_is "a directory as a workload"
+run threads "$work" > "$work/out" 2> "$work/err"
+ends 3 "" "read fault" $?
+case_is "an empty name"
+run threads "" > "$work/out" 2> "$work/err"
+ends 3 "" "read fault" $?
+
+malformed "an empty workload" "" "line 1, column 0: the JSON text ends too soon"
+malformed "a workload that is cut" '{"processes":2,' "line 1, column 15: the JSON text ends too soon"
+malformed "a workload that is an array" '[]' "the file is not a JSON object"
+malformed "a workload without turns" '{"processes":2,"resources":2,"label_limit":9,"generation_limit":9,"transmitters":1,"clients":[[]]}' \
+  "the key turns is missing"
+malformed "a workload with 65 transmitters" \
+  '{"processes":2,"resources":2,"label_limit":9,"generation_limit":9,"transmitters":65,"turns":9,"clients":[[]]}' \
+  "the key transmitters is not a whole number from 0 to 64"
+malformed "a workload without clients" "$(with_clients '[]')" "the key clients is not an array of 1 to 64 clients"
+malformed "a client of 257 steps" "$(with_clients "[[],[$(printf '["meet",0],%.0s' {1..256})[\"meet\",0]]]")" \
+  "client 2 is not an array of at most 256 steps"
+malformed "a step with another word" "$(with_clients '[[["fly",0]]]')" \
+  "client 1, step 1: the word is not acquire, release or meet"
+malformed "a step with a number below 0" "$(with_clients '[[],[["acquire",0],["meet",-1]]]')" \
+  "client 2, step 2: the number is not a whole number from 0 to 4294967295"
+malformed "a step with a number that is not whole" "$(with_clients '[[["acquire",1.0]]]')" \
+  "client 1, step 1: the number is not a whole number from 0 to 4294967295"
+malformed "a step of three" "$(with_clients '[[["acquire",0,0]]]')" "client 1, step 1: not an array of a word and a number"
+head -c 1048577 /dev/zero | tr '\0' ' ' > "$work/workload"
+workload "a workload that is too long" 1 "malformed workload" "$work/workload: the file is longer than 1048576 bytes"
+
+with_clients '[[["acquire",5]],[["meet",2]]]' > "$work/workload"
+workload "clients that are left over" 5 "clients finished 0 aborted 0 spent 1 refused 1
+table verdicts 0 aborts 0" some
+case_is "what --verbose says of clients that are left over"
+run threads -v "$work/workload" > "$work/out" 2> "$work/err"
+reports "client 1 refused 2"
+reports "client 2 spent"
+printf '%s' '{"processes":0,"resources":1,"label_limit":9,"generation_limit":9,"transmitters":0,"turns":1,"clients":[[]]}' \
+  > "$work/workload"
+workload "a table that is refused" 4 "refused 11 BadConfig" some
+
+case_is "a run of some seconds says how far it is"
+printf '%s' '{"processes":1,"resources":1,"label_limit":9,"generation_limit":9,"transmitters":0,"turns":20000000,"clients":[[["meet",2]]]}' \
+  > "$work/workload"
+run threads --verbose "$work/workload" > "$work/out" 2> "$work/err"
+ends 5 "clients finished 0 aborted 0 spent 1 refused 0
+table verdicts 0 aborts 0" some $?
+reports "after 1 s: clients ended 0 of 1"
+
+# Storms.
+for words in "" "--seed 7" "--clients 64 --transmitters 0" "--transmitters=64 --clients=1" "--seed 18446744073709551615 --verbose"; do
+  case_is "storm $words"
+  # shellcheck disable=SC2086
+  run storm $words > "$work/out" 2> "$work/err"
+  ends 0 "$(cat "$work/out")" "$(cat "$work/err")" $?
+  [[ $(cat "$work/out") =~ ^"clients finished "([0-9]+)" aborted "([0-9]+)" $none_left_over"$'\n'"table verdicts "([0-9]+)" aborts "([0-9]+)$ ]] ||
+    fails "not the two lines"
+  same verdicts "${BASH_REMATCH[2]}" "${BASH_REMATCH[3]}"
+  same aborts "${BASH_REMATCH[2]}" "${BASH_REMATCH[4]}"
+  case $words in
+    *--verbose*) reports "storm: clients 8, transmitters 2, turns of each 10000000" ;;
+    *) same "standard error" "" "$(cat "$work/err")" ;;
+  esac
+done
+for words in "--clients 0" "--clients 65" "--clients" "--clients -1" "--transmitters 65" "--seed 18446744073709551616" "--seed x" extra; do
+  case_is "storm $words"
+  # shellcheck disable=SC2086
+  run storm $words > "$work/out" 2> "$work/err"
+  ends 2 "" some $?
+done
+
+# Outputs that cannot be written.
+for words in "threads examples/workloads/crosswise.json" "storm --clients 1"; do
+  case_is "$words into a full device"
+  : > "$work/out"
+  # shellcheck disable=SC2086
+  run $words > /dev/full 2> "$work/err"
+  ends 3 "" "write fault" $?
+  case_is "$words into a closed standard output"
+  # shellcheck disable=SC2086
+  run $words >&- 2> "$work/err"
+  ends 3 "" "write fault" $?
+done
+case_is "a malformed workload into a full device"
+printf '[]' > "$work/workload"
+run threads "$work/workload" > /dev/full 2> "$work/err"
+ends 3 "" "write fault" $?
