@@ -6,46 +6,75 @@ pub const ABOUT: &str = "Finds deadlocks among transactions that lock resources 
 /// What the subcommands do.
 pub const SCRIPT: &str = "Runs a script from standard input to standard output";
 
-pub const THREADS: &str =
-    "Runs the workload in FILE, each client and each transmitter on a thread of its own";
+pub const THREADS: &str = "Runs the workload in FILE, each client and transmitter by a thread";
 
 pub const STORM: &str = "Runs a generated workload: the same one for the same numbers";
 
 /// What the flag does.
-pub const VERBOSE: &str =
-    "Says on standard error what is run, how far it is, how long it took, and where FILE is malformed";
+pub const VERBOSE: &str = "Says on standard error how the run goes";
 
-/// The script language, what workloads print, and the exit statuses.
+/// The script language with its ranges and refusals, what workloads print, and the exit statuses. No line has more than 80 bytes.
 pub const AFTER: &str = "\
-A script is read from standard input, and each of its calls has one reply on standard output.
-Without a word mmdetect does what 'mmdetect script' does.
+A script is read from standard input, and each of its calls has one reply on
+standard output. Without a word mmdetect does what 'mmdetect script' does.
 
-Calls of a script, one a line:
-  table P R L G  ok: a table of P processes and R resources, with label limit L and generation limit G
+Calls of a script, one a line, and their replies:
+  table P R L G  ok: a table of P processes and R resources, with the label
+                 limit L and the generation limit G
   begin          key K: a new transaction
   acquire K r    granted, or waits H B: the holder's key and the new label
   release K r    free, or to K: the key that owns the resource now
-  finish K       finished: it hands over all that it owns, and its key is no longer live
+  finish K       finished: it hands over all that it owns, and its key is no
+                 longer live
   transmit K     raised B: the label that the transaction shows now; or still
-  detect K       deadlock B: a verdict from now on, on this label; standing, where it has one; or clear
-  abort K        aborted: a transaction with a verdict gives way, and ends as by finish
-  settle         settled N M: so many labels raised and so many verdicts given, until nothing is left to do
-  state K        active V U, waiting r V U or convicted r V U: the private and the public label
+  detect K       deadlock B: a verdict from now on, on this label; standing,
+                 where it has one; or clear
+  abort K        aborted: a transaction with a verdict gives way, and ends as
+                 by finish
+  settle         settled N M: so many labels raised and so many verdicts
+                 given, until nothing is left to do
+  state K        active V U, waiting r V U or convicted r V U: the private
+                 and the public label
   owner r        owner K, or free
   totals         totals N M A: accepted events, verdicts, aborts
 
-A key K or H is process.generation, a label B, V or U is counter.process, r is the number of a resource.
-A refused call has the reply 'refused N Name', a line that is no call 'malformed', a second table
-'table stands', and a call before any table 'no table'. Lines that are blank or begin with # have none.
+A key K or H is process.generation, a label B, V or U is counter.process, and
+r is the number of a resource; processes and resources are counted from 0.
+A line that is no call has the reply 'malformed', a second table 'table
+stands', and a call before any table 'no table'. Lines that are blank or begin
+with # have none.
 
-A workload is run by threads, each client one transaction. When all have ended, two lines are printed:
+Ranges:
+  P  1 to 4096              L  1 to 17592186044415
+  R  1 to 65536             G  1 to 4294967295
+  A line has at most 128 bytes, a script at most 16777216.
+
+A refused call changes nothing and has the reply 'refused N Name':
+   1 Stale            the key is not live
+   2 NoResource       there is no resource of that number
+   3 Waiting          the transaction waits
+   4 AlreadyOwns      the transaction owns the resource that it asks for
+   5 NotOwner         the transaction does not own what it releases
+   6 Full             no slot is free
+   7 LabelsExhausted  a label would pass the label limit
+   8 NotWaiting       the transaction is active
+   9 NoVerdict        no verdict stands for the transaction
+  10 Memory           a request for memory was refused
+  11 BadConfig        a number of the table is out of range
+  15 CountsExhausted  the accepted events or the verdicts are 2 to the 62
+  The numbers 12 to 14 are of calls that scripts do not have.
+
+A workload is run by threads, each client one transaction. When all have
+ended, two lines are printed:
   clients finished F aborted A spent S refused X
   table verdicts V aborts B
 
 Exit statuses:
-  0  script: no line was malformed; threads, storm: each client finished or aborted; help was asked for
+  0  script: no line was malformed; threads, storm: each client finished or
+     aborted; help was asked for
   1  script: some line was malformed; threads: 'malformed workload' printed
   2  the command line is wrong
   3  'read fault', 'write fault' or 'input too long' on standard error
-  4  a table, the start of a thread, or memory was refused, and 'refused N Name' printed
+  4  a table, the start of a thread, or memory was refused, and
+     'refused N Name' printed
   5  threads, storm: some client used all its turns or was refused";

@@ -28,7 +28,9 @@ pub fn command<'a>(alloc: Global) -> Result<Command<'a>, AllocError>
 fn script_command<'a>(alloc: Global) -> Command<'a>
     ensures { (app_of result ≡ script_app) × ((fields_of result).has_globals ≡ false) }
 {
-    Command::new(alloc, "script").about(SCRIPT)
+    Command::new(alloc, "script")
+        .about(SCRIPT)
+        .after_help(AFTER)
 }
 
 fn threads_command<'a>(alloc: Global) -> Result<Command<'a>, AllocError>
