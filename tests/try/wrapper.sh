@@ -140,7 +140,7 @@ echo 0.5 > "$fake/takes"
 echo fourth > "$low"
 env -u MMDETECT_BUILD PATH="$fake/bin:$PATH" tests/on_terminal "$checkout/mmdetect" help < /dev/null > "$work/out"
 same status 0 $?
-says $'\r\e[Kmmdetect: crate 1 of 2, mm_low: 1 of 2 functions proved, 0 s\r'
+says $'\r\e[Kmmdetect: crate 1 of 2, mm_low: 1 of 2 functions proved, '
 says $'\r\e[Kmmdetect: built in '
 says "fourth main two help"
 echo 0 > "$fake/takes"
