@@ -24,6 +24,7 @@ case $1 in
     sleep "$(cat "$fake/takes")"
     [ ! -e "$fake/refuses" ] || { echo "fn one: not proved"; exit 1; }
     echo "so far: 2 of 2 functions checked"
+    printf 'fn %s: proved\n' one two
     ;;
   run)
     mkdir -p out
@@ -58,8 +59,8 @@ case_is "a clean checkout says that it builds, and where it is, crate by crate"
 wrapped --help
 ends 0 "low main --help" some $?
 reports "mmdetect: no program is built of these sources"
-reports "mmdetect: crate 1 of 2, mm_low: 2 of 2 functions proved, "
-reports "mmdetect: crate 2 of 2, mm_detect: 2 of 2 functions proved, "
+reports "mmdetect: crate 1 of 2, mm_low: 2 functions proved, "
+reports "mmdetect: crate 2 of 2, mm_detect: 2 functions proved, "
 reports "mmdetect: built in "
 case_is "nothing is built where nothing has changed"
 builds_nothing "low main"
