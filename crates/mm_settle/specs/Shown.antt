@@ -38,11 +38,13 @@ shown_anew (GiveUp k) (Ok answer) s t = k.process ∷ []
 shown_anew e (Ok answer) s t = changed_processes s t
 
 -- what is known of what they show: who waits shows the label and the holder of the answer, who is raised the label of the answer and the same
--- holder, an end leaves the labels of those as they were that wait for nothing then, and a settle all holders
+-- holder, who gives up the same label and no holder, an end leaves the labels of those as they were that wait for nothing then, and a settle all
+-- holders
 abbrev pub ShownBy : (e : Event) → Result (Answer e) Refusal → TableState → TableState → Type 0
 ShownBy e (Err refusal) s t = Unit {0}
 ShownBy (Acquire k r) (Ok (Waits h label)) s t = Shows t k.process label (Some h.process)
 ShownBy (Transmit k) (Ok (Raised label)) s t = Shows t k.process label (holder_of s k.process)
+ShownBy (GiveUp k) (Ok answer) s t = Shows t k.process (public_of s k.process) None
 ShownBy (Release k r) (Ok answer) s t = IdleShowTheSame s t
 ShownBy (Finish k) (Ok answer) s t = IdleShowTheSame s t
 ShownBy (Abort k) (Ok answer) s t = IdleShowTheSame s t

@@ -16,14 +16,14 @@ use Rattle.mm_rules.specs.declared.reply.Detected.{Detected}
 use Rattle.mm_rules.specs.declared.reply.Settled.{Settled}
 use Rattle.mm_rules.specs.declared.reply.Transmitted.TheVariants.{Raised, Still}
 use Rattle.mm_rules.specs.TableState.{TableState, Wait, public_of, holder_of, has_verdict, owner_of, wait_of, waited_for, waiting_processes, is_live}
-use Rattle.mm_rules.specs.Change.{label_against, block, hand_over, vacate, vacate_fits, withdraw, abort, greater_label, transmit, can_detect, detect, swept}
+use Rattle.mm_rules.specs.Change.{label_against, block, activate, hand_over, vacate, vacate_fits, withdraw, abort, greater_label, transmit, can_detect, detect, swept}
 use Rattle.mm_rules.specs.Event.{Event, Begin, Acquire, Release, Finish, Transmit, Detect, Abort, Settle, GiveUp, Gives, Step, Tests, allowed, decided, outcome, Settles, settled, counts_exhausted, begin_tests, acquire_tests, acquire_answer, acquire_change, release_tests, finish_tests, waiting_tests, abort_tests, settle_tests, give_up_tests}
 use Rattle.mm_rules.specs.Laws.{Laws}
 use Rattle.mm_rules.proofs.States.Abort.{fits_still}
 use Rattle.mm_rules.proofs.States.Activate.{waits_no_longer}
 use Rattle.mm_rules.proofs.States.Detect.{detect_still, detect_convicts}
 use Rattle.mm_rules.proofs.States.GiveUp.{withdraw_keeps}
-use Rattle.mm_rules.proofs.States.Lookups.{live_within, none_of_is_some, holder_is}
+use Rattle.mm_rules.proofs.States.Lookups.{live_within, none_of_is_some, holder_is, no_holder}
 use Rattle.mm_rules.proofs.States.Outcome.{counting, tests_false}
 use Rattle.mm_rules.proofs.States.Transmit.{shown}
 use Rattle.mm_settle.specs.Touched.{IsUnchanged, is_changed, changed_processes}
@@ -222,7 +222,11 @@ give_up_shown s t k reply laws step =
     (λ tests m. record {
       others = λ n within out. let same = activate_else s k.process n (λ e. out (inl e)) in record { public = same.public; holder = same.holder };
       within = λ n among. only n k.process s.config.processes (live_within s k sizes (not-false (is_live s k) tests.1.0)) among;
-      shown = tt;
+      shown = record {
+        within = live_within s k sizes (not-false (is_live s k) tests.1.0);
+        public = refl;
+        holder = no_holder (activate s k.process) k.process (waits_no_longer s k.process);
+      };
     })
     reply t step
 

@@ -1,5 +1,5 @@
 -- Whom each event changed.
-use Rattle.std.proofs.Common.{◌≡◌, ◌≢◌, ◌<◌, ◌≤◌, ℕ, Bool, true, false, List, [], ◌∷◌, length, slice_set, Option, Some, None, option_map, option_and_then, nat_eq, subst, inl, inr, refl, sym, ap, ◌∙◌, arith, length-set, get_or-set_other, get_or-set_same}
+use Rattle.std.proofs.Common.{◌≡◌, ◌≢◌, ◌<◌, ◌≤◌, ℕ, Bool, true, false, List, [], ◌∷◌, length, slice_set, Option, Some, None, option_map, option_and_then, is_some, nat_eq, subst, inl, inr, refl, sym, ap, ◌∙◌, arith, length-set, get_or-set_other, get_or-set_same}
 use Rattle.std.specs.Option.{option_map_or}
 use Rattle.std.proofs.lemmas.Bool.{cases_eq, eqb-true}
 use Rattle.mm_label.specs.Label.{Label, label_lt, opening_label}
@@ -7,7 +7,7 @@ use Rattle.mm_arena.specs.declared.key.Key.{Key}
 use Rattle.mm_lists.proofs.Lemmas.Filter.{filter_gives}
 use Rattle.mm_lists.proofs.Lemmas.NoRepeat.{found_by_number}
 use Rattle.mm_lists.specs.Members.{Among}
-use Rattle.mm_rules.specs.TableState.{TableState, Wait, public_of, owner_of, wait_of, waited_for, waiters_of}
+use Rattle.mm_rules.specs.TableState.{TableState, Wait, public_of, owner_of, wait_of, waited_for, is_waiting, waiters_of}
 use Rattle.mm_rules.specs.Change.{greater_label, can_transmit, transmit, block, label_against, activate, give_to, hand_over}
 use Rattle.mm_rules.specs.private.Stages.{blocked_on}
 use Rattle.mm_rules.specs.Laws.{Laws}
@@ -202,6 +202,13 @@ activate_else s n k apart =
       holder = ap (λ o. option_map (λ (k : Key). k.process) (option_and_then (owner_of s) o)) same;
       verdict = refl;
     }
+
+-- who stops waiting is changed, and nobody else
+pub touches_activate : (s : TableState) (n : ℕ) (old new : List Bool) → is_waiting s n ≡ true → Adds n old new → Touches s (activate s n) old new
+touches_activate s n old new waits adds =
+    touches_one s (activate s n) n old new adds (activate_else s n) (λ same.
+    let never : true ≡ false = sym waits ∙ ap is_some (sym same.wait ∙ waits_no_longer s n) in
+    cc)
 
 module _ (s : TableState) (r : ℕ) (laws : Laws s) where
   -- who is not in the queue of r does not wait for it
