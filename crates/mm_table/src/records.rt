@@ -1,7 +1,7 @@
 //! How a table is kept.
 //!
-//! By what a caller does: `open`, `begin`, `acquire`, `release`, `finish`, `abort`, `transmit`, `detect`, `settle`, `read`. Each of
-//! these files has the event with its tests and the changes that it is made of. The others serve these:
+//! By what a caller does: `open`, `begin`, `acquire`, `release`, `finish`, `abort`, `give_up`, `transmit`, `detect`, `settle`, `read`.
+//! Each of these files has the event with its tests and the changes that it is made of. The others serve these:
 //!
 //! - `call`: what every event tests first, and how an accepted one is counted.
 //! - `hand_over`: how a resource goes to the longest waiter.
@@ -18,6 +18,7 @@ mod begin;
 mod call;
 mod detect;
 mod finish;
+mod give_up;
 mod hand_over;
 mod open;
 mod read;

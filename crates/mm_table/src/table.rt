@@ -1,7 +1,7 @@
 ghost use Rattle.std.specs.Prelude.{◌≡◌, ◌≢◌, ◌≤◌, ◌<◌, ◌||◌, ℕ, false, length, replicate, IfOk, IfErr, IfSome, IfNone, None, vec_capacity};
 ghost use Rattle.mm_marks.specs.Marks.{has, members};
 ghost use Rattle.mm_rules.specs.TableState.{public_of, holder_of, wait_of};
-ghost use Rattle.mm_rules.specs.Event.{Opens, Step, Begin, Acquire, Release, Finish, Transmit, Detect, Abort, Settle, state_of, owner_told, tenant_of};
+ghost use Rattle.mm_rules.specs.Event.{Opens, Step, Begin, Acquire, Release, Finish, Transmit, Detect, Abort, GiveUp, Settle, state_of, owner_told, tenant_of};
 ghost use Rattle.mm_rules.specs.Laws.{Laws, HasSoundVerdicts};
 ghost use Rattle.mm_settle.specs.Touched.{changed_processes};
 
@@ -182,6 +182,19 @@ impl Table {
         let answer = self.records.abort(key, &mut self.touched);
         self.touched.move_all(&mut self.changed, wake);
         answer
+    }
+
+    /// Takes back the wait of a transaction that has no verdict and whose private and public label are equal: it is active from now on,
+    /// and keeps what it owns and both labels. Those that wait for the same resource keep their places and their labels. The caller
+    /// decides when; who has waited long enough may try, and go on with other work where it succeeds.
+    ///
+    /// Refused as `CountsExhausted`, `Stale`, `NotWaiting`, `UnderVerdict` or `Carried`. Under a verdict only `abort` ends the wait.
+    /// `Carried` means that the two labels differ: a greater label was transmitted to the transaction and may have gone on to those
+    /// that wait for it, so its wait may not end by its own choice. Constant time. The rule is this project's.
+    pub fn give_up(&mut self, key: Key) -> Result<(), Refusal>
+        ensures { Step (GiveUp key) self.old result self.new }
+    {
+        self.records.give_up(key, &mut self.changed)
     }
 
     /// Each waiting transaction in turn, by rising process number, transmits where it can; this is done again until a whole sweep
