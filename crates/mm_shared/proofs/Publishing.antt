@@ -16,7 +16,7 @@ use Rattle.mm_rules.specs.declared.reply.Acquired.TheVariants.{Granted, Waits}
 use Rattle.mm_rules.specs.declared.reply.Transmitted.{Transmitted}
 use Rattle.mm_rules.specs.declared.reply.Transmitted.TheVariants.{Raised, Still}
 use Rattle.mm_rules.specs.TableState.{TableState, public_of, holder_of, wait_of}
-use Rattle.mm_rules.specs.Event.{Event, Acquire, Transmit, Answer, Step}
+use Rattle.mm_rules.specs.Event.{Event, Acquire, Transmit, GiveUp, Answer, Step}
 use Rattle.mm_rules.specs.Laws.{Laws}
 use Rattle.mm_rules.proofs.States.Config.{event_config}
 use Rattle.mm_rules.proofs.States.EventsKeepLaws.{event_keeps}
@@ -283,6 +283,22 @@ module _ (p : Published) (s t : TableState) (k : Key) (laws : Laws s) (published
         let size = ap (λ c. c.processes) (event_config (Transmit k) s t reply step) in
         may_store_label k.process p t l (holder_of s k.process) (left_after (Transmit k) p s t reply step laws published (Ok (Raised l)) is) shows
         (published.shown k.process (omega (arith, shows.within, size))).holder
+
+  -- who gives up shows the label that stands on the board already, and no holder
+  module _ (reply : Result (Unit {0}) Refusal) (step : Step (GiveUp k) s reply t) (answer : Unit {0}) (is : reply ≡ Ok answer) where
+    given_up_shown : Shows t k.process (public_of s k.process) None
+    given_up_shown = subst (λ (r : Result (Unit {0}) Refusal). ShownBy (GiveUp k) r s t) is (changes (GiveUp k) p s t reply step laws published).shown
+
+    pub given_up_within : k.process < length p.holders
+    given_up_within = omega (arith, given_up_shown.within, (left_after (GiveUp k) p s t reply step laws published (Ok answer) is).holders)
+
+    pub given_up_stored : IsPublished (with_holder p k.process None) t
+    given_up_stored =
+        let left = left_after (GiveUp k) p s t reply step laws published (Ok answer) is in
+        let size = ap (λ c. c.processes) (event_config (GiveUp k) s t reply step) in
+        let label = (published.shown k.process (omega (arith, given_up_shown.within, size))).label in
+        subst (λ (h : Option ℕ). IsPublished (with_holder p k.process h) t) given_up_shown.holder
+        (all_stored _ t (holder_stored k.process [] p t left (label ∙ sym given_up_shown.public)))
 
 -- where nobody waits and nobody is raised, nothing is left to publish
 module _ (p : Published) (s t : TableState) (k : Key) where

@@ -3,7 +3,7 @@ ghost use Rattle.std.specs.Prelude.{◌≡◌, ◌+◌, ◌≤◌, OnOk, OnErr, 
 ghost use Rattle.mm_arena.specs.declared.key.Key.{Key};
 ghost use Rattle.mm_board.specs.Views.{label_at, NoneFalls};
 ghost use Rattle.mm_label.specs.Label.{Label};
-ghost use Rattle.mm_rules.specs.Event.{Step, Begin, Acquire, Release, Finish, Transmit, Detect, Abort, Settle, state_of, owner_told, tenant_of};
+ghost use Rattle.mm_rules.specs.Event.{Step, Begin, Acquire, Release, Finish, Transmit, Detect, Abort, GiveUp, Settle, state_of, owner_told, tenant_of};
 ghost use Rattle.mm_rules.specs.Laws.{HasSoundVerdicts, verdicts_made};
 ghost use Rattle.mm_shared.specs.Booked.{Booked};
 ghost use Rattle.mm_shared.specs.Published.{AppendsOnly, IsPublished};
@@ -256,6 +256,33 @@ impl<N: Name, A: Ledger, V: Ledger, B: Ledger> Inside<N, A, V, B> {
         publish(&mut self.publisher, board, &self.table, &self.woken);
         pass.count_accepted(&mut self.accepted);
         pass.count_abort(&mut self.aborts);
+        Ok(())
+    }
+
+    /// `Table::give_up`: the transaction, which has no verdict and whose two labels are equal, waits no longer. It keeps its labels, and
+    /// all others keep their places.
+    ///
+    /// Refused as `CountsExhausted`, `Stale`, `NotWaiting`, `UnderVerdict` or `Carried`. Constant time.
+    pub fn give_up(
+        &mut self,
+        board: &Board<N>,
+        pass: &mut Pass<N, A, V, B>,
+        key: Key,
+    ) -> Result<(), Refusal>
+        ensures step { Step (GiveUp key) self.old.table result self.new.table }
+        ensures first { OnOk result (pass.new.accepted ≡ pass.old.accepted + 1) }
+        ensures second { pass.new.verdicts ≡ pass.old.verdicts }
+        ensures third { pass.new.aborts ≡ pass.old.aborts }
+        ensures others { pass.new.parts ≡ pass.old.parts }
+        ensures seen { pass.new.seen ≡ pass.old.seen }
+        ensures appends { AppendsOnly self.old.publisher self.new.publisher self.new.table }
+        ensures refused { OnErr result (pass.new ≡ pass.old) }
+    {
+        self.table.keeps_laws();
+        self.publisher.fits(board);
+        self.table.give_up(key)?;
+        pass.count_accepted(&mut self.accepted);
+        self.publisher.store_holder(board, key.process, None);
         Ok(())
     }
 

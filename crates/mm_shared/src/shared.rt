@@ -237,6 +237,26 @@ impl<N: Name, A: Ledger, V: Ledger, B: Ledger> SharedTable<N, A, V, B> {
         self.locked(rt).abort(&self.board, pass, key)
     }
 
+    /// `Table::give_up`: the transaction, which has no verdict and whose two labels are equal, waits no longer. It keeps its labels, and
+    /// all others keep their places.
+    ///
+    /// Refused as `CountsExhausted`, `Stale`, `NotWaiting`, `UnderVerdict` or `Carried`. Constant time.
+    pub fn give_up<R: Wait>(
+        &self,
+        rt: &R,
+        pass: &mut Pass<N, A, V, B>,
+        key: Key,
+    ) -> Result<(), Refusal>
+        ensures first { OnOk result (pass.new.accepted ≡ pass.old.accepted + 1) }
+        ensures second { pass.new.verdicts ≡ pass.old.verdicts }
+        ensures third { pass.new.aborts ≡ pass.old.aborts }
+        ensures others { pass.new.parts ≡ pass.old.parts }
+        ensures seen { pass.new.seen ≡ pass.old.seen }
+        ensures refused { OnErr result (pass.new ≡ pass.old) }
+    {
+        self.lock.lock(rt).give_up(&self.board, pass, key)
+    }
+
     /// `Table::settle`: transmits and detects for all that wait, until neither has anything left to do. It adds the new verdicts to the
     /// pass's second share.
     ///

@@ -1,0 +1,40 @@
+use Rattle.std.proofs.Common.{refl, subst, sym, arith}
+use Rattle.mm_board.specs.declared.views.Published.{Published}
+use Rattle.mm_rules.specs.Event.{GiveUp}
+use Rattle.mm_shared.specs.Published.{IsPublished}
+use Rattle.mm_shared.proofs.Counted.{room_stays, refused_booked, accepted_booked}
+use Rattle.mm_shared.proofs.Publishing.{given_up_within, given_up_stored, refused_published}
+use Rattle.mm_shared.proofs.inside.Inside.give_up.Goals as goal
+
+pub invariant_of-self : goal.invariant_of-self
+invariant_of-self g c =
+    let e = GiveUp c.args.key in
+    let old = c.args.self.now in
+    let s = old.table in
+    let t = c.give_up.new.self in
+    let said = c.give_up.result in
+    let step = c.give_up.ensures in
+    record {
+      room = room_stays e s t said step _ _ refl old.room;
+      published = refused_published e old.publisher s t said step c.keeps_laws.ensures old.published _ c.in_err-give_up.was;
+      booked = refused_booked e s t said step _ _ _ _ c.in_err-give_up.was old.booked;
+    }
+
+pub store_holder-requires-clause-process_in_range : goal.store_holder-requires-clause-process_in_range
+store_holder-requires-clause-process_in_range g c =
+    let old = c.args.self.now in
+    omega (arith, given_up_within old.publisher old.table c.give_up.new.self c.args.key c.keeps_laws.ensures old.published c.give_up.result c.give_up.ensures _ c.in_ok-give_up.was, c.fits.ensures.holders)
+
+pub invariant_of-self-2 : goal.invariant_of-self-2
+invariant_of-self-2 g c =
+    let e = GiveUp c.args.key in
+    let old = c.args.self.now in
+    let s = old.table in
+    let t = c.give_up.new.self in
+    let said = c.give_up.result in
+    let step = c.give_up.ensures in
+    record {
+      room = room_stays e s t said step _ _ refl old.room;
+      published = subst (λ (p : Published). IsPublished p t) (sym c.store_holder.ensures.stored) (given_up_stored old.publisher s t c.args.key c.keeps_laws.ensures old.published said step _ c.in_ok-give_up.was);
+      booked = accepted_booked e s t said step _ _ _ _ _ _ _ c.in_ok-give_up.was old.booked c.count_accepted.ensures.book (omega arith) (omega arith);
+    }
