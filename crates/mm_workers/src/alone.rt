@@ -42,6 +42,10 @@ impl Steps for Table {
         Table::abort(self, key)
     }
 
+    fn give_up(&mut self, key: Key) -> Result<(), Refusal> {
+        Table::give_up(self, key)
+    }
+
     fn settle(&mut self) -> Result<Settled, Refusal> {
         Table::settle(self)
     }

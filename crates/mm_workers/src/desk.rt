@@ -83,6 +83,10 @@ impl<'a, N: Name, A: Ledger, V: Ledger, B: Ledger, R: Wait> Steps for Desk<'a, N
         self.table.abort(self.rt, &mut self.pass, key)
     }
 
+    fn give_up(&mut self, key: Key) -> Result<(), Refusal> {
+        self.table.give_up(self.rt, &mut self.pass, key)
+    }
+
     fn settle(&mut self) -> Result<Settled, Refusal> {
         self.table.settle(self.rt, &mut self.pass)
     }

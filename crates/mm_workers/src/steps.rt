@@ -6,7 +6,7 @@ ghost use Rattle.mm_shared.specs.Shares.{Shares};
 
 use mm_shared::{Acquired, Detected, Hint, Key, Refusal, Released, Settled, Transmitted};
 
-/// What a worker needs of a table: its eight events, who lives in a process, and a look for labels to pass on. A `Desk` meets it, and so
+/// What a worker needs of a table: its nine events, who lives in a process, and a look for labels to pass on. A `Desk` meets it, and so
 /// does a `Table`.
 ///
 /// An event that is accepted adds one to the first of three counts, its new verdicts to the second, and one to the third where it is an
@@ -68,6 +68,14 @@ pub trait Steps {
         ensures first { OnOk result ((shares self.new).accepted ≡ (shares self.old).accepted + 1) }
         ensures second { (shares self.new).verdicts ≡ (shares self.old).verdicts }
         ensures third { OnOk result ((shares self.new).aborts ≡ (shares self.old).aborts + 1) }
+        ensures others { (shares self.new).parts ≡ (shares self.old).parts }
+        ensures refused { OnErr result (shares self.new ≡ shares self.old) };
+
+    /// Ends the wait of a transaction without a verdict whose two labels are equal. Clients and transmitters do not call it.
+    fn give_up(&mut self, key: Key) -> Result<(), Refusal>
+        ensures first { OnOk result ((shares self.new).accepted ≡ (shares self.old).accepted + 1) }
+        ensures second { (shares self.new).verdicts ≡ (shares self.old).verdicts }
+        ensures third { (shares self.new).aborts ≡ (shares self.old).aborts }
         ensures others { (shares self.new).parts ≡ (shares self.old).parts }
         ensures refused { OnErr result (shares self.new ≡ shares self.old) };
 
