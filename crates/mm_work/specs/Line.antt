@@ -54,11 +54,12 @@ call_of word arguments =
     else (if bytes_eq word (codes "transmit") then option_map calls.Transmit (key_alone arguments)
     else (if bytes_eq word (codes "detect") then option_map calls.Detect (key_alone arguments)
     else (if bytes_eq word (codes "abort") then option_map calls.Abort (key_alone arguments)
+    else (if bytes_eq word (codes "give_up") then option_map calls.GiveUp (key_alone arguments)
     else (if bytes_eq word (codes "settle") then no_arguments calls.Settle arguments
     else (if bytes_eq word (codes "state") then option_map calls.State (key_alone arguments)
     else (if bytes_eq word (codes "owner") then option_map calls.Owner (resource_alone arguments)
     else (if bytes_eq word (codes "totals") then no_arguments calls.Totals arguments
-    else None)))))))))))
+    else None))))))))))))
 
 -- a line of these words
 abbrev pub line_of_words : List (List ℕ) → Line

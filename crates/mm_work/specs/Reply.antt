@@ -19,7 +19,7 @@ use Rattle.mm_table.specs.reply.State.{State}
 use Rattle.mm_table.specs.reply.Totals.{Totals}
 use Rattle.mm_table.specs.Refusal.{number_of, name_of}
 use Rattle.mm_work.specs.declared.script.reply.Reply.{Reply}
-use Rattle.mm_work.specs.declared.script.reply.Reply.TheVariants.{Malformed, NoTable, TableStands, Opened, Begun, Acquired as Acquired_, Released as Released_, Finished, Transmitted as Transmitted_, Detected as Detected_, Aborted, Settled as Settled_, Read, Owned, Counted, Refused}
+use Rattle.mm_work.specs.declared.script.reply.Reply.TheVariants.{Malformed, NoTable, TableStands, Opened, Begun, Acquired as Acquired_, Released as Released_, Finished, Transmitted as Transmitted_, Detected as Detected_, Aborted, Withdrawn, Settled as Settled_, Read, Owned, Counted, Refused}
 
 abbrev pub acquired_text : Acquired → List ℕ
 acquired_text Granted = codes "granted"
@@ -71,6 +71,7 @@ reply_text Finished = codes "finished"
 reply_text (Transmitted_ transmitted) = transmitted_text transmitted
 reply_text (Detected_ detected) = detected_text detected
 reply_text Aborted = codes "aborted"
+reply_text Withdrawn = codes "withdrawn"
 reply_text (Settled_ settled) = settled_text settled
 reply_text (Read state) = state_text state
 reply_text (Owned owner) = owner_text owner

@@ -33,6 +33,7 @@ RepliesWithTable (calls.Finish key) old reply new = Makes (events.Finish key) (�
 RepliesWithTable (calls.Transmit key) old reply new = Makes (events.Transmit key) replies.Transmitted old reply new
 RepliesWithTable (calls.Detect key) old reply new = Makes (events.Detect key) replies.Detected old reply new
 RepliesWithTable (calls.Abort key) old reply new = Makes (events.Abort key) (λ _. replies.Aborted) old reply new
+RepliesWithTable (calls.GiveUp key) old reply new = Makes (events.GiveUp key) (λ _. replies.Withdrawn) old reply new
 RepliesWithTable calls.Settle old reply new = Makes events.Settle replies.Settled old reply new
 RepliesWithTable (calls.State key) old reply new = (reply ≡ reply_to replies.Read (state_of old key)) × (new ≡ Some old)
 RepliesWithTable (calls.Owner resource) old reply new = (reply ≡ reply_to replies.Owned (owner_told old resource)) × (new ≡ Some old)

@@ -12,7 +12,7 @@ use Rattle.mm_table.proofs.States.EventsKeepLaws.{event_keeps}
 use Rattle.mm_table.proofs.States.Sweep.{settles_after}
 use Rattle.mm_table.specs.reply.Settled.{Settled}
 use Rattle.mm_table.specs.Event as events
-use Rattle.mm_table.specs.Event.{Event, Answer, Opens, Gives, Step, Settles, counts_exhausted, begun, acquired, released, finished, transmitted, detected, aborted, settled, state_of, owner_told}
+use Rattle.mm_table.specs.Event.{Event, Answer, Opens, Gives, Step, Settles, counts_exhausted, begun, acquired, released, finished, transmitted, detected, aborted, given_up, settled, state_of, owner_told}
 use Rattle.mm_work.specs.declared.script.line.Line.{Line}
 use Rattle.mm_work.specs.declared.script.line.Line.TheVariants as kind
 use Rattle.mm_work.specs.declared.script.line.Call.{Call}
@@ -66,6 +66,7 @@ replies (calls.Finish k) (Some s) lawful = (reply_to (λ _. replies_are.Finished
 replies (calls.Transmit k) (Some s) lawful = (reply_to replies_are.Transmitted (transmitted s k).reply, Some (transmitted s k).state, ((transmitted s k).reply, (transmitted s k).state, (refl, refl), refl, refl))
 replies (calls.Detect k) (Some s) lawful = (reply_to replies_are.Detected (detected s k).reply, Some (detected s k).state, ((detected s k).reply, (detected s k).state, (refl, refl), refl, refl))
 replies (calls.Abort k) (Some s) lawful = (reply_to (λ _. replies_are.Aborted) (aborted s k).reply, Some (aborted s k).state, ((aborted s k).reply, (aborted s k).state, (refl, refl), refl, refl))
+replies (calls.GiveUp k) (Some s) lawful = (reply_to (λ _. replies_are.Withdrawn) (given_up s k).reply, Some (given_up s k).state, ((given_up s k).reply, (given_up s k).state, (refl, refl), refl, refl))
 replies calls.Settle (Some s) lawful = let o = settles s lawful in (reply_to replies_are.Settled o.0, Some o.1, (o.0, o.1, o.2, refl, refl))
 replies (calls.State k) (Some s) lawful = (reply_to replies_are.Read (state_of s k), Some s, (refl, refl))
 replies (calls.Owner r) (Some s) lawful = (reply_to replies_are.Owned (owner_told s r), Some s, (refl, refl))
@@ -78,6 +79,7 @@ replies (calls.Finish k) None lawful = (replies_are.NoTable, None, (refl, refl))
 replies (calls.Transmit k) None lawful = (replies_are.NoTable, None, (refl, refl))
 replies (calls.Detect k) None lawful = (replies_are.NoTable, None, (refl, refl))
 replies (calls.Abort k) None lawful = (replies_are.NoTable, None, (refl, refl))
+replies (calls.GiveUp k) None lawful = (replies_are.NoTable, None, (refl, refl))
 replies calls.Settle None lawful = (replies_are.NoTable, None, (refl, refl))
 replies (calls.State k) None lawful = (replies_are.NoTable, None, (refl, refl))
 replies (calls.Owner r) None lawful = (replies_are.NoTable, None, (refl, refl))
@@ -104,6 +106,7 @@ with_table_lawful (calls.Finish k) s reply new laws r = makes_lawful (events.Fin
 with_table_lawful (calls.Transmit k) s reply new laws r = makes_lawful (events.Transmit k) replies_are.Transmitted s reply new laws r
 with_table_lawful (calls.Detect k) s reply new laws r = makes_lawful (events.Detect k) replies_are.Detected s reply new laws r
 with_table_lawful (calls.Abort k) s reply new laws r = makes_lawful (events.Abort k) (λ _. replies_are.Aborted) s reply new laws r
+with_table_lawful (calls.GiveUp k) s reply new laws r = makes_lawful (events.GiveUp k) (λ _. replies_are.Withdrawn) s reply new laws r
 with_table_lawful calls.Settle s reply new laws r = makes_lawful events.Settle replies_are.Settled s reply new laws r
 with_table_lawful (calls.State k) s reply new laws r = subst IsLawful (sym r.1) laws
 with_table_lawful (calls.Owner m) s reply new laws r = subst IsLawful (sym r.1) laws
@@ -118,6 +121,7 @@ with_none_lawful (calls.Finish k) reply new r = subst IsLawful (sym r.1) tt
 with_none_lawful (calls.Transmit k) reply new r = subst IsLawful (sym r.1) tt
 with_none_lawful (calls.Detect k) reply new r = subst IsLawful (sym r.1) tt
 with_none_lawful (calls.Abort k) reply new r = subst IsLawful (sym r.1) tt
+with_none_lawful (calls.GiveUp k) reply new r = subst IsLawful (sym r.1) tt
 with_none_lawful calls.Settle reply new r = subst IsLawful (sym r.1) tt
 with_none_lawful (calls.State k) reply new r = subst IsLawful (sym r.1) tt
 with_none_lawful (calls.Owner m) reply new r = subst IsLawful (sym r.1) tt

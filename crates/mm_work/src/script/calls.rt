@@ -41,6 +41,9 @@ fn make_with_table(table: &mut Table, call: Call) -> Reply
         Call::Abort(key) => table
             .abort(key)
             .map_or_else(Reply::Refused, |()| Reply::Aborted),
+        Call::GiveUp(key) => table
+            .give_up(key)
+            .map_or_else(Reply::Refused, |()| Reply::Withdrawn),
         Call::Settle => table.settle().map_or_else(Reply::Refused, Reply::Settled),
         Call::State(key) => table.state(key).map_or_else(Reply::Refused, Reply::Read),
         Call::Owner(resource) => table

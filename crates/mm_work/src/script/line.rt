@@ -31,6 +31,7 @@ pub enum Call {
     Transmit(Key),
     Detect(Key),
     Abort(Key),
+    GiveUp(Key),
     Settle,
     State(Key),
     Owner(u32),
@@ -88,6 +89,8 @@ fn call_of(word: &[u8], arguments: Words<'_>) -> Option<Call>
         key_alone(arguments).map(Call::Detect)
     } else if word == b"abort".as_slice() {
         key_alone(arguments).map(Call::Abort)
+    } else if word == b"give_up".as_slice() {
+        key_alone(arguments).map(Call::GiveUp)
     } else if word == b"settle".as_slice() {
         no_arguments(Call::Settle, arguments)
     } else if word == b"state".as_slice() {
