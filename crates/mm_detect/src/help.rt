@@ -31,6 +31,8 @@ Calls of a script, one a line, and their replies:
                  where it has one; or clear
   abort K        aborted: a transaction with a verdict gives way, and ends as
                  by finish
+  give_up K      withdrawn: the transaction waits no longer; it has no
+                 verdict, and its two labels are equal
   settle         settled N M: so many labels raised and so many verdicts
                  given, until nothing is left to do
   state K        active V U, waiting r V U or convicted r V U: the private

@@ -9,7 +9,7 @@ pub struct Row {
     pub malformed: u64,
 }
 
-pub static ROWS: [Row; 25] = [
+pub static ROWS: [Row; 29] = [
     Row {
         name: "empty",
         input: "",
@@ -158,6 +158,30 @@ pub static ROWS: [Row; 25] = [
         name: "ring_of_four_settles",
         input: "table 5 4 100 9\nbegin\nbegin\nbegin\nbegin\nacquire 0.1 0\nacquire 1.1 1\nacquire 2.1 2\nacquire 3.1 3\nacquire 0.1 1\nacquire 1.1 2\nacquire 2.1 3\nacquire 3.1 0\nsettle\nstate 0.1\nstate 3.1\ntotals\n",
         output: "ok\nkey 0.1\nkey 1.1\nkey 2.1\nkey 3.1\ngranted\ngranted\ngranted\ngranted\nwaits 1.1 1.0\nwaits 2.1 1.1\nwaits 3.1 1.2\nwaits 0.1 2.3\nsettled 6 1\nwaiting 1 1.0 2.3\nconvicted 0 2.3 2.3\ntotals 13 1 0\n",
+        malformed: 0,
+    },
+    Row {
+        name: "give_up",
+        input: "table 4 4 100 9\nbegin\nbegin\nacquire 0.1 0\nacquire 1.1 1\nacquire 0.1 1\nacquire 1.1 0\ndetect 0.1\ndetect 1.1\ntransmit 0.1\ngive_up 0.1\ngive_up 1.1\nstate 1.1\ndetect 0.1\n",
+        output: "ok\nkey 0.1\nkey 1.1\ngranted\ngranted\nwaits 1.1 1.0\nwaits 0.1 2.1\nclear\nclear\nraised 2.1\nrefused 13 Carried\nwithdrawn\nactive 2.1 2.1\nclear\n",
+        malformed: 0,
+    },
+    Row {
+        name: "give_up_keeps_places",
+        input: "table 4 1 100 9\nbegin\nbegin\nbegin\nbegin\nacquire 0.1 0\nacquire 1.1 0\nacquire 2.1 0\nacquire 3.1 0\ngive_up 2.1\nrelease 0.1 0\nstate 3.1\nstate 2.1\ngive_up 2.1\n",
+        output: "ok\nkey 0.1\nkey 1.1\nkey 2.1\nkey 3.1\ngranted\nwaits 0.1 1.1\nwaits 0.1 1.2\nwaits 0.1 1.3\nwithdrawn\nto 1.1\nwaiting 0 2.3 2.3\nactive 1.2 1.2\nrefused 8 NotWaiting\n",
+        malformed: 0,
+    },
+    Row {
+        name: "give_up_frees_abort",
+        input: "table 3 2 3 9\nbegin\nbegin\nbegin\nacquire 0.1 0\nacquire 1.1 1\nacquire 0.1 1\nacquire 1.1 0\nacquire 2.1 1\ntransmit 0.1\ndetect 1.1\nabort 1.1\nstate 1.1\ndetect 1.1\ntotals\ngive_up 2.1\nabort 1.1\nowner 0\nowner 1\n",
+        output: "ok\nkey 0.1\nkey 1.1\nkey 2.1\ngranted\ngranted\nwaits 1.1 1.0\nwaits 0.1 2.1\nwaits 1.1 3.2\nraised 2.1\ndeadlock 2.1\nrefused 7 LabelsExhausted\nconvicted 0 2.1 2.1\nstanding\ntotals 11 1 0\nwithdrawn\naborted\nowner 0.1\nowner 0.1\n",
+        malformed: 0,
+    },
+    Row {
+        name: "give_up_under_verdict",
+        input: "table 4 4 100 9\nbegin\nbegin\nacquire 0.1 0\nacquire 1.1 1\nacquire 0.1 1\nacquire 1.1 0\ndetect 0.1\ndetect 1.1\ntransmit 0.1\ndetect 1.1\ndetect 1.1\ngive_up 1.1\n",
+        output: "ok\nkey 0.1\nkey 1.1\ngranted\ngranted\nwaits 1.1 1.0\nwaits 0.1 2.1\nclear\nclear\nraised 2.1\ndeadlock 2.1\nstanding\nrefused 14 UnderVerdict\n",
         malformed: 0,
     },
 ];
