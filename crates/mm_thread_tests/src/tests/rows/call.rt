@@ -18,6 +18,7 @@ pub enum Call {
     Transmit(Key),
     Detect(Key),
     Abort(Key),
+    GiveUp(Key),
     Settle,
     State(Key),
     Owner(u32),
@@ -33,6 +34,7 @@ pub enum Answer {
     Transmitted(Transmitted),
     Detected(Detected),
     Aborted,
+    Withdrawn,
     Settled(Settled),
     State(State),
     Owner(Option<Key>),
@@ -79,6 +81,7 @@ pub fn call_of(line: &str) -> Option<Call> {
         "transmit" => Some(Call::Transmit(key(first)?)),
         "detect" => Some(Call::Detect(key(first)?)),
         "abort" => Some(Call::Abort(key(first)?)),
+        "give_up" => Some(Call::GiveUp(key(first)?)),
         "settle" => Some(Call::Settle),
         "state" => Some(Call::State(key(first)?)),
         "owner" => Some(Call::Owner(number(first)?)),
@@ -111,6 +114,7 @@ impl Call {
             Call::Transmit(key) => told(table.transmit(key), Answer::Transmitted),
             Call::Detect(key) => told(table.detect(key), Answer::Detected),
             Call::Abort(key) => told(table.abort(key), |_| Answer::Aborted),
+            Call::GiveUp(key) => told(table.give_up(key), |_| Answer::Withdrawn),
             Call::Settle => told(table.settle(), Answer::Settled),
             Call::State(key) => told(table.state(key), Answer::State),
             Call::Owner(resource) => told(table.owner(resource), Answer::Owner),
@@ -139,6 +143,7 @@ impl Call {
             Call::Transmit(key) => told(table.transmit(rt, pass, key), Answer::Transmitted),
             Call::Detect(key) => told(table.detect(rt, pass, key), Answer::Detected),
             Call::Abort(key) => told(table.abort(rt, pass, key), |_| Answer::Aborted),
+            Call::GiveUp(key) => told(table.give_up(rt, pass, key), |_| Answer::Withdrawn),
             Call::Settle => told(table.settle(rt, pass), Answer::Settled),
             Call::State(key) => told(table.state(rt, pass, key), Answer::State),
             Call::Owner(resource) => told(table.owner(rt, pass, resource), Answer::Owner),
@@ -162,6 +167,7 @@ impl Answer {
             Answer::Transmitted(answer) => transmitted_text(alloc, answer),
             Answer::Detected(answer) => detected_text(alloc, answer),
             Answer::Aborted => format!(in alloc; "aborted"),
+            Answer::Withdrawn => format!(in alloc; "withdrawn"),
             Answer::Settled(Settled { raises, verdicts }) => {
                 format!(in alloc; "settled {raises} {verdicts}")
             }

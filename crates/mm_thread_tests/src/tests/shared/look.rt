@@ -154,7 +154,32 @@ fn watch_a_settle<N: Name, A: Ledger, V: Ledger, B: Ledger, R: Wait + Abort>(
     Ok(())
 }
 
-/// Opens a table of two processes or of three, and lets two passes watch it.
+/// One of two that wait for each other gives up. From then on the board shows no holder of it, and the label that it had.
+fn watch_a_wait_given_up<N: Name, A: Ledger, V: Ledger, B: Ledger, R: Wait + Abort>(
+    rt: &R,
+    table: &SharedTable<N, A, V, B>,
+    pass: &mut Pass<N, A, V, B>,
+    other: &mut Pass<N, A, V, B>,
+) -> Result<(), Refusal> {
+    let (first, second) = begin_two(rt, table, pass)?;
+    table.acquire(rt, pass, first, 1)?; // waits under 1.0
+    table.acquire(rt, pass, second, 0)?; // waits under 2.1
+    let raise = hint(0, 1, HintKind::Raise);
+    same(rt, scanned(table, other), [raise, None, None]);
+    same(rt, table.give_up(rt, pass, first), Ok(()));
+    same(rt, scanned(table, other), [None, None, None]);
+    same(rt, peeked(table, other, 0), label(65536)); // 1.0
+    same(rt, table.give_up(rt, pass, first), Err(Refusal::NotWaiting));
+    same(rt, scanned(table, pass), [None, None, None]);
+    table.acquire(rt, pass, first, 1)?; // waits again, under 3.0
+    let raise = hint(1, 0, HintKind::Raise);
+    same(rt, scanned(table, other), [raise, raise, None]);
+    same(rt, table.give_up(rt, other, second), Ok(()));
+    same(rt, scanned(table, pass), [None, None, None]);
+    Ok(())
+}
+
+/// Opens a table of two processes, of three or of four, and lets two passes watch it.
 fn watch<N: Name, A: Ledger, V: Ledger, B: Ledger, R: Wait + Abort>(
     rt: &R,
     prepared: Prepared,
@@ -166,10 +191,11 @@ fn watch<N: Name, A: Ledger, V: Ledger, B: Ledger, R: Wait + Abort>(
 {
     let (table, mut pass) = prepared.open::<N, A, V, B>();
     let mut other = pass.split(&table, 1);
-    if table.processes() == 2 {
-        return watch_a_deadlock(rt, &table, &mut pass, &mut other);
+    match table.processes() {
+        2 => watch_a_deadlock(rt, &table, &mut pass, &mut other),
+        3 => watch_a_settle(rt, &table, &mut pass, &mut other),
+        _ => watch_a_wait_given_up(rt, &table, &mut pass, &mut other),
     }
-    watch_a_settle(rt, &table, &mut pass, &mut other)
 }
 
 #[test]
@@ -182,6 +208,13 @@ fn the_board_shows_a_deadlock(rt: HostRuntime) -> Result<(), Fail> {
 #[test]
 fn the_board_shows_a_queue_and_a_settle(rt: HostRuntime) -> Result<(), Fail> {
     let prepared = Prepared::new(rt.alloc(), config(3, 3))?;
+    watch::<Brand, Brand, Brand, Brand, _>(&rt, prepared)?;
+    Ok(())
+}
+
+#[test]
+fn the_board_shows_no_holder_of_who_gave_up(rt: HostRuntime) -> Result<(), Fail> {
+    let prepared = Prepared::new(rt.alloc(), config(4, 2))?;
     watch::<Brand, Brand, Brand, Brand, _>(&rt, prepared)?;
     Ok(())
 }

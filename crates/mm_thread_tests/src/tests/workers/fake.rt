@@ -44,6 +44,10 @@ impl Steps for Fake {
         Err(Refusal::Stale)
     }
 
+    fn give_up(&mut self, _key: Key) -> Result<(), Refusal> {
+        Err(Refusal::Stale)
+    }
+
     fn settle(&mut self) -> Result<Settled, Refusal> {
         Err(Refusal::CountsExhausted)
     }

@@ -75,6 +75,11 @@ impl<S: Steps + Drop> Steps for Recorder<S> {
         self.steps.abort(key)
     }
 
+    fn give_up(&mut self, key: Key) -> Result<(), Refusal> {
+        self.note(Call::Other);
+        self.steps.give_up(key)
+    }
+
     fn settle(&mut self) -> Result<Settled, Refusal> {
         self.note(Call::Other);
         self.steps.settle()
