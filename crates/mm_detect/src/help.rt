@@ -63,8 +63,10 @@ A refused call changes nothing and has the reply 'refused N Name':
    9 NoVerdict        no verdict stands for the transaction
   10 Memory           a request for memory was refused
   11 BadConfig        a number of the table is out of range
+  13 Carried          the two labels of the transaction are not the same
+  14 UnderVerdict     a verdict stands for the transaction
   15 CountsExhausted  the accepted events or the verdicts are 2 to the 62
-  The numbers 12 to 14 are of calls that scripts do not have.
+  The number 12 is of a call that scripts do not have.
 
 A workload is run by threads, each client one transaction. When all have
 ended, two lines are printed:

@@ -254,7 +254,7 @@ impl<N: Name, A: Ledger, V: Ledger, B: Ledger> SharedTable<N, A, V, B> {
         ensures seen { pass.new.seen ≡ pass.old.seen }
         ensures refused { OnErr result (pass.new ≡ pass.old) }
     {
-        self.lock.lock(rt).give_up(&self.board, pass, key)
+        self.locked(rt).give_up(&self.board, pass, key)
     }
 
     /// `Table::settle`: transmits and detects for all that wait, until neither has anything left to do. It adds the new verdicts to the
