@@ -36,9 +36,10 @@ all_is_over() {
   exit
 }
 
-# the program; a run that does not end has status 124
+# the program; a run that does not end within so many seconds has status 124
+seconds=60
 run() {
-  timeout 60 ./mmdetect "$@"
+  timeout "$seconds" ./mmdetect "$@"
 }
 
 # same WHAT WANTED GOT

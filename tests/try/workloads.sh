@@ -93,9 +93,13 @@ workload "a table that is refused" 4 "refused 11 BadConfig" some
 case_is "a run of some seconds says how far it is"
 printf '%s' '{"processes":1,"resources":1,"label_limit":9,"generation_limit":9,"transmitters":0,"turns":20000000,"clients":[[["meet",2]]]}' \
   > "$work/workload"
+# (some seconds, and a minute where a machine has much else to do)
+seconds=600
 run threads --verbose "$work/workload" > "$work/out" 2> "$work/err"
+status=$?
+seconds=60
 ends 5 "clients finished 0 aborted 0 spent 1 refused 0
-table verdicts 0 aborts 0" some $?
+table verdicts 0 aborts 0" some $status
 reports "after 1 s: clients ended 0 of 1"
 
 # Storms.
