@@ -102,6 +102,11 @@ impl<S: Steps + Drop> Steps for Counted<S> {
         self.steps.abort(key)
     }
 
+    fn give_up(&mut self, key: Key) -> Result<(), Refusal> {
+        self.calls.count_locking();
+        self.steps.give_up(key)
+    }
+
     fn settle(&mut self) -> Result<Settled, Refusal> {
         self.calls.count_locking();
         self.steps.settle()
