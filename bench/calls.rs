@@ -26,6 +26,7 @@ unsafe extern "C" {
     safe fn mm_bench_rounds(resources: u32, mask: u32, others: u32, count: u64) -> u64;
     safe fn mm_bench_random(count: u64) -> u64;
     safe fn mm_bench_hand_overs(waiters: u32, count: u64) -> u64;
+    safe fn mm_bench_give_ups(waiters: u32, count: u64) -> u64;
     safe fn mm_bench_crosswise(count: u64) -> u64;
     safe fn mm_bench_rings(size: u32, is_rising: bool, settles: u32, is_closed: bool, count: u64) -> u64;
     safe fn mm_bench_chain(size: u32, settles: u32) -> u64;
@@ -84,7 +85,7 @@ impl Workload<'_> {
             }
         }
         let costs: Vec<f64> = least.iter().map(|[whole, prepared]| (whole - prepared) / self.units as f64).collect();
-        print!("{:<46} {:>6} {:>11.2}", self.name, self.size, costs[0]);
+        print!("{:<50} {:>6} {:>11.2}", self.name, self.size, costs[0]);
         for cost in &costs[1..] {
             print!(" {:>11.2} {:>6.2}", cost, costs[0] / cost);
         }
@@ -138,6 +139,18 @@ fn measure_hand_overs(waiters: u32) {
         units: u64::from(waiters) * count,
         unit: "waiter",
         runs: runs!(mm_bench_hand_overs(waiters, if is_whole { count } else { 0 }), hand_overs, is_whole, waiters, if is_whole { count } else { 0 }),
+    }
+    .measure();
+}
+
+fn measure_give_ups(waiters: u32) {
+    let count = 10_000;
+    Workload {
+        name: "give up in the middle of a queue, and wait again",
+        size: waiters,
+        units: 2 * count,
+        unit: "call",
+        runs: runs!(mm_bench_give_ups(waiters, if is_whole { count } else { 0 }), give_ups, is_whole, waiters, if is_whole { count } else { 0 }),
     }
     .measure();
 }
@@ -197,11 +210,11 @@ fn measure_nothing() {
             time(&|_| (0..count).fold(0, |sum, _| mm_bench_nothing(sum)), true)
         })
         .fold(f64::INFINITY, f64::min);
-    println!("{:<46} {:>6} {:>11.2}", "a call through C that does nothing", "", least / count as f64);
+    println!("{:<50} {:>6} {:>11.2}", "a call through C that does nothing", "", least / count as f64);
 }
 
 fn main() {
-    print!("{:<46} {:>6} {:>11} {:>11} {:>6}", "workload", "size", "proved", "plain", "ratio");
+    print!("{:<50} {:>6} {:>11} {:>11} {:>6}", "workload", "size", "proved", "plain", "ratio");
     println!("{}", if cfg!(reference) { format!(" {:>11} {:>6}", "reference", "ratio") } else { String::new() });
     for resources in [16, 1_024, 65_536] {
         measure_rounds(resources);
@@ -212,6 +225,9 @@ fn main() {
     measure_random();
     for waiters in [16, 256, 4_095] {
         measure_hand_overs(waiters);
+    }
+    for waiters in [16, 4_000] {
+        measure_give_ups(waiters);
     }
     measure_crosswise();
     for size in [2, 64, 4_096] {

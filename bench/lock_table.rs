@@ -21,6 +21,7 @@ pub trait LockTable: Sized {
     fn transmit(&mut self, key: Key) -> Result<(), Refused>;
     fn detect(&mut self, key: Key) -> Result<(), Refused>;
     fn abort(&mut self, key: Key) -> Result<(), Refused>;
+    fn give_up(&mut self, key: Key) -> Result<(), Refused>;
     fn settle(&mut self) -> Result<(), Refused>;
     /// How many events were accepted, and how many verdicts were given.
     fn totals(&self) -> (u64, u64);
@@ -71,6 +72,11 @@ impl LockTable for plain::Table {
     #[inline]
     fn abort(&mut self, key: Key) -> Result<(), Refused> {
         plain::Table::abort(self, key).map_err(|_| Refused)
+    }
+
+    #[inline]
+    fn give_up(&mut self, key: Key) -> Result<(), Refused> {
+        plain::Table::give_up(self, key).map_err(|_| Refused)
     }
 
     #[inline]
@@ -139,6 +145,11 @@ mod told {
         #[inline]
         fn abort(&mut self, key: Key) -> Result<(), Refused> {
             reference::Table::abort(self, theirs(key)).map_err(|_| Refused)
+        }
+
+        #[inline]
+        fn give_up(&mut self, key: Key) -> Result<(), Refused> {
+            reference::Table::give_up(self, theirs(key)).map_err(|_| Refused)
         }
 
         #[inline]

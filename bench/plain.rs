@@ -27,6 +27,8 @@ pub enum Refusal {
     LabelsExhausted,
     NotWaiting,
     NoVerdict,
+    Carried,
+    UnderVerdict,
     BadConfig,
     CountsExhausted,
 }

@@ -66,16 +66,34 @@ fn pass_on<T: LockTable>(table: &mut T, owner: Key) -> Result<Key, Refused> {
     Ok(next.unwrap_or(owner))
 }
 
-pub fn hand_overs<T: LockTable>(waiters: u32, count: u64) -> Result<u64, Refused> {
+fn queue<T: LockTable>(waiters: u32) -> Result<(T, Key), Refused> {
     let mut table = T::open(MOST_PROCESSES, 1)?;
-    let mut owner = table.begin()?;
+    let owner = table.begin()?;
     table.acquire(owner, 0)?;
     for _ in 0..waiters {
         let key = table.begin()?;
         table.acquire(key, 0)?;
     }
+    Ok((table, owner))
+}
+
+pub fn hand_overs<T: LockTable>(waiters: u32, count: u64) -> Result<u64, Refused> {
+    let (mut table, mut owner): (T, Key) = queue(waiters)?;
     for _ in 0..count {
         owner = pass_on(&mut table, owner)?;
+    }
+    Ok(accepted(&table))
+}
+
+pub fn give_ups<T: LockTable>(waiters: u32, count: u64) -> Result<u64, Refused> {
+    let (mut table, _): (T, Key) = queue(waiters)?;
+    let middle = waiters / 2 + 1;
+    let mut process = middle;
+    for _ in 0..count {
+        let key = Key { process, generation: 1 };
+        table.give_up(key)?;
+        table.acquire(key, 0)?;
+        process = if process < waiters { process + 1 } else { middle };
     }
     Ok(accepted(&table))
 }

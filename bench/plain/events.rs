@@ -131,6 +131,23 @@ impl Table {
         Ok(())
     }
 
+    pub fn give_up(&mut self, key: Key) -> Result<(), Refusal> {
+        self.may_count()?;
+        let process = self.live(key)?;
+        if process.waits_for == NONE {
+            return Err(Refusal::NotWaiting);
+        }
+        if process.has_verdict {
+            return Err(Refusal::UnderVerdict);
+        }
+        if process.private != process.public {
+            return Err(Refusal::Carried);
+        }
+        self.withdraw(key.process);
+        self.accepted += 1;
+        Ok(())
+    }
+
     /// Looks only at what may have changed since the last settling: a process is looked at again in this sweep, or in the next
     /// one, where its holder's label rose after, or before, the sweep came to it.
     pub fn settle(&mut self) -> Result<Settled, Refusal> {

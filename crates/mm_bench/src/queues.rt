@@ -13,14 +13,20 @@ fn pass_on(table: &mut Table, owner: Key) -> Result<Key, Refusal> {
     })
 }
 
-fn hand_overs(alloc: Global, waiters: u32, count: u64) -> Result<u64, Refusal> {
+/// A table in which one transaction owns resource 0 and `waiters` wait for it. Answers the owner too.
+fn queue(alloc: Global, waiters: u32) -> Result<(Table, Key), Refusal> {
     let mut table = open(alloc, Config::MOST_PROCESSES, 1)?;
-    let mut owner = table.begin()?;
+    let owner = table.begin()?;
     table.acquire(owner, 0)?;
     for _ in 0..waiters {
         let key = table.begin()?;
         table.acquire(key, 0)?;
     }
+    Ok((table, owner))
+}
+
+fn hand_overs(alloc: Global, waiters: u32, count: u64) -> Result<u64, Refusal> {
+    let (mut table, mut owner) = queue(alloc, waiters)?;
     for _ in 0..count {
         owner = pass_on(&mut table, owner)?;
     }
@@ -31,4 +37,32 @@ fn hand_overs(alloc: Global, waiters: u32, count: u64) -> Result<u64, Refusal> {
 #[unsafe(no_mangle)]
 pub extern "C" fn mm_bench_hand_overs(alloc: Global, waiters: u32, count: u64) -> u64 {
     hand_overs(alloc, waiters, count).unwrap_or(0)
+}
+
+/// The waiters from the middle of the queue on take turns, so it is always the one in the middle that gives up.
+fn give_ups(alloc: Global, waiters: u32, count: u64) -> Result<u64, Refusal> {
+    let (mut table, _) = queue(alloc, waiters)?;
+    let middle = waiters / 2 + 1;
+    let mut process = middle;
+    for _ in 0..count {
+        let key = Key {
+            process,
+            generation: 1,
+        };
+        table.give_up(key)?;
+        table.acquire(key, 0)?;
+        process = if process < waiters {
+            process + 1
+        } else {
+            middle
+        };
+    }
+    Ok(table.totals().accepted)
+}
+
+/// One transaction owns a resource and `waiters` wait for it. `count` times the one in the middle of the queue gives up, and then waits
+/// again, last in the queue.
+#[unsafe(no_mangle)]
+pub extern "C" fn mm_bench_give_ups(alloc: Global, waiters: u32, count: u64) -> u64 {
+    give_ups(alloc, waiters, count).unwrap_or(0)
 }
