@@ -1,6 +1,6 @@
 -- What a command line asks for. The first word is the program's name.
 use Rattle.std.specs.Prelude.{◌≡◌, ◌⊎◌, ℕ, List, [], ◌∷◌, Bool, true, false, Option, Some, None, codes, drop}
-use Rattle.clap.specs.Words.{App, Rule, Text, kind_of, new_app, new_rule, with_rule, with_subcommand}
+use Rattle.clap.specs.Words.{App, IsAmong, Kinds, Rule, Text, kind_of, new_app, new_rule, with_rule, with_subcommand}
 use Rattle.clap.specs.declared.builder.action.ArgAction.TheVariants.{Set, SetTrue}
 use Rattle.clap.specs.declared.builder.value_parser.ValueParser.TheVariants.{Unsigned}
 use Rattle.clap.specs.declared.error.Error.{Error}
@@ -66,6 +66,10 @@ request_by _ error = Wrong error
 -- what to do at an error
 abbrev pub request_at : Error → Request
 request_at error = request_by (kind_of error) error
+
+-- what words with these faults ask for: what is to be done at an error by one of them, where memory was not refused
+abbrev pub IsByFault : Kinds → Request → Type 0
+IsByFault faults request = (request ≡ Memory) ⊎ ((error : Error) × IsAmong (kind_of error) faults × (request ≡ request_at error))
 
 -- clap entered no subcommand, or `script`
 abbrev pub IsScriptName : Option Text → Type 0

@@ -2,9 +2,9 @@
 //!
 //! - `program`: the words that there are.
 //! - `options`: the numbers of a generated workload.
-ghost use Rattle.std.specs.Prelude.{◌≡◌, [], IfOk, true, map};
+ghost use Rattle.std.specs.Prelude.{◌≡◌, ◌≢◌, [], IfOk, true, map};
 ghost use Rattle.clap.specs.Words.{FailsBy, HasMatchesOf, fault_of, subcommand_name_of};
-ghost use Rattle.mm_detect.specs.CommandLine.{AsksForHelp, AsksForScript, IsHelp, IsScript, IsScriptName, program, request_at, runs};
+ghost use Rattle.mm_detect.specs.CommandLine.{AsksForHelp, AsksForScript, IsByFault, IsHelp, IsScript, IsScriptName, program, request_at, runs};
 
 mod options;
 mod program;
@@ -62,6 +62,7 @@ pub fn request_of<S: AsStr>(alloc: Global, words: &[S]) -> Request
     ensures script { AsksForScript (map S.text words.now) → IsScript result }
     ensures help { AsksForHelp (map S.text words.now) → IsHelp result }
     ensures faultless { runs result ≡ true → fault_of program (map S.text words.now) ≡ [] }
+    ensures wrong { fault_of program (map S.text words.now) ≢ [] → IsByFault (fault_of program (map S.text words.now)) result }
 {
     match parsed(alloc, words) {
         Ok(matches) => by_matches(alloc, &matches),

@@ -7,6 +7,8 @@
 //! - `ending`: how a run of the program ends, and the status that it exits with.
 #![tactic(auto)]
 
+ghost use Rattle.mm_detect.specs.Answer.{IsEndOf};
+
 mod command_line;
 mod ending;
 mod file;
@@ -24,7 +26,7 @@ use mm_table::Refusal;
 use mm_work::{ScriptFault, run_script};
 use mm_workload::Workload;
 use std::alloc::Global;
-use std::io::Write;
+use std::io::{Read, Write};
 use std::process::ExitCode;
 use std::rt::Runtime;
 use std::sync::Wait;
@@ -34,14 +36,32 @@ use work::{WRITE_FAULT, generated, printed, storm_on, threads_on};
 use work_end::WorkEnd;
 
 fn main(rt: HostRuntime) -> ExitCode {
-    let (alloc, mut output) = (rt.alloc(), rt.stdout());
-    let ending = match asked(&rt) {
-        Request::Script => Ending::Ran(run_script(alloc, &mut rt.stdin(), &mut output)),
+    let (mut input, mut output) = (rt.stdin(), rt.stdout());
+    let ending = answer(&rt, rt.alloc(), asked(&rt), &mut input, &mut output);
+    if let Some(fault) = fault(&ending) {
+        // Where standard error cannot be written either, the status alone reports it.
+        let _ = eprintln!(rt; "{fault}");
+    }
+    ExitCode::from(status(&ending))
+}
+
+/// Does what is asked for, and returns how that ended.
+fn answer<R: Runtime + Threads + Wait + Sync, I: Read, W: Write>(
+    rt: &R,
+    alloc: Global,
+    request: Request,
+    input: &mut I,
+    output: &mut W,
+) -> Ending
+    ensures { IsEndOf request result }
+{
+    match request {
+        Request::Script => Ending::Ran(run_script(alloc, input, output)),
         Request::Threads { file, verbose } => {
-            Ending::Worked(threads(&rt, alloc, file.as_str(), verbose, &mut output))
+            Ending::Worked(threads(rt, alloc, file.as_str(), verbose, output))
         }
         Request::Storm { options, verbose } => {
-            Ending::Worked(stormed(&rt, alloc, options, verbose, &mut output))
+            Ending::Worked(stormed(rt, alloc, options, verbose, output))
         }
         Request::Help(text) => {
             Ending::Helped(print!(rt; "{text}").map_err(|_| ScriptFault::Write))
@@ -54,12 +74,7 @@ fn main(rt: HostRuntime) -> ExitCode {
         Request::Memory => {
             Ending::Refused(println!(rt; "refused 10 Memory").map_err(|_| ScriptFault::Write))
         }
-    };
-    if let Some(fault) = fault(&ending) {
-        // Where standard error cannot be written either, the status alone reports it.
-        let _ = eprintln!(rt; "{fault}");
     }
-    ExitCode::from(status(&ending))
 }
 
 /// Runs the workload in this file, and returns the status.

@@ -9,7 +9,7 @@ use Rattle.clap.proofs.OnLiterals.{clap_on_literals}
 use Rattle.clap.specs.declared.error.Error.{Error}
 use Rattle.clap.specs.declared.error.kind.ErrorKind.TheVariants.{DisplayHelp, OutOfMemory}
 use Rattle.clap.specs.declared.parser.matches.ArgMatches.{ArgMatches}
-use Rattle.mm_detect.specs.CommandLine.{AsksForHelp, AsksForScript, IsHelp, IsScript, program, request_at, request_by, IsScriptName}
+use Rattle.mm_detect.specs.CommandLine.{AsksForHelp, AsksForScript, IsByFault, IsHelp, IsScript, program, request_at, request_by, IsScriptName}
 use Rattle.mm_detect.specs.declared.command_line.Request.TheVariants.{Help, Memory}
 
 -- the kinds that clap's rules give for the words behind the program's name
@@ -71,6 +71,11 @@ script_at_error e kinds none (inr among) = absurd (no_kind e kinds none among)
 pub help_at_error : (e : Error) (kinds : Kinds) → kinds ≡ DisplayHelp ∷ [] → FailsBy kinds (failed e) → IsHelp (request_at e)
 help_at_error e kinds one (inl memory) = inr (memory_at e memory)
 help_at_error e kinds one (inr among) = inl (e, help_at e (help_kind e kinds one among))
+
+-- an error is want of memory, or by one of the faults
+pub by_fault : (e : Error) (kinds : Kinds) → FailsBy kinds (failed e) → IsByFault kinds (request_at e)
+by_fault e kinds (inl memory) = inl (memory_at e memory)
+by_fault e kinds (inr among) = inr (e, among, refl)
 
 -- whoever asks for help gets no matches
 pub no_matches : (m : ArgMatches) (kinds : Kinds) → kinds ≡ DisplayHelp ∷ [] → FailsBy kinds (parsed m) → ⊥

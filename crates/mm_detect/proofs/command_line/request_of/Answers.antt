@@ -1,7 +1,7 @@
 use Rattle.std.proofs.Common.{subst, sym, map, List}
 use Rattle.clap.specs.Words.{Text, fault_of}
-use Rattle.mm_detect.specs.CommandLine.{IsHelp, IsScript, program}
-use Rattle.mm_detect.proofs.Lemmas.CommandLine.{script_by, script_at_error, script_named, help_by, help_at_error, no_matches}
+use Rattle.mm_detect.specs.CommandLine.{IsByFault, IsHelp, IsScript, program}
+use Rattle.mm_detect.proofs.Lemmas.CommandLine.{script_by, script_at_error, script_named, help_by, help_at_error, by_fault, no_matches}
 use Rattle.mm_detect.proofs.command_line.request_of.Goals as goal
 
 pub returns-in-Ok-clause-script : goal.returns-in-Ok-clause-script
@@ -23,3 +23,8 @@ pub returns-in-Err-clause-help : goal.returns-in-Err-clause-help
 returns-in-Err-clause-help g c =
     let words : List Text = map g.S.AsStr.text c.args.words.now in
     λ asks. subst IsHelp (sym c.by_error.ensures) (help_at_error c.in-Err.error (fault_of program words) (help_by words asks) c.in-Err.ensures.fails)
+
+pub returns-in-Err-clause-wrong : goal.returns-in-Err-clause-wrong
+returns-in-Err-clause-wrong g c =
+    let words : List Text = map g.S.AsStr.text c.args.words.now in
+    λ some. subst (IsByFault (fault_of program words)) (sym c.by_error.ensures) (by_fault c.in-Err.error (fault_of program words) c.in-Err.ensures.fails)

@@ -1,0 +1,16 @@
+-- How what is asked for ends.
+use Rattle.std.specs.Prelude.{⊤}
+use Rattle.mm_detect.specs.declared.command_line.Request.{Request}
+use Rattle.mm_detect.specs.declared.command_line.Request.TheVariants as request
+use Rattle.mm_detect.specs.declared.ending.Ending.{Ending}
+use Rattle.mm_detect.specs.declared.ending.Ending.TheVariants as ending
+
+-- each request has an end of its own, but for the two kinds of workload, which end alike
+abbrev pub IsEndOf : Request → Ending → Type 0
+IsEndOf request.Script (ending.Ran lines) = ⊤
+IsEndOf (request.Threads file verbose) (ending.Worked status) = ⊤
+IsEndOf (request.Storm options verbose) (ending.Worked status) = ⊤
+IsEndOf (request.Help text) (ending.Helped printed) = ⊤
+IsEndOf (request.Wrong text) ending.Wrong = ⊤
+IsEndOf request.Memory (ending.Refused printed) = ⊤
+IsEndOf _ _ = ⊥
