@@ -28,7 +28,10 @@ fn store_read_and_show<N: Name, R: Abort>(rt: &R, raw: RawBoard)
     same(rt, reader.read_label(&board, 1), label(4, 1));
     publisher.store_holder(&board, 0, Some(1));
     same(rt, reader.read_holder(&board, 0), Some(1));
-    let waiter = Waiter { process: 0, holder: 1 };
+    let waiter = Waiter {
+        process: 0,
+        holder: 1,
+    };
     same(rt, reader.next_waiter(&board, 0), Some(waiter));
     same(rt, reader.next_waiter(&board, 1), None);
     publisher.store_holder(&board, 0, None);
