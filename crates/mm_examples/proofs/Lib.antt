@@ -1,2 +1,3 @@
 pub mod Woken
+pub mod AtRest
 pub mod Shown
