@@ -14,9 +14,14 @@ use mm_board::{Board, Name};
 use mm_table::{Acquired, Detected, Key, Refusal, Released, Settled, State, Transmitted};
 use std::fmt;
 use std::fmt::{Debug, Formatter};
+use std::hint::spin_loop;
 use std::marker::Model;
 use std::sync::ledger::Ledger;
 use std::sync::{Mutex, MutexGuard, Wait};
+
+/// How often a thread that finds the lock taken pauses before it asks for it again: some hundred nanoseconds, in which ten calls that
+/// change little are done.
+const PAUSES: u32 = 12;
 
 /// A lock table that threads share by reference: an `Inside` behind one lock, and beside it the board on which its labels and holders are
 /// read without the lock.
@@ -87,9 +92,12 @@ impl<N: Name, A: Ledger, V: Ledger, B: Ledger> SharedTable<N, A, V, B> {
         }
     }
 
-    /// Waits for the lock, and takes it.
+    /// Waits for the lock, and takes it. Asking again at once would slow down the one that has it, who is done soon.
     #[inline(never)]
     fn awaited<R: Wait>(&self, rt: &R) -> MutexGuard<'_, CachePadded<Inside<N, A, V, B>>> {
+        for _ in 0..PAUSES {
+            spin_loop();
+        }
         self.lock.lock(rt)
     }
 
