@@ -9,6 +9,7 @@ ghost use Rattle.std.specs.Prelude.{◌≡◌};
 use mm_table::{Config, Refusal, Table};
 use std::alloc::Global;
 
+mod blocks;
 mod queues;
 mod random;
 mod rings;

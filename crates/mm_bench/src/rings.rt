@@ -23,7 +23,7 @@ fn wait(table: &mut Table, size: u32, is_rising: bool, from: u32, to: u32) -> Re
 }
 
 /// `size` transactions, each of which owns the resource of its own number.
-fn owners(alloc: Global, size: u32) -> Result<Table, Refusal> {
+pub fn owners(alloc: Global, size: u32) -> Result<Table, Refusal> {
     let mut table = open(alloc, size, size)?;
     for process in 0..size {
         let key = table.begin()?;

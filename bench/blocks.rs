@@ -1,0 +1,92 @@
+//! What one block costs where so many transactions wait in a chain: by labels in the proved table, with a settle after each block, and by
+//! a walk of the wait graph at each block. For each length it prints the length and four times in nanoseconds of processor time: by labels
+//! and by a walk where blocks come at the tail of the chain, and both where they come at its head.
+
+mod walk;
+
+use std::hint::black_box;
+use std::time::Instant;
+
+const PROCESSES: u32 = 4_096;
+const LENGTHS: [u32; 11] = [4, 8, 16, 32, 64, 128, 256, 512, 1_024, 2_048, 4_095];
+const MOST_ROUNDS: u32 = 400;
+const LEAST_ROUNDS: u32 = 3;
+/// No round is begun after this many seconds, but for the first few.
+const SECONDS: f64 = 0.1;
+
+unsafe extern "C" {
+    safe fn mm_bench_blocks(room: u32, waiting: u32, is_at_head: bool) -> u64;
+    /// The C library's.
+    safe fn clock_gettime(clock: i32, time: &mut Time) -> i32;
+}
+
+/// `struct timespec` of Linux on 64 bits.
+#[repr(C)]
+#[derive(Default)]
+struct Time {
+    seconds: i64,
+    nanoseconds: i64,
+}
+
+/// The processor time of this thread so far, in nanoseconds.
+fn now() -> f64 {
+    const CLOCK_THREAD_CPUTIME_ID: i32 = 3;
+    let mut time = Time::default();
+    assert_eq!(0, clock_gettime(CLOCK_THREAD_CPUTIME_ID, &mut time));
+    time.seconds as f64 * 1e9 + time.nanoseconds as f64
+}
+
+/// As many chains as there is room for, each of `room` processes. In each so many come to wait, one after another.
+type Work = fn(room: u32, waiting: u32, is_at_head: bool) -> u64;
+
+fn labels(room: u32, waiting: u32, is_at_head: bool) -> u64 {
+    mm_bench_blocks(room, waiting, is_at_head)
+}
+
+fn walks(room: u32, waiting: u32, is_at_head: bool) -> u64 {
+    let mut table = walk::Table::open(PROCESSES, PROCESSES);
+    let mut accepted = 0;
+    for process in 0..PROCESSES {
+        accepted += u64::from(table.acquire(process, process));
+    }
+    for chain in 0..PROCESSES / room {
+        for process in chain * room..chain * room + waiting {
+            let (waiter, holder) = if is_at_head { (process, process + 1) } else { (process + 1, process) };
+            accepted += u64::from(table.acquire(waiter, holder));
+        }
+    }
+    accepted
+}
+
+/// How long one run takes, in nanoseconds.
+fn time(work: Work, room: u32, waiting: u32, is_at_head: bool) -> f64 {
+    let start = now();
+    assert!(black_box(work(black_box(room), black_box(waiting), is_at_head)) > 0);
+    now() - start
+}
+
+/// What the last sixteenth of the blocks cost that make chains of so many waits, for each block: the least time of many rounds, less that
+/// of chains without them.
+fn cost(work: Work, waiting: u32, is_at_head: bool) -> f64 {
+    let room = waiting + 1;
+    let blocks = waiting.div_ceil(16);
+    let mut least = [f64::INFINITY; 2];
+    let start = Instant::now();
+    for round in 0..MOST_ROUNDS {
+        if round >= LEAST_ROUNDS && start.elapsed().as_secs_f64() > SECONDS {
+            break;
+        }
+        for (least, waiting) in least.iter_mut().zip([waiting - blocks, waiting]) {
+            *least = least.min(time(work, room, waiting, is_at_head));
+        }
+    }
+    (least[1] - least[0]) / f64::from(PROCESSES / room * blocks)
+}
+
+fn main() {
+    for waiting in LENGTHS {
+        let costs = [(labels as Work, false), (walks, false), (labels, true), (walks, true)];
+        let costs = costs.map(|(work, is_at_head)| format!("{:.1}", cost(work, waiting, is_at_head)));
+        println!("{waiting} {}", costs.join(" "));
+    }
+}

@@ -1,0 +1,45 @@
+//! Chains of transactions that come to wait, one after another, at one end.
+use crate::rings::owners;
+use mm_table::{Config, Key, Refusal, Table};
+use std::alloc::Global;
+
+/// A wait between a process and the next one, which is settled: the process waits where `is_at_head`, and else the next one.
+fn block(table: &mut Table, process: u32, is_at_head: bool) -> Result<(), Refusal> {
+    let next = process.wrapping_add(1);
+    let (waiter, holder) = if is_at_head {
+        (process, next)
+    } else {
+        (next, process)
+    };
+    let key = Key {
+        process: waiter,
+        generation: 1,
+    };
+    table.acquire(key, holder)?;
+    table.settle()?;
+    Ok(())
+}
+
+/// From the process `first` on, so many come to wait.
+fn extend(table: &mut Table, first: u32, waiting: u32, is_at_head: bool) -> Result<(), Refusal> {
+    for place in 0..waiting {
+        block(table, first.wrapping_add(place), is_at_head)?;
+    }
+    Ok(())
+}
+
+fn blocks(alloc: Global, room: u32, waiting: u32, is_at_head: bool) -> Result<u64, Refusal> {
+    let mut table = owners(alloc, Config::MOST_PROCESSES)?;
+    for chain in 0..Config::MOST_PROCESSES.checked_div(room).unwrap_or(0) {
+        extend(&mut table, chain.wrapping_mul(room), waiting, is_at_head)?;
+    }
+    Ok(table.totals().accepted)
+}
+
+/// As many chains as there is room for, each of `room` processes. In each `waiting` transactions come to wait, one after another, and each
+/// wait is settled. Where `is_at_head`, the one that comes to wait is the one that those before it wait for, and else it waits for the one
+/// before it.
+#[unsafe(no_mangle)]
+pub extern "C" fn mm_bench_blocks(alloc: Global, room: u32, waiting: u32, is_at_head: bool) -> u64 {
+    blocks(alloc, room, waiting, is_at_head).unwrap_or(0)
+}
