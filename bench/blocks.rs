@@ -1,6 +1,7 @@
-//! What one block costs where so many transactions wait in a chain: by labels in the proved table, with a settle after each block, and by
-//! a walk of the wait graph at each block. For each length it prints the length and four times in nanoseconds of processor time: by labels
-//! and by a walk where blocks come at the tail of the chain, and both where they come at its head.
+//! What blocks cost where so many transactions wait in a chain: by labels in the proved table, with a settle after each block, and by a
+//! walk of the wait graph at each block. For each length it prints the length, how many blocks are timed, and four pairs of times in
+//! nanoseconds of processor time, without these blocks and with them: by labels and by a walk where blocks come at the tail of the chain,
+//! and by both where they come at its head.
 
 mod walk;
 
@@ -9,10 +10,10 @@ use std::time::Instant;
 
 const PROCESSES: u32 = 4_096;
 const LENGTHS: [u32; 11] = [4, 8, 16, 32, 64, 128, 256, 512, 1_024, 2_048, 4_095];
-const MOST_ROUNDS: u32 = 400;
+const MOST_ROUNDS: u32 = 2_000;
 const LEAST_ROUNDS: u32 = 3;
 /// No round is begun after this many seconds, but for the first few.
-const SECONDS: f64 = 0.1;
+const SECONDS: f64 = 0.2;
 
 unsafe extern "C" {
     safe fn mm_bench_blocks(room: u32, waiting: u32, is_at_head: bool) -> u64;
@@ -65,28 +66,29 @@ fn time(work: Work, room: u32, waiting: u32, is_at_head: bool) -> f64 {
     now() - start
 }
 
-/// What the last sixteenth of the blocks cost that make chains of so many waits, for each block: the least time of many rounds, less that
-/// of chains without them.
-fn cost(work: Work, waiting: u32, is_at_head: bool) -> f64 {
-    let room = waiting + 1;
-    let blocks = waiting.div_ceil(16);
+/// The least times of many rounds that make chains of so many waits: but for the last `blocks` of each, and whole.
+fn least(work: Work, waiting: u32, blocks: u32, is_at_head: bool) -> [f64; 2] {
     let mut least = [f64::INFINITY; 2];
     let start = Instant::now();
     for round in 0..MOST_ROUNDS {
         if round >= LEAST_ROUNDS && start.elapsed().as_secs_f64() > SECONDS {
             break;
         }
-        for (least, waiting) in least.iter_mut().zip([waiting - blocks, waiting]) {
-            *least = least.min(time(work, room, waiting, is_at_head));
+        for (least, waits) in least.iter_mut().zip([waiting - blocks, waiting]) {
+            *least = least.min(time(work, waiting + 1, waits, is_at_head));
         }
     }
-    (least[1] - least[0]) / f64::from(PROCESSES / room * blocks)
+    least
 }
 
 fn main() {
     for waiting in LENGTHS {
-        let costs = [(labels as Work, false), (walks, false), (labels, true), (walks, true)];
-        let costs = costs.map(|(work, is_at_head)| format!("{:.1}", cost(work, waiting, is_at_head)));
-        println!("{waiting} {}", costs.join(" "));
+        let blocks = waiting.div_ceil(8);
+        let works = [(labels as Work, false), (walks, false), (labels, true), (walks, true)];
+        let pairs = works.map(|(work, is_at_head)| {
+            let [without, with] = least(work, waiting, blocks, is_at_head);
+            format!("{without} {with}")
+        });
+        println!("{waiting} {} {}", PROCESSES / (waiting + 1) * blocks, pairs.join(" "));
     }
 }
