@@ -117,9 +117,10 @@ for signal in TERM INT HUP; do
   echo "of $signal" > "$low"
   echo 20 > "$fake/takes"
   : > "$fake/ran"
-  # (a command in the background would not be given SIGINT)
+  # (a command in the background would not be given SIGINT, and one below nohup not SIGHUP)
   env -u MMDETECT_BUILD PATH="$fake/bin:$PATH" python3 -c 'import os, signal, sys
-signal.signal(signal.SIGINT, signal.SIG_DFL)
+for each in signal.SIGHUP, signal.SIGINT, signal.SIGTERM:
+    signal.signal(each, signal.SIG_DFL)
 os.execv(sys.argv[1], sys.argv[1:])' "$checkout/mmdetect" > "$work/out" 2> "$work/err" &
   child=$!
   for ((i = 0; i < 100; i++)); do
