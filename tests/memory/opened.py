@@ -1,0 +1,62 @@
+"""No call of an opened table, of a shared table, of a pass or of a board requests memory."""
+from memory.program import refused
+from memory.requests import CALLS, TABLE
+
+# Each of the four threads makes so many transactions of eighteen calls: more than a million together.
+ROUNDS = 13_900
+BOARD = ["grants", "blocks", "deadlocks", "hand-overs", "peeks", "peeks-beside", "scans"]
+
+
+def script(cases, scratch, program):
+    """More than a hundred thousand calls on a table alone."""
+    opened = refused(scratch, [program], TABLE.encode())
+    given = (TABLE + CALLS * 7000).encode()
+    ample = refused(scratch, [program], given)
+    run = refused(scratch, [program], given, after=opened.counts.requests)
+    faults = [] if run == ample and run.status == 0 else [f"status {run.status}, {run.counts}"]
+    told = f"{CALLS.count(chr(10)) * 7000} calls, each request after the table line's is refused: {run.counts.refused} were made"
+    cases.ends("a script's calls", told, faults)
+
+
+def rounds(cases, scratch, times):
+    """Four threads at one shared table."""
+    run = refused(scratch, [times, "4", str(ROUNDS)], threads=1)
+    none = refused(scratch, [times, "4", "0"])
+    done = run.output.split()[-1:]
+    faults = []
+    if run.status != 0 or run.errors or done != [str(4 * ROUNDS)] or run.counts != none.counts or run.counts.by_threads != 0:
+        faults.append(f"{run.says()}, {run.counts}, without calls {none.counts}")
+    told = f"{4 * ROUNDS * 18} calls, each request of a thread is refused: {run.counts.by_threads} were made"
+    cases.ends("four threads at a shared table", told, faults)
+
+
+def storm(cases, scratch, times, kind):
+    """Four clients and two transmitters of this kind, each on a thread, who wait, find deadlocks and abort."""
+    run = refused(scratch, [times, "transmitters", kind, "4", "20000"], threads=1)
+    # nanoseconds, finished, aborted, waits, calls of clients and calls of transmitters
+    numbers = [int(word) for word in run.output.split()] or [0] * 6
+    faults = []
+    if run.status != 0 or run.errors or numbers[1] + numbers[2] != 80_000 or run.counts.by_threads != 0 or run.counts.started != 6:
+        faults.append(f"{run.says()}, {run.counts}")
+    told = f"{numbers[4] + numbers[5]} calls, each request of a thread is refused: {run.counts.by_threads} were made"
+    cases.ends(f"a long storm, its transmitters {kind}", told, faults)
+
+
+def board(cases, scratch, times, work):
+    """Calls of one thread that store on the board or read it."""
+    none = refused(scratch, [times, "board", work, "64", "0"])
+    run = refused(scratch, [times, "board", work, "64", "10000"], after=none.counts.requests)
+    faults = []
+    if run.status != 0 or run.errors or run.counts != none.counts:
+        faults.append(f"{run.says()}, {run.counts}, without calls {none.counts}")
+    told = f"10000 rounds, each request after the opening is refused: {run.counts.refused} were made"
+    cases.ends(f"a shared table with its board, {work}", told, faults)
+
+
+def all_calls(cases, scratch, program, times):
+    script(cases, scratch, program)
+    rounds(cases, scratch, times)
+    for kind in ["asking", "scanning"]:
+        storm(cases, scratch, times, kind)
+    for work in BOARD:
+        board(cases, scratch, times, work)

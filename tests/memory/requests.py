@@ -1,0 +1,98 @@
+"""Each request for memory of the program is refused in turn."""
+import glob
+import json
+import os
+
+from memory.answers import AMPLE, REFUSED, ends_of, same_as, same_output_as, script_of
+from memory.program import refused
+
+# More requests than any run makes.
+MOST = 5000
+CALLS = """begin
+begin
+acquire 0.1 0
+acquire 1.1 1
+acquire 0.1 1
+acquire 1.1 0
+transmit 0.1
+detect 1.1
+settle
+state 1.1
+owner 0
+abort 1.1
+release 0.1 0
+give_up 0.1
+finish 0.1
+totals
+"""
+TABLE = "table 64 128 1000 9\n"
+
+
+def all_in_turn(cases, scratch, name, command, judge, given=b""):
+    """Refuses the first request, then the second, and so on, until a run ends without a refusal."""
+    answers = {REFUSED: 0, AMPLE: 0}
+    faults = []
+    by_starts = 0
+    for place in range(1, MOST):
+        run = refused(scratch, command, given, request=place)
+        answer = judge(run)
+        if run.counts.ended != run.counts.started:
+            faults.append(f"request {place}: {run.counts.started} threads were started, {run.counts.ended} have ended")
+        if run.counts.refused == 0:
+            by_starts = run.counts.by_starts
+            if answer != AMPLE:
+                faults.append(f"nothing is refused: {run.says()}")
+            break
+        if answer is None or run.counts.refused != 1:
+            faults.append(f"request {place}: {run.says()}")
+        else:
+            answers[answer] += 1
+    else:
+        faults.append("it has no end")
+    told = f"{place - 1} requests, {by_starts} of them to start threads; each refused in turn: "
+    told += f"{answers[REFUSED]} times {REFUSED}, {answers[AMPLE]} times {AMPLE}"
+    cases.ends(name, told, faults)
+
+
+def with_turns(scratch, path, turns):
+    """A copy of this workload with so many turns, and how many clients it has."""
+    with open(path, encoding="ascii") as file:
+        workload = json.load(file)
+    workload["turns"] = turns
+    return scratch.keeps(os.path.basename(path), json.dumps(workload)), len(workload["clients"])
+
+
+def script(cases, scratch, program):
+    """A table line with calls after it, and a second table line, which stands where the first was refused."""
+    given = (TABLE + CALLS + TABLE + CALLS).encode()
+    ample = refused(scratch, [program], given)
+    second = refused(scratch, [program], (TABLE + CALLS).encode())
+    without_table = "refused 10 Memory\n" + "no table\n" * CALLS.count("\n") + second.output
+    all_in_turn(cases, scratch, "a script", [program], script_of(ample, without_table), given)
+
+
+def workloads(cases, scratch, program, examples):
+    """Each example with 1,000 turns, which may not do, and two as they stand, which have one outcome each. (Where a worker is not started,
+    those who were to meet it use all their turns.)"""
+    for path in sorted(glob.glob(os.path.join(examples, "*.json"))):
+        name = os.path.basename(path)
+        few, clients = with_turns(scratch, path, 1000)
+        all_in_turn(cases, scratch, f"threads {name} with 1000 turns", [program, "threads", few], ends_of(clients))
+    for name in ["crosswise.json", "hot_resource.json"]:
+        command = [program, "threads", os.path.join(examples, name)]
+        all_in_turn(cases, scratch, f"threads {name}", command, same_as(refused(scratch, command)))
+    command = [program, "threads", "--verbose", os.path.join(examples, "hot_resource.json")]
+    all_in_turn(cases, scratch, "threads --verbose hot_resource.json", command, same_output_as(refused(scratch, command)))
+
+
+def storms(cases, scratch, program):
+    all_in_turn(cases, scratch, "storm", [program, "storm"], ends_of(8))
+    command = [program, "storm", "--clients", "16", "--transmitters", "0", "--seed", "7"]
+    all_in_turn(cases, scratch, "storm of 16 clients", command, ends_of(16))
+
+
+def words(cases, scratch, program):
+    """Help, and words that are wrong."""
+    for given in ["--help", "threads", "storm --clients 0", "storm extra", "nothing"]:
+        command = [program] + given.split()
+        all_in_turn(cases, scratch, given, command, same_as(refused(scratch, command)))
