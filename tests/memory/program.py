@@ -33,6 +33,8 @@ class Scratch:
         os.chmod(self.folder, 0o755)
         self.library = self.path("refuse.so")
         self.counts = self.path("counts")
+
+    def builds_library(self):
         compiler = ["cc", "-O2", "-fPIC", "-shared", "-o", self.library, os.path.join(HERE, "refuse.c")]
         subprocess.run(compiler, check=True)
 
