@@ -1,5 +1,7 @@
 """Each call of the libraries that takes memory, with each of its requests refused in turn."""
+from memory.answers import AMPLE, REFUSED
 from memory.program import refused
+from memory.requests import all_in_turn
 
 # The word of crates/mm_memory, and what is called.
 CALLS = [
@@ -12,32 +14,21 @@ CALLS = [
     ("gates", "shared_gates"),
     ("run", "Workload::read, shared_gates, run_threads with 1000 turns"),
 ]
-# What a call may request more than the call of another word.
+# How many requests more a word makes than another one, with whose call it begins.
 AS_MANY = {"shared": ("prepare", 0), "lists": ("open", 1)}
 
 
-def in_turn(cases, scratch, memory, word, name, base):
-    """Refuses each request of this call, after those that the program itself makes."""
-    ample = refused(scratch, [memory, word])
-    faults = [] if (ample.status, ample.output, ample.errors) == (0, "ok\n", "") else [ample.says()]
-    answers = {"refused 10 Memory\n": 0, "ok\n": 0}
-    for place in range(base + 1, ample.counts.requests + 1):
-        run = refused(scratch, [memory, word], request=place)
-        if run.status != 0 or run.errors or run.output not in answers or run.counts.refused != 1:
-            faults.append(f"request {place - base}: {run.says()}")
-        elif run.counts.ended != run.counts.started:
-            faults.append(f"request {place - base}: {run.counts.started} threads were started, {run.counts.ended} have ended")
-        else:
-            answers[run.output] += 1
-    told = f"{ample.counts.requests - base} requests, {ample.counts.by_starts} of them to start threads; each refused in turn: "
-    told += f"{answers['refused 10 Memory' + chr(10)]} times refused, {answers['ok' + chr(10)]} times as with ample memory"
-    cases.ends(name, told, faults)
-    return ample.counts.requests
+def judge(run):
+    if run.status != 0 or run.errors:
+        return None
+    return {"refused 10 Memory\n": REFUSED, "ok\n": AMPLE}.get(run.output)
 
 
 def all_calls(cases, scratch, memory):
+    # What the program requests before the call.
     base = refused(scratch, [memory, "none"]).counts.requests
-    requests = {word: in_turn(cases, scratch, memory, word, name, base) for word, name in CALLS}
+    requests = {word: all_in_turn(cases, scratch, name, [memory, word], judge, first=base + 1) for word, name in CALLS}
     for word, (other, more) in AS_MANY.items():
-        faults = [] if requests[word] == requests[other] + more else [f"{requests[word]} requests, and {requests[other]} of {other}"]
-        cases.ends(f"calls after {other}", f"{word} makes {requests[word] - requests[other]} requests more", faults)
+        least, most = requests[other], requests[word]
+        faults = [] if most == least + more else [f"not {least + more} requests"]
+        cases.ends(f"{word} after {other}", f"{least} requests, and {most - least} more", faults)

@@ -18,13 +18,18 @@ def script(cases, scratch, program):
     cases.ends("a script's calls", told, faults)
 
 
+def own(run):
+    """The requests that the program itself made. (The C library starts a thread with fewer where it has the memory of one that ended.)"""
+    return run.counts.requests - run.counts.by_starts
+
+
 def rounds(cases, scratch, times):
     """Four threads at one shared table."""
     run = refused(scratch, [times, "4", str(ROUNDS)], threads=1)
     none = refused(scratch, [times, "4", "0"])
     done = run.output.split()[-1:]
     faults = []
-    if run.status != 0 or run.errors or done != [str(4 * ROUNDS)] or run.counts != none.counts or run.counts.by_threads != 0:
+    if run.status != 0 or run.errors or done != [str(4 * ROUNDS)] or own(run) != own(none) or run.counts.by_threads != 0:
         faults.append(f"{run.says()}, {run.counts}, without calls {none.counts}")
     told = f"{4 * ROUNDS * 18} calls, each request of a thread is refused: {run.counts.by_threads} were made"
     cases.ends("four threads at a shared table", told, faults)
@@ -47,7 +52,7 @@ def board(cases, scratch, times, work):
     none = refused(scratch, [times, "board", work, "64", "0"])
     run = refused(scratch, [times, "board", work, "64", "10000"], after=none.counts.requests)
     faults = []
-    if run.status != 0 or run.errors or run.counts != none.counts:
+    if run.status != 0 or run.errors or run.counts.refused > 0 or run.counts.requests != none.counts.requests:
         faults.append(f"{run.says()}, {run.counts}, without calls {none.counts}")
     told = f"10000 rounds, each request after the opening is refused: {run.counts.refused} were made"
     cases.ends(f"a shared table with its board, {work}", told, faults)

@@ -13,8 +13,10 @@ TOP = os.path.dirname(os.path.dirname(HERE))
 COUNTS = struct.Struct("7q")
 Counts = namedtuple("Counts", "requests by_starts by_threads refused starts started ended")
 # A run that does not end within so many seconds is a failure.
-SECONDS = 30
+SECONDS = 60
 HANGS = "no end"
+# After so many faults a case goes no further.
+MOST_FAULTS = 3
 
 
 class Run(namedtuple("Run", "status output errors counts")):
@@ -22,6 +24,11 @@ class Run(namedtuple("Run", "status output errors counts")):
 
     def says(self):
         return f"status {self.status}, output {self.output!r}, errors {self.errors!r}"
+
+    def left_over(self):
+        """What to say of threads that were started and have not ended; nothing where there are none."""
+        counts = self.counts
+        return [] if counts.started == counts.ended else [f"{counts.started} threads were started, {counts.ended} have ended"]
 
 
 class Scratch:

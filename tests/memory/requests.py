@@ -4,7 +4,7 @@ import json
 import os
 
 from memory.answers import AMPLE, REFUSED, ends_of, same_as, same_output_as, script_of
-from memory.program import refused
+from memory.program import MOST_FAULTS, refused
 
 # More requests than any run makes.
 MOST = 5000
@@ -28,30 +28,27 @@ totals
 TABLE = "table 64 128 1000 9\n"
 
 
-def all_in_turn(cases, scratch, name, command, judge, given=b""):
-    """Refuses the first request, then the second, and so on, until a run ends without a refusal."""
+def all_in_turn(cases, scratch, name, command, judge, given=b"", first=1):
+    """Refuses the first request, then the second, and so on, until a run ends without a refusal. Returns how many requests there are."""
     answers = {REFUSED: 0, AMPLE: 0}
     faults = []
-    by_starts = 0
-    for place in range(1, MOST):
+    for place in range(first, MOST):
         run = refused(scratch, command, given, request=place)
         answer = judge(run)
-        if run.counts.ended != run.counts.started:
-            faults.append(f"request {place}: {run.counts.started} threads were started, {run.counts.ended} have ended")
-        if run.counts.refused == 0:
-            by_starts = run.counts.by_starts
-            if answer != AMPLE:
-                faults.append(f"nothing is refused: {run.says()}")
-            break
-        if answer is None or run.counts.refused != 1:
+        faults += [f"request {place}: {fault}" for fault in run.left_over()]
+        if answer is None:
             faults.append(f"request {place}: {run.says()}")
-        else:
+        elif run.counts.refused == 0 and answer == REFUSED:
+            faults.append(f"nothing is refused: {run.says()}")
+        if run.counts.refused == 0 or len(faults) >= MOST_FAULTS:
+            break
+        if answer is not None:
             answers[answer] += 1
     else:
         faults.append("it has no end")
-    told = f"{place - 1} requests, {by_starts} of them to start threads; each refused in turn: "
-    told += f"{answers[REFUSED]} times {REFUSED}, {answers[AMPLE]} times {AMPLE}"
-    cases.ends(name, told, faults)
+    told = f"{place - first} requests, {run.counts.by_starts} of them to start threads; each refused in turn: "
+    cases.ends(name, told + f"{answers[REFUSED]} times {REFUSED}, {answers[AMPLE]} times {AMPLE}", faults)
+    return place - first
 
 
 def with_turns(scratch, path, turns):

@@ -2,8 +2,8 @@
 import json
 import os
 
-from memory.answers import AMPLE, REFUSED, ends_of
-from memory.program import Run, ended, refused
+from memory.answers import AMPLE, REFUSED, ends_of, is_refused
+from memory.program import MOST_FAULTS, Run, ended, refused
 
 TIMES = 50
 # A user who has no other processes.
@@ -20,16 +20,19 @@ def crowd(clients, transmitters):
 def one_start(cases, scratch, name, command, workers):
     """Refuses one start, each time another one."""
     faults = []
-    started = 0
+    started = answers = 0
     for time in range(TIMES):
         place = 1 + time * workers // TIMES
         run = refused(scratch, command, start=place)
         started += run.counts.started
-        if ends_of(0)(run) != REFUSED:
+        if is_refused(run):
+            answers += 1
+        else:
             faults.append(f"start {place}: {run.says()}")
-        elif run.counts.started != run.counts.ended:
-            faults.append(f"start {place}: {run.counts.started} threads were started, {run.counts.ended} have ended")
-    told = f"{TIMES} times the start of one of {workers} workers is refused: {TIMES - len(faults)} times {REFUSED}, "
+        faults += [f"start {place}: {fault}" for fault in run.left_over()]
+        if len(faults) >= MOST_FAULTS:
+            break
+    told = f"{time + 1} times the start of one of {workers} workers is refused: {answers} times {REFUSED}, "
     cases.ends(f"{name}, a start refused", told + f"after all {started} threads that were started have ended", faults)
 
 
@@ -47,6 +50,8 @@ def few_processes(cases, name, command, clients, workers):
             answers[answer] += 1
         else:
             faults.append(f"at most {most} processes: status {status}, output {output!r}, errors {errors!r}")
+        if len(faults) >= MOST_FAULTS:
+            break
     told = f"{TIMES} times no worker can be started"
     told += f", once each that there may be 1 to {workers - 1} at once" if is_root else ""
     cases.ends(f"{name}, few processes", f"{told}: {answers[REFUSED]} times {REFUSED}, {answers[AMPLE]} times {AMPLE}", faults)
