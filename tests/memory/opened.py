@@ -1,6 +1,6 @@
 """No call of an opened table, of a shared table, of a pass or of a board requests memory."""
 from memory.program import refused
-from memory.requests import CALLS, TABLE
+from memory.requests import TABLE, calls
 
 # Each of the four threads makes so many transactions of eighteen calls: more than a million together.
 ROUNDS = 13_900
@@ -8,14 +8,16 @@ BOARD = ["grants", "blocks", "deadlocks", "hand-overs", "peeks", "peeks-beside",
 
 
 def script(cases, scratch, program):
-    """More than a hundred thousand calls on a table alone."""
+    """More than a hundred thousand calls on a table alone, none of which is refused."""
+    given = calls(7000)
     opened = refused(scratch, [program], TABLE.encode())
-    given = (TABLE + CALLS * 7000).encode()
-    ample = refused(scratch, [program], given)
-    run = refused(scratch, [program], given, after=opened.counts.requests)
-    faults = [] if run == ample and run.status == 0 else [f"status {run.status}, {run.counts}"]
-    told = f"{CALLS.count(chr(10)) * 7000} calls, each request after the table line's is refused: {run.counts.refused} were made"
-    cases.ends("a script's calls", told, faults)
+    run = refused(scratch, [program], (TABLE + given).encode(), after=opened.counts.requests)
+    faults = []
+    if run.status != 0 or run.errors or run.counts.refused > 0 or "refused" in run.output or "malformed" in run.output:
+        faults.append(f"status {run.status}, errors {run.errors!r}, {run.counts}, {run.output.count('refused')} refusals")
+    lines = run.output.count("\n") - 1
+    told = f"{lines} calls, each request after the table line's is refused: {run.counts.refused} were made"
+    cases.ends("a script's calls", told, faults if lines == given.count("\n") else faults + ["a line has no reply"])
 
 
 def own(run):

@@ -8,24 +8,31 @@ from memory.program import MOST_FAULTS, refused
 
 # More requests than any run makes.
 MOST = 5000
+TABLE = "table 64 128 1000000 1000000\n"
+# Two transactions that wait for each other, the second of which is aborted. Their processes are the next ones to be given again.
 CALLS = """begin
 begin
-acquire 0.1 0
-acquire 1.1 1
-acquire 0.1 1
-acquire 1.1 0
-transmit 0.1
-detect 1.1
+acquire 0.{0} 0
+acquire 1.{0} 1
+acquire 0.{0} 1
+give_up 0.{0}
+acquire 0.{0} 1
+acquire 1.{0} 0
+transmit 0.{0}
+detect 1.{0}
 settle
-state 1.1
+state 1.{0}
 owner 0
-abort 1.1
-release 0.1 0
-give_up 0.1
-finish 0.1
+abort 1.{0}
+release 0.{0} 0
+finish 0.{0}
 totals
 """
-TABLE = "table 64 128 1000 9\n"
+
+
+def calls(rounds):
+    """The calls above so many times; a later round's keys are of the next generation."""
+    return "".join(CALLS.format(generation) for generation in range(1, rounds + 1))
 
 
 def all_in_turn(cases, scratch, name, command, judge, given=b"", first=1):
@@ -61,9 +68,9 @@ def with_turns(scratch, path, turns):
 
 def script(cases, scratch, program):
     """A table line with calls after it, and a second table line, which stands where the first was refused."""
-    given = (TABLE + CALLS + TABLE + CALLS).encode()
+    given = (TABLE + calls(1) + TABLE + calls(1)).encode()
     ample = refused(scratch, [program], given)
-    second = refused(scratch, [program], (TABLE + CALLS).encode())
+    second = refused(scratch, [program], (TABLE + calls(1)).encode())
     without_table = "refused 10 Memory\n" + "no table\n" * CALLS.count("\n") + second.output
     all_in_turn(cases, scratch, "a script", [program], script_of(ample, without_table), given)
 
