@@ -19,8 +19,7 @@ use std::marker::Model;
 use std::sync::ledger::Ledger;
 use std::sync::{Mutex, MutexGuard, Wait};
 
-/// How often a thread that finds the lock taken pauses before it asks for it again: some hundred nanoseconds, in which ten calls that
-/// change little are done.
+/// How often a thread that finds the lock taken pauses before it asks for it again: long enough for several calls that change little.
 const PAUSES: u32 = 12;
 
 /// A lock table that threads share by reference: an `Inside` behind one lock, and beside it the board on which its labels and holders are
