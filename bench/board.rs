@@ -161,7 +161,7 @@ fn peeks(board: &Board, count: u64) -> u64 {
         if process as usize >= board.labels.len() {
             process = 0;
         }
-        sum = sum.wrapping_add(board.label(process) >> 16);
+        sum = sum.wrapping_add(board.label(process) >> 20);
         process += 1;
     }
     sum

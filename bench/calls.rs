@@ -16,6 +16,10 @@ mod workloads;
 use std::hint::black_box;
 use std::time::Instant;
 
+/// How many processes the tables have whose size is not what is timed.
+const PROCESSES: u32 = 4_096;
+const MOST_PROCESSES: u32 = 65_536;
+
 const MOST_ROUNDS: u32 = 400;
 const LEAST_ROUNDS: u32 = 5;
 /// No round is begun after this many seconds, but for the first few.
@@ -23,7 +27,8 @@ const SECONDS: f64 = 2.0;
 
 unsafe extern "C" {
     safe fn mm_bench_nothing(number: u64) -> u64;
-    safe fn mm_bench_rounds(resources: u32, mask: u32, others: u32, count: u64) -> u64;
+    safe fn mm_bench_openings(processes: u32, count: u64) -> u64;
+    safe fn mm_bench_rounds(processes: u32, resources: u32, mask: u32, others: u32, count: u64) -> u64;
     safe fn mm_bench_random(count: u64) -> u64;
     safe fn mm_bench_hand_overs(waiters: u32, count: u64) -> u64;
     safe fn mm_bench_give_ups(waiters: u32, count: u64) -> u64;
@@ -93,28 +98,58 @@ impl Workload<'_> {
     }
 }
 
-fn measure_rounds(resources: u32) {
+fn measure_openings(processes: u32) {
+    let count = 20;
+    Workload {
+        name: "a table of so many processes opened and dropped",
+        size: processes,
+        units: count,
+        unit: "table",
+        runs: runs!(mm_bench_openings(processes, if is_whole { count } else { 0 }), openings, is_whole, processes, if is_whole { count } else { 0 }),
+    }
+    .measure();
+}
+
+fn measure_rounds(processes: u32, resources: u32) {
     let count = 4_000;
     let mask = resources - 1;
     Workload {
-        name: "begin, 16 acquires, finish",
+        name: if processes == PROCESSES { "begin, 16 acquires, finish" } else { "the same in a table of 65,536 processes" },
         size: resources,
         units: 18 * count,
         unit: "call",
-        runs: runs!(mm_bench_rounds(resources, mask, 0, if is_whole { count } else { 0 }), rounds, is_whole, resources, mask, 0, if is_whole { count } else { 0 }),
+        runs: runs!(
+            mm_bench_rounds(processes, resources, mask, 0, if is_whole { count } else { 0 }),
+            rounds,
+            is_whole,
+            processes,
+            resources,
+            mask,
+            0,
+            if is_whole { count } else { 0 }
+        ),
     }
     .measure();
 }
 
 fn measure_rounds_beside(others: u32) {
     let count = 50;
-    let (resources, mask) = (1_025, 1_023);
+    let (processes, resources, mask) = (PROCESSES.max(others + 1), 1_025, 1_023);
     Workload {
         name: "the same, while so many hold or await another",
         size: others,
         units: 18 * count,
         unit: "call",
-        runs: runs!(mm_bench_rounds(resources, mask, others, if is_whole { count } else { 0 }), rounds, is_whole, resources, mask, others, if is_whole { count } else { 0 }),
+        runs: runs!(
+            mm_bench_rounds(processes, resources, mask, others, if is_whole { count } else { 0 }),
+            rounds,
+            is_whole,
+            processes,
+            resources,
+            mask,
+            others,
+            if is_whole { count } else { 0 }
+        ),
     }
     .measure();
 }
@@ -216,25 +251,32 @@ fn measure_nothing() {
 fn main() {
     print!("{:<50} {:>6} {:>11} {:>11} {:>6}", "workload", "size", "proved", "plain", "ratio");
     println!("{}", if cfg!(reference) { format!(" {:>11} {:>6}", "reference", "ratio") } else { String::new() });
-    for resources in [16, 1_024, 65_536] {
-        measure_rounds(resources);
+    for processes in [PROCESSES, MOST_PROCESSES] {
+        measure_openings(processes);
     }
-    for others in [64, 4_000] {
+    for processes in [PROCESSES, MOST_PROCESSES] {
+        for resources in [16, 1_024, 65_536] {
+            measure_rounds(processes, resources);
+        }
+    }
+    for others in [64, 4_000, 65_000] {
         measure_rounds_beside(others);
     }
     measure_random();
-    for waiters in [16, 256, 4_095] {
+    for waiters in [16, 256, 4_095, 65_535] {
         measure_hand_overs(waiters);
     }
-    for waiters in [16, 4_000] {
+    for waiters in [16, 4_000, 65_000] {
         measure_give_ups(waiters);
     }
     measure_crosswise();
-    for size in [2, 64, 4_096] {
+    for size in [2, 64, PROCESSES, MOST_PROCESSES] {
         measure_rings(size, false);
         measure_rings(size, true);
     }
-    measure_chain(4_096);
-    measure_idle_settles(4_096);
+    measure_chain(PROCESSES);
+    for size in [PROCESSES, MOST_PROCESSES] {
+        measure_idle_settles(size);
+    }
     measure_nothing();
 }

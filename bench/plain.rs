@@ -45,11 +45,11 @@ pub struct Label(u64);
 
 impl Label {
     fn new(counter: u64, process: u32) -> Label {
-        Label(counter << 16 | process as u64)
+        Label(counter << 20 | process as u64)
     }
 
     fn counter(self) -> u64 {
-        self.0 >> 16
+        self.0 >> 20
     }
 
     #[allow(dead_code)] // for those who store it
@@ -144,7 +144,7 @@ pub struct Table {
 
 impl Table {
     pub fn open(config: Config) -> Result<Table, Refusal> {
-        let in_range = (1..=4_096).contains(&config.processes)
+        let in_range = (1..=65_536).contains(&config.processes)
             && (1..=65_536).contains(&config.resources)
             && (1..=17_592_186_044_415).contains(&config.label_limit)
             && config.generation_limit >= 1;

@@ -4,7 +4,7 @@ import os
 import subprocess
 import sys
 
-from scripts import WORDS
+from scripts import MOST_PROCESSES, WORDS
 
 TOP = os.path.dirname(os.path.dirname(os.path.abspath(__file__)))
 KEPT = os.path.join(TOP, "bench", "out")
@@ -30,6 +30,12 @@ def known_words(command):
     lines = [word + " 0.1" * ("k" in kinds) + " 0" * ("r" in kinds) for word, (_, kinds) in WORDS.items()]
     _, replies, _ = run(command, ("\n".join(lines) + "\n").encode())
     return [word for word, reply in zip(WORDS, replies.split(b"\n")) if reply == b"no table"]
+
+
+def known_headers(command):
+    """The words that the program opens a table with."""
+    _, replies, _ = run(command, b"".join(b"%s 0 1 1 1\n" % header.encode() for header in MOST_PROCESSES))
+    return [header for header, reply in zip(MOST_PROCESSES, replies.split(b"\n")) if reply.startswith(b"refused")]
 
 
 def keep(name, data):

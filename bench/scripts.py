@@ -21,7 +21,7 @@ WORDS = {
 READS = ("state", "owner", "totals")  # these change nothing
 
 LONGEST_LINE = 128
-MOST_PROCESSES = 4_096
+MOST_PROCESSES = {"table": 4_096, "table2": 65_536}  # by the word that opens the table
 MOST_RESOURCES = 65_536
 GREATEST_LABEL_LIMIT = 17_592_186_044_415
 GREATEST_NUMBER = 2**32 - 1
@@ -35,6 +35,8 @@ MOST_DRAWS = 20  # of words, until one is of use
 STALE_RATE = 0.03
 NO_RESOURCE_RATE = 0.01
 ODD_LINE_RATE = 0.02
+CROWD_RATE = 0.5  # of tables with more processes than `table` allows: that so many transactions begin at once
+CROWD_LINES = 300  # the most lines behind so many begins
 DRESSED_RATE = 0.1
 
 
@@ -44,27 +46,28 @@ def small_or(rng, ranges, greatest):
     return rng.randint(least, most)
 
 
-def random_config(rng):
-    """Four numbers in range: small tables, and limits that are soon met as often as limits that are never met."""
-    processes = small_or(rng, [(1, 3), (2, 5), (4, 8), (6, 40)], MOST_PROCESSES)
+def random_config(rng, header):
+    """Four numbers in range of the word that opens the table: small tables, and limits that are soon met as often as limits that are
+    never met."""
+    processes = small_or(rng, [(1, 3), (2, 5), (4, 8), (6, 40)], MOST_PROCESSES[header])
     resources = small_or(rng, [(1, 2), (2, 5), (4, 8), (8, 60)], MOST_RESOURCES)
     label_limit = rng.choice([rng.randint(1, 3), rng.randint(4, 40), rng.randint(41, 400), GREATEST_LABEL_LIMIT, GREATEST_LABEL_LIMIT])
     generation_limit = rng.choice([rng.randint(1, 3), rng.randint(4, 30), GREATEST_NUMBER, GREATEST_NUMBER])
     return (processes, resources, label_limit, generation_limit)
 
 
-def bad_config(rng):
+def bad_config(rng, header):
     """Four numbers of which one is out of its range by one."""
-    config = list(random_config(rng))
-    past = [MOST_PROCESSES + 1, MOST_RESOURCES + 1, GREATEST_LABEL_LIMIT + 1, 0]
+    config = list(random_config(rng, header))
+    past = [MOST_PROCESSES[header] + 1, MOST_RESOURCES + 1, GREATEST_LABEL_LIMIT + 1, 0]
     at = rng.randrange(len(config))
     config[at] = rng.choice([0, past[at]])
     return tuple(config)
 
 
-def table_line(config):
+def table_line(header, config):
     """The line that opens a table."""
-    return "table %d %d %d %d" % config
+    return header + " %d %d %d %d" % config
 
 
 class ScriptWriter:
@@ -220,23 +223,35 @@ def odd_line(rng, line):
     return rng.choice([rng.choice(silent), rng.choice(long), padded(rng, line), broken(rng, line), broken(rng, line), broken(rng, line)])
 
 
-def opening(rng, writer, config):
+def opening(rng, writer, header, config):
     """The lines that end with a table opened; before it, at times, calls without a table and refused tables."""
     lines = []
     if rng.random() < LATE_TABLE_RATE:
         lines += [word + " 0.1" * ("k" in WORDS[word][1]) + " 0" * ("r" in WORDS[word][1]) for word in writer.words]
-        lines += [table_line(bad_config(rng)) for _ in range(3)]
-    return lines + [table_line(config)]
+        lines += [table_line(header, bad_config(rng, header)) for _ in range(3)]
+    return lines + [table_line(header, config)]
 
 
-def random_script(rng, words, most_lines):
-    """The bytes of a script of at most that many lines beside its opening.
+def crowd(rng, writer):
+    """The lines of so many begins that keys have greater processes than a table of the word `table` has."""
+    count = rng.randint(MOST_PROCESSES["table"] + 1, writer.model.processes)
+    for _ in range(count):
+        writer.model.begin()
+    return ["begin"] * count
+
+
+def random_script(rng, words, most_lines, headers=("table",)):
+    """The bytes of a script of at most that many lines beside its opening, which is by one of the headers.
 
     Odd lines stand beside the calls, so the model and the table do not part, but for a broken line that is a call after all.
     """
-    config = random_config(rng)
+    header = rng.choice(headers)
+    config = random_config(rng, header)
     writer = ScriptWriter(rng, words, config)
-    lines = opening(rng, writer, config)
+    lines = opening(rng, writer, header, config)
+    if config[0] > MOST_PROCESSES["table"] and "begin" in words and rng.random() < CROWD_RATE:
+        lines += crowd(rng, writer)
+        most_lines = min(most_lines, CROWD_LINES)
     idle = 0
     for _ in range(most_lines):
         line, changes = writer.call()
@@ -244,7 +259,8 @@ def random_script(rng, words, most_lines):
         if rng.random() < ODD_LINE_RATE:
             lines.append(odd_line(rng, line))
         if rng.random() < SECOND_TABLE_RATE:
-            lines.append(table_line(random_config(rng)))
+            header = rng.choice(headers)
+            lines.append(table_line(header, random_config(rng, header)))
         lines.append(dressed(rng, line) if rng.random() < DRESSED_RATE else line)
         if idle == MOST_IDLE_CALLS:
             break

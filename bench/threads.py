@@ -61,12 +61,12 @@ def in_turn(measure, commands, number, turns=TURNS):
 
 
 def head(text, first="proved", second="plain"):
-    print("%-50s %4s %11s %11s %6s" % (text, "", first, second, "ratio"))
+    print("%-50s %5s %11s %11s %6s" % (text, "", first, second, "ratio"))
 
 
 def line(text, number, first, second, unit):
     ratio = "%6.2f" % (first / second) if second else "%6s" % "-"
-    print("%-50s %4d %11.2f %11.2f %s  %s" % (text, number, first, second, ratio, unit), flush=True)
+    print("%-50s %5d %11.2f %11.2f %s  %s" % (text, number, first, second, ratio, unit), flush=True)
 
 
 def shared_table():
@@ -126,7 +126,7 @@ def board():
     head("shared table with its board, nanoseconds a call")
     commands = [[PROVED, "board"], [os.path.join(HERE, "out", "board")]]
     for name, (text, _, _) in WORKS.items():
-        for processes in (64, 4096):
+        for processes in (64, 4096, 65536):
             times = in_turn(lambda command, number: work_time(command, name, number), commands, processes)
             line(text, processes, *map(min, times), "ns")
 

@@ -3,7 +3,8 @@
 use crate::lock_table::{Key, LockTable, Refused};
 
 const STRIDE: u32 = 40_503;
-const MOST_PROCESSES: u32 = 4_096;
+/// How many processes the tables have whose size is not what is timed.
+const PROCESSES: u32 = 4_096;
 const MOST_RESOURCES: u32 = 65_536;
 
 fn accepted<T: LockTable>(table: &T) -> u64 {
@@ -21,8 +22,8 @@ fn take_sixteen<T: LockTable>(table: &mut T, first: u32, mask: u32) -> Result<u3
     Ok(resource)
 }
 
-pub fn rounds<T: LockTable>(resources: u32, mask: u32, others: u32, count: u64) -> Result<u64, Refused> {
-    let mut table = T::open(MOST_PROCESSES, resources)?;
+pub fn rounds<T: LockTable>(processes: u32, resources: u32, mask: u32, others: u32, count: u64) -> Result<u64, Refused> {
+    let mut table = T::open(processes, resources)?;
     for _ in 0..others {
         let key = table.begin()?;
         table.acquire(key, resources - 1)?;
@@ -42,22 +43,33 @@ fn next_number(number: u32) -> u32 {
 }
 
 pub fn random<T: LockTable>(count: u64) -> Result<u64, Refused> {
-    let mut table = T::open(MOST_PROCESSES, MOST_RESOURCES)?;
-    for _ in 0..MOST_PROCESSES {
+    let mut table = T::open(PROCESSES, MOST_RESOURCES)?;
+    for _ in 0..PROCESSES {
         table.begin()?;
     }
     for resource in 0..MOST_RESOURCES {
-        table.acquire(Key { process: resource % MOST_PROCESSES, generation: 1 }, resource)?;
+        table.acquire(Key { process: resource % PROCESSES, generation: 1 }, resource)?;
     }
     let mut number = 1;
     for _ in 0..count {
         number = next_number(number);
         let resource = number % MOST_RESOURCES;
-        let key = Key { process: resource % MOST_PROCESSES, generation: 1 };
+        let key = Key { process: resource % PROCESSES, generation: 1 };
         table.release(key, resource)?;
         table.acquire(key, resource)?;
     }
     Ok(accepted(&table))
+}
+
+/// Tables opened and dropped; in each one transaction begins.
+pub fn openings<T: LockTable>(processes: u32, count: u64) -> Result<u64, Refused> {
+    let mut opened = 0;
+    for _ in 0..count {
+        let mut table = T::open(processes, MOST_RESOURCES)?;
+        table.begin()?;
+        opened += accepted(&table);
+    }
+    Ok(opened)
 }
 
 fn pass_on<T: LockTable>(table: &mut T, owner: Key) -> Result<Key, Refused> {
@@ -67,7 +79,7 @@ fn pass_on<T: LockTable>(table: &mut T, owner: Key) -> Result<Key, Refused> {
 }
 
 fn queue<T: LockTable>(waiters: u32) -> Result<(T, Key), Refused> {
-    let mut table = T::open(MOST_PROCESSES, 1)?;
+    let mut table = T::open(PROCESSES.max(waiters + 1), 1)?;
     let owner = table.begin()?;
     table.acquire(owner, 0)?;
     for _ in 0..waiters {

@@ -40,10 +40,11 @@ def in_steps(cases, name, command, judge, first, given=b""):
 
 def all_spaces(cases, scratch, program, examples):
     first = least(program)
-    given = b"table 4096 65536 1 1\nowner 65535\n"
-    ample = limited([program], given, space=MOST, stack=STACK)
-    judge = script_of(ample, "refused 10 Memory\nno table\n")
-    in_steps(cases, "the largest table in little space", [program], judge, first, given)
+    for header, processes in (("table", 4096), ("table2", 65536)):
+        given = f"{header} {processes} 65536 1 1\nowner 65535\n".encode()
+        ample = limited([program], given, space=MOST, stack=STACK)
+        judge = script_of(ample, "refused 10 Memory\nno table\n")
+        in_steps(cases, f"the largest {header} in little space", [program], judge, first, given)
     command = [program, "threads", os.path.join(examples, "hot_resource.json")]
     judge = same_as(limited(command, space=MOST, stack=STACK))
     in_steps(cases, "threads hot_resource.json in little space", command, judge, first)

@@ -13,7 +13,7 @@ for words in --help -h help "help script" "script --help" "script -h"; do
   # shellcheck disable=SC2086
   run $words > "$work/out" 2> "$work/err"
   ends 0 "$(cat "$work/out")" "" $?
-  for call in "table P R L G" "begin" "acquire K r" "release K r" "finish K" "transmit K" "detect K" "abort K" "give_up K" "settle" "state K" "owner r" "totals" "refused N Name" threads storm "Exit statuses" "1 to 17592186044415" " 7 LabelsExhausted " "15 CountsExhausted "; do
+  for call in "table P R L G" "table2 P R L G" "begin" "acquire K r" "release K r" "finish K" "transmit K" "detect K" "abort K" "give_up K" "settle" "state K" "owner r" "totals" "refused N Name" threads storm "Exit statuses" "1 to 17592186044415" " 7 LabelsExhausted " "15 CountsExhausted "; do
     says "$call"
   done
 done

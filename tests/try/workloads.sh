@@ -26,7 +26,7 @@ with_clients() {
   printf '{"processes":2,"resources":2,"label_limit":1000,"generation_limit":9,"transmitters":1,"turns":1000000,"clients":%s}' "$1"
 }
 
-for example in "crosswise 1 1" "philosophers 4 1" "hot_resource 8 0" "chain 5 0"; do
+for example in "crosswise 1 1" "philosophers 4 1" "hot_resource 8 0" "chain 5 0" "ring_of_64 63 1"; do
   read -r file finished aborted <<< "$example"
   cp "examples/workloads/$file.json" "$work/workload"
   workload "the workload $file" 0 "clients finished $finished aborted $aborted $none_left_over
@@ -66,7 +66,18 @@ malformed "a workload without turns" '{"processes":2,"resources":2,"label_limit"
 malformed "a workload with 65 transmitters" \
   '{"processes":2,"resources":2,"label_limit":9,"generation_limit":9,"transmitters":65,"turns":9,"clients":[[]]}' \
   "the key transmitters is not a whole number from 0 to 64"
+malformed "a workload without the key clients" \
+  '{"processes":2,"resources":2,"label_limit":9,"generation_limit":9,"transmitters":1,"turns":9}' "the key clients is missing"
+for turns in 0 1000000001; do
+  malformed "a workload of $turns turns" \
+    "{\"processes\":2,\"resources\":2,\"label_limit\":9,\"generation_limit\":9,\"transmitters\":1,\"turns\":$turns,\"clients\":[[]]}" \
+    "the key turns is not a whole number from 1 to 1000000000"
+done
 malformed "a workload without clients" "$(with_clients '[]')" "the key clients is not an array of 1 to 64 clients"
+malformed "a workload with 65 clients" "$(with_clients "[$(printf '[],%.0s' {1..64})[]]")" "the key clients is not an array of 1 to 64 clients"
+whole=$(with_clients '[[]]')
+malformed "a workload with a word behind it" "$whole word" "line 1, column $((${#whole} + 2)): no JSON that can be read"
+malformed "a workload with a byte FF behind it" "$whole"$'\xff' "line 1, column $((${#whole} + 1)): no JSON that can be read"
 malformed "a client of 257 steps" "$(with_clients "[[],[$(printf '["meet",0],%.0s' {1..256})[\"meet\",0]]]")" \
   "client 2 is not an array of at most 256 steps"
 malformed "a step with another word" "$(with_clients '[[["fly",0]]]')" \
@@ -86,6 +97,9 @@ case_is "what --verbose says of clients that are left over"
 run threads -v "$work/workload" > "$work/out" 2> "$work/err"
 reports "client 1 refused 2"
 reports "client 2 spent"
+with_clients '[[]]' > "$work/workload"
+workload "a client without steps" 0 "clients finished 1 aborted 0 $none_left_over
+table verdicts 0 aborts 0" some
 printf '%s' '{"processes":0,"resources":1,"label_limit":9,"generation_limit":9,"transmitters":0,"turns":1,"clients":[[]]}' \
   > "$work/workload"
 workload "a table that is refused" 4 "refused 11 BadConfig" some

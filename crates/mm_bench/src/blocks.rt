@@ -1,6 +1,7 @@
 //! Chains of transactions that come to wait, one after another, at one end.
+use crate::PROCESSES;
 use crate::rings::owners;
-use mm_table::{Config, Key, Refusal, Table};
+use mm_table::{Key, Refusal, Table};
 use std::alloc::Global;
 
 /// A wait between a process and the next one, which is settled: the process waits where `is_at_head`, and else the next one.
@@ -29,8 +30,8 @@ fn extend(table: &mut Table, first: u32, waiting: u32, is_at_head: bool) -> Resu
 }
 
 fn blocks(alloc: Global, room: u32, waiting: u32, is_at_head: bool) -> Result<u64, Refusal> {
-    let mut table = owners(alloc, Config::MOST_PROCESSES)?;
-    for chain in 0..Config::MOST_PROCESSES.checked_div(room).unwrap_or(0) {
+    let mut table = owners(alloc, PROCESSES)?;
+    for chain in 0..PROCESSES.checked_div(room).unwrap_or(0) {
         extend(&mut table, chain.wrapping_mul(room), waiting, is_at_head)?;
     }
     Ok(table.totals().accepted)

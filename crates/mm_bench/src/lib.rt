@@ -10,10 +10,14 @@ use mm_table::{Config, Refusal, Table};
 use std::alloc::Global;
 
 mod blocks;
+mod openings;
 mod queues;
 mod random;
 mod rings;
 mod rounds;
+
+/// How many processes the tables have whose size is not what is timed.
+const PROCESSES: u32 = 4_096;
 
 /// A table with the widest limits.
 fn open(alloc: Global, processes: u32, resources: u32) -> Result<Table, Refusal> {

@@ -1,6 +1,6 @@
 //! Transactions that wait for one resource, which goes from one to the next.
-use crate::open;
-use mm_table::{Config, Key, Refusal, Released, Table};
+use crate::{PROCESSES, open};
+use mm_table::{Key, Refusal, Released, Table};
 use std::alloc::Global;
 
 /// Releases resource 0 to the longest waiter, and waits for it again. Answers the new owner.
@@ -15,7 +15,7 @@ fn pass_on(table: &mut Table, owner: Key) -> Result<Key, Refusal> {
 
 /// A table in which one transaction owns resource 0 and `waiters` wait for it. Answers the owner too.
 fn queue(alloc: Global, waiters: u32) -> Result<(Table, Key), Refusal> {
-    let mut table = open(alloc, Config::MOST_PROCESSES, 1)?;
+    let mut table = open(alloc, PROCESSES.max(waiters.saturating_add(1)), 1)?;
     let owner = table.begin()?;
     table.acquire(owner, 0)?;
     for _ in 0..waiters {

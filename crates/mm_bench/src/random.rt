@@ -1,5 +1,5 @@
 //! Calls on resources of a large table, one here and one there.
-use crate::open;
+use crate::{PROCESSES, open};
 use mm_table::{Config, Key, Refusal};
 use std::alloc::Global;
 
@@ -13,14 +13,14 @@ fn next_number(number: u32) -> u32 {
 /// The transaction that owns a resource.
 fn owner_of(resource: u32) -> Key {
     Key {
-        process: resource % Config::MOST_PROCESSES,
+        process: resource % PROCESSES,
         generation: 1,
     }
 }
 
 fn random(alloc: Global, count: u64) -> Result<u64, Refusal> {
-    let mut table = open(alloc, Config::MOST_PROCESSES, Config::MOST_RESOURCES)?;
-    for _ in 0..Config::MOST_PROCESSES {
+    let mut table = open(alloc, PROCESSES, Config::MOST_RESOURCES)?;
+    for _ in 0..PROCESSES {
         table.begin()?;
     }
     for resource in 0..Config::MOST_RESOURCES {
@@ -37,7 +37,7 @@ fn random(alloc: Global, count: u64) -> Result<u64, Refusal> {
     Ok(table.totals().accepted)
 }
 
-/// As many transactions as there can be own all resources. `count` times one of these, as by chance, is released and acquired again.
+/// So many transactions as `PROCESSES` says own all resources. `count` times one of these, as by chance, is released and acquired again.
 #[unsafe(no_mangle)]
 pub extern "C" fn mm_bench_random(alloc: Global, count: u64) -> u64 {
     random(alloc, count).unwrap_or(0)

@@ -1,6 +1,6 @@
 //! Transactions that begin and end in one table, over and over.
 use crate::open;
-use mm_table::{Config, Refusal, Table};
+use mm_table::{Refusal, Table};
 use std::alloc::Global;
 
 /// From one resource to the next. It is odd, so resources whose number is a power of two are gone through whole.
@@ -20,12 +20,13 @@ fn take_sixteen(table: &mut Table, first: u32, mask: u32) -> Result<u32, Refusal
 
 fn rounds(
     alloc: Global,
+    processes: u32,
     resources: u32,
     mask: u32,
     others: u32,
     count: u64,
 ) -> Result<u64, Refusal> {
-    let mut table = open(alloc, Config::MOST_PROCESSES, resources)?;
+    let mut table = open(alloc, processes, resources)?;
     for _ in 0..others {
         let key = table.begin()?;
         table.acquire(key, resources.wrapping_sub(1))?;
@@ -37,17 +38,18 @@ fn rounds(
     Ok(table.totals().accepted)
 }
 
-/// `count` transactions, one after another, take sixteen resources each, of the numbers up to `mask`, and finish. Meanwhile `others`
+/// In a table of `processes` processes `count` transactions, one after another, take sixteen resources each, of the numbers up to `mask`, and finish. Meanwhile `others`
 /// hold and await the last resource.
 #[unsafe(no_mangle)]
 pub extern "C" fn mm_bench_rounds(
     alloc: Global,
+    processes: u32,
     resources: u32,
     mask: u32,
     others: u32,
     count: u64,
 ) -> u64 {
-    rounds(alloc, resources, mask, others, count).unwrap_or(0)
+    rounds(alloc, processes, resources, mask, others, count).unwrap_or(0)
 }
 
 /// Two transactions wait for each other; the one that gets the verdict is aborted, and the other one finishes.

@@ -1,6 +1,7 @@
 -- What a command line asks for. The first word is the program's name.
-use Rattle.std.specs.Prelude.{◌≡◌, ◌⊎◌, ℕ, List, [], ◌∷◌, Bool, true, false, Option, Some, None, codes, drop}
-use Rattle.clap.specs.Words.{App, IsAmong, Kinds, Rule, Text, kind_of, new_app, new_rule, with_rule, with_subcommand}
+use Rattle.std.specs.Prelude.{◌≡◌, ◌⊎◌, ℕ, List, [], ◌∷◌, Bool, true, false, Option, Some, None, codes, drop, is_some}
+use Rattle.clap.specs.Words.{App, IsAmong, Kinds, Row, Rule, Text, first_of, kind_of, new_app, new_rule, one_of, with_rule, with_subcommand}
+use Rattle.clap.specs.Values.{IsUnsignedIn}
 use Rattle.clap.specs.declared.builder.action.ArgAction.TheVariants.{Set, SetTrue}
 use Rattle.clap.specs.declared.builder.value_parser.ValueParser.TheVariants.{Unsigned}
 use Rattle.clap.specs.declared.error.Error.{Error}
@@ -81,6 +82,26 @@ runs Script = true
 runs (Threads file verbose) = true
 runs (Storm options verbose) = true
 runs _ = false
+
+-- something is run, or memory was refused
+abbrev pub IsRun : Request → Type 0
+IsRun request = (runs request ≡ true) ⊎ (request ≡ Memory)
+
+-- the matches of a subcommand have a text of this name
+abbrev pub HasText : Text → List Row → Type 0
+HasText name rows = is_some (first_of name rows) ≡ true
+
+-- they have a number of this name from `low` to `high`, in digits
+abbrev pub HasNumber : Text → ℕ → ℕ → List Row → Type 0
+HasNumber name low high rows = (text : Text) × (one_of name rows ≡ Some text) × IsUnsignedIn low high text
+
+-- they have the numbers of a generated workload
+abbrev pub HasNumbers : List Row → Type 0
+HasNumbers rows = HasNumber (codes "seed") 0 18446744073709551615 rows × HasNumber (codes "clients") 1 64 rows × HasNumber (codes "transmitters") 0 64 rows
+
+-- what the matches of the subcommand of this name have to have
+abbrev pub HasWanted : Text → List Row → Type 0
+HasWanted name rows = (name ≡ codes "threads" → HasText (codes "FILE") rows) × (name ≡ codes "storm" → HasNumbers rows)
 
 -- the request, where memory was not refused
 abbrev pub IsScript : Request → Type 0

@@ -2,9 +2,9 @@
 //!
 //! - `program`: the words that there are.
 //! - `options`: the numbers of a generated workload.
-ghost use Rattle.std.specs.Prelude.{◌≡◌, ◌≢◌, [], IfOk, true, map};
-ghost use Rattle.clap.specs.Words.{FailsBy, HasMatchesOf, fault_of, subcommand_name_of};
-ghost use Rattle.mm_detect.specs.CommandLine.{AsksForHelp, AsksForScript, IsByFault, IsHelp, IsScript, IsScriptName, program, request_at, runs};
+ghost use Rattle.std.specs.Prelude.{◌≡◌, ◌≢◌, List, [], IfOk, codes, true, map};
+ghost use Rattle.clap.specs.Words.{FailsBy, HasMatchesOf, Text, fault_of, found_of, rows_of, subcommand_name_of};
+ghost use Rattle.mm_detect.specs.CommandLine.{AsksForHelp, AsksForScript, HasNumbers, HasText, HasWanted, IsByFault, IsHelp, IsRun, IsScript, IsScriptName, program, request_at, runs};
 
 mod options;
 mod program;
@@ -62,6 +62,7 @@ pub fn request_of<S: AsStr>(alloc: Global, words: &[S]) -> Request
     ensures script { AsksForScript (map S.text words.now) → IsScript result }
     ensures help { AsksForHelp (map S.text words.now) → IsHelp result }
     ensures faultless { runs result ≡ true → fault_of program (map S.text words.now) ≡ [] }
+    ensures taken { fault_of program (map S.text words.now) ≡ [] → IsRun result }
     ensures wrong { fault_of program (map S.text words.now) ≢ [] → IsByFault (fault_of program (map S.text words.now)) result }
 {
     match parsed(alloc, words) {
@@ -90,17 +91,31 @@ fn by_error(error: Error) -> Request
 
 /// The request that follows from what clap found.
 fn by_matches(alloc: Global, matches: &ArgMatches<'_>) -> Request
-    ensures { IsScriptName (subcommand_name_of matches.now) → IsScript result }
+    ensures script { IsScriptName (subcommand_name_of matches.now) → IsScript result }
+    ensures taken { (words : List Text) → HasMatchesOf program words matches.now → fault_of program words ≡ [] → IsRun result }
 {
-    let asked = match matches.subcommand() {
-        Some(("threads", own)) => threads(alloc, own),
-        Some(("storm", own)) => storm(alloc, own),
+    match matches.subcommand() {
+        Some((name, own)) => by_subcommand(alloc, name, own),
+        None => Request::Script,
+    }
+}
+
+/// The request that follows from a subcommand and what clap found for it.
+fn by_subcommand(alloc: Global, name: &str, own: &ArgMatches<'_>) -> Request
+    ensures script { name.now ≡ codes "script" → IsScript result }
+    ensures taken { HasWanted name.now (rows_of (found_of own.now)) → IsRun result }
+{
+    let asked = match name {
+        "threads" => threads(alloc, own),
+        "storm" => storm(alloc, own),
         _ => return Request::Script,
     };
     asked.unwrap_or(Request::Memory)
 }
 
-fn threads(alloc: Global, own: &ArgMatches<'_>) -> Result<Request, AllocError> {
+fn threads(alloc: Global, own: &ArgMatches<'_>) -> Result<Request, AllocError>
+    ensures { HasText (codes "FILE") (rows_of (found_of own.now)) → IfOk result (λ request. runs request ≡ true) }
+{
     let Some(file) = own.get_str("FILE") else {
         return wrong(alloc, "the file is missing");
     };
@@ -110,7 +125,9 @@ fn threads(alloc: Global, own: &ArgMatches<'_>) -> Result<Request, AllocError> {
     })
 }
 
-fn storm(alloc: Global, own: &ArgMatches<'_>) -> Result<Request, AllocError> {
+fn storm(alloc: Global, own: &ArgMatches<'_>) -> Result<Request, AllocError>
+    ensures { HasNumbers (rows_of (found_of own.now)) → IfOk result (λ request. runs request ≡ true) }
+{
     let (Some(seed), Some(clients), Some(transmitters)) = (
         own.get_one::<u64>("seed"),
         own.get_one::<u32>("clients"),
@@ -118,7 +135,7 @@ fn storm(alloc: Global, own: &ArgMatches<'_>) -> Result<Request, AllocError> {
     ) else {
         return wrong(alloc, "a number is missing");
     };
-    if !(1..=64).contains(&clients) || transmitters > 64 {
+    if clients == 0 || clients > 64 || transmitters > 64 {
         return wrong(alloc, "a number is out of range");
     }
     Ok(Request::Storm {

@@ -21,6 +21,7 @@ standard output. Without a word mmdetect does what 'mmdetect script' does.
 Calls of a script, one a line, and their replies:
   table P R L G  ok: a table of P processes and R resources, with the label
                  limit L and the generation limit G
+  table2 P R L G ok: the same, and P may be greater
   begin          key K: a new transaction
   acquire K r    granted, or waits H B: the holder's key and the new label
   release K r    free, or to K: the key that owns the resource now
@@ -42,13 +43,13 @@ Calls of a script, one a line, and their replies:
 
 A key K or H is process.generation, a label B, V or U is counter.process, and
 r is the number of a resource; processes and resources are counted from 0.
-A line that is no call has the reply 'malformed', a second table 'table
-stands', and a call before any table 'no table'. Lines that are blank or begin
-with # have none.
+A line that is no call has the reply 'malformed', a table or table2 while a
+table stands 'table stands', and a call before any table 'no table'. Lines that
+are blank or begin with # have none.
 
 Ranges:
-  P  1 to 4096              L  1 to 17592186044415
-  R  1 to 65536             G  1 to 4294967295
+  P  1 to 4096; table2: 1 to 65536   L  1 to 17592186044415
+  R  1 to 65536                      G  1 to 4294967295
   A line has at most 128 bytes, a script at most 16777216.
 
 A refused call changes nothing and has the reply 'refused N Name':

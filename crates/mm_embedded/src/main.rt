@@ -44,7 +44,7 @@ fn tell<R: Runtime>(rt: &R, table: &Table, processes: &[u32]) -> io::Result<Opti
 
 /// Settles, and aborts a transaction that has a verdict. `changed` has room for each process that a table may have.
 fn break_deadlock<R: Runtime>(rt: &R, table: &mut Table, changed: &mut Vec<u32>) -> io::Result<()>
-    requires room { 4096 ≤ vec_capacity changed.old }
+    requires room { 65536 ≤ vec_capacity changed.old }
 {
     table.keeps_laws();
     if let Ok(settled) = table.settle_waking(changed) {

@@ -30,10 +30,10 @@ fresh_label own holder n = record { counter = max own.counter holder.counter + 1
 
 -- a label's counter is below the first number, and its process below the second
 abbrev pub counter_range : ℕ
-counter_range = 2 ^ 48
+counter_range = 2 ^ 44
 
 abbrev pub process_range : ℕ
-process_range = 65536
+process_range = 1048576
 
 -- both parts are within their ranges, as they are in each label that a program holds
 abbrev pub IsInRange : Label → Type 0
@@ -46,6 +46,10 @@ word_of l = l.counter * process_range + l.process
 -- the label that a word keeps
 abbrev pub label_of : ℕ → Label
 label_of w = record { counter = w / process_range; process = w % process_range }
+
+-- the label that a word of the former packing keeps, of 48 bits of counter and 16 of process
+abbrev pub label_of_old : ℕ → Label
+label_of_old w = record { counter = w / 65536; process = w % 65536 }
 
 -- how a and b compare: by counter, and then by process
 abbrev pub label_cmp : Label → Label → Ordering

@@ -5,7 +5,7 @@ ghost use Rattle.std.specs.Cmp.Rules.{comparing, hashing};
 ghost use Rattle.std.specs.Hash as fed;
 ghost use Rattle.std.specs.Ordering.{as_partial_cmp};
 ghost use Rattle.std.proofs.Common.{rules};
-ghost use Rattle.mm_label.specs.Label.{label_eq, label_cmp, label_text, fresh_label, counter_range, process_range, IsInRange, word_of, label_of};
+ghost use Rattle.mm_label.specs.Label.{label_eq, label_cmp, label_text, fresh_label, counter_range, process_range, IsInRange, word_of, label_of, label_of_old};
 
 use std::cmp::Ordering;
 use std::fmt;
@@ -13,10 +13,13 @@ use std::hash::{Hash, Hasher};
 use std::marker::Model;
 
 /// Each label's counter is below this.
-pub const COUNTER_RANGE: u64 = 1 << 48;
+pub const COUNTER_RANGE: u64 = 1 << 44;
 
 /// Each label's process is below this.
-pub const PROCESS_RANGE: u32 = 1 << 16;
+pub const PROCESS_RANGE: u32 = 1 << 20;
+
+/// The process of a word of the former packing is below this.
+const OLD_PROCESS_RANGE: u64 = 1 << 16;
 
 /// A counter and a process, kept in one word.
 #[derive(Clone, Copy, Debug)]
@@ -89,6 +92,17 @@ impl Label {
         ensures in_range { IsInRange result }
     {
         Label { word }
+    }
+
+    /// The label that this word keeps by the former packing, of 48 bits of counter and 16 of process, in constant time.
+    ///
+    /// `None` exactly where its counter is `COUNTER_RANGE` or more. A label is written as a word of today's packing alone.
+    pub fn of_old_word(word: u64) -> Option<Self>
+        ensures label { let label = label_of_old word
+            in SomeIff result (label.counter < counter_range) label }
+        ensures in_range { IfSome result IsInRange }
+    {
+        Label::new(word / OLD_PROCESS_RANGE, (word % OLD_PROCESS_RANGE) as u32)
     }
 }
 

@@ -30,7 +30,7 @@ pub fn lists(alloc: Global) -> Result<(), Refusal> {
 /// Two transactions that wait for each other; the one that a settle convicts is aborted, and the other one finishes. `wake` has room for
 /// each process that a table may have.
 fn deadlock(table: &mut Table, wake: &mut Vec<u32>) -> Result<(), Refusal>
-    requires room { 4096 ≤ vec_capacity wake.old }
+    requires room { 65536 ≤ vec_capacity wake.old }
 {
     let first = table.begin()?;
     let second = table.begin()?;

@@ -9,7 +9,7 @@ pub struct Row {
     pub malformed: u64,
 }
 
-pub static ROWS: [Row; 29] = [
+pub static ROWS: [Row; 31] = [
     Row {
         name: "empty",
         input: "",
@@ -182,6 +182,18 @@ pub static ROWS: [Row; 29] = [
         name: "give_up_under_verdict",
         input: "table 4 4 100 9\nbegin\nbegin\nacquire 0.1 0\nacquire 1.1 1\nacquire 0.1 1\nacquire 1.1 0\ndetect 0.1\ndetect 1.1\ntransmit 0.1\ndetect 1.1\ndetect 1.1\ngive_up 1.1\n",
         output: "ok\nkey 0.1\nkey 1.1\ngranted\ngranted\nwaits 1.1 1.0\nwaits 0.1 2.1\nclear\nclear\nraised 2.1\ndeadlock 2.1\nstanding\nrefused 14 UnderVerdict\n",
+        malformed: 0,
+    },
+    Row {
+        name: "ranges_of_both_headers",
+        input: "table 4097 1 1 1\ntable2 65537 1 1 1\ntable2 4097 1 1 1\ntable2 1 1 1 1\ntable 1 1 1 1\n",
+        output: "refused 11 BadConfig\nrefused 11 BadConfig\nok\ntable stands\ntable stands\n",
+        malformed: 0,
+    },
+    Row {
+        name: "greatest_table",
+        input: "table2 65536 65536 17592186044415 9\nbegin\nstate 0.1\nacquire 65535.1 0\n",
+        output: "ok\nkey 0.1\nactive 0.0 0.0\nrefused 1 Stale\n",
         malformed: 0,
     },
 ];

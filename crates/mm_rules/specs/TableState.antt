@@ -10,7 +10,7 @@ use Rattle.mm_rules.specs.Graph.{Graph}
 
 -- the numbers that a table may be opened with
 pub record IsInRange (c : Config) : Type 0 where
-  pub processes : (1 ≤ c.processes) × (c.processes ≤ 4096)
+  pub processes : (1 ≤ c.processes) × (c.processes ≤ 65536)
   pub resources : (1 ≤ c.resources) × (c.resources ≤ 65536)
   pub label_limit : (1 ≤ c.label_limit) × (c.label_limit < 2 ^ 44)
   pub generation_limit : 1 ≤ c.generation_limit

@@ -3,7 +3,7 @@ ghost use Rattle.std.specs.Prelude.{◌↔◌, IsTrue};
 /// The numbers that a table is opened with. They never change.
 #[derive(Clone, Copy, Debug, PartialEq, Eq)]
 pub struct Config {
-    /// How many transactions there can be at once: 1 to 4,096.
+    /// How many transactions there can be at once: 1 to 65,536.
     pub processes: u32,
     /// How many resources there are: 1 to 65,536.
     pub resources: u32,
@@ -16,7 +16,7 @@ pub struct Config {
 impl Config {
     ghost use Rattle.mm_rules.specs.TableState.{IsInRange};
 
-    pub const MOST_PROCESSES: u32 = 4096;
+    pub const MOST_PROCESSES: u32 = 65536;
 
     pub const MOST_RESOURCES: u32 = 65536;
 

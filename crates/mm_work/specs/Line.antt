@@ -9,16 +9,18 @@ use Rattle.mm_work.specs.declared.script.line.Line.{Line}
 use Rattle.mm_work.specs.declared.script.line.Line.TheVariants as kind
 use Rattle.mm_work.specs.declared.script.line.Call.{Call}
 use Rattle.mm_work.specs.declared.script.line.Call.TheVariants as calls
+use Rattle.mm_work.specs.declared.script.line.Header.{Header}
+use Rattle.mm_work.specs.declared.script.line.Header.TheVariants as headers
 
--- table P R L G
-abbrev pub table_call : List (List ℕ) → Option Call
-table_call (p ∷ r ∷ l ∷ g ∷ []) = do
+-- a header, and P R L G
+abbrev pub table_call : Header → List (List ℕ) → Option Call
+table_call header (p ∷ r ∷ l ∷ g ∷ []) = do
   processes ← number_at_most (2 ^ 32 - 1) p
   resources ← number_at_most (2 ^ 32 - 1) r
   label_limit ← number_at_most (2 ^ 64 - 1) l
   generation_limit ← number_at_most (2 ^ 32 - 1) g
-  Some (calls.Table (record { processes = processes; resources = resources; label_limit = label_limit; generation_limit = generation_limit }))
-table_call _ = None
+  Some (calls.Table header (record { processes = processes; resources = resources; label_limit = label_limit; generation_limit = generation_limit }))
+table_call _ _ = None
 
 -- a word alone
 abbrev pub no_arguments : Call → List (List ℕ) → Option Call
@@ -46,7 +48,8 @@ key_alone _ = None
 -- the call that a word makes with these arguments
 abbrev pub call_of : List ℕ → List (List ℕ) → Option Call
 call_of word arguments =
-    if bytes_eq word (codes "table") then table_call arguments
+    if bytes_eq word (codes "table") then table_call headers.Table arguments
+    else (if bytes_eq word (codes "table2") then table_call headers.Table2 arguments
     else (if bytes_eq word (codes "begin") then no_arguments calls.Begin arguments
     else (if bytes_eq word (codes "acquire") then option_map (λ t. calls.Acquire t.0 t.1) (key_and_resource arguments)
     else (if bytes_eq word (codes "release") then option_map (λ t. calls.Release t.0 t.1) (key_and_resource arguments)
@@ -59,7 +62,7 @@ call_of word arguments =
     else (if bytes_eq word (codes "state") then option_map calls.State (key_alone arguments)
     else (if bytes_eq word (codes "owner") then option_map calls.Owner (resource_alone arguments)
     else (if bytes_eq word (codes "totals") then no_arguments calls.Totals arguments
-    else None))))))))))))
+    else None)))))))))))))
 
 -- a line of these words
 abbrev pub line_of_words : List (List ℕ) → Line

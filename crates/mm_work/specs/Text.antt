@@ -1,7 +1,9 @@
 -- What a script is answered.
-use Rattle.std.specs.Prelude.{◌≡◌, ℕ, ◌+◌, List, [], ◌∷◌, ◌++◌, Option, Some, None, Result, Ok, Err}
+use Rattle.std.specs.Prelude.{◌≡◌, ℕ, ◌+◌, ◌≤◌, ◌<◌, ◌⊎◌, List, [], ◌∷◌, ◌++◌, Option, Some, None, Result, Ok, Err}
 use Rattle.std.specs.Result.{result_ok}
+use Rattle.mm_table.specs.config.Config.{Config}
 use Rattle.mm_table.specs.refusal.Refusal.{Refusal}
+use Rattle.mm_table.specs.refusal.Refusal.TheVariants.{BadConfig}
 use Rattle.mm_table.specs.TableState.{TableState}
 use Rattle.mm_table.specs.Event.{Event, Answer, Step, Opens, state_of, owner_told}
 use Rattle.mm_table.specs.Event as events
@@ -9,6 +11,8 @@ use Rattle.mm_work.specs.declared.script.line.Line.{Line}
 use Rattle.mm_work.specs.declared.script.line.Line.TheVariants as kind
 use Rattle.mm_work.specs.declared.script.line.Call.{Call}
 use Rattle.mm_work.specs.declared.script.line.Call.TheVariants as calls
+use Rattle.mm_work.specs.declared.script.line.Header.{Header}
+use Rattle.mm_work.specs.declared.script.line.Header.TheVariants as headers
 use Rattle.mm_work.specs.declared.script.reply.Reply.{Reply}
 use Rattle.mm_work.specs.declared.script.reply.Reply.TheVariants as replies
 use Rattle.mm_work.specs.Line.{line_of}
@@ -25,7 +29,7 @@ Makes e accepted old reply new = (answer : Result (Answer e) Refusal) × (after 
 
 -- the reply to a call while a table stands, and the table after it
 abbrev pub RepliesWithTable : Call → TableState → Reply → Option TableState → Type 0
-RepliesWithTable (calls.Table config) old reply new = (reply ≡ replies.TableStands) × (new ≡ Some old)
+RepliesWithTable (calls.Table header config) old reply new = (reply ≡ replies.TableStands) × (new ≡ Some old)
 RepliesWithTable calls.Begin old reply new = Makes events.Begin replies.Begun old reply new
 RepliesWithTable (calls.Acquire key resource) old reply new = Makes (events.Acquire key resource) replies.Acquired old reply new
 RepliesWithTable (calls.Release key resource) old reply new = Makes (events.Release key resource) replies.Released old reply new
@@ -39,9 +43,18 @@ RepliesWithTable (calls.State key) old reply new = (reply ≡ reply_to replies.R
 RepliesWithTable (calls.Owner resource) old reply new = (reply ≡ reply_to replies.Owned (owner_told old resource)) × (new ≡ Some old)
 RepliesWithTable calls.Totals old reply new = (reply ≡ replies.Counted old.totals) × (new ≡ Some old)
 
--- the same while none stands; a refused `table` leaves none
+-- how many processes a header allows
+abbrev pub most_processes : Header → ℕ
+most_processes headers.Table = 4096
+most_processes headers.Table2 = 65536
+
+-- what opening a table by a header comes to: a bad configuration where there are more processes than it allows, and else what opening one comes to
+abbrev pub OpensBy : Header → Config → Result TableState Refusal → Type 0
+OpensBy header c opened = ((most_processes header < c.processes) × (opened ≡ Err BadConfig)) ⊎ ((c.processes ≤ most_processes header) × Opens c opened)
+
+-- the same while none stands; a header that is refused leaves none
 abbrev pub RepliesWithNone : Call → Reply → Option TableState → Type 0
-RepliesWithNone (calls.Table config) reply new = (opened : Result TableState Refusal) × Opens config opened × (reply ≡ reply_to (λ _. replies.Opened) opened) × (new ≡ result_ok opened)
+RepliesWithNone (calls.Table header config) reply new = (opened : Result TableState Refusal) × OpensBy header config opened × (reply ≡ reply_to (λ _. replies.Opened) opened) × (new ≡ result_ok opened)
 RepliesWithNone _ reply new = (reply ≡ replies.NoTable) × (new ≡ None)
 
 abbrev pub Replies : Call → Option TableState → Reply → Option TableState → Type 0

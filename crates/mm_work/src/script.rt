@@ -47,7 +47,7 @@ pub enum ScriptFault {
 /// - `TooLong`: one byte past the limit was read. The replies to the lines whose newline is within the limit are written.
 /// - `Write`: a write or the flush failed, or a write took no byte. A part of the replies from the front on is written.
 ///
-/// O(bytes) time beside that of the table's calls. Only `table` allocates; input and replies take about 100 KiB of the stack.
+/// O(bytes) time beside that of the table's calls. Only `table` and `table2` allocate; input and replies take about 100 KiB of the stack.
 pub fn run_script<R: Read, W: Write>(
     alloc: Global,
     reader: &mut R,

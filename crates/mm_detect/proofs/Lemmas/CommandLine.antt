@@ -9,7 +9,7 @@ use Rattle.clap.proofs.OnLiterals.{clap_on_literals}
 use Rattle.clap.specs.declared.error.Error.{Error}
 use Rattle.clap.specs.declared.error.kind.ErrorKind.TheVariants.{DisplayHelp, OutOfMemory}
 use Rattle.clap.specs.declared.parser.matches.ArgMatches.{ArgMatches}
-use Rattle.mm_detect.specs.CommandLine.{AsksForHelp, AsksForScript, IsByFault, IsHelp, IsScript, program, request_at, request_by, IsScriptName}
+use Rattle.mm_detect.specs.CommandLine.{AsksForHelp, AsksForScript, IsByFault, IsHelp, IsRun, IsScript, program, request_at, request_by, IsScriptName}
 use Rattle.mm_detect.specs.declared.command_line.Request.TheVariants.{Help, Memory}
 
 -- the kinds that clap's rules give for the words behind the program's name
@@ -105,11 +105,11 @@ pub simple_and_free : is_simple_and_free program ≡ true
 unfolding clap_on_literals
 simple_and_free = refl
 
-simple : is_simple program ≡ true
+pub simple : is_simple program ≡ true
 unfolding clap_on_literals
 simple = refl
 
-name_is : (m : ArgMatches) → subcommand_name_of m ≡ name_in (subcommand_rows_of m)
+pub name_is : (m : ArgMatches) → subcommand_name_of m ≡ name_in (subcommand_rows_of m)
 name_is m = go (out-ArgMatches m).subcommand refl
   where
     go : (o : _) → (out-ArgMatches m).subcommand ≡ o → subcommand_name_of m ≡ name_in (subcommand_rows_of m)
@@ -123,3 +123,7 @@ script_named words m asks has =
       | inl none ↦ inl (named ∙ (ap (λ w. name_in (entered_at w)) none ∙ none_by_no_word))
       | inr one ↦ inr (named ∙ (ap (λ w. name_in (entered_at w)) one ∙ script_by_its_word))
     ]
+
+pub run_at_error : (e : Error) (kinds : Kinds) → kinds ≡ [] → FailsBy kinds (failed e) → IsRun (request_at e)
+run_at_error e kinds none (inl memory) = inr (memory_at e memory)
+run_at_error e kinds none (inr among) = absurd (no_kind e kinds none among)

@@ -32,7 +32,7 @@ module _ (old : TableState) (raises : ℕ) (s : TableState) (more : ℕ) (new : 
   pub falls : 0 < more → most_raises old - (raises + more) < most_raises old - raises
   falls some = omega (arith, in_bound)
 
-  pub fits : raises + more ≤ 4096 * 4096
+  pub fits : raises + more ≤ 65536 * 65536
   fits = omega (arith, in_bound, most_raises_bound old laws)
 
   pub goes_on : 0 < more → IsSweeping old (raises + more) new

@@ -25,11 +25,11 @@ sweep_raises_bound s n laws =
 pub waiting_bound : (s : TableState) → length (waiting_processes s) ≤ s.config.processes
 waiting_bound s = length_filter_range (is_waiting s) s.config.processes
 
--- there are at most 4,096 processes
-pub most_raises_bound : (s : TableState) → Laws s → most_raises s ≤ 4096 * 4096
+-- there are at most 65,536 processes
+pub most_raises_bound : (s : TableState) → Laws s → most_raises s ≤ 65536 * 65536
 most_raises_bound s laws =
     let processes = laws.lawful.well_formed.config.processes.1 in
     let waiting = length (waiting_processes s) in
-    let first : waiting * s.config.processes ≤ waiting * 4096 = mul-le-mul_left waiting processes in
-    let fewer : waiting ≤ 4096 = omega (arith, waiting_bound s) in
+    let first : waiting * s.config.processes ≤ waiting * 65536 = mul-le-mul_left waiting processes in
+    let fewer : waiting ≤ 65536 = omega (arith, waiting_bound s) in
     omega arith

@@ -1,6 +1,7 @@
 //! The opening.
 ghost use Rattle.std.specs.Prelude.{◌≡◌, ◌≤◌, ◌<◌, IfOk, map};
 ghost use Rattle.std.specs.List.{range_with_len};
+ghost use Rattle.mm_label.specs.Label.{process_range};
 ghost use Rattle.mm_rules.specs.Event.{Opens};
 ghost use Rattle.mm_table.specs.private.Records.{opening_labels};
 
@@ -14,7 +15,7 @@ use std::alloc::{AllocError, Global};
 impl Labels {
     /// The labels of a process that was never used.
     fn at_opening(process: u32) -> Labels
-        requires { process < 65536 }
+        requires { process < process_range }
         ensures { result ≡ opening_labels process }
     {
         let label = Label::new(0, process).unwrap();
@@ -27,7 +28,7 @@ impl Labels {
 
 /// The labels of a table that was just opened.
 fn labels_at_opening(alloc: Global, count: u32) -> Result<Vec<Labels>, AllocError>
-    requires { count ≤ 4096 }
+    requires { count ≤ process_range }
     ensures { IfOk result (λ v. v.items ≡ map opening_labels (range_with_len 0 count)) }
 {
     (0..count)

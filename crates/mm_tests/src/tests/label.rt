@@ -28,10 +28,10 @@ fn words_of_labels(rt: HostRuntime) -> Result<(), Fail> {
     let table = [
         (0, 0, 0),
         (0, 3, 3),
-        (1, 0, 65536),
-        (2, 1, 131073),
-        (2, 3, 131075),
-        (17592186044415, 4095, 1152921504606785535),
+        (1, 0, 1048576),
+        (2, 1, 2097153),
+        (17592186044415, 65535, 18446744073708568575),
+        (17592186044415, 1048575, 18446744073709551615),
     ];
     for (counter, process, word) in table {
         let label = Label::new(counter, process).ok_or("in range")?;
@@ -47,15 +47,38 @@ fn words_of_labels(rt: HostRuntime) -> Result<(), Fail> {
 }
 
 #[test]
+fn words_of_the_former_packing(rt: HostRuntime) -> Result<(), Fail> {
+    let table = [
+        (0, 0, 0),
+        (0, 3, 3),
+        (1, 0, 65536),
+        (2, 1, 131073),
+        (2, 3, 131075),
+        (17592186044415, 4095, 1152921504606785535),
+    ];
+    for (counter, process, word) in table {
+        let kept = Label::of_old_word(word).ok_or("in range")?;
+        assert_eq!(rt;
+            (kept.counter(), kept.process()),
+            (counter, process),
+            "of {word}"
+        );
+    }
+    assert_eq!(rt; Label::of_old_word(1152921504606846976), None);
+    assert_eq!(rt; Label::of_old_word(u64::MAX), None);
+    Ok(())
+}
+
+#[test]
 fn new_refuses_what_is_out_of_range(rt: HostRuntime) {
-    assert!(rt; Label::new((1 << 48) - 1, 65535).is_some());
-    assert_eq!(rt; Label::new(1 << 48, 0), None);
-    assert_eq!(rt; Label::new(0, 65536), None);
+    assert!(rt; Label::new((1 << 44) - 1, 1048575).is_some());
+    assert_eq!(rt; Label::new(1 << 44, 0), None);
+    assert_eq!(rt; Label::new(0, 1048576), None);
 }
 
 #[test]
 fn prints_counter_and_process(rt: HostRuntime) -> Result<(), Fail> {
-    let label = Label::of_word(131075);
+    let label = Label::of_word(2097155);
     let text = format!(in rt.alloc(); "{label}")?;
     assert_eq!(rt; text.as_str(), "2.3");
     Ok(())
@@ -63,8 +86,8 @@ fn prints_counter_and_process(rt: HostRuntime) -> Result<(), Fail> {
 
 #[test]
 fn fresh_is_refused_above_the_limit(rt: HostRuntime) {
-    let own = Label::of_word(131075);
-    let holder = Label::of_word(65536);
+    let own = Label::of_word(2097155); // 2.3
+    let holder = Label::of_word(1048576); // 1.0
     let parts = |label: Label| (label.counter(), label.process());
     assert_eq!(rt; passed_on(own, holder, 7, 3).map(parts), Some((3, 7)));
     assert_eq!(rt; passed_on(holder, own, 7, 2), None);

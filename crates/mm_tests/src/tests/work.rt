@@ -8,12 +8,21 @@ use mm_work::{ScriptFault, run_script};
 use std::io::ErrorKind;
 use std::test::Fail;
 
-/// The first script that a reader sees, and its replies.
-const SCRIPT: &str =
-    "table 4 4 100 9\nbegin\nbegin\nacquire 0.1 0\nacquire 1.1 1\nacquire 0.1 1\nacquire 1.1 0\nstate 0.1\nstate 1.1\n";
+/// A script whose one slot is retired, and its replies.
+const SCRIPT: &str = "table 1 1 9 2\nbegin\nfinish 0.1\nbegin\nfinish 0.2\nbegin\n";
 
-const REPLIES: &str =
-    "ok\nkey 0.1\nkey 1.1\ngranted\ngranted\nwaits 1.1 1.0\nwaits 0.1 2.1\nwaiting 1 1.0 1.0\nwaiting 0 2.1 2.1\n";
+const REPLIES: &str = "ok\nkey 0.1\nfinished\nkey 0.2\nfinished\nrefused 6 Full\n";
+
+/// The example of mm_work's page: the last line needs no newline, and one line is malformed.
+#[test]
+fn malformed_line_is_counted(rt: HostRuntime) -> Result<(), Fail> {
+    let mut script = b"table 1 1 9 9\nbegin\nfly".as_slice();
+    let mut replies = Vec::new(rt.alloc());
+    let outcome = run_script(rt.alloc(), &mut script, &mut replies);
+    assert_eq!(rt; outcome, Ok(1));
+    assert_eq!(rt; replies.as_slice(), b"ok\nkey 0.1\nmalformed\n".as_slice());
+    Ok(())
+}
 
 /// After two whole lines and a half of the third a read fails: the two are answered, and nothing is read or written after it.
 #[test]

@@ -2,8 +2,11 @@
 
 mod close;
 mod deadlocks;
+mod exhausted;
 mod labels;
 mod look;
+mod old_key;
+mod retired;
 mod threads;
 mod worker;
 

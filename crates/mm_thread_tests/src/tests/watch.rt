@@ -1,13 +1,13 @@
+use crate::tests::label::label;
 use crate::tests::same::same;
 use mm_examples::{Watched, watch_labels};
-use mm_label::Label;
 use std::test::Fail;
 
 // The example of README.md. What the first reader sees is no more than a label that stood there, so its contract leaves open which.
 #[test]
 fn two_readers_watch(rt: HostRuntime) -> Result<(), Fail> {
-    let first = Label::of_word(196610); // 3.2
-    let second = Label::of_word(458753); // 7.1
+    let first = label(3, 2);
+    let second = label(7, 1);
     let watched = watch_labels(rt.alloc(), 4, 2, first, second)?;
     let expected = Watched {
         unshown: first,

@@ -17,11 +17,12 @@ use Rattle.mm_work.specs.declared.script.line.Line.{Line}
 use Rattle.mm_work.specs.declared.script.line.Line.TheVariants as kind
 use Rattle.mm_work.specs.declared.script.line.Call.{Call}
 use Rattle.mm_work.specs.declared.script.line.Call.TheVariants as calls
+use Rattle.mm_work.specs.declared.script.line.Header.{Header}
 use Rattle.mm_work.specs.declared.script.reply.Reply.{Reply}
 use Rattle.mm_work.specs.declared.script.reply.Reply.TheVariants as replies_are
 use Rattle.mm_work.specs.Reply.{reply_line}
 use Rattle.mm_work.specs.Line.{line_of}
-use Rattle.mm_work.specs.Text.{Answers, Makes, Replies, RepliesWithNone, RepliesWithTable, Text, reply_to}
+use Rattle.mm_work.specs.Text.{Answers, Makes, OpensBy, Replies, RepliesWithNone, RepliesWithTable, Text, most_processes, reply_to}
 use Rattle.mm_work.specs.private.Session.{IsLawful}
 
 both : {A B : Type 0} → A ⊎ (¬ A) → B ⊎ (¬ B) → (A × B) ⊎ (¬ (A × B))
@@ -35,7 +36,7 @@ at_most m n = elim (cases_lt n m) [ inl over ↦ inr (λ h. omega arith) | inr h
 -- the numbers of a table are in range or not
 in_range : (c : Config) → IsInRange c ⊎ (¬ IsInRange c)
 in_range c =
-    let tests = both (both (at_most 1 c.processes) (at_most c.processes 4096))
+    let tests = both (both (at_most 1 c.processes) (at_most c.processes 65536))
     (both (both (at_most 1 c.resources) (at_most c.resources 65536)) (both (both (at_most 1 c.label_limit) (at_most (c.label_limit + 1) (2 ^ 44))) (at_most 1 c.generation_limit))) in
     elim tests [
       | inl t ↦ inl (record { processes = t.0; resources = t.1.0; label_limit = (t.1.1.0.0, omega (arith, t.1.1.0.1)); generation_limit = t.1.1.1 })
@@ -48,6 +49,13 @@ opens c = elim (in_range c) [
   | inr not_fits ↦ (Err BadConfig, inl (refl, not_fits))
 ]
 
+-- so does opening by a header
+opens_by : (header : Header) (c : Config) → (result : Result TableState Refusal) × OpensBy header c result
+opens_by header c = elim (cases_lt (most_processes header) c.processes) [
+  | inl over ↦ (Err BadConfig, inl (over, refl))
+  | inr within ↦ let o = opens c in (o.0, inr (within, o.1))
+]
+
 -- a settle has an answer, by the laws
 settles_by : (s : TableState) → Laws s → (full : Bool) → (answer : Result Settled Refusal) × (after : TableState)
     × MatchBool full (Gives (settled s 0) answer after) ((n : ℕ) × Settles s n × Gives (settled s n) answer after)
@@ -58,7 +66,7 @@ settles : (s : TableState) → Laws s → (answer : Result Settled Refusal) × (
 settles s laws = settles_by s laws (counts_exhausted s)
 
 replies : (call : Call) (table : Option TableState) → IsLawful table → (reply : Reply) × (next : Option TableState) × Replies call table reply next
-replies (calls.Table c) (Some s) lawful = (replies_are.TableStands, Some s, (refl, refl))
+replies (calls.Table header c) (Some s) lawful = (replies_are.TableStands, Some s, (refl, refl))
 replies calls.Begin (Some s) lawful = (reply_to replies_are.Begun (begun s).reply, Some (begun s).state, ((begun s).reply, (begun s).state, (refl, refl), refl, refl))
 replies (calls.Acquire k r) (Some s) lawful = (reply_to replies_are.Acquired (acquired s k r).reply, Some (acquired s k r).state, ((acquired s k r).reply, (acquired s k r).state, (refl, refl), refl, refl))
 replies (calls.Release k r) (Some s) lawful = (reply_to replies_are.Released (released s k r).reply, Some (released s k r).state, ((released s k r).reply, (released s k r).state, (refl, refl), refl, refl))
@@ -71,7 +79,7 @@ replies calls.Settle (Some s) lawful = let o = settles s lawful in (reply_to rep
 replies (calls.State k) (Some s) lawful = (reply_to replies_are.Read (state_of s k), Some s, (refl, refl))
 replies (calls.Owner r) (Some s) lawful = (reply_to replies_are.Owned (owner_told s r), Some s, (refl, refl))
 replies calls.Totals (Some s) lawful = (replies_are.Counted s.totals, Some s, (refl, refl))
-replies (calls.Table c) None lawful = let o = opens c in (reply_to (λ _. replies_are.Opened) o.0, result_ok o.0, (o.0, o.1, refl, refl))
+replies (calls.Table header c) None lawful = let o = opens_by header c in (reply_to (λ _. replies_are.Opened) o.0, result_ok o.0, (o.0, o.1, refl, refl))
 replies calls.Begin None lawful = (replies_are.NoTable, None, (refl, refl))
 replies (calls.Acquire k r) None lawful = (replies_are.NoTable, None, (refl, refl))
 replies (calls.Release k r) None lawful = (replies_are.NoTable, None, (refl, refl))
@@ -94,11 +102,15 @@ opens_lawful : (c : Config) (opened : Result TableState Refusal) → Opens c ope
 opens_lawful c (Ok s) (range, is) = subst Laws (sym is) (opening_lawful c range)
 opens_lawful c (Err e) refused = tt
 
+opens_by_lawful : (header : Header) (c : Config) (opened : Result TableState Refusal) → OpensBy header c opened → IsLawful (result_ok opened)
+opens_by_lawful header c opened (inl over) = subst (λ o. IsLawful (result_ok o)) (sym over.1) tt
+opens_by_lawful header c opened (inr within) = opens_lawful c opened within.1
+
 makes_lawful : (e : Event) (accepted : Answer e → Reply) (s : TableState) (reply : Reply) (new : Option TableState) → Laws s → Makes e accepted s reply new → IsLawful new
 makes_lawful e accepted s reply new laws (answer, after, step, said, is) = subst IsLawful (sym is) (event_keeps e s after answer step laws).laws
 
 with_table_lawful : (call : Call) (s : TableState) (reply : Reply) (new : Option TableState) → Laws s → RepliesWithTable call s reply new → IsLawful new
-with_table_lawful (calls.Table c) s reply new laws r = subst IsLawful (sym r.1) laws
+with_table_lawful (calls.Table header c) s reply new laws r = subst IsLawful (sym r.1) laws
 with_table_lawful calls.Begin s reply new laws r = makes_lawful events.Begin replies_are.Begun s reply new laws r
 with_table_lawful (calls.Acquire k m) s reply new laws r = makes_lawful (events.Acquire k m) replies_are.Acquired s reply new laws r
 with_table_lawful (calls.Release k m) s reply new laws r = makes_lawful (events.Release k m) replies_are.Released s reply new laws r
@@ -113,7 +125,7 @@ with_table_lawful (calls.Owner m) s reply new laws r = subst IsLawful (sym r.1) 
 with_table_lawful calls.Totals s reply new laws r = subst IsLawful (sym r.1) laws
 
 with_none_lawful : (call : Call) (reply : Reply) (new : Option TableState) → RepliesWithNone call reply new → IsLawful new
-with_none_lawful (calls.Table c) reply new (opened, opens, said, is) = subst IsLawful (sym is) (opens_lawful c opened opens)
+with_none_lawful (calls.Table header c) reply new (opened, opens, said, is) = subst IsLawful (sym is) (opens_by_lawful header c opened opens)
 with_none_lawful calls.Begin reply new r = subst IsLawful (sym r.1) tt
 with_none_lawful (calls.Acquire k m) reply new r = subst IsLawful (sym r.1) tt
 with_none_lawful (calls.Release k m) reply new r = subst IsLawful (sym r.1) tt

@@ -1,13 +1,25 @@
 //! Calls of the table that stands, if one does.
 ghost use Rattle.std.specs.Prelude.{◌≡◌, None, Some};
-ghost use Rattle.mm_work.specs.Text.{Replies, RepliesWithNone, RepliesWithTable};
+ghost use Rattle.mm_work.specs.Text.{OpensBy, Replies, RepliesWithNone, RepliesWithTable, most_processes};
 
-use super::line::Call;
+use super::line::{Call, Header};
 use super::reply::Reply;
-use mm_table::Table;
+use mm_table::{Config, Refusal, Table};
 use std::alloc::Global;
 
-/// Makes a call of the table, or opens one, and returns the reply. Only `table` allocates.
+impl Header {
+    /// How many processes a table may have that this word opens.
+    fn most_processes(self) -> u32
+        ensures { result ≡ most_processes self }
+    {
+        match self {
+            Header::Table => 4096,
+            Header::Table2 => Config::MOST_PROCESSES,
+        }
+    }
+}
+
+/// Makes a call of the table, or opens one, and returns the reply. Only `table` and `table2` allocate.
 pub fn make(table: &mut Option<Table>, alloc: Global, call: Call) -> Reply
     ensures { Replies call table.old result table.new }
 {
@@ -21,7 +33,7 @@ fn make_with_table(table: &mut Table, call: Call) -> Reply
     ensures { RepliesWithTable call table.old result (Some table.new) }
 {
     match call {
-        Call::Table(_) => Reply::TableStands,
+        Call::Table { .. } => Reply::TableStands,
         Call::Begin => table.begin().map_or_else(Reply::Refused, Reply::Begun),
         Call::Acquire { key, resource } => table
             .acquire(key, resource)
@@ -53,19 +65,29 @@ fn make_with_table(table: &mut Table, call: Call) -> Reply
     }
 }
 
-/// Makes a call while no table stands. A refused `table` leaves none.
+/// Makes a call while no table stands. A header that is refused leaves none.
 fn make_with_none(table: &mut Option<Table>, alloc: Global, call: Call) -> Reply
     requires { table.old ≡ None }
     ensures { RepliesWithNone call result table.new }
 {
-    let Call::Table(config) = call else {
+    let Call::Table { header, config } = call else {
         return Reply::NoTable;
     };
-    match Table::open(alloc, config) {
+    match open(alloc, header, config) {
         Ok(opened) => {
             *table = Some(opened);
             Reply::Opened
         }
         Err(refusal) => Reply::Refused(refusal),
     }
+}
+
+/// Opens a table by a header. Refused as `BadConfig` before any request for memory where it has more processes than the header allows.
+fn open(alloc: Global, header: Header, config: Config) -> Result<Table, Refusal>
+    ensures { OpensBy header config result }
+{
+    if config.processes > header.most_processes() {
+        return Err(Refusal::BadConfig);
+    }
+    Table::open(alloc, config)
 }

@@ -20,10 +20,19 @@ pub enum Line {
     Call(Call),
 }
 
+/// The word that a table is opened with.
+#[derive(Clone, Copy, Debug, PartialEq, Eq)]
+pub enum Header {
+    /// `table`, for at most 4,096 processes.
+    Table,
+    /// `table2`, for as many processes as a table can have.
+    Table2,
+}
+
 /// A call of a table.
 #[derive(Clone, Copy, Debug, PartialEq, Eq)]
 pub enum Call {
-    Table(Config),
+    Table { header: Header, config: Config },
     Begin,
     Acquire { key: Key, resource: u32 },
     Release { key: Key, resource: u32 },
@@ -72,7 +81,9 @@ fn call_of(word: &[u8], arguments: Words<'_>) -> Option<Call>
     ensures { result ≡ call_of word.now (words_left arguments.entry) }
 {
     if word == b"table".as_slice() {
-        table_call(arguments)
+        table_call(Header::Table, arguments)
+    } else if word == b"table2".as_slice() {
+        table_call(Header::Table2, arguments)
     } else if word == b"begin".as_slice() {
         no_arguments(Call::Begin, arguments)
     } else if word == b"acquire".as_slice() {
@@ -104,8 +115,8 @@ fn call_of(word: &[u8], arguments: Words<'_>) -> Option<Call>
     }
 }
 
-fn table_call(mut words: Words<'_>) -> Option<Call>
-    ensures { result ≡ table_call (words_left words.entry) }
+fn table_call(header: Header, mut words: Words<'_>) -> Option<Call>
+    ensures { result ≡ table_call header (words_left words.entry) }
 {
     let config = Config {
         processes: number32(words.next()?)?,
@@ -113,7 +124,10 @@ fn table_call(mut words: Words<'_>) -> Option<Call>
         label_limit: number64(words.next()?)?,
         generation_limit: number32(words.next()?)?,
     };
-    words.next().is_none().then_some(Call::Table(config))
+    words
+        .next()
+        .is_none()
+        .then_some(Call::Table { header, config })
 }
 
 fn no_arguments(call: Call, mut words: Words<'_>) -> Option<Call>

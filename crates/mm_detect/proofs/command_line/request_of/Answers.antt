@@ -1,13 +1,13 @@
 use Rattle.std.proofs.Common.{subst, sym, map, List}
 use Rattle.clap.specs.Words.{Text, fault_of}
-use Rattle.mm_detect.specs.CommandLine.{IsByFault, IsHelp, IsScript, program}
-use Rattle.mm_detect.proofs.Lemmas.CommandLine.{script_by, script_at_error, script_named, help_by, help_at_error, by_fault, no_matches}
+use Rattle.mm_detect.specs.CommandLine.{IsByFault, IsHelp, IsRun, IsScript, program}
+use Rattle.mm_detect.proofs.Lemmas.CommandLine.{script_by, script_at_error, script_named, help_by, help_at_error, by_fault, no_matches, run_at_error}
 use Rattle.mm_detect.proofs.command_line.request_of.Goals as goal
 
 pub returns-in-Ok-clause-script : goal.returns-in-Ok-clause-script
 returns-in-Ok-clause-script g c =
     let words : List Text = map g.S.AsStr.text c.args.words.now in
-    λ asks. c.by_matches.ensures (script_named words c.in-Ok.matches asks c.in-Ok.ensures.matches)
+    λ asks. c.by_matches.ensures.script (script_named words c.in-Ok.matches asks c.in-Ok.ensures.matches)
 
 pub returns-in-Ok-clause-help : goal.returns-in-Ok-clause-help
 returns-in-Ok-clause-help g c =
@@ -28,3 +28,9 @@ pub returns-in-Err-clause-wrong : goal.returns-in-Err-clause-wrong
 returns-in-Err-clause-wrong g c =
     let words : List Text = map g.S.AsStr.text c.args.words.now in
     λ some. subst (IsByFault (fault_of program words)) (sym c.by_error.ensures) (by_fault c.in-Err.error (fault_of program words) c.in-Err.ensures.fails)
+
+pub returns-in-Ok-clause-taken : goal.returns-in-Ok-clause-taken
+returns-in-Ok-clause-taken g c = λ none. c.by_matches.ensures.taken (map g.S.AsStr.text c.args.words.now) c.in-Ok.ensures.matches none
+
+pub returns-in-Err-clause-taken : goal.returns-in-Err-clause-taken
+returns-in-Err-clause-taken g c = λ none. subst IsRun (sym c.by_error.ensures) (run_at_error c.in-Err.error (fault_of program (map g.S.AsStr.text c.args.words.now)) none c.in-Err.ensures.fails)

@@ -1,6 +1,7 @@
 //! What is read on the board of a shared table, without its lock.
 ghost use Rattle.std.specs.Prelude.{◌≡◌};
 
+use crate::tests::label::label;
 use crate::tests::same::same;
 use crate::tests::shared::config;
 use mm_label::Label;
@@ -38,11 +39,6 @@ fn scanned<N: Name, A: Ledger, V: Ledger, B: Ledger>(
     ]
 }
 
-/// The label that this word keeps.
-fn label(word: u64) -> Option<Label> {
-    Some(Label::of_word(word))
-}
-
 fn hint(process: u32, holder: u32, kind: HintKind) -> Option<Hint> {
     Some(Hint {
         process,
@@ -72,29 +68,29 @@ fn watch_a_deadlock<N: Name, A: Ledger, V: Ledger, B: Ledger, R: Wait + Abort>(
     other: &mut Pass<N, A, V, B>,
 ) -> Result<(), Refusal> {
     let (first, second) = begin_two(rt, table, pass)?;
-    same(rt, peeked(table, pass, 0), label(0)); // 0.0
+    same(rt, peeked(table, pass, 0), Some(label(0, 0)));
     let waits = Acquired::Waits {
         holder: second,
-        label: Label::of_word(65536), // 1.0
+        label: label(1, 0),
     };
     same(rt, table.acquire(rt, pass, first, 1)?, waits);
-    same(rt, peeked(table, pass, 0), label(65536));
-    same(rt, peeked(table, other, 0), label(65536));
+    same(rt, peeked(table, pass, 0), Some(label(1, 0)));
+    same(rt, peeked(table, other, 0), Some(label(1, 0)));
     same(rt, scanned(table, pass), [None, None, None]);
     table.acquire(rt, pass, second, 0)?;
     let raise = hint(0, 1, HintKind::Raise);
     same(rt, scanned(table, other), [raise, None, None]);
-    let raised = Transmitted::Raised(Label::of_word(131073)); // 2.1
+    let raised = Transmitted::Raised(label(2, 1));
     same(rt, table.transmit(rt, pass, first)?, raised);
     let equal = hint(1, 0, HintKind::Equal);
     let both = [hint(0, 1, HintKind::Equal), equal, None];
     same(rt, scanned(table, pass), both);
     same(rt, scanned(table, other), both);
-    let deadlock = Detected::Deadlock(Label::of_word(131073));
+    let deadlock = Detected::Deadlock(label(2, 1));
     same(rt, table.detect(rt, pass, second)?, deadlock);
     table.abort(rt, pass, second)?;
     same(rt, scanned(table, other), [None, None, None]);
-    same(rt, peeked(table, other, 1), label(131073));
+    same(rt, peeked(table, other, 1), Some(label(2, 1)));
     same(rt, peeked(table, other, 2), None);
     Ok(())
 }
@@ -113,10 +109,10 @@ fn watch_a_queue<N: Name, A: Ledger, V: Ledger, B: Ledger, R: Wait + Abort>(
     table.acquire(rt, pass, second, 0)?;
     table.acquire(rt, pass, third, 0)?;
     table.release(rt, pass, first, 0)?;
-    same(rt, peeked(table, other, 1), label(65537)); // 1.1
-    same(rt, peeked(table, other, 2), label(131074)); // 2.2
+    same(rt, peeked(table, other, 1), Some(label(1, 1)));
+    same(rt, peeked(table, other, 2), Some(label(2, 2)));
     table.finish(rt, pass, second)?;
-    same(rt, peeked(table, other, 2), label(131074));
+    same(rt, peeked(table, other, 2), Some(label(2, 2)));
     same(rt, scanned(table, other), [None, None, None]);
     Ok((first, third))
 }
@@ -135,15 +131,15 @@ fn watch_a_settle<N: Name, A: Ledger, V: Ledger, B: Ledger, R: Wait + Abort>(
     table.acquire(rt, pass, first, 2)?; // waits under 2.0
     table.acquire(rt, pass, second, 0)?; // waits under 3.1
     table.acquire(rt, pass, third, 1)?; // waits under 3.2
-    same(rt, peeked(table, other, 0), label(131072));
-    same(rt, peeked(table, other, 1), label(196609));
+    same(rt, peeked(table, other, 0), Some(label(2, 0)));
+    same(rt, peeked(table, other, 1), Some(label(3, 1)));
     let settled = Settled {
         raises: 3,
         verdicts: 1,
     };
     same(rt, table.settle(rt, pass)?, settled);
-    same(rt, peeked(table, other, 0), label(196610)); // 3.2
-    same(rt, peeked(table, other, 1), label(196610));
+    same(rt, peeked(table, other, 0), Some(label(3, 2)));
+    same(rt, peeked(table, other, 1), Some(label(3, 2)));
     let first_waits = hint(0, 1, HintKind::Equal);
     let second_waits = hint(1, 2, HintKind::Equal);
     let third_waits = hint(2, 0, HintKind::Equal);
@@ -168,7 +164,7 @@ fn watch_a_wait_given_up<N: Name, A: Ledger, V: Ledger, B: Ledger, R: Wait + Abo
     same(rt, scanned(table, other), [raise, None, None]);
     same(rt, table.give_up(rt, pass, first), Ok(()));
     same(rt, scanned(table, other), [None, None, None]);
-    same(rt, peeked(table, other, 0), label(65536)); // 1.0
+    same(rt, peeked(table, other, 0), Some(label(1, 0)));
     same(rt, table.give_up(rt, pass, first), Err(Refusal::NotWaiting));
     same(rt, scanned(table, pass), [None, None, None]);
     table.acquire(rt, pass, first, 1)?; // waits again, under 3.0

@@ -2,11 +2,11 @@
 //! of the rules of docs/WORKLOADS.md, by hand.
 ghost use Rattle.std.specs.Prelude.{◌≡◌};
 
+use crate::tests::label::label;
 use crate::tests::same::same;
 use crate::tests::workers::fake::Fake;
 use crate::tests::workers::open_gate::OpenGate;
 use crate::tests::workers::recorder::{Call, Recorder};
-use mm_label::Label;
 use mm_shared::{Config, Detected, Key, Name, Prepared, Refusal, Transmitted};
 use mm_table::{Table, Totals};
 use mm_workers::{Desk, Hint, HintKind, Report, Steps, Transmitter};
@@ -137,14 +137,14 @@ fn wait_crosswise<S: Steps>(steps: &mut S) -> Result<(), Refusal> {
 /// turn comes to the end; and the fourth finds no verdict for the first.
 fn calls_of_four_turns() -> [Call; 10] {
     let (first, second) = (first_key(0), first_key(1));
-    let label = Label::of_word(131073); // 2.1
+    let greatest = label(2, 1);
     [
         Call::Scan(0, hint(0, 1, HintKind::Raise)),
         Call::Tenant(0, Some(first)),
-        Call::Transmit(first, Ok(Transmitted::Raised(label))),
+        Call::Transmit(first, Ok(Transmitted::Raised(greatest))),
         Call::Scan(1, hint(1, 0, HintKind::Equal)),
         Call::Tenant(1, Some(second)),
-        Call::Detect(second, Ok(Detected::Deadlock(label))),
+        Call::Detect(second, Ok(Detected::Deadlock(greatest))),
         Call::Scan(2, None),
         Call::Scan(0, hint(0, 1, HintKind::Equal)),
         Call::Tenant(0, Some(first)),
@@ -187,11 +187,11 @@ fn a_ring_of_three_on_a_table_alone(rt: HostRuntime) -> Result<(), Fail> {
     wait_in_a_ring(&mut table)?;
     let came = transmit(rt.alloc(), table, 6, false)?;
     let (first, second, third) = (first_key(0), first_key(1), first_key(2));
-    let greatest = Label::of_word(131074); // 2.2
+    let greatest = label(2, 2);
     let calls = [
         Call::Scan(0, hint(0, 1, HintKind::Raise)),
         Call::Tenant(0, Some(first)),
-        Call::Transmit(first, Ok(Transmitted::Raised(Label::of_word(65537)))), // 1.1
+        Call::Transmit(first, Ok(Transmitted::Raised(label(1, 1)))),
         Call::Scan(1, hint(1, 2, HintKind::Raise)),
         Call::Tenant(1, Some(second)),
         Call::Transmit(second, Ok(Transmitted::Raised(greatest))),
