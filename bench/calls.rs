@@ -2,7 +2,8 @@
 //!
 //! The proved table is called through the static library of crates/mm_bench. Each workload is a loop inside the library, beside
 //! the table, as those in Rust are loops beside their tables, so that both compilers can inline. Each number is the least of many
-//! short rounds, in which the tables take turns, less what the same loop costs that only opens and prepares its tables.
+//! short rounds, in which the tables take turns, less what the same loop costs that only opens and prepares its tables. Memory that
+//! was freed stays with the program, so that a round asks the kernel for no pages.
 
 mod lock_table;
 #[allow(dead_code)] // no workload makes all of its calls
@@ -23,9 +24,14 @@ const MOST_PROCESSES: u32 = 65_536;
 const MOST_ROUNDS: u32 = 400;
 const LEAST_ROUNDS: u32 = 5;
 /// No round is begun after this many seconds, but for the first few.
-const SECONDS: f64 = 2.0;
+const SECONDS: f64 = 3.0;
+
+/// Of the C library's `mallopt`: from how many free bytes on memory is given back, and from how many bytes on each part has its own pages.
+const TRIM_THRESHOLD: i32 = -1;
+const MMAP_THRESHOLD: i32 = -3;
 
 unsafe extern "C" {
+    safe fn mallopt(parameter: i32, value: i32) -> i32;
     safe fn mm_bench_nothing(number: u64) -> u64;
     safe fn mm_bench_openings(processes: u32, count: u64) -> u64;
     safe fn mm_bench_rounds(processes: u32, resources: u32, mask: u32, others: u32, count: u64) -> u64;
@@ -133,7 +139,7 @@ fn measure_rounds(processes: u32, resources: u32) {
 }
 
 fn measure_rounds_beside(others: u32) {
-    let count = 50;
+    let count = 4_000;
     let (processes, resources, mask) = (PROCESSES.max(others + 1), 1_025, 1_023);
     Workload {
         name: "the same, while so many hold or await another",
@@ -179,7 +185,7 @@ fn measure_hand_overs(waiters: u32) {
 }
 
 fn measure_give_ups(waiters: u32) {
-    let count = 10_000;
+    let count = 100_000;
     Workload {
         name: "give up in the middle of a queue, and wait again",
         size: waiters,
@@ -226,7 +232,7 @@ fn measure_chain(size: u32) {
 }
 
 fn measure_idle_settles(size: u32) {
-    let count = 500;
+    let count = 50_000;
     Workload {
         name: "settle while all but one wait, and none rises",
         size,
@@ -249,6 +255,7 @@ fn measure_nothing() {
 }
 
 fn main() {
+    assert!(mallopt(TRIM_THRESHOLD, 1 << 30) == 1 && mallopt(MMAP_THRESHOLD, 1 << 30) == 1, "memory is given back");
     print!("{:<50} {:>6} {:>11} {:>11} {:>6}", "workload", "size", "proved", "plain", "ratio");
     println!("{}", if cfg!(reference) { format!(" {:>11} {:>6}", "reference", "ratio") } else { String::new() });
     for processes in [PROCESSES, MOST_PROCESSES] {

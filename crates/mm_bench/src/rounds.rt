@@ -38,8 +38,8 @@ fn rounds(
     Ok(table.totals().accepted)
 }
 
-/// In a table of `processes` processes `count` transactions, one after another, take sixteen resources each, of the numbers up to `mask`, and finish. Meanwhile `others`
-/// hold and await the last resource.
+/// In a table of `processes` processes, `count` transactions one after another take sixteen resources each, of the numbers up to
+/// `mask`, and finish. Meanwhile `others` transactions hold and await the last resource.
 #[unsafe(no_mangle)]
 pub extern "C" fn mm_bench_rounds(
     alloc: Global,

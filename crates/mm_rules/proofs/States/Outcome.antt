@@ -1,8 +1,9 @@
 -- What an event has to keep, and that refusals and counting touch none of it.
-use Rattle.std.proofs.Common.{◌++◌, ◌≡◌, ◌+◌, ℕ, true, false, [], ◌∷◌, Result, Ok, Err, IsTrue, refl}
+use Rattle.std.proofs.Common.{◌++◌, ◌≡◌, ◌+◌, ℕ, true, false, [], ◌∷◌, Result, Ok, Err, IsTrue, count_by, refl}
 use Rattle.std.specs.List.{AllByRecursion}
 use Rattle.mm_label.specs.Label.{label_le}
 use Rattle.mm_rules.specs.declared.refusal.Refusal.{Refusal}
+use Rattle.mm_rules.specs.declared.reply.Totals.{Totals}
 use Rattle.mm_rules.specs.TableState.{TableState, public_of}
 use Rattle.mm_rules.specs.Event.{Tests, allowed, decided, outcome}
 use Rattle.mm_rules.specs.Laws.{Laws}
@@ -23,12 +24,9 @@ keeps_then a b c first second = record {
   rise = λ n. label_le_then (public_of a n) (public_of b n) (public_of c n) (first.rise n) (second.rise n);
 }
 
--- the number of accepted calls is set anew
-abbrev pub counting : TableState → ℕ → TableState
-counting s n = record s { totals = record s.totals { accepted = n } }
-
-pub counting_keeps_laws : (s : TableState) (n : ℕ) → Laws s → Laws (counting s n)
-counting_keeps_laws s n laws = record {
+-- other counts, with as many verdicts as these count aborts and standing verdicts, touch no law
+pub totals_keep_laws : (s : TableState) (t : Totals) → t.verdicts ≡ t.aborts + count_by (λ v. v) s.verdicts → Laws s → Laws (record s { totals = t })
+totals_keep_laws s t counted laws = record {
   lawful = record {
     well_formed = record {
       config = laws.lawful.well_formed.config;
@@ -44,11 +42,18 @@ counting_keeps_laws s n laws = record {
     label_bounds = record { made = laws.lawful.label_bounds.made; newest = laws.lawful.label_bounds.newest; limit = laws.lawful.label_bounds.limit };
     propagated = laws.lawful.propagated;
     rising = laws.lawful.rising;
-    counted = laws.lawful.counted;
+    counted = counted;
   };
   convicted = laws.convicted;
   topped = laws.topped;
 }
+
+-- the number of accepted calls is set anew
+abbrev pub counting : TableState → ℕ → TableState
+counting s n = record s { totals = record s.totals { accepted = n } }
+
+pub counting_keeps_laws : (s : TableState) (n : ℕ) → Laws s → Laws (counting s n)
+counting_keeps_laws s n laws = totals_keep_laws s (record s.totals { accepted = n }) laws.lawful.counted laws
 
 counting_keeps : (old new : TableState) (n : ℕ) → KeepsLaws old new → KeepsLaws old (counting new n)
 counting_keeps old new n keeps = record { laws = counting_keeps_laws new n keeps.laws; rise = keeps.rise }
