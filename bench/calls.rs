@@ -1,4 +1,4 @@
-//! Times workloads over the proved table and over tables in plain Rust, and prints a table of them.
+//! Times workloads over the proved table and over tables in plain Rust, and prints a line for each. `calls.py` runs it.
 //!
 //! The proved table is called through the static library of crates/mm_bench. Each workload is a loop inside the library, beside
 //! the table, as those in Rust are loops beside their tables, so that both compilers can inline. Each number is the least of many
@@ -24,7 +24,7 @@ const MOST_PROCESSES: u32 = 65_536;
 const MOST_ROUNDS: u32 = 400;
 const LEAST_ROUNDS: u32 = 5;
 /// No round is begun after this many seconds, but for the first few.
-const SECONDS: f64 = 3.0;
+const SECONDS: f64 = 1.5;
 
 /// Of the C library's `mallopt`: from how many free bytes on memory is given back, and from how many bytes on each part has its own pages.
 const TRIM_THRESHOLD: i32 = -1;
@@ -77,7 +77,7 @@ fn time(work: Run, is_whole: bool) -> f64 {
 }
 
 impl Workload<'_> {
-    /// Times each table, and prints one line.
+    /// Times each table, and prints one line: name, size, unit and what each table costs, with tabs between them.
     fn measure(&self) {
         let accepted = self.runs[0](true);
         assert!(accepted > 0, "a call was refused at {}", self.name);
@@ -95,19 +95,18 @@ impl Workload<'_> {
                 least[1] = least[1].min(time(run, false));
             }
         }
-        let costs: Vec<f64> = least.iter().map(|[whole, prepared]| (whole - prepared) / self.units as f64).collect();
-        print!("{:<50} {:>6} {:>11.2}", self.name, self.size, costs[0]);
-        for cost in &costs[1..] {
-            print!(" {:>11.2} {:>6.2}", cost, costs[0] / cost);
+        print!("{}\t{}\t{}", self.name, self.size, self.unit);
+        for [whole, prepared] in least {
+            print!("\t{:.3}", (whole - prepared) / self.units as f64);
         }
-        println!("  ns a {}", self.unit);
+        println!();
     }
 }
 
 fn measure_openings(processes: u32) {
     let count = 20;
     Workload {
-        name: "a table of so many processes opened and dropped",
+        name: "a table of so many processes and resources",
         size: processes,
         units: count,
         unit: "table",
@@ -251,13 +250,11 @@ fn measure_nothing() {
             time(&|_| (0..count).fold(0, |sum, _| mm_bench_nothing(sum)), true)
         })
         .fold(f64::INFINITY, f64::min);
-    println!("{:<50} {:>6} {:>11.2}", "a call through C that does nothing", "", least / count as f64);
+    println!("a call through C that does nothing\t0\tcall\t{:.3}", least / count as f64);
 }
 
 fn main() {
     assert!(mallopt(TRIM_THRESHOLD, 1 << 30) == 1 && mallopt(MMAP_THRESHOLD, 1 << 30) == 1, "memory is given back");
-    print!("{:<50} {:>6} {:>11} {:>11} {:>6}", "workload", "size", "proved", "plain", "ratio");
-    println!("{}", if cfg!(reference) { format!(" {:>11} {:>6}", "reference", "ratio") } else { String::new() });
     for processes in [PROCESSES, MOST_PROCESSES] {
         measure_openings(processes);
     }

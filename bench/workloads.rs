@@ -61,11 +61,11 @@ pub fn random<T: LockTable>(count: u64) -> Result<u64, Refused> {
     Ok(accepted(&table))
 }
 
-/// Tables opened and dropped; in each one transaction begins.
+/// Tables with as many resources as processes, opened and dropped; in each one transaction begins.
 pub fn openings<T: LockTable>(processes: u32, count: u64) -> Result<u64, Refused> {
     let mut opened = 0;
     for _ in 0..count {
-        let mut table = T::open(processes, MOST_RESOURCES)?;
+        let mut table = T::open(processes, processes)?;
         table.begin()?;
         opened += accepted(&table);
     }

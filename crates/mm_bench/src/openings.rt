@@ -1,19 +1,19 @@
 //! Tables that are opened and dropped.
 use crate::open;
-use mm_table::{Config, Refusal};
+use mm_table::Refusal;
 use std::alloc::Global;
 
 fn openings(alloc: Global, processes: u32, count: u64) -> Result<u64, Refusal> {
     let mut opened: u64 = 0;
     for _ in 0..count {
-        let mut table = open(alloc, processes, Config::MOST_RESOURCES)?;
+        let mut table = open(alloc, processes, processes)?;
         table.begin()?;
         opened = opened.wrapping_add(table.totals().accepted);
     }
     Ok(opened)
 }
 
-/// So many tables of `processes` processes and as many resources as there can be, one after another. In each one transaction begins.
+/// So many tables of `processes` processes and as many resources, one after another. In each one transaction begins.
 #[unsafe(no_mangle)]
 pub extern "C" fn mm_bench_openings(alloc: Global, processes: u32, count: u64) -> u64 {
     openings(alloc, processes, count).unwrap_or(0)

@@ -1,0 +1,33 @@
+"""Runs the program of bench/calls.rs several times, and prints what a call takes: of each line the median of the runs."""
+
+import os
+import statistics
+import subprocess
+
+HERE = os.path.dirname(os.path.abspath(__file__))
+TURNS = 5
+TABLES = ("proved", "plain", "reference")
+
+
+def lines():
+    """The lines of one run: name, size and unit, and the cost of each table."""
+    run = subprocess.run([os.path.join(HERE, "out", "calls")], capture_output=True, text=True, check=True)
+    for line in run.stdout.splitlines():
+        name, size, unit, *costs = line.split("\t")
+        yield (name, int(size), unit), [float(cost) for cost in costs]
+
+
+def main():
+    """Prints a table."""
+    taken = {}
+    for _ in range(TURNS):
+        for workload, costs in lines():
+            taken.setdefault(workload, []).append(costs)
+    print("%-50s %6s %11s %11s %6s %11s %6s" % ("workload", "size", *TABLES[:2], "ratio", TABLES[2], "ratio"))
+    for (name, size, unit), runs in taken.items():
+        first, *others = map(statistics.median, zip(*runs))
+        against = "".join(" %11.2f %6.2f" % (other, first / other) for other in others)
+        print("%-50s %6s %11.2f%s  ns a %s" % (name, size or "", first, against, unit))
+
+
+main()
