@@ -1,5 +1,5 @@
 //! What all waiting transactions do in turn: sweeps of transmits, and then detects. Only those are looked at that may do either.
-ghost use Rattle.std.specs.Prelude.{◌≡◌, ◌<◌, ◌≤◌, Ok, List, Bool, true, false, length};
+ghost use Rattle.std.specs.Prelude.{◌≡◌, ◌<◌, ◌≤◌, Ok, List, Bool, true, false, length, IsFalse};
 ghost use Rattle.mm_marks.specs.Marks.{has};
 ghost use Rattle.mm_rules.specs.Event.{Step, Settle, counts_exhausted};
 ghost use Rattle.mm_rules.specs.Laws.{Laws};
@@ -36,18 +36,25 @@ impl Records {
         if self.counts_exhausted() {
             return Err(Refusal::CountsExhausted);
         }
-        self.load(changed, pending);
-        Ok(self.settle_pending(pending, checks, touched))
+        if self.load(changed, pending) {
+            return Ok(self.settle_pending(pending, checks, touched));
+        }
+        self.count();
+        Ok(Settled {
+            raises: 0,
+            verdicts: 0,
+        })
     }
 
-    /// Takes all from the changed. Each of them, and all that wait for one of them, are pending.
-    fn load(&self, changed: &mut Marks, pending: &mut Marks)
+    /// Takes all from the changed. Each of them, and all that wait for one of them, are pending. Returns whether anybody changed.
+    fn load(&self, changed: &mut Marks, pending: &mut Marks) -> bool
         requires laws { Laws self.now }
         requires changed { AreChanged self.now changed.old }
         requires changed_sized { length changed.old ≡ self.now.config.processes }
         requires pending_sized { length pending.old ≡ self.now.config.processes }
         ensures marked { (checks : List Bool) → length checks ≡ self.now.config.processes → AreMarked self.now pending.new checks }
         ensures none { IsNoneMarked changed.new }
+        ensures quiet { IsFalse result → NoneCan self.now }
         ensures changed_sized { SameLengths changed.old changed.new }
     {
         let mut from = 0;
@@ -55,6 +62,7 @@ impl Records {
             self.load_one(process, pending);
             from = process + 1;
         }
+        from != 0
     }
 
     /// The process and all that wait for it are pending.

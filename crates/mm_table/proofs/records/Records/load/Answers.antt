@@ -1,6 +1,8 @@
-use Rattle.std.proofs.Common.{◌<◌, inr, length, ap, ◌∙◌, arith, length-set}
+use Rattle.std.proofs.Common.{◌≡◌, ◌<◌, inr, length, refl, sym, ap, ◌∙◌, arith, rules, length-set}
 use Rattle.mm_lists.proofs.Lemmas.Set.{true_within}
+use Rattle.mm_marks.specs.Marks.{has}
 use Rattle.mm_settle.proofs.Lemmas.Changed.{loading_starts, loading_turn}
+use Rattle.mm_settle.proofs.Lemmas.Quiet.{quiet_unchanged}
 use Rattle.mm_table.proofs.records.Records.load.Goals as goal
 
 pub loop-process-init : goal.loop-process-init
@@ -8,6 +10,7 @@ loop-process-init c = record {
   way = loading_starts c.args.self.now c.args.changed.now c.args.pending.now c.requires.changed;
   changed_sized = c.requires.changed_sized;
   pending_sized = c.requires.pending_sized;
+  first = λ start. refl;
   within = omega arith;
 }
 
@@ -21,5 +24,13 @@ loop-process-preserved c =
           c.in-Some.ensures.member.0 (inr c.load_one.ensures.process) c.load_one.ensures.waiters c.take_next.new.self cleared;
       changed_sized = ap length cleared ∙ length-set c.loop-process.changed n _ ∙ c.loop-process.invariant.changed_sized;
       pending_sized = c.load_one.ensures.waiters.sized ∙ c.loop-process.invariant.pending_sized;
+      first = λ start. absurd (omega (arith, start));
       within = omega arith;
     }
+
+pub returns-clause-quiet : goal.returns-clause-quiet
+returns-clause-quiet c idle =
+    let start : c.loop-process.from ≡ 0 = search rules in
+    let none = c.in_default.ensures.none.0 in
+    quiet_unchanged c.args.self.now c.args.changed.now c.requires.changed
+    (λ k. ap (λ set. has set k) (sym (c.loop-process.invariant.first start)) ∙ none k (omega (arith, start)))

@@ -7,6 +7,7 @@ invariant-loop-process l = record {
   way : IsLoading l.self l.from l.changed l.pending;
   changed_sized : length l.changed ≡ l.self.config.processes;
   pending_sized : length l.pending ≡ l.self.config.processes;
+  first : l.from ≡ 0 → l.changed ≡ l.fn.changed;
   within : l.from ≤ l.self.config.processes;
 }
 
