@@ -1,11 +1,10 @@
 //! Who loads labels and holders.
-ghost use Rattle.std.specs.Prelude.{◌≡◌, ◌≤◌, ◌<◌, ◌+◌, length, IfSome, IsTrue};
+ghost use Rattle.std.specs.Prelude.{◌≡◌, ◌≤◌, ◌<◌, ◌-◌, ◌*◌, length, IfSome, IsTrue};
 ghost use Rattle.mm_label.specs.Label.{label_le};
 ghost use Rattle.mm_board.specs.Views.{label_at, with_seen, new_seen, IsAnother};
 
 use crate::board::Board;
 use crate::holder;
-use crate::holder::Waiter;
 use crate::rule::Name;
 use crate::steps::{LoadsHolder, LoadsLabel, Splits};
 use crate::views::View;
@@ -58,104 +57,29 @@ impl<N: Name> Reader<N> {
         ensures holder { IfSome result (λ holder. IsAnother board.now process holder) }
         ensures same { self.new ≡ self.old }
     {
-        self.holder_among(board, board.processes, process)
+        let place = board.processes as usize + process as usize;
+        self.holder_at(board, board.processes, place)
     }
 
-    /// `read_holder` of a board that has so many processes.
-    #[inline]
-    fn holder_among(&mut self, board: &Board<N>, processes: u32, process: u32) -> Option<u32>
+    /// The holder in this place of the words of a board that has so many processes.
+    #[inline(always)]
+    pub(crate) fn holder_at(
+        &mut self,
+        board: &Board<N>,
+        processes: u32,
+        place: usize,
+    ) -> Option<u32>
         requires number { processes ≡ board.now }
-        requires process { process < board.now }
-        ensures holder { IfSome result (λ holder. IsAnother board.now process holder) }
+        requires first { processes ≤ place }
+        requires last { place < 2 * processes }
+        ensures holder { IfSome result (λ holder. IsAnother board.now (place - processes) holder) }
         ensures same { self.new ≡ self.old }
     {
-        let place = processes as usize + process as usize;
         let word = board
             .table
             .shared
             .load::<LoadsHolder>(&mut self.seat, place);
         holder::of_word(word)
-    }
-
-    /// The process and its holder, where it has one as its word is loaded. Constant time: one load.
-    #[inline(always)]
-    fn waiter_at(&mut self, board: &Board<N>, processes: u32, process: u32) -> Option<Waiter>
-        requires number { processes ≡ board.now }
-        requires process { process < board.now }
-        ensures process { IfSome result (λ waiter. waiter.process ≡ process) }
-        ensures holder { IfSome result (λ waiter. IsAnother board.now waiter.process waiter.holder) }
-        ensures same { self.new ≡ self.old }
-    {
-        let holder = self.holder_among(board, processes, process)?;
-        Some(Waiter { process, holder })
-    }
-
-    /// Of two processes the first that has a holder. Constant time: at most two loads.
-    #[inline(always)]
-    fn waiter_of_two(&mut self, board: &Board<N>, processes: u32, first: u32) -> Option<Waiter>
-        requires number { processes ≡ board.now }
-        requires last { first + 1 < board.now }
-        ensures process { IfSome result (λ waiter. (first ≤ waiter.process) × (waiter.process < board.now)) }
-        ensures holder { IfSome result (λ waiter. IsAnother board.now waiter.process waiter.holder) }
-        ensures same { self.new ≡ self.old }
-    {
-        match self.waiter_at(board, processes, first) {
-            None => self.waiter_at(board, processes, first + 1),
-            found => found,
-        }
-    }
-
-    /// Of four processes the first that has a holder. Constant time: at most four loads.
-    #[inline(always)]
-    fn waiter_of_four(&mut self, board: &Board<N>, processes: u32, first: u32) -> Option<Waiter>
-        requires number { processes ≡ board.now }
-        requires last { first + 3 < board.now }
-        ensures process { IfSome result (λ waiter. (first ≤ waiter.process) × (waiter.process < board.now)) }
-        ensures holder { IfSome result (λ waiter. IsAnother board.now waiter.process waiter.holder) }
-        ensures same { self.new ≡ self.old }
-    {
-        match self.waiter_of_two(board, processes, first) {
-            None => self.waiter_of_two(board, processes, first + 2),
-            found => found,
-        }
-    }
-
-    /// Loads the holders of the processes from this one on, by rising number, until there is one. `None` where none of them had one as
-    /// its word was loaded. `O(processes looked at)`: one load for each.
-    pub fn next_waiter(&mut self, board: &Board<N>, from: u32) -> Option<Waiter>
-        ensures process { IfSome result (λ waiter. (from ≤ waiter.process) × (waiter.process < board.now)) }
-        ensures holder { IfSome result (λ waiter. IsAnother board.now waiter.process waiter.holder) }
-        ensures same { self.new ≡ self.old }
-    {
-        // A number of its own, which need not be read again after each load; and four processes a turn, since the steps of a turn take
-        // as long as a load.
-        let processes = board.processes;
-        let last = processes.saturating_sub(3);
-        let mut first = from;
-        while first < last {
-            let found = self.waiter_of_four(board, processes, first);
-            if found.is_some() {
-                return found;
-            }
-            first += 4;
-        }
-        self.next_of_rest(board, processes, first)
-    }
-
-    /// `next_waiter`, one process a turn.
-    fn next_of_rest(&mut self, board: &Board<N>, processes: u32, from: u32) -> Option<Waiter>
-        requires number { processes ≡ board.now }
-        ensures process { IfSome result (λ waiter. (from ≤ waiter.process) × (waiter.process < board.now)) }
-        ensures holder { IfSome result (λ waiter. IsAnother board.now waiter.process waiter.holder) }
-        ensures same { self.new ≡ self.old }
-    {
-        for process in from..processes {
-            let found = self.waiter_at(board, processes, process);
-            if found.is_some() {
-                return found;
-            }
-        }
-        None
     }
 
     /// Another reader, which has seen the same labels and has loaded none. Constant time: one load.

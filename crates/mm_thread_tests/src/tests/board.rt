@@ -4,7 +4,7 @@ ghost use Rattle.mm_board.specs.Views.{processes_of, current_label};
 
 use crate::tests::label::label;
 use crate::tests::same::same;
-use mm_board::{Board, Name, Publisher, RawBoard, Reader, Waiter};
+use mm_board::{Board, Name, Publisher, RawBoard, Reader, Waiter, Waiters};
 use mm_label::{COUNTER_RANGE, Label};
 use std::marker::Brand;
 use std::process::Abort;
@@ -33,8 +33,12 @@ fn store_read_and_show<N: Name, R: Abort>(rt: &R, raw: RawBoard)
         process: 0,
         holder: 1,
     };
-    same(rt, reader.next_waiter(&board, 0), Some(waiter));
-    same(rt, reader.next_waiter(&board, 1), None);
+    let waiters = Waiters {
+        found: [Some(waiter), None, None, None],
+        next: 1,
+    };
+    same(rt, reader.next_waiters(&board, 0), Some(waiters));
+    same(rt, reader.next_waiters(&board, 1), None);
     publisher.store_holder(&board, 0, None);
     same(rt, reader.read_holder(&board, 0), None);
     let mut other = reader.split(&board);
@@ -97,8 +101,49 @@ fn find_from_each<N: Name, R: Abort>(
 ) {
     for from in 0..=board.processes() {
         let expected = (from <= waiter.process).then_some(waiter);
-        same(rt, reader.next_waiter(board, from), expected);
+        same(rt, first_from(board, reader, from), expected);
     }
+}
+
+fn first_from<N: Name>(board: &Board<N>, reader: &mut Reader<N>, from: u32) -> Option<Waiter> {
+    let [first, second, third, fourth] = reader.next_waiters(board, from)?.found;
+    first.or(second).or(third).or(fourth)
+}
+
+// A walk finds all that have a holder: several of the same four, and one at a time of the last that are no four.
+#[test]
+fn finds_all_waiters(rt: HostRuntime) -> Result<(), Fail> {
+    let raw = RawBoard::new(rt.alloc(), 11)?;
+    let_six_wait::<Brand, _>(&rt, raw);
+    Ok(())
+}
+
+fn let_six_wait<N: Name, R: Abort>(rt: &R, raw: RawBoard)
+    requires named { raw ≡ N.board }
+    requires processes { processes_of raw ≡ 11 }
+{
+    let (board, mut publisher, mut reader) = raw.open::<N>();
+    for process in [1, 2, 4, 7, 9, 10] {
+        publisher.store_holder(&board, process, Some(0));
+    }
+    for (from, found, next) in [
+        (0, [None, waits(1), waits(2), None], 4),
+        (4, [waits(4), None, None, waits(7)], 8),
+        (8, [waits(9), None, None, None], 10),
+        (10, [waits(10), None, None, None], 11),
+    ] {
+        same(
+            rt,
+            reader.next_waiters(&board, from),
+            Some(Waiters { found, next }),
+        );
+    }
+    same(rt, reader.next_waiters(&board, 11), None);
+}
+
+/// This process waits for process 0.
+fn waits(process: u32) -> Option<Waiter> {
+    Some(Waiter { process, holder: 0 })
 }
 
 const TURNS: u32 = 100_000;
