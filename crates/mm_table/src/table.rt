@@ -13,6 +13,12 @@ use mm_marks::Marks;
 use std::alloc::Global;
 use std::marker::Model;
 
+/// What a settle answers that raises no label and gives no verdict. It touches nobody.
+const NOTHING: Settled = Settled {
+    raises: 0,
+    verdicts: 0,
+};
+
 /// A table of exclusive locks for transactions.
 ///
 /// A contract sees it as a `TableState` (`specs/TableState.antt` of mm_rules). Each call is one event, or a read, by the definitions of
@@ -203,9 +209,9 @@ impl Table {
     ///
     /// Refused as `CountsExhausted`. It looks at those alone whose labels or waits changed since the last settle and at those that
     /// wait for them, and again at those that wait for whoever it raises: `O(changed + raised, each with its resources and their
-    /// waiters)`, and constant time where nothing changed. A settle raises no more than waiting transactions times processes: the
-    /// first settle of a long chain of waits that was built from its head comes near half of that. The two rules are Mitchell and
-    /// Merritt's; to call them in sweeps is this project's way.
+    /// waiters)`. Where nothing changed it reads one word for each 4,096 processes and does no more. A settle raises no more than
+    /// waiting transactions times processes: the first settle of a long chain of waits that was built from its head comes near half
+    /// of that. The two rules are Mitchell and Merritt's; to call them in sweeps is this project's way.
     pub fn settle(&mut self) -> Result<Settled, Refusal>
         ensures { Step Settle self.old result self.new }
     {
@@ -215,7 +221,9 @@ impl Table {
             &mut self.checks,
             &mut self.touched,
         );
-        self.touched.clear();
+        if answer != Ok(NOTHING) {
+            self.touched.clear();
+        }
         answer
     }
 

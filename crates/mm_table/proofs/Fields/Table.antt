@@ -1,12 +1,16 @@
 -- Each event keeps what holds of every table.
-use Rattle.std.proofs.Common.{◌≡◌, ◌||◌, ℕ, Bool, false, List, length, Result, Ok, Err, replicate, inl, inr, refl, ap, sym, ◌∙◌, arith}
-use Rattle.std.proofs.lemmas.Bool.{cases_lt}
+use Rattle.std.proofs.Common.{◌≡◌, ◌&&◌, ◌||◌, not, nat_eq, ℕ, Bool, false, List, length, Result, Ok, Err, replicate, inl, inr, refl, ap, sym, ◌∙◌, arith}
+use Rattle.std.specs.Result.{result_eq}
+use Rattle.std.proofs.lemmas.Bool.{cases_lt, and_parts, not-false, eqb-true}
 use Rattle.std.proofs.lemmas.List.{get_or_past, get_or-replicate, length-replicate}
 use Rattle.mm_marks.specs.Marks.{has, members}
 use Rattle.mm_rules.specs.declared.config.Config.{Config}
 use Rattle.mm_rules.specs.declared.refusal.Refusal.{Refusal}
+use Rattle.mm_rules.specs.declared.reply.Settled.{Settled}
+use Rattle.mm_rules.specs.contracts.refusal.RefusalPartialEq.TheImpl.{eq-value as refusal_eq}
+use Rattle.mm_rules.specs.contracts.reply.SettledPartialEq.TheImpl.{eq-value as settled_eq}
 use Rattle.mm_rules.specs.TableState.{TableState, opening}
-use Rattle.mm_rules.specs.Event.{Event, Answer, Step, decided}
+use Rattle.mm_rules.specs.Event.{Event, Answer, Step, Settle, decided}
 use Rattle.mm_rules.proofs.States.EventsKeepLaws.{event_keeps}
 use Rattle.mm_rules.proofs.States.Config.{event_config}
 use Rattle.mm_settle.specs.Touched.{Touches, changed_processes}
@@ -16,6 +20,7 @@ use Rattle.mm_settle.proofs.Lemmas.Changed.{changes_keep, none_changed}
 use Rattle.mm_settle.proofs.Lemmas.Frames.{idle_transmits_not, idle_detects_not}
 use Rattle.mm_settle.proofs.Lemmas.Told.{told, touches_union}
 use Rattle.mm_settle.proofs.Lemmas.Touched.{touches_changes}
+use Rattle.mm_settle.proofs.Lemmas.Untouched.{nothing, none_touched}
 use Rattle.mm_table.specs.declared.table.Table.TheInside.{Inside}
 use Rattle.mm_table.specs.private.Table.{IsLawfulTable}
 
@@ -88,3 +93,23 @@ module _ (e : Event) (old : Inside) (new : TableState) (reply : Result (Answer e
     touched_sized = ap length is ∙ length-replicate (length touched) false ∙ touches.sized ∙ kept.touched_sized ∙ sym processes;
     touched_none = emptied left (length touched) is;
   }
+
+-- a settle that raises and convicts nobody
+pub still_keeps_table : (old : Inside) (new : TableState) → Step Settle old.records (Ok nothing) new → IsLawfulTable old → (changed touched pending checks : List Bool) → AreChanged new changed
+    → AreSized new changed pending checks → Touches old.records new old.touched touched → IsLawfulTable (record { records = new; changed = changed; touched = touched; pending = pending; checks = checks })
+still_keeps_table old new step kept changed touched pending checks are sized touches = record {
+  laws = (event_keeps Settle old.records new (Ok nothing) step kept.laws).laws;
+  changed = are;
+  sized = sized;
+  touched_sized = touches.sized ∙ kept.touched_sized ∙ sym (processes Settle old new (Ok nothing) step kept);
+  touched_none = none_touched old.records new step old.touched touched touches kept.touched_none;
+}
+
+-- an answer that equals it is that one
+pub answer_is : (answer : Result Settled Refusal) → not (result_eq settled_eq.it refusal_eq.it answer (Ok nothing)) ≡ false → answer ≡ Ok nothing
+answer_is (Err refusal) same = absurd (cc)
+answer_is (Ok answer) same =
+    let both = and_parts (nat_eq answer.raises 0) (nat_eq answer.verdicts 0) (not-false (nat_eq answer.raises 0 && nat_eq answer.verdicts 0) same) in
+    let raises : answer.raises ≡ 0 = eqb-true answer.raises 0 both.0 in
+    let verdicts : answer.verdicts ≡ 0 = eqb-true answer.verdicts 0 both.1 in
+    λ i. Ok (record { raises = raises i; verdicts = verdicts i })
