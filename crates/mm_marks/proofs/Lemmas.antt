@@ -2,5 +2,9 @@
 pub mod Written
 -- the first bit at or above a place
 pub mod First
--- walks from member to member
+-- the numbers of a range that pass a test
+pub mod Ranges
+-- a walk over the bits of one word
+pub mod Listed
+-- walks from word to word
 pub mod Walks
