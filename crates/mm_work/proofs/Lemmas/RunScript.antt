@@ -1,5 +1,5 @@
 -- How far a script is read, answered and written, and how it ends.
-use Rattle.std.proofs.Common.{◌≡◌, ◌∙◌, sym, ap, refl, subst, ℕ, ◌+◌, ◌-◌, ◌<◌, ◌≤◌, Bool, true, false, List, [], ◌∷◌, ◌++◌, length, take, drop, Option, None, Result, Ok, Err, IfOk, IfErr, append_assoc, append-nil, take-append-drop, length-append, length-take, length-drop, arith}
+use Rattle.std.proofs.Common.{◌≡◌, ◌∙◌, sym, ap, refl, subst, ℕ, ◌+◌, ◌-◌, ◌<◌, ◌≤◌, Bool, true, false, List, [], ◌∷◌, ◌++◌, length, take, drop, Option, None, Result, Ok, Err, OnOk, IfOk, IfErr, append_assoc, append-nil, take-append-drop, length-append, length-take, length-drop, arith}
 use Rattle.std.proofs.KnownBytes.{Appends-trans, Appends-nil, Consumes-trans, Consumes-nil, Consumes-kept}
 use Rattle.std.specs.Io.KnownBytes.{Appends, Consumes, Keeps, IsAtEnd}
 use Rattle.std.proofs.Math.Seq.{take-append-add}
@@ -288,6 +288,11 @@ ReadsBounded before after = (read : List ℕ) × Consumes before after read × (
 pub bounded_before : (rb ra after wb wa : Option (List ℕ)) (input : Input) (session : Session) → Progress rb ra wb wa input session → Keeps ra after → ReadsBounded rb after
 bounded_before rb ra after wb wa input session p kept =
     (p.allowed ++ [], Consumes-kept rb ra after (p.allowed ++ []) p.reached.consumed kept, omega (arith, p.reached.taken, p.ready.within_limit, length-append p.allowed []))
+
+-- where a read gave nothing the reader is at its end, whatever is answered then
+pub at_end : {T E : Type 0} (reply : Result T E) (ra after : Option (List ℕ)) (input read : Input) → Reads ra after input read false → OnOk reply (IsAtEnd after)
+at_end (Ok value) ra after input read r = r.end.1
+at_end (Err fault) ra after input read r = tt
 
 pub bounded_read : (rb ra after wb wa : Option (List ℕ)) (input read : Input) (session : Session) (some : Bool) → Progress rb ra wb wa input session → Reads ra after input read some → ReadsBounded rb after
 bounded_read rb ra after wb wa input read session some p r = (

@@ -3,9 +3,9 @@ use Rattle.std.proofs.lemmas.Bool.{cases_lt}
 use Rattle.std.proofs.lemmas.Result.{err_from_is_err_and}
 use Rattle.mm_work.specs.declared.script.ScriptFault.TheVariants.{Read, Write}
 use Rattle.mm_work.specs.Script.{input_limit}
-use Rattle.mm_work.specs.private.Input.{held, within_limit}
+use Rattle.mm_work.specs.private.Input.{held, within_limit, Reads}
 use Rattle.mm_work.specs.private.Session.{AnswersLines}
-use Rattle.mm_work.proofs.Lemmas.RunScript.{Ran, progress_first, progress_next, piece_answered, ran_progress_read, ran_piece_write, ran_piece_too_long, ran_finish, within_all, bounded_before, bounded_read}
+use Rattle.mm_work.proofs.Lemmas.RunScript.{Ran, progress_first, progress_next, piece_answered, ran_progress_read, ran_piece_write, ran_piece_too_long, ran_finish, within_all, at_end, bounded_before, bounded_read}
 use Rattle.mm_work.proofs.script.run_script.Goals as goal
 
 pub loop-session-init : goal.loop-session-init
@@ -55,6 +55,11 @@ pub returns-clause-ends : goal.returns-clause-ends
 returns-clause-ends g c =
     let finished = c.finish.ensures.finished in
     ran_finish _ _ _ _ _ _ _ c.read.new.self _ _ _ _ _ _ _ c.loop-session.invariant c.in_ok-read.ensures.ok c.if-branch.false c.within_limit-2.ensures finished.3 finished.4 finished.5 c.finish.ensures.fault
+
+pub returns-clause-end : goal.returns-clause-end
+returns-clause-end g c =
+    let nothing = subst (Reads (g.R.Read.remaining c.loop-session.reader) (g.R.Read.remaining c.read.new.reader) c.loop-session.input c.read.new.self) c.if-branch.false c.in_ok-read.ensures.ok in
+    at_end c.finish.result (g.R.Read.remaining c.loop-session.reader) (g.R.Read.remaining c.read.new.reader) c.loop-session.input c.read.new.self nothing
 
 pub returns-in_err-read-clause-limit : goal.returns-in_err-read-clause-limit
 returns-in_err-read-clause-limit g c = bounded_before _ _ _ _ _ _ _ c.loop-session.invariant c.in_err-read.ensures.err
