@@ -6,5 +6,7 @@ pub mod First
 pub mod Ranges
 -- a walk over the bits of one word
 pub mod Listed
+-- the two levels and the bounds
+pub mod Levels
 -- walks from word to word
 pub mod Walks

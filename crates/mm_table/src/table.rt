@@ -209,9 +209,9 @@ impl Table {
     ///
     /// Refused as `CountsExhausted`. It looks at those alone whose labels or waits changed since the last settle and at those that
     /// wait for them, and again at those that wait for whoever it raises: `O(changed + raised, each with its resources and their
-    /// waiters)`. Where nothing changed it reads one word for each 4,096 processes and does no more. A settle raises no more than
-    /// waiting transactions times processes: the first settle of a long chain of waits that was built from its head comes near half
-    /// of that. The two rules are Mitchell and Merritt's; to call them in sweeps is this project's way.
+    /// waiters)`. Where nothing changed it reads at most one word for each 4,096 processes and does no more. A settle raises no more
+    /// than waiting transactions times processes: the first settle of a long chain of waits that was built from its head comes near
+    /// half of that. The two rules are Mitchell and Merritt's; to call them in sweeps is this project's way.
     pub fn settle(&mut self) -> Result<Settled, Refusal>
         ensures { Step Settle self.old result self.new }
     {
