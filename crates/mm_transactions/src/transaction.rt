@@ -9,12 +9,11 @@ pub struct Transaction {
     pub has_verdict: bool,
 }
 
-/// The same in fewer bytes, and the number of the arrival of its latest wait. It takes sixteen bytes.
+/// The same in eight bytes.
 #[derive(Clone, Copy, Debug)]
 pub(crate) struct Entry {
     pub(crate) waits_for: Link,
     pub(crate) has_verdict: bool,
-    pub(crate) arrival: u64,
 }
 
-const _: () = prove!(size_of::<Entry>() == 16);
+const _: () = prove!(size_of::<Entry>() == 8);

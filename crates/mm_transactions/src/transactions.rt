@@ -1,5 +1,5 @@
 //! The transactions.
-ghost use Rattle.std.specs.Prelude.{◌≡◌, ◌≢◌, ◌<◌, ◌≤◌, [], None, length, slice_set, slice_index, IsTrue, IsFalse, IfOk, IfSome, IfNone, MatchOption};
+ghost use Rattle.std.specs.Prelude.{◌≡◌, ◌≢◌, ◌<◌, ◌≤◌, [], None, length, replicate, slice_set, slice_index, IsTrue, IsFalse, IfOk, IfSome, IfNone, MatchOption};
 ghost use Rattle.mm_rules.specs.TableState.{waited_for};
 ghost use Rattle.mm_transactions.specs.Transactions.{opening, is_live, tenant_of, told, key_of, begun, freed, verdict_of};
 
@@ -16,6 +16,8 @@ use std::marker::Model;
 #[derive(Drop)]
 pub struct Transactions {
     pub(crate) slots: Arena<Entry>,
+    /// By process: the number of the arrival of its latest wait. No call reads it; what contracts see of the waits is in its order.
+    pub(crate) arrivals: Vec<u64>,
     /// By resource: those that wait for it, in order of arrival.
     pub(crate) queues: Lists,
     /// The number of the latest arrival.
@@ -30,14 +32,14 @@ impl Model for Transactions {
 
     ghost Value = { Transactions };
 
-    ghost view = { λ t. seen t.slots t.queues t.latest };
+    ghost view = { λ t. seen t.arrivals.items t.slots t.queues t.latest };
 
-    ghost invariant = { λ t. IsConsistent t.slots t.queues t.latest t.waiting };
+    ghost invariant = { λ t. IsConsistent t.arrivals.items t.slots t.queues t.latest t.waiting };
 }
 
 impl Transactions {
     /// No transaction yet, for so many processes and resources, in `O(processes + resources)`. A key has a generation of at most
-    /// `generation_limit`. It takes memory three times, and no later call takes any.
+    /// `generation_limit`. It takes memory four times, and no later call takes any.
     ///
     /// `Err` only where that memory is refused.
     pub fn new(
@@ -55,6 +57,7 @@ impl Transactions {
     {
         Ok(Transactions {
             slots: Arena::new(alloc, processes, generation_limit)?,
+            arrivals: no_arrivals(alloc, processes)?,
             queues: Lists::new(alloc, resources, processes)?,
             latest: 0,
             waiting: 0,
@@ -71,7 +74,6 @@ impl Transactions {
         let entry = Entry {
             waits_for: Link::NONE,
             has_verdict: false,
-            arrival: 0,
         };
         let Ok(key) = self.slots.insert(entry) else {
             return None;
@@ -131,4 +133,15 @@ impl Transactions {
     {
         self.slots.value_mut(key).has_verdict = has_verdict;
     }
+}
+
+/// The number 0 for each process, since nobody waited yet, in `O(processes)`. `Err` only where that memory is refused.
+fn no_arrivals(alloc: Global, processes: u32) -> Result<Vec<u64>, Memory>
+    ensures { IfOk result (λ made. made.items ≡ replicate processes 0) }
+{
+    let mut arrivals = Vec::with_capacity(alloc, processes as usize).map_err(|_| Memory)?;
+    for _ in 0..processes {
+        arrivals.push_reserved(0);
+    }
+    Ok(arrivals)
 }

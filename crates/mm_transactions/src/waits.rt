@@ -20,7 +20,7 @@ impl Transactions {
     {
         let entry = self.slots.value_mut(key);
         entry.waits_for = Link::to(resource);
-        entry.arrival = arrival;
+        self.arrivals[key.process as usize] = arrival;
         self.queues.push_back(resource, key);
         self.latest = arrival;
         self.waiting += 1;

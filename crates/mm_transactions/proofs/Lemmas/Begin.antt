@@ -31,13 +31,13 @@ taken s value key found = from s.free refl
 
 -- a transaction that neither waits nor has a verdict
 abbrev pub new_entry : Entry
-new_entry = record { waits_for = None; has_verdict = false; arrival = 0 }
+new_entry = record { waits_for = None; has_verdict = false }
 
 no_value : (p : Option Entry) (k : Key) → option_map (λ _. k) p ≡ None → p ≡ None
 no_value None k e = refl
 no_value (Some t) k e = let never : Some k ≡ None = e in cc
 
-module _ (s t : Slots Entry) (key : Key) (are : t ≡ inserted s new_entry) (free : Taken s key) (added : AddsKey s t key new_entry) where
+module _ (ns : List ℕ) (s t : Slots Entry) (key : Key) (are : t ≡ inserted s new_entry) (free : Taken s key) (added : AddsKey s t key new_entry) where
   empty : (place_at s key.process).value ≡ None
   empty = no_value (place_at s key.process).value (key_of s key.process) added.was_free
 
@@ -48,19 +48,19 @@ module _ (s t : Slots Entry) (key : Key) (are : t ≡ inserted s new_entry) (fre
   places = ap (λ o. o.places) are ∙ ap (λ l. (filled s new_entry l).places) free.free
 
   -- the slot had no wait, and has none
-  same : arrivals_from 0 (slice_set s.places key.process filled_place) ≡ arrivals_from 0 s.places
-  same = same_arrivals s.places key.process filled_place (sym (ap (option_and_then (arrival_of (record { process = key.process; generation = (place_at s key.process).generation }))) empty))
+  same : arrivals_from ns 0 (slice_set s.places key.process filled_place) ≡ arrivals_from ns 0 s.places
+  same = same_arrivals ns s.places key.process filled_place (sym (ap (option_and_then (arrival_of ns (record { process = key.process; generation = (place_at s key.process).generation }))) empty))
 
-  pub begun_seen : (q : Queues) (latest : ℕ) → seen t q latest ≡ begun (seen s q latest)
+  pub begun_seen : (q : Queues) (latest : ℕ) → seen ns t q latest ≡ begun (seen ns s q latest)
   begun_seen q latest =
       let n = key.process in
       let slots : List ℕ → Slots Entry = λ l. filled s new_entry l in
       let verdict : false ≡ verdict_in (place_at s n) = sym (ap (λ v. option_map_or (λ (t : Entry). t.has_verdict) v false) empty) in
-      ap (λ (v : Slots Entry). seen v q latest) are
-      ∙ ap (λ l. seen (slots l) q latest) free.free
+      ap (λ (v : Slots Entry). seen ns v q latest) are
+      ∙ ap (λ l. seen ns (slots l) q latest) free.free
       ∙ rw (same_slot (λ q. q.generation) s n filled_place refl, map-set (λ q. is_some q.value) s.places n filled_place, same_slot verdict_in s n filled_place verdict, same) refl
-      ∙ ap (λ (l : List ℕ). record (seen s q latest) { free = drop 1 l; live = slice_set (map (λ p. is_some p.value) s.places) (slice_index l 0) true }) (sym free.free)
+      ∙ ap (λ (l : List ℕ). record (seen ns s q latest) { free = drop 1 l; live = slice_set (map (λ p. is_some p.value) s.places) (slice_index l 0) true }) (sym free.free)
 
-  pub begun_consistent : (q : Queues) (latest waiting : ℕ) → IsConsistent s q latest waiting → IsConsistent t q latest waiting
+  pub begun_consistent : (q : Queues) (latest waiting : ℕ) → IsConsistent ns s q latest waiting → IsConsistent ns t q latest waiting
   begun_consistent q latest waiting =
-      same_waits s t q latest waiting (ap length places ∙ length-set s.places key.process filled_place) (ap (arrivals_from 0) places ∙ same)
+      same_waits ns s t q latest waiting (ap length places ∙ length-set s.places key.process filled_place) (ap (arrivals_from ns 0) places ∙ same)

@@ -16,23 +16,24 @@ same_for_each : {X : Type 0} (f : Place Entry → X) (n : ℕ) → map f (replic
 same_for_each f zero = refl
 same_for_each f (suc n) = cc (same_for_each f n)
 
-waits_none : (n : ℕ) → waits_of (arrivals_from 0 (replicate n never_used)) ≡ []
-waits_none n = ap waits_of (none_at_opening 0 n) ∙ no_waits n
+waits_none : (ns : List ℕ) (n : ℕ) → waits_of (arrivals_from ns 0 (replicate n never_used)) ≡ []
+waits_none ns n = ap waits_of (none_at_opening ns 0 n) ∙ no_waits n
 
-pub opened : (processes resources limit : ℕ) → seen (opening_slots processes limit) (empty_queues resources processes) 0 ≡ opening processes resources limit
-opened processes resources limit =
-    rw (same_for_each (λ p. p.generation) processes, same_for_each (λ p. is_some p.value) processes, same_for_each verdict_in processes, waits_none processes, length-replicate {A = List Key} resources []) refl
+pub opened : (ns : List ℕ) (processes resources limit : ℕ) → seen ns (opening_slots processes limit) (empty_queues resources processes) 0 ≡ opening processes resources limit
+opened ns processes resources limit =
+    rw (same_for_each (λ p. p.generation) processes, same_for_each (λ p. is_some p.value) processes, same_for_each verdict_in processes, waits_none ns processes, length-replicate {A = List Key} resources []) refl
 
-pub open_consistent : (processes resources limit : ℕ) → processes ≤ 1048576 → resources ≤ 1048576 → IsConsistent (opening_slots processes limit) (empty_queues resources processes) 0 0
-open_consistent processes resources limit few few_lists =
-    let none : (n : ℕ) (a : Arrival) → slice_index_or (arrivals_from 0 (replicate processes never_used)) n None ≡ Some a → ⊥ =
-    λ n a there. gone (sym (ap (λ (xs : List (Option Arrival)). slice_index_or xs n None) (none_at_opening 0 processes) ∙ read_replicate None processes n) ∙ there) in
+pub open_consistent : (ns : List ℕ) (processes resources limit : ℕ) → length ns ≡ processes → processes ≤ 1048576 → resources ≤ 1048576 → IsConsistent ns (opening_slots processes limit) (empty_queues resources processes) 0 0
+open_consistent ns processes resources limit as_many few few_lists =
+    let none : (n : ℕ) (a : Arrival) → slice_index_or (arrivals_from ns 0 (replicate processes never_used)) n None ≡ Some a → ⊥ =
+    λ n a there. gone (sym (ap (λ (xs : List (Option Arrival)). slice_index_or xs n None) (none_at_opening ns 0 processes) ∙ read_replicate None processes n) ∙ there) in
     record {
       sized = length-replicate processes never_used;
+      as_many = as_many ∙ sym (length-replicate processes never_used);
       few = few;
       few_lists = omega (arith, few_lists, length-replicate {A = List Key} resources []);
       in_range = λ n a there. absurd (none n a there);
       numbered = λ n a there. absurd (none n a there);
-      linked = subst (IsLinked (empty_queues resources processes)) (sym (waits_none processes)) (linked_opening resources processes);
-      counted = sym (ap length (waits_none processes));
+      linked = subst (IsLinked (empty_queues resources processes)) (sym (waits_none ns processes)) (linked_opening resources processes);
+      counted = sym (ap length (waits_none ns processes));
     }

@@ -50,12 +50,12 @@ its_value None some = let never : false ≡ true = some in cc
 its_value (Some e) some = (e, refl)
 
 -- a live key has a value
-pub live_value : (s : Slots Entry) (q : Queues) (latest : ℕ) (k : Key) → is_live (seen s q latest) k ≡ true → (e : Entry) × (lookup s k ≡ Some e)
-live_value s q latest k live = its_value (lookup s k) (live_found s.places k.process k.generation live)
+pub live_value : (ns : List ℕ) (s : Slots Entry) (q : Queues) (latest : ℕ) (k : Key) → is_live (seen ns s q latest) k ≡ true → (e : Entry) × (lookup s k ≡ Some e)
+live_value ns s q latest k live = its_value (lookup s k) (live_found s.places k.process k.generation live)
 
 -- and may be written or removed
-pub live_slot : (s : Slots Entry) (q : Queues) (latest : ℕ) (k : Key) → is_live (seen s q latest) k ≡ true → IsLive s k
-live_slot s q latest k live = rw (live_value s q latest k live).1 refl
+pub live_slot : (ns : List ℕ) (s : Slots Entry) (q : Queues) (latest : ℕ) (k : Key) → is_live (seen ns s q latest) k ≡ true → IsLive s k
+live_slot ns s q latest k live = rw (live_value ns s q latest k live).1 refl
 
 pub its_verdict : (s : Slots Entry) (k : Key) (e : Entry) → lookup s k ≡ Some e → slice_index_or (map verdict_in s.places) k.process false ≡ e.has_verdict
 its_verdict s k e found = let held = holds s k e found in get_or-map verdict_in s.places k.process never_used false held.within ∙ ap verdict_in held.place

@@ -14,74 +14,75 @@ use Rattle.mm_transactions.proofs.Lemmas.Linked.{stands_in_queue, linked_stop}
 use Rattle.mm_transactions.proofs.Lemmas.Consistent.{waited_by_entry, within}
 
 -- live transaction k waits
-pub record IsWaiting (s : Slots Entry) (k : Key) (e : Entry) (q : Queues) (latest waiting : ℕ) : Type 0 where
+pub record IsWaiting (ns : List ℕ) (s : Slots Entry) (k : Key) (e : Entry) (q : Queues) (latest waiting : ℕ) : Type 0 where
   pub found : lookup s k ≡ Some e
-  pub waits : waited_for (waits_of (arrivals_from 0 s.places)) k.process ≢ None
-  pub kept : IsConsistent s q latest waiting
+  pub waits : waited_for (waits_of (arrivals_from ns 0 s.places)) k.process ≢ None
+  pub kept : IsConsistent ns s q latest waiting
 
-module _ {s : Slots Entry} {k : Key} {e : Entry} {q : Queues} {latest waiting : ℕ} (waits : IsWaiting s k e q latest waiting) where
+module _ {ns : List ℕ} {s : Slots Entry} {k : Key} {e : Entry} {q : Queues} {latest waiting : ℕ} (waits : IsWaiting ns s k e q latest waiting) where
   -- what it waits for
   its_resource : (r : ℕ) × (e.waits_for ≡ Some r)
   its_resource = by e.waits_for refl
     where
       by : (o : Option ℕ) → e.waits_for ≡ o → (r : ℕ) × (e.waits_for ≡ Some r)
-      by None none = absurd (waits.waits (waited_by_entry s k e waits.found ∙ none))
+      by None none = absurd (waits.waits (waited_by_entry ns s k e waits.found ∙ none))
       by (Some r) some = (r, some)
 
   arrival : Arrival
-  arrival = record { wait = record { key = k; resource = its_resource.0 }; number = e.arrival }
+  arrival = record { wait = record { key = k; resource = its_resource.0 }; number = slice_index_or ns k.process 0 }
 
-  here : slice_index_or (arrivals_from 0 s.places) k.process None ≡ Some arrival
+  here : slice_index_or (arrivals_from ns 0 s.places) k.process None ≡ Some arrival
   unfolding arrival
-  here = its_arrival s k e waits.found ∙ ap (λ (o : Option ℕ). arrival_of k (record e { waits_for = o })) its_resource.1
+  here = its_arrival ns s k e waits.found ∙ ap (λ (o : Option ℕ). arrival_of ns k (record e { waits_for = o })) its_resource.1
 
   -- its key stands in a queue
   pub stands : Stands q k
   unfolding arrival
   stands =
-      (its_resource.0, stands_in_queue q (waits_of (arrivals_from 0 s.places)) arrival.wait (own_waits (arrivals_from 0 s.places) k.process (Some arrival) (are_placed s.places) here) (waits.kept.in_range k.process arrival here) waits.kept.linked)
+      (its_resource.0, stands_in_queue q (waits_of (arrivals_from ns 0 s.places)) arrival.wait (own_waits (arrivals_from ns 0 s.places) k.process (Some arrival) (are_placed ns s.places) here) (waits.kept.in_range k.process arrival here) waits.kept.linked)
 
-pub waits_now : (s : Slots Entry) (k : Key) (e : Entry) (q : Queues) (latest waiting : ℕ) (t : Transactions) → lookup s k ≡ Some e → seen s q latest ≡ t → waited_for t.waits k.process ≢ None → IsConsistent s q latest waiting
-    → IsWaiting s k e q latest waiting
-waits_now s k e q latest waiting t found is waits kept = record {
+pub waits_now : (ns : List ℕ) (s : Slots Entry) (k : Key) (e : Entry) (q : Queues) (latest waiting : ℕ) (t : Transactions) → lookup s k ≡ Some e → seen ns s q latest ≡ t → waited_for t.waits k.process ≢ None → IsConsistent ns s q latest waiting
+    → IsWaiting ns s k e q latest waiting
+waits_now ns s k e q latest waiting t found is waits kept = record {
   found = found;
   waits = λ none. waits (sym (ap (λ t. waited_for t.waits k.process) is) ∙ none);
   kept = kept;
 }
 
 -- its key was taken out of the queues
-pub record IsStop (s : Slots Entry) (k : Key) (e : Entry) (q q' : Queues) (latest waiting : ℕ) : Type 0 where
-  pub at : IsWaiting s k e q latest waiting
+pub record IsStop (ns : List ℕ) (s : Slots Entry) (k : Key) (e : Entry) (q q' : Queues) (latest waiting : ℕ) : Type 0 where
+  pub at : IsWaiting ns s k e q latest waiting
   pub removes : Removes q q' k
   pub lists : length q'.lists ≡ length q.lists
   pub processes : q'.processes ≡ q.processes
 
-pub stopped : {s : Slots Entry} {k : Key} {e : Entry} {q : Queues} {latest waiting : ℕ} (q' : Queues) → IsWaiting s k e q latest waiting → Removes q q' k → length q'.lists ≡ length q.lists → q'.processes ≡ q.processes
-    → IsStop s k e q q' latest waiting
+pub stopped : {ns : List ℕ} {s : Slots Entry} {k : Key} {e : Entry} {q : Queues} {latest waiting : ℕ} (q' : Queues) → IsWaiting ns s k e q latest waiting → Removes q q' k → length q'.lists ≡ length q.lists → q'.processes ≡ q.processes
+    → IsStop ns s k e q q' latest waiting
 stopped q' at removes lists processes = record { at = at; removes = removes; lists = lists; processes = processes }
 
-module _ {s : Slots Entry} {k : Key} {e : Entry} {q q' : Queues} {latest waiting : ℕ} (stop : IsStop s k e q q' latest waiting) where
+module _ {ns : List ℕ} {s : Slots Entry} {k : Key} {e : Entry} {q q' : Queues} {latest waiting : ℕ} (stop : IsStop ns s k e q q' latest waiting) where
   abbrev arrivals : List (Option Arrival)
-  arrivals = arrivals_from 0 s.places
+  arrivals = arrivals_from ns 0 s.places
 
   abbrev slots : Slots Entry
   slots = with_value s k (record e { waits_for = None })
 
-  are : arrivals_from 0 slots.places ≡ slice_set arrivals k.process None
-  are = written_arrivals s k e stop.at.found (record e { waits_for = None })
+  are : arrivals_from ns 0 slots.places ≡ slice_set arrivals k.process None
+  are = written_arrivals ns s k e stop.at.found (record e { waits_for = None })
 
   -- the others keep their places
-  waits_are : waits_of (arrivals_from 0 slots.places) ≡ filter (λ w. not (is_of k.process w)) (waits_of arrivals)
-  waits_are = ap waits_of are ∙ stops arrivals k.process (arrival stop.at) (are_placed s.places) (here stop.at)
+  waits_are : waits_of (arrivals_from ns 0 slots.places) ≡ filter (λ w. not (is_of k.process w)) (waits_of arrivals)
+  waits_are = ap waits_of are ∙ stops arrivals k.process (arrival stop.at) (are_placed ns s.places) (here stop.at)
 
-  pub stop_consistent : IsConsistent slots q' latest (waiting - 1)
+  pub stop_consistent : IsConsistent ns slots q' latest (waiting - 1)
   unfolding arrival
   stop_consistent =
       let lists = stop.lists in
-      let inside = within s k e stop.at.found in
-      let one = own_waits arrivals k.process (Some (arrival stop.at)) (are_placed s.places) (here stop.at) in
+      let inside = within ns s k e stop.at.found in
+      let one = own_waits arrivals k.process (Some (arrival stop.at)) (are_placed ns s.places) (here stop.at) in
       record {
         sized = omega (arith, length-set s.places k.process (record { generation = k.generation; value = Some (record e { waits_for = None }) }), stop.at.kept.sized, stop.processes);
+        as_many = stop.at.kept.as_many ∙ sym (length-set s.places k.process (record { generation = k.generation; value = Some (record e { waits_for = None }) }));
         few = omega (arith, stop.at.kept.few, stop.processes);
         few_lists = omega (arith, lists, stop.at.kept.few_lists);
         in_range = subst (Each (λ a. a.wait.resource < length q'.lists)) (sym are)
@@ -91,7 +92,7 @@ module _ {s : Slots Entry} {k : Key} {e : Entry} {q q' : Queues} {latest waiting
         counted = omega (arith, stop.at.kept.counted, one_fewer arrivals k.process (arrival stop.at) (here stop.at), ap (λ (xs : List (Option Arrival)). length (waits_of xs)) are);
       }
 
-  pub stop_seen : seen slots q' latest ≡ without_wait (seen s q latest) k.process
+  pub stop_seen : seen ns slots q' latest ≡ without_wait (seen ns s q latest) k.process
   stop_seen =
       let place = (holds s k e stop.at.found).place in
       let p : Place Entry = record { generation = k.generation; value = Some (record e { waits_for = None }) } in

@@ -1,5 +1,5 @@
 -- A transaction gets a verdict, or loses it.
-use Rattle.std.proofs.Common.{◌≡◌, ℕ, Bool, map, is_some, Some, slice_set, refl, ap, sym, length-set}
+use Rattle.std.proofs.Common.{◌≡◌, List, ℕ, Bool, map, is_some, Some, slice_set, refl, ap, sym, length-set}
 use Rattle.std.proofs.lemmas.List.{map-set}
 use Rattle.mm_arena.specs.declared.key.Key.{Key}
 use Rattle.mm_arena.specs.Slots.{Slots, Place, place_at, lookup, with_value}
@@ -10,21 +10,21 @@ use Rattle.mm_transactions.proofs.Lemmas.Slots.{holds, same_slot}
 use Rattle.mm_transactions.proofs.Lemmas.Arrivals.{same_arrivals}
 use Rattle.mm_transactions.proofs.Lemmas.Consistent.{same_waits}
 
-module _ (s : Slots Entry) (k : Key) (e : Entry) (found : lookup s k ≡ Some e) (verdict : Bool) where
+module _ (ns : List ℕ) (s : Slots Entry) (k : Key) (e : Entry) (found : lookup s k ≡ Some e) (verdict : Bool) where
   abbrev written : Place Entry
   written = record { generation = k.generation; value = Some (record e { has_verdict = verdict }) }
 
   place : place_at s k.process ≡ record { generation = k.generation; value = Some e }
   place = (holds s k e found).place
 
-  same : arrivals_from 0 (slice_set s.places k.process written) ≡ arrivals_from 0 s.places
-  same = same_arrivals s.places k.process written (sym (ap (arrival_in k.process) place))
+  same : arrivals_from ns 0 (slice_set s.places k.process written) ≡ arrivals_from ns 0 s.places
+  same = same_arrivals ns s.places k.process written (sym (ap (arrival_in ns k.process) place))
 
-  pub verdict_kept : (q : Queues) (latest waiting : ℕ) → IsConsistent s q latest waiting → IsConsistent (with_value s k (record e { has_verdict = verdict })) q latest waiting
-  verdict_kept q latest waiting = same_waits s (with_value s k (record e { has_verdict = verdict })) q latest waiting (length-set s.places k.process written) same
+  pub verdict_kept : (q : Queues) (latest waiting : ℕ) → IsConsistent ns s q latest waiting → IsConsistent ns (with_value s k (record e { has_verdict = verdict })) q latest waiting
+  verdict_kept q latest waiting = same_waits ns s (with_value s k (record e { has_verdict = verdict })) q latest waiting (length-set s.places k.process written) same
 
-  pub verdict_written : (q : Queues) (latest : ℕ) → seen (with_value s k (record e { has_verdict = verdict })) q latest
-      ≡ record (seen s q latest) { verdicts = slice_set (map verdict_in s.places) k.process verdict }
+  pub verdict_written : (q : Queues) (latest : ℕ) → seen ns (with_value s k (record e { has_verdict = verdict })) q latest
+      ≡ record (seen ns s q latest) { verdicts = slice_set (map verdict_in s.places) k.process verdict }
   verdict_written q latest =
       rw (
         same,

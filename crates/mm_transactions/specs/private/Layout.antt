@@ -15,18 +15,18 @@ pub record Arrival : Type 0 where
   pub wait : Wait
   pub number : ℕ
 
--- what the transaction under this key waits for, and the number of its arrival
-abbrev pub arrival_of : Key → Entry → Option Arrival
-arrival_of k e = option_map (λ r. record { wait = record { key = k; resource = r }; number = e.arrival }) e.waits_for
+-- what the transaction under this key waits for, and the number of its arrival, which is that of its process
+abbrev pub arrival_of : List ℕ → Key → Entry → Option Arrival
+arrival_of numbers k e = option_map (λ r. record { wait = record { key = k; resource = r }; number = slice_index_or numbers k.process 0 }) e.waits_for
 
 -- the same of the transaction in the slot of process n
-abbrev pub arrival_in : ℕ → Place Entry → Option Arrival
-arrival_in n p = option_and_then (arrival_of (record { process = n; generation = p.generation })) p.value
+abbrev pub arrival_in : List ℕ → ℕ → Place Entry → Option Arrival
+arrival_in numbers n p = option_and_then (arrival_of numbers (record { process = n; generation = p.generation })) p.value
 
 -- those of processes from n on, by process
-abbrev pub arrivals_from : ℕ → List (Place Entry) → List (Option Arrival)
-arrivals_from n [] = []
-arrivals_from n (p ∷ ps) = arrival_in n p ∷ arrivals_from (n + 1) ps
+abbrev pub arrivals_from : List ℕ → ℕ → List (Place Entry) → List (Option Arrival)
+arrivals_from numbers n [] = []
+arrivals_from numbers n (p ∷ ps) = arrival_in numbers n p ∷ arrivals_from numbers (n + 1) ps
 
 -- the waits that there are, in order of arrival
 abbrev pub waits_of : List (Option Arrival) → List Wait
@@ -37,13 +37,13 @@ abbrev pub verdict_in : Place Entry → Bool
 verdict_in p = option_map_or (λ (e : Entry). e.has_verdict) p.value false
 
 -- what a contract sees of the fields
-abbrev pub seen : Slots Entry → Queues → ℕ → Transactions
-seen slots queues latest = record {
+abbrev pub seen : List ℕ → Slots Entry → Queues → ℕ → Transactions
+seen numbers slots queues latest = record {
   generations = map (λ p. p.generation) slots.places;
   live = map (λ p. is_some p.value) slots.places;
   free = slots.free;
   verdicts = map verdict_in slots.places;
-  waits = waits_of (arrivals_from 0 slots.places);
+  waits = waits_of (arrivals_from numbers 0 slots.places);
   latest = latest;
   resources = length queues.lists;
   generation_limit = slots.limit;
@@ -62,11 +62,12 @@ abbrev pub Each : (Arrival → Type 0) → List (Option Arrival) → Type 0
 Each P arrivals = (n : ℕ) (a : Arrival) → slice_index_or arrivals n None ≡ Some a → P a
 
 -- the fields keep what a contract sees of them
-pub record IsConsistent (slots : Slots Entry) (queues : Queues) (latest waiting : ℕ) : Type 0 where
+pub record IsConsistent (numbers : List ℕ) (slots : Slots Entry) (queues : Queues) (latest waiting : ℕ) : Type 0 where
   pub sized : length slots.places ≡ queues.processes
+  pub as_many : length numbers ≡ length slots.places
   pub few : queues.processes ≤ 1048576
   pub few_lists : length queues.lists ≤ 1048576
-  pub in_range : Each (λ a. a.wait.resource < length queues.lists) (arrivals_from 0 slots.places)
-  pub numbered : Each (λ a. a.number ≤ latest) (arrivals_from 0 slots.places)
-  pub linked : IsLinked queues (waits_of (arrivals_from 0 slots.places))
-  pub counted : waiting ≡ length (waits_of (arrivals_from 0 slots.places))
+  pub in_range : Each (λ a. a.wait.resource < length queues.lists) (arrivals_from numbers 0 slots.places)
+  pub numbered : Each (λ a. a.number ≤ latest) (arrivals_from numbers 0 slots.places)
+  pub linked : IsLinked queues (waits_of (arrivals_from numbers 0 slots.places))
+  pub counted : waiting ≡ length (waits_of (arrivals_from numbers 0 slots.places))

@@ -13,7 +13,7 @@ key_at n g = record { process = n; generation = g }
 pub invariant_of-self-2 : goal.invariant_of-self-2
 invariant_of-self-2 c =
     let inside = c.self.inside in
-    begun_consistent inside.slots c.insert.new.self c.in-Ok.key c.insert.ensures.slots (taken inside.slots _ c.in-Ok.key c.in-Ok.ensures.key) c.in-Ok.ensures.added inside.queues inside.latest inside.waiting c.self.invariant
+    begun_consistent inside.arrivals.items inside.slots c.insert.new.self c.in-Ok.key c.insert.ensures.slots (taken inside.slots _ c.in-Ok.key c.in-Ok.ensures.key) c.in-Ok.ensures.added inside.queues inside.latest inside.waiting c.self.invariant
 
 pub returns : goal.returns
 returns c =
@@ -22,6 +22,6 @@ returns c =
     let process = c.in-Ok.key.process in
     let generation = get_or-map (λ q. q.generation) inside.slots.places process never_used 0 c.in-Ok.ensures.added.within in (
       λ none. let never : [] ≡ process ∷ free.rest = sym none ∙ ap (λ s. s.free) (sym c.self.view_is) ∙ free.free in cc,
-      free.key_is ∙ ap (key_at process) (sym generation) ∙ ap (λ (l : List ℕ). key_of (seen inside.slots inside.queues inside.latest) (slice_index l 0)) (sym free.free) ∙ ap (λ s. key_of s (slice_index s.free 0)) c.self.view_is,
-      begun_seen inside.slots c.insert.new.self c.in-Ok.key c.insert.ensures.slots free c.in-Ok.ensures.added inside.queues inside.latest ∙ ap begun c.self.view_is,
+      free.key_is ∙ ap (key_at process) (sym generation) ∙ ap (λ (l : List ℕ). key_of (seen inside.arrivals.items inside.slots inside.queues inside.latest) (slice_index l 0)) (sym free.free) ∙ ap (λ s. key_of s (slice_index s.free 0)) c.self.view_is,
+      begun_seen inside.arrivals.items inside.slots c.insert.new.self c.in-Ok.key c.insert.ensures.slots free c.in-Ok.ensures.added inside.queues inside.latest ∙ ap begun c.self.view_is,
     )

@@ -12,26 +12,26 @@ use Rattle.mm_transactions.proofs.transactions.Transactions.end.Goals as goal
 value : (c : goal.After-remove_live) → (e : Entry) × (lookup c.self.inside.slots c.args.key ≡ Some e)
 value c =
     let inside = c.self.inside in
-    live_value inside.slots inside.queues inside.latest c.args.key (ap (λ t. is_live t c.args.key) c.self.view_is ∙ c.requires.live)
+    live_value inside.arrivals.items inside.slots inside.queues inside.latest c.args.key (ap (λ t. is_live t c.args.key) c.self.view_is ∙ c.requires.live)
 
 no_wait : (c : goal.After-remove_live) → (value c).0.waits_for ≡ None
 no_wait c =
-    sym (waited_by_entry c.self.inside.slots c.args.key (value c).0 (value c).1) ∙ ap (λ t. waited_for t.waits c.args.key.process) c.self.view_is ∙ c.requires.active
+    sym (waited_by_entry c.self.inside.arrivals.items c.self.inside.slots c.args.key (value c).0 (value c).1) ∙ ap (λ t. waited_for t.waits c.args.key.process) c.self.view_is ∙ c.requires.active
 
 pub invariant_of-self : goal.invariant_of-self
 invariant_of-self c =
     let inside = c.self.inside in
-    end_consistent inside.slots c.args.key (value c).0 (value c).1 (no_wait c) c.remove_live.new.self c.remove_live.ensures.slots inside.queues inside.latest inside.waiting c.self.invariant
+    end_consistent inside.arrivals.items inside.slots c.args.key (value c).0 (value c).1 (no_wait c) c.remove_live.new.self c.remove_live.ensures.slots inside.queues inside.latest inside.waiting c.self.invariant
 
 pub returns : goal.returns
 returns c =
     let inside = c.self.inside in
     let no_verdict : (value c).0.has_verdict ≡ false = sym (its_verdict inside.slots c.args.key (value c).0 (value c).1) ∙ ap (λ t. verdict_of t c.args.key.process) c.self.view_is ∙ c.requires.no_verdict in
-    ap (λ slots. seen slots inside.queues inside.latest) c.remove_live.ensures.slots
-    ∙ slot_freed inside.slots c.args.key (value c).0 (value c).1 (no_wait c) inside.queues inside.latest no_verdict
+    ap (λ slots. seen inside.arrivals.items slots inside.queues inside.latest) c.remove_live.ensures.slots
+    ∙ slot_freed inside.arrivals.items inside.slots c.args.key (value c).0 (value c).1 (no_wait c) inside.queues inside.latest no_verdict
     ∙ ap (λ t. freed t c.args.key.process) c.self.view_is
 
 pub remove_live-requires : goal.remove_live-requires
 remove_live-requires c =
     let inside = c.self.inside in
-    live_slot inside.slots inside.queues inside.latest c.args.key (ap (λ t. is_live t c.args.key) c.self.view_is ∙ c.requires.live)
+    live_slot inside.arrivals.items inside.slots inside.queues inside.latest c.args.key (ap (λ t. is_live t c.args.key) c.self.view_is ∙ c.requires.live)

@@ -4,4 +4,4 @@ use Rattle.mm_transactions.proofs.Lemmas.Lawful.{lawful}
 use Rattle.mm_transactions.proofs.transactions.Transactions.first_waiter.Goals as goal
 
 pub returns-clause-lawful : goal.returns-clause-lawful
-returns-clause-lawful c = subst WaitsAreLawful c.self.view_is (lawful c.self.inside.slots c.self.inside.queues c.self.inside.latest c.self.inside.waiting c.self.invariant)
+returns-clause-lawful c = subst WaitsAreLawful c.self.view_is (lawful c.self.inside.arrivals.items c.self.inside.slots c.self.inside.queues c.self.inside.latest c.self.inside.waiting c.self.invariant)

@@ -10,11 +10,11 @@ from_each (Some r) P each = each r refl
 pub returns-clause-told : goal.returns-clause-told
 returns-clause-told c =
     let inside = c.self.inside in
-    rw c.get-2.ensures (sym (told_of inside.slots c.args.key c.in_ok-entry.entry.now (sym c.in_ok-entry.ensures) inside.queues inside.latest) ∙ ap (λ t. told t c.args.key) c.self.view_is)
+    rw c.get-2.ensures (sym (told_of inside.arrivals.items inside.slots c.args.key c.in_ok-entry.entry.now (sym c.in_ok-entry.ensures) inside.queues inside.latest) ∙ ap (λ t. told t c.args.key) c.self.view_is)
 
 pub returns-clause-in_range : goal.returns-clause-in_range
 returns-clause-in_range c =
     let inside = c.self.inside in
     let entry = c.in_ok-entry.entry.now in
     rw c.get-2.ensures (from_each entry.waits_for (λ r. r < c.args.self.now.resources)
-    (λ r waits. omega (arith, ap (λ t. t.resources) c.self.view_is, resource_of inside.slots c.args.key entry (sym c.in_ok-entry.ensures) r inside.queues inside.latest inside.waiting waits c.self.invariant)))
+    (λ r waits. omega (arith, ap (λ t. t.resources) c.self.view_is, resource_of inside.arrivals.items inside.slots c.args.key entry (sym c.in_ok-entry.ensures) r inside.queues inside.latest inside.waiting waits c.self.invariant)))

@@ -12,15 +12,15 @@ found c = c.value_mut.ensures.value
 pub invariant_of-self : goal.invariant_of-self
 invariant_of-self c =
     let inside = c.self.inside in
-    verdict_kept inside.slots c.args.key c.value_mut.result.now (found c) c.args.has_verdict inside.queues inside.latest inside.waiting c.self.invariant
+    verdict_kept inside.arrivals.items inside.slots c.args.key c.value_mut.result.now (found c) c.args.has_verdict inside.queues inside.latest inside.waiting c.self.invariant
 
 pub returns : goal.returns
 returns c =
     let inside = c.self.inside in
-    verdict_written inside.slots c.args.key c.value_mut.result.now (found c) c.args.has_verdict inside.queues inside.latest
+    verdict_written inside.arrivals.items inside.slots c.args.key c.value_mut.result.now (found c) c.args.has_verdict inside.queues inside.latest
     ∙ ap (λ (t : Transactions). record t { verdicts = slice_set t.verdicts c.args.key.process c.args.has_verdict }) c.self.view_is
 
 pub value_mut-requires : goal.value_mut-requires
 value_mut-requires c =
     let inside = c.self.inside in
-    live_slot inside.slots inside.queues inside.latest c.args.key (ap (λ t. is_live t c.args.key) c.self.view_is ∙ c.requires)
+    live_slot inside.arrivals.items inside.slots inside.queues inside.latest c.args.key (ap (λ t. is_live t c.args.key) c.self.view_is ∙ c.requires)

@@ -6,7 +6,7 @@ use Rattle.mm_transactions.proofs.Lemmas.Slots.{live_slot}
 use Rattle.mm_transactions.specs.Transactions.{is_live}
 use Rattle.mm_transactions.proofs.transactions.Transactions.start_waiting.Goals as goal
 
-starts : (c : goal.After-push_back-arg-1) → IsStart c.self.inside.slots c.args.key c.value_mut-entry.result.now c.args.resource c.args.arrival c.self.inside.queues c.self.inside.latest c.self.inside.waiting
+starts : (c : goal.After-push_back-arg-1) → IsStart c.self.inside.arrivals.items c.self.inside.slots c.args.key c.value_mut-entry.result.now c.args.resource c.args.arrival c.self.inside.queues c.self.inside.latest c.self.inside.waiting
 starts c = record {
   found = c.value_mut-entry.ensures.value;
   resource = omega (arith, ap (λ t. t.resources) c.self.view_is, c.requires.resource);
@@ -33,4 +33,4 @@ returns c =
 pub value_mut-entry-requires : goal.value_mut-entry-requires
 value_mut-entry-requires c =
     let inside = c.self.inside in
-    live_slot inside.slots inside.queues inside.latest c.args.key (ap (λ t. is_live t c.args.key) c.self.view_is ∙ c.requires.live)
+    live_slot inside.arrivals.items inside.slots inside.queues inside.latest c.args.key (ap (λ t. is_live t c.args.key) c.self.view_is ∙ c.requires.live)

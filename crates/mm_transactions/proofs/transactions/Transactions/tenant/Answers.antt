@@ -8,4 +8,4 @@ pub returns-clause-idle : goal.returns-clause-idle
 returns-clause-idle c =
     let n = c.args.process in
     none_told (waited_for c.args.self.now.waits n ≡ None) c.key_at.result
-    (λ none. sym (ap (λ t. waited_for t.waits n) c.self.view_is) ∙ idle_slot c.self.inside.slots n (sym c.key_at.ensures ∙ none))
+    (λ none. sym (ap (λ t. waited_for t.waits n) c.self.view_is) ∙ idle_slot c.self.inside.arrivals.items c.self.inside.slots n (sym c.key_at.ensures ∙ none))
