@@ -231,7 +231,7 @@ fn measure_chain(size: u32) {
 }
 
 fn measure_idle_settles(size: u32) {
-    let count = 50_000;
+    let count = 500_000;
     Workload {
         name: "settle while all but one wait, and none rises",
         size,
