@@ -11,17 +11,17 @@ use Rattle.mm_transactions.proofs.Lemmas.Slots.{holds}
 abbrev pub ArePlaced : List (Option Arrival) → Type 0
 ArePlaced arrivals = (n : ℕ) (a : Arrival) → slice_index_or arrivals n None ≡ Some a → a.wait.key.process ≡ n
 
-pub length_arrivals : (ns : List ℕ) → (n : ℕ) (ps : List (Place Entry)) → length (arrivals_from ns n ps) ≡ length ps
+pub length_arrivals : (ns : List ℕ) (n : ℕ) (ps : List (Place Entry)) → length (arrivals_from ns n ps) ≡ length ps
 length_arrivals ns n [] = refl
 length_arrivals ns n (p ∷ ps) = ap suc (length_arrivals ns (n + 1) ps)
 
-set_arrivals : (ns : List ℕ) → (n : ℕ) (ps : List (Place Entry)) (i : ℕ) (p : Place Entry) → arrivals_from ns n (slice_set ps i p) ≡ slice_set (arrivals_from ns n ps) i (arrival_in ns (n + i) p)
+set_arrivals : (ns : List ℕ) (n : ℕ) (ps : List (Place Entry)) (i : ℕ) (p : Place Entry) → arrivals_from ns n (slice_set ps i p) ≡ slice_set (arrivals_from ns n ps) i (arrival_in ns (n + i) p)
 set_arrivals ns n [] i p = refl
 set_arrivals ns n (q ∷ ps) zero p = ap (λ m. arrival_in ns m p ∷ arrivals_from ns (n + 1) ps) (omega arith)
 set_arrivals ns n (q ∷ ps) (suc i) p =
     ap (λ xs. arrival_in ns n q ∷ xs) (set_arrivals ns (n + 1) ps i p ∙ ap (λ m. slice_set (arrivals_from ns (n + 1) ps) i (arrival_in ns m p)) (omega arith))
 
-arrival_at : (ns : List ℕ) → (n : ℕ) (ps : List (Place Entry)) (i : ℕ) → slice_index_or (arrivals_from ns n ps) i None ≡ arrival_in ns (n + i) (slice_index_or ps i never_used)
+arrival_at : (ns : List ℕ) (n : ℕ) (ps : List (Place Entry)) (i : ℕ) → slice_index_or (arrivals_from ns n ps) i None ≡ arrival_in ns (n + i) (slice_index_or ps i never_used)
 arrival_at ns n [] i = refl
 arrival_at ns n (q ∷ ps) zero = ap (λ m. arrival_in ns m q) (omega arith)
 arrival_at ns n (q ∷ ps) (suc i) = arrival_at ns (n + 1) ps i ∙ ap (λ m. arrival_in ns m (slice_index_or ps i never_used)) (omega arith)
@@ -40,12 +40,11 @@ other_arrival ns i number n p other = by p.value
     by (Some e) = other_number ns i number (record { process = n; generation = p.generation }) e other
 
 -- those of the processes above stay
-numbers_above : (ns : List ℕ) (i number n : ℕ) (ps : List (Place Entry)) → i < n → arrivals_from (slice_set ns i number) n ps ≡ arrivals_from ns n ps
-numbers_above ns i number n [] above = refl
-numbers_above ns i number n (p ∷ ps) above =
-    let h = above in
-    let here = other_arrival ns i number n p (λ same. omega arith) in
-    let there = numbers_above ns i number (n + 1) ps (omega arith) in
+arrivals_above : (ns : List ℕ) (i number n : ℕ) (ps : List (Place Entry)) → i < n → arrivals_from (slice_set ns i number) n ps ≡ arrivals_from ns n ps
+arrivals_above ns i number n [] above = refl
+arrivals_above ns i number n (p ∷ ps) above =
+    let here = other_arrival ns i number n p (λ same. omega (arith, above, same)) in
+    let there = arrivals_above ns i number (n + 1) ps (omega (arith, above)) in
     cc
 
 -- with its slot: the arrivals of the others stay
@@ -55,7 +54,7 @@ both_written ns i number n j [] p at = refl
 both_written ns i number n zero (q ∷ ps) p at =
     let same : n ≡ i = omega (arith, at) in
     let here = ap (λ m. arrival_in (slice_set ns i number) m p) same in
-    let there = numbers_above ns i number (n + 1) ps (omega (arith, at)) in
+    let there = arrivals_above ns i number (n + 1) ps (omega (arith, at)) in
     cc
 both_written ns i number n (suc j) (q ∷ ps) p at =
     let here = other_arrival ns i number n q (λ same. omega (arith, at, same)) in
@@ -64,20 +63,20 @@ both_written ns i number n (suc j) (q ∷ ps) p at =
 
 -- ---- one slot
 
-pub arrival_in_slot : (ns : List ℕ) → (ps : List (Place Entry)) (n : ℕ) → slice_index_or (arrivals_from ns 0 ps) n None ≡ arrival_in ns n (slice_index_or ps n never_used)
+pub arrival_in_slot : (ns : List ℕ) (ps : List (Place Entry)) (n : ℕ) → slice_index_or (arrivals_from ns 0 ps) n None ≡ arrival_in ns n (slice_index_or ps n never_used)
 arrival_in_slot ns ps n = arrival_at ns 0 ps n ∙ ap (λ m. arrival_in ns m (slice_index_or ps n never_used)) (omega arith)
 
-pub set_slot : (ns : List ℕ) → (ps : List (Place Entry)) (n : ℕ) (p : Place Entry) → arrivals_from ns 0 (slice_set ps n p) ≡ slice_set (arrivals_from ns 0 ps) n (arrival_in ns n p)
+pub set_slot : (ns : List ℕ) (ps : List (Place Entry)) (n : ℕ) (p : Place Entry) → arrivals_from ns 0 (slice_set ps n p) ≡ slice_set (arrivals_from ns 0 ps) n (arrival_in ns n p)
 set_slot ns ps n p = set_arrivals ns 0 ps n p ∙ ap (λ m. slice_set (arrivals_from ns 0 ps) n (arrival_in ns m p)) (omega arith)
 
-of_entry : (ns : List ℕ) → (k : Key) (e : Entry) (a : Arrival) → arrival_of ns k e ≡ Some a → a.wait.key ≡ k
+of_entry : (ns : List ℕ) (k : Key) (e : Entry) (a : Arrival) → arrival_of ns k e ≡ Some a → a.wait.key ≡ k
 of_entry ns k e a is = by e.waits_for is
   where
     by : (w : Option ℕ) → option_map {U = Arrival} (λ r. record { wait = record { key = k; resource = r }; number = slice_index_or ns k.process 0 }) w ≡ Some a → a.wait.key ≡ k
     by None none = (let never : None ≡ Some a = none in cc)
     by (Some r) some = (let same : record { wait = record { key = k; resource = r }; number = slice_index_or ns k.process 0 } ≡ a = cc in ap (λ (b : Arrival). b.wait.key) (sym same))
 
-own_key : (ns : List ℕ) → (n : ℕ) (p : Place Entry) (a : Arrival) → arrival_in ns n p ≡ Some a → a.wait.key ≡ record { process = n; generation = p.generation }
+own_key : (ns : List ℕ) (n : ℕ) (p : Place Entry) (a : Arrival) → arrival_in ns n p ≡ Some a → a.wait.key ≡ record { process = n; generation = p.generation }
 own_key ns n p a is = by p.value is
   where
     by : (v : Option Entry) → option_and_then (arrival_of ns (record { process = n; generation = p.generation })) v ≡ Some a → a.wait.key ≡ record { process = n; generation = p.generation }
@@ -85,11 +84,11 @@ own_key ns n p a is = by p.value is
     by (Some e) some = of_entry ns (record { process = n; generation = p.generation }) e a some
 
 -- the key of an arrival is that of its slot
-pub key_at : (ns : List ℕ) → (ps : List (Place Entry)) (n : ℕ) (a : Arrival) → slice_index_or (arrivals_from ns 0 ps) n None ≡ Some a
+pub key_at : (ns : List ℕ) (ps : List (Place Entry)) (n : ℕ) (a : Arrival) → slice_index_or (arrivals_from ns 0 ps) n None ≡ Some a
     → a.wait.key ≡ record { process = n; generation = (slice_index_or ps n never_used).generation }
 key_at ns ps n a there = own_key ns n (slice_index_or ps n never_used) a (sym (arrival_in_slot ns ps n) ∙ there)
 
-pub are_placed : (ns : List ℕ) → (ps : List (Place Entry)) → ArePlaced (arrivals_from ns 0 ps)
+pub are_placed : (ns : List ℕ) (ps : List (Place Entry)) → ArePlaced (arrivals_from ns 0 ps)
 are_placed ns ps n a there = ap (λ (k : Key). k.process) (key_at ns ps n a there)
 
 -- ---- a live transaction
@@ -106,10 +105,10 @@ module _ (ns : List ℕ) (s : Slots Entry) (k : Key) (e : Entry) (found : lookup
   start_written number now = both_written ns k.process number 0 k.process s.places (record { generation = k.generation; value = Some now }) (omega arith)
 
 -- a slot is written, and its wait is as it was
-pub same_arrivals : (ns : List ℕ) → (ps : List (Place Entry)) (n : ℕ) (p : Place Entry) → arrival_in ns n p ≡ arrival_in ns n (slice_index_or ps n never_used) → arrivals_from ns 0 (slice_set ps n p) ≡ arrivals_from ns 0 ps
+pub same_arrivals : (ns : List ℕ) (ps : List (Place Entry)) (n : ℕ) (p : Place Entry) → arrival_in ns n p ≡ arrival_in ns n (slice_index_or ps n never_used) → arrivals_from ns 0 (slice_set ps n p) ≡ arrivals_from ns 0 ps
 same_arrivals ns ps n p alike =
     set_slot ns ps n p ∙ ap (slice_set (arrivals_from ns 0 ps) n) (alike ∙ sym (arrival_in_slot ns ps n)) ∙ set-get_or (arrivals_from ns 0 ps) n None
 
-pub none_at_opening : (ns : List ℕ) → (n m : ℕ) → arrivals_from ns n (replicate m never_used) ≡ replicate m None
+pub none_at_opening : (ns : List ℕ) (n m : ℕ) → arrivals_from ns n (replicate m never_used) ≡ replicate m None
 none_at_opening ns n zero = refl
 none_at_opening ns n (suc m) = ap (λ xs. None ∷ xs) (none_at_opening ns (n + 1) m)
