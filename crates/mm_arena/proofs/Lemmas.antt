@@ -1,3 +1,5 @@
+-- what a contract sees of a shelf, as its places are read and written
+pub mod Stored
 -- the processes along the links, and what a write of one slot leaves of them
 pub mod IsChain
 -- what an insert and a remove update, as their keys see it

@@ -1,1 +1,3 @@
 pub mod Layout
+pub mod Stored
+pub mod LendingStored

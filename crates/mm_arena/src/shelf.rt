@@ -1,5 +1,5 @@
 //! The shelf.
-ghost use Rattle.std.specs.Prelude.{◌≡◌, ◌<◌, ◌≤◌, length, replicate, slice_set, IsSome, IfOk, None, Some, option_copied, option_map};
+ghost use Rattle.std.specs.Prelude.{◌≡◌, ◌+◌, ◌-◌, ◌<◌, ◌≤◌, ◌++◌, length, vec_capacity, replicate, slice_set, IsSome, IfOk, None, Some, option_copied, option_map};
 ghost use Rattle.std.specs.Option.{option_copied_mut};
 ghost use Rattle.std.specs.Borrow.{sem};
 ghost use Rattle.mm_arena.specs.Shelf.{entry_at, value_at, taken, HasValue};
@@ -13,21 +13,74 @@ use std::marker::Model;
 /// It stands beside an arena, which gives the keys, and is never full: a value that is put takes the place of the one that its process had.
 #[derive(Drop)]
 pub struct Shelf<T> {
-    entries: Vec<Option<(Key, T)>>,
+    // By process: what is kept of each up to the last one whose place was filled. Those after it have no value.
+    entries: Vec<Option<Stored<T>>>,
+    capacity: u32,
+}
+
+/// A value, and the generation of the key that it was put with. The process of that key is known by the place.
+#[derive(Drop)]
+struct Stored<T> {
+    generation: u32,
+    value: T,
 }
 
 impl<T> Model for Shelf<T> {
+    ghost use Rattle.std.specs.Prelude.{vec_capacity};
     ghost use Rattle.mm_arena.specs.Shelf.{Entries};
+    ghost use Rattle.mm_arena.specs.private.Stored.{seen, HasRoom};
 
     ghost Value = { Entries T };
 
-    ghost view = { λ s. s.entries.items };
+    ghost view = { λ s. seen s.capacity s.entries.items };
+
+    ghost invariant = { λ s. HasRoom s.capacity s.entries.items (vec_capacity s.entries) };
+}
+
+/// Appends so many vacant places. `O(places)`.
+#[inline(never)]
+fn append_vacant<T>(places: &mut Vec<Option<T>>, count: usize)
+    requires { length places.old.items + count ≤ vec_capacity places.old }
+    ensures places { places.new.items ≡ places.old.items ++ replicate count None }
+    ensures room { vec_capacity places.new ≡ vec_capacity places.old }
+{
+    for _ in 0..count {
+        places.push_reserved(None);
+    }
+}
+
+/// Appends vacant places where there is none for this process yet. `O(places that are appended)`.
+#[inline]
+fn fill<T>(places: &mut Vec<Option<T>>, process: u32)
+    requires { process < vec_capacity places.old }
+    ensures places { places.new.items ≡ places.old.items ++ replicate (process + 1 - length places.old.items) None }
+    ensures filled { process < length places.new.items }
+    ensures room { vec_capacity places.new ≡ vec_capacity places.old }
+{
+    let filled = places.len();
+    if filled <= process as usize {
+        append_vacant(places, process as usize + 1 - filled);
+    }
+}
+
+impl<T> Stored<T> {
+    /// The key that the value of this process was put with.
+    fn key(&self, process: u32) -> Key
+        ensures { result ≡ record { process = process; generation = self.now.generation } }
+    {
+        Key {
+            process,
+            generation: self.generation,
+        }
+    }
 }
 
 impl<T> Shelf<T> {
     ghost use Rattle.mm_arena.specs.LendingShelf.{lends_get, lends_value, lends_stored};
+    ghost use Rattle.mm_arena.specs.private.Stored.{entry_of};
+    ghost use Rattle.mm_arena.specs.private.LendingStored.{lends_kept};
 
-    /// A shelf for the processes below `capacity`, none of which has a value, in time proportional to `capacity`. It takes the memory for all of them, and no later call takes any.
+    /// A shelf for the processes below `capacity`, none of which has a value, in constant time. It takes the memory for all of them, and no later call takes any. Nothing is written to the place of a process before that is filled.
     ///
     /// `Err` only where that memory is refused.
     pub fn new(alloc: Global, capacity: u32) -> Result<Self, Memory>
@@ -35,21 +88,82 @@ impl<T> Shelf<T> {
         requires capacity_in_range { capacity ≤ MAX_CAPACITY }
         ensures { IfOk result (λ shelf. shelf ≡ replicate capacity None) }
     {
-        let mut entries = Vec::with_capacity(alloc, capacity as usize).map_err(|_| Memory)?;
-        for _ in 0..capacity {
-            entries.push_reserved(None);
-        }
-        Ok(Shelf { entries })
+        let Ok(entries) = Vec::with_capacity(alloc, capacity as usize) else {
+            return Err(Memory);
+        };
+        Ok(Shelf { entries, capacity })
     }
 
-    /// Stores a value under a key whose process is below the capacity, in constant time. Gives what its process had: a value, and the key that it was under.
+    /// Fills the place of this process, and those of the processes below it, where they are not filled yet: who has no value has none after it. Without it `put` does so. `O(places that are filled)`, so constant time for one process after the other, in rising order.
+    #[inline]
+    pub fn fill_to(&mut self, process: u32)
+        requires { process < length self.old }
+        ensures { self.new ≡ self.old }
+    {
+        fill(&mut self.entries, process);
+    }
+
+    // What is kept of a process. `None` where it has no value, or is not below the capacity.
+    #[inline]
+    fn kept(&self, process: u32) -> Option<&Stored<T>>
+        ensures { entry_of process (option_copied result) ≡ entry_at self.now process }
+    {
+        self.entries.get(process as usize)?.as_ref()
+    }
+
+    // What is kept of a process that has a value.
+    #[inline]
+    fn kept_at(&self, process: u32) -> &Stored<T>
+        requires { HasValue self.now process }
+        ensures { entry_of process (Some result.now) ≡ entry_at self.now process }
+    {
+        self.entries[process as usize].as_ref().unwrap()
+    }
+
+    // The same for writing.
+    #[inline]
+    fn kept_mut(&mut self, process: u32) -> &mut Stored<T>
+        requires { HasValue self.old process }
+        ensures* writes_back { sem 𝓛 (lends_kept T.row self.entry process result) }
+        ensures value { entry_of process (Some result.now) ≡ entry_at self.old process }
+    {
+        self.entries[process as usize].as_mut().unwrap()
+    }
+
+    // Takes out what is kept of a process that has a value.
+    #[inline]
+    fn take_kept(&mut self, process: u32) -> Stored<T>
+        requires { HasValue self.old process }
+        ensures was { entry_of process (Some result) ≡ entry_at self.old process }
+        ensures now { self.new ≡ slice_set self.old process None }
+    {
+        self.entries[process as usize].take().unwrap()
+    }
+
+    // Keeps this of a process from now on, and returns what was kept.
+    #[inline]
+    fn keep(&mut self, process: u32, stored: Stored<T>) -> Option<Stored<T>>
+        requires { process < length self.old }
+        ensures was { entry_of process result ≡ entry_at self.old process }
+        ensures now { self.new ≡ slice_set self.old process (entry_of process (Some stored)) }
+    {
+        fill(&mut self.entries, process);
+        self.entries[process as usize].replace(stored)
+    }
+
+    /// Stores a value under a key whose process is below the capacity. Gives what its process had: a value, and the key that it was under. Constant time where the place of the process was filled, as by an earlier `put` of it or of a greater one; else as `fill_to`.
     #[inline]
     pub fn put(&mut self, key: Key, value: T) -> Option<(Key, T)>
         requires { key.process < length self.old }
         ensures was { result ≡ entry_at self.old key.process }
         ensures stored { self.new ≡ slice_set self.old key.process (Some (key, value)) }
     {
-        self.entries[key.process as usize].replace((key, value))
+        let stored = Stored {
+            generation: key.generation,
+            value,
+        };
+        let before = self.keep(key.process, stored)?;
+        Some((before.key(key.process), before.value))
     }
 
     /// The value under this very key, in constant time. `None` exactly where its process has no value, or one under another generation.
@@ -57,8 +171,8 @@ impl<T> Shelf<T> {
     pub fn get(&self, key: Key) -> Option<&T>
         ensures { option_copied result ≡ value_at self.now key }
     {
-        match self.entries.get(key.process as usize) {
-            Some(Some((stored, value))) if *stored == key => Some(value),
+        match self.kept(key.process) {
+            Some(stored) if stored.generation == key.generation => Some(&stored.value),
             _ => None,
         }
     }
@@ -81,8 +195,7 @@ impl<T> Shelf<T> {
         ensures* writes_back { sem 𝓛 (lends_value T.row self.entry key result) }
         ensures value { value_at self.old key ≡ Some result.now }
     {
-        let entry = self.entries[key.process as usize].as_mut().unwrap();
-        &mut entry.1
+        &mut self.kept_mut(key.process).value
     }
 
     /// Takes out the value under this very key, in constant time. `None` exactly where `get` gives `None`, and then nothing changes.
@@ -94,8 +207,8 @@ impl<T> Shelf<T> {
         if self.get(key).is_none() {
             return None;
         }
-        let (_, value) = self.entries[key.process as usize].take()?;
-        Some(value)
+        let stored = self.take_kept(key.process);
+        Some(stored.value)
     }
 
     /// The key under which a process has a value, in constant time. `None` exactly where it has none, or is not below the capacity.
@@ -103,8 +216,8 @@ impl<T> Shelf<T> {
     pub fn key_at(&self, process: u32) -> Option<Key>
         ensures { result ≡ option_map (λ entry. entry.0) (entry_at self.now process) }
     {
-        let (key, _) = self.entries.get(process as usize)?.as_ref()?;
-        Some(*key)
+        let stored = self.kept(process)?;
+        Some(stored.key(process))
     }
 
     /// The value of a process that has one, under whatever key, in constant time.
@@ -113,8 +226,7 @@ impl<T> Shelf<T> {
         requires { HasValue self.now process }
         ensures { option_map (λ entry. entry.1) (entry_at self.now process) ≡ Some result.now }
     {
-        let entry = self.entries[process as usize].as_ref().unwrap();
-        &entry.1
+        &self.kept_at(process).value
     }
 
     /// The generation of the key under which a process has a value, in constant time, where the caller knows that it has one.
@@ -124,7 +236,7 @@ impl<T> Shelf<T> {
         ensures { option_map (λ entry. entry.0.generation) (entry_at self.now process) ≡ Some result }
     {
         match &self.entries[process as usize] {
-            Some((key, _)) => key.generation,
+            Some(stored) => stored.generation,
             // Never so: a number, and no stop, lets the compiler leave out the read where nobody wants the generation.
             None => 0,
         }
@@ -137,8 +249,7 @@ impl<T> Shelf<T> {
         ensures* writes_back { sem 𝓛 (lends_stored T.row self.entry process result) }
         ensures value { option_map (λ entry. entry.1) (entry_at self.old process) ≡ Some result.now }
     {
-        let entry = self.entries[process as usize].as_mut().unwrap();
-        &mut entry.1
+        &mut self.kept_mut(process).value
     }
 
     /// Takes out the value that a process has, with the key that it is under, in constant time, where the caller knows that it has one.
@@ -148,6 +259,7 @@ impl<T> Shelf<T> {
         ensures value { entry_at self.old process ≡ Some result }
         ensures entries { self.new ≡ slice_set self.old process None }
     {
-        self.entries[process as usize].take().unwrap()
+        let stored = self.take_kept(process);
+        (stored.key(process), stored.value)
     }
 }
