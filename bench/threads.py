@@ -122,13 +122,18 @@ def work_time(command, name, processes):
 
 
 def board():
-    """One line for each work and each number of processes: the least."""
+    """One line for each work and each number of processes: the least. A turn goes over all lines, so that what disturbs the machine for
+    some seconds disturbs few turns of each."""
     head("shared table with its board, nanoseconds a call")
     commands = [[PROVED, "board"], [os.path.join(HERE, "out", "board")]]
-    for name, (text, _, _) in WORKS.items():
-        for processes in (64, 4096, 65536):
-            times = in_turn(lambda command, number: work_time(command, name, number), commands, processes)
-            line(text, processes, *map(min, times), "ns")
+    works = [(name, processes) for name in WORKS for processes in (64, 4096, 65536)]
+    taken = {work: [[] for _ in commands] for work in works}
+    for _ in range(TURNS):
+        for name, processes in works:
+            for command, times in zip(commands, taken[name, processes]):
+                times.append(work_time(command, name, processes))
+    for name, processes in works:
+        line(WORKS[name][0], processes, *map(min, taken[name, processes]), "ns")
 
 
 shared_table()
