@@ -38,6 +38,7 @@ impl<T> Model for Shelf<T> {
 }
 
 /// Appends so many vacant places. `O(places)`.
+#[cold]
 #[inline(never)]
 fn append_vacant<T>(places: &mut Vec<Option<T>>, count: usize)
     requires { length places.old.items + count ≤ vec_capacity places.old }
