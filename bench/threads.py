@@ -24,6 +24,7 @@ WORKS = {
 }
 SCANNED = 4_000_000  # processes looked at in a turn
 TURNS = 25
+BOARD_TURNS = 100  # of the works at a board, each of which takes some milliseconds
 LONG_TURNS = 9  # of long storms
 
 
@@ -124,11 +125,11 @@ def work_time(command, name, processes):
 def board():
     """One line for each work and each number of processes: the least. A turn goes over all lines, so that what disturbs the machine for
     some seconds disturbs few turns of each."""
-    head("shared table with its board, nanoseconds a call")
+    head("shared table with its board, nanoseconds a call, least of %d" % BOARD_TURNS)
     commands = [[PROVED, "board"], [os.path.join(HERE, "out", "board")]]
     works = [(name, processes) for name in WORKS for processes in (64, 4096, 65536)]
     taken = {work: [[] for _ in commands] for work in works}
-    for _ in range(TURNS):
+    for _ in range(BOARD_TURNS):
         for name, processes in works:
             for command, times in zip(commands, taken[name, processes]):
                 times.append(work_time(command, name, processes))
