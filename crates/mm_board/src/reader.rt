@@ -1,5 +1,5 @@
 //! Who loads labels and holders.
-ghost use Rattle.std.specs.Prelude.{◌≡◌, ◌≤◌, ◌<◌, ◌-◌, ◌*◌, length, IfSome, IsTrue};
+ghost use Rattle.std.specs.Prelude.{◌≡◌, ◌<◌, length, IfSome, IsTrue};
 ghost use Rattle.mm_label.specs.Label.{label_le};
 ghost use Rattle.mm_board.specs.Views.{label_at, with_seen, new_seen, IsAnother};
 
@@ -43,10 +43,8 @@ impl<N: Name> Reader<N> {
         ensures label { result ≡ label_at self.new.labels process }
         ensures rises { IsTrue (label_le (label_at self.old.labels process) result) }
     {
-        let word = board
-            .table
-            .shared
-            .load::<LoadsLabel>(&mut self.seat, process as usize);
+        let place = board.processes as usize + process as usize;
+        let word = board.table.shared.load::<LoadsLabel>(&mut self.seat, place);
         Label::of_word(word)
     }
 
@@ -57,22 +55,14 @@ impl<N: Name> Reader<N> {
         ensures holder { IfSome result (λ holder. IsAnother board.now process holder) }
         ensures same { self.new ≡ self.old }
     {
-        let place = board.processes as usize + process as usize;
-        self.holder_at(board, board.processes, place)
+        self.holder_at(board, process as usize)
     }
 
-    /// The holder in this place of the words of a board that has so many processes.
+    /// The holder in this place of the words.
     #[inline(always)]
-    pub(crate) fn holder_at(
-        &mut self,
-        board: &Board<N>,
-        processes: u32,
-        place: usize,
-    ) -> Option<u32>
-        requires number { processes ≡ board.now }
-        requires first { processes ≤ place }
-        requires last { place < 2 * processes }
-        ensures holder { IfSome result (λ holder. IsAnother board.now (place - processes) holder) }
+    pub(crate) fn holder_at(&mut self, board: &Board<N>, place: usize) -> Option<u32>
+        requires { place < board.now }
+        ensures holder { IfSome result (λ holder. IsAnother board.now place holder) }
         ensures same { self.new ≡ self.old }
     {
         let word = board

@@ -1,5 +1,5 @@
 //! A walk along the processes for those that have a holder.
-ghost use Rattle.std.specs.Prelude.{◌≡◌, ◌≤◌, ◌<◌, ◌-◌, ◌+◌, ◌*◌, IfSome};
+ghost use Rattle.std.specs.Prelude.{◌≡◌, ◌≤◌, ◌<◌, ◌+◌, IfSome};
 ghost use Rattle.mm_board.specs.Views.{IsAnother};
 ghost use Rattle.mm_board.specs.Waiters.{AreWaiters};
 
@@ -28,21 +28,18 @@ impl<N: Name> Reader<N> {
         if from >= board.processes {
             return None;
         }
-        let place = board.processes as usize + from as usize;
-        self.next_of_places(board, board.processes, place)
+        self.next_of_places(board, board.processes, from as usize)
     }
 
     /// `next_waiters`, by places of words. Not compiled in place, where its loop would share registers with what its caller does.
     #[inline(never)]
     fn next_of_places(&mut self, board: &Board<N>, processes: u32, from: usize) -> Option<Waiters>
-        requires number { processes ≡ board.now }
-        requires first { processes ≤ from }
-        ensures found { IfSome result (λ waiters. AreWaiters board.now (from - processes) waiters.found) }
-        ensures next { IfSome result (λ waiters. (from - processes < waiters.next) × (waiters.next ≤ board.now)) }
+        requires { processes ≡ board.now }
+        ensures found { IfSome result (λ waiters. AreWaiters board.now from waiters.found) }
+        ensures next { IfSome result (λ waiters. (from < waiters.next) × (waiters.next ≤ board.now)) }
         ensures same { self.new ≡ self.old }
     {
-        let end = 2 * processes as usize;
-        let last = end.saturating_sub(3);
+        let last = processes.saturating_sub(3) as usize;
         let mut place = from;
         while place < last {
             let waiters = self.waiters_of_four(board, processes, place);
@@ -58,10 +55,9 @@ impl<N: Name> Reader<N> {
     #[inline(always)]
     fn waiters_of_four(&mut self, board: &Board<N>, processes: u32, place: usize) -> Option<Waiters>
         requires number { processes ≡ board.now }
-        requires first { processes ≤ place }
-        requires last { place + 3 < 2 * processes }
-        ensures found { IfSome result (λ waiters. AreWaiters board.now (place - processes) waiters.found) }
-        ensures next { IfSome result (λ waiters. waiters.next ≡ place + 4 - processes) }
+        requires last { place + 3 < processes }
+        ensures found { IfSome result (λ waiters. AreWaiters board.now place waiters.found) }
+        ensures next { IfSome result (λ waiters. waiters.next ≡ place + 4) }
         ensures same { self.new ≡ self.old }
     {
         let first = self.waiter_at(board, processes, place);
@@ -73,24 +69,23 @@ impl<N: Name> Reader<N> {
         }
         Some(Waiters {
             found: [first, second, third, fourth],
-            next: (place + 4 - processes as usize) as u32,
+            next: (place + 4) as u32,
         })
     }
 
     /// `next_of_places`, one process at a time.
     fn next_of_rest(&mut self, board: &Board<N>, processes: u32, from: usize) -> Option<Waiters>
-        requires number { processes ≡ board.now }
-        requires first { processes ≤ from }
-        ensures found { IfSome result (λ waiters. AreWaiters board.now (from - processes) waiters.found) }
-        ensures next { IfSome result (λ waiters. (from - processes < waiters.next) × (waiters.next ≤ board.now)) }
+        requires { processes ≡ board.now }
+        ensures found { IfSome result (λ waiters. AreWaiters board.now from waiters.found) }
+        ensures next { IfSome result (λ waiters. (from < waiters.next) × (waiters.next ≤ board.now)) }
         ensures same { self.new ≡ self.old }
     {
-        for place in from..2 * processes as usize {
+        for place in from..processes as usize {
             let found = self.waiter_at(board, processes, place);
             if found.is_some() {
                 return Some(Waiters {
                     found: [found, None, None, None],
-                    next: (place + 1 - processes as usize) as u32,
+                    next: (place + 1) as u32,
                 });
             }
         }
@@ -101,14 +96,13 @@ impl<N: Name> Reader<N> {
     #[inline(always)]
     fn waiter_at(&mut self, board: &Board<N>, processes: u32, place: usize) -> Option<Waiter>
         requires number { processes ≡ board.now }
-        requires first { processes ≤ place }
-        requires last { place < 2 * processes }
-        ensures process { IfSome result (λ waiter. waiter.process ≡ place - processes) }
+        requires last { place < processes }
+        ensures process { IfSome result (λ waiter. waiter.process ≡ place) }
         ensures holder { IfSome result (λ waiter. IsAnother board.now waiter.process waiter.holder) }
         ensures same { self.new ≡ self.old }
     {
-        let holder = self.holder_at(board, processes, place)?;
-        let process = (place - processes as usize) as u32;
+        let holder = self.holder_at(board, place)?;
+        let process = place as u32;
         Some(Waiter { process, holder })
     }
 }

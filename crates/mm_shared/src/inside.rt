@@ -85,7 +85,7 @@ impl<N: Name, A: Ledger, V: Ledger, B: Ledger> Inside<N, A, V, B> {
     }
 
     /// `Table::acquire`: grants a free resource; for an owned one the transaction waits, last in its queue, with a fresh label.
-    /// Where it waits, the board is then shown to the pass, which so has seen that label.
+    /// Where it waits, the board is shown to the pass once that label stands there, so the pass has seen it.
     ///
     /// Refused as `CountsExhausted`, `Stale`, `NoResource`, `Waiting`, `AlreadyOwns` or `LabelsExhausted`. Constant time.
     pub fn acquire(
@@ -114,8 +114,8 @@ impl<N: Name, A: Ledger, V: Ledger, B: Ledger> Inside<N, A, V, B> {
         };
         let publisher = &mut self.publisher;
         publisher.store_label(board, key.process, label);
-        publisher.store_holder(board, key.process, Some(holder.process));
         publisher.show(board, &mut pass.reader);
+        publisher.store_holder(board, key.process, Some(holder.process));
         Ok(answer)
     }
 
