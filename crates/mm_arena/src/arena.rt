@@ -42,7 +42,8 @@ impl<T> Model for Arena<T> {
 impl<T> Arena<T> {
     ghost use Rattle.mm_arena.specs.Lending.{lends_get, lends_value};
 
-    /// An arena of `capacity` slots that were never used, in time proportional to `capacity`. It takes the memory for all of them, and no later call takes any.
+    /// An arena of `capacity` slots that were never used, in time proportional to `capacity`. It takes the memory for all of them, and no
+    /// later call takes any.
     ///
     /// `Err` only where that memory is refused.
     pub fn new(alloc: Global, capacity: u32, generation_limit: u32) -> Result<Self, Memory>
@@ -64,7 +65,8 @@ impl<T> Arena<T> {
         })
     }
 
-    /// Stores a value under the next key, in constant time. `Err` gives the value back exactly where no slot is free, and then nothing changes.
+    /// Stores a value under the next key, in constant time. `Err` gives the value back exactly where no slot is free, and then nothing
+    /// changes.
     pub fn insert(&mut self, value: T) -> Result<Key, T>
         ensures key { result ≡ ok_or (next_key self.old) value }
         ensures slots { self.new ≡ inserted self.old value }
@@ -161,7 +163,8 @@ impl<T> Arena<T> {
         self.get(key).is_some()
     }
 
-    /// The live key of a process, in constant time. `None` exactly where it has none: the process is free, retired or not below the capacity.
+    /// The live key of a process, in constant time. `None` exactly where it has none: the process is free, retired or not below the
+    /// capacity.
     pub fn key_at(&self, process: u32) -> Option<Key>
         ensures { result ≡ live_key self.now process }
     {

@@ -81,7 +81,8 @@ impl<T> Shelf<T> {
     ghost use Rattle.mm_arena.specs.private.Stored.{entry_of};
     ghost use Rattle.mm_arena.specs.private.LendingStored.{lends_kept};
 
-    /// A shelf for the processes below `capacity`, none of which has a value, in constant time. It takes the memory for all of them, and no later call takes any. Nothing is written to the place of a process before that is filled.
+    /// A shelf for the processes below `capacity`, none of which has a value, in constant time. It takes the memory for all of them, and no
+    /// later call takes any. Nothing is written to the place of a process before that is filled.
     ///
     /// `Err` only where that memory is refused.
     pub fn new(alloc: Global, capacity: u32) -> Result<Self, Memory>
@@ -95,7 +96,8 @@ impl<T> Shelf<T> {
         Ok(Shelf { entries, capacity })
     }
 
-    /// Fills the place of this process, and those of the processes below it, where they are not filled yet: who has no value has none after it. Without it `put` does so. `O(places that are filled)`, so constant time for one process after the other, in rising order.
+    /// Fills the place of this process, and those of the processes below it, where they are not filled yet: who has no value has none after
+    /// it. Without it `put` does so. `O(places that are filled)`, so constant time for one process after the other, in rising order.
     #[inline]
     pub fn fill_to(&mut self, process: u32)
         requires { process < length self.old }
@@ -152,7 +154,8 @@ impl<T> Shelf<T> {
         self.entries[process as usize].replace(stored)
     }
 
-    /// Stores a value under a key whose process is below the capacity. Gives what its process had: a value, and the key that it was under. Constant time where the place of the process was filled, as by an earlier `put` of it or of a greater one; else as `fill_to`.
+    /// Stores a value under a key whose process is below the capacity. Gives what its process had: a value, and the key that it was under.
+    /// Constant time where the place of the process was filled, as by an earlier `put` of it or of a greater one; else as `fill_to`.
     #[inline]
     pub fn put(&mut self, key: Key, value: T) -> Option<(Key, T)>
         requires { key.process < length self.old }

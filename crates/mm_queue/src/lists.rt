@@ -11,7 +11,8 @@ use mm_links::{Link, Links};
 use std::alloc::Global;
 use std::marker::Model;
 
-/// Lists of keys, in each of which the keys stand in the order in which they came. A process stands in at most one list, under one key, once. All of the memory is taken when it is made.
+/// Lists of keys, in each of which the keys stand in the order in which they came. A process stands in at most one list, under one key,
+/// once. All of the memory is taken when it is made.
 #[derive(Drop)]
 pub struct Lists {
     ends: Vec<Ends>,

@@ -67,7 +67,8 @@ pub fn settle_ends()
     ensures { SettleEnds }
 {}
 
-/// After an accepted settle the table is at rest: one verdict stands on each cycle, and each process shows the greatest label that stood along its waits.
+/// After an accepted settle the table is at rest: one verdict stands on each cycle, and each process shows the greatest label that stood
+/// along its waits.
 pub fn settle_gives_rest()
     ensures { SettleGivesRest }
 {}

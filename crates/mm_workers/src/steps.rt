@@ -10,7 +10,8 @@ use mm_shared::{Acquired, Detected, Hint, Key, Refusal, Released, Settled, Trans
 /// does a `Table`.
 ///
 /// An event that is accepted adds one to the first of three counts, its new verdicts to the second, and one to the third where it is an
-/// abort. No call moves the parts, and one that is refused moves nothing. Each call refuses and costs what the call of its name of `Table` does.
+/// abort. No call moves the parts, and one that is refused moves nothing. Each call refuses and costs what the call of its name of `Table`
+/// does.
 pub trait Steps {
     /// The three counts, and the parts.
     ghost shares: { Self → Shares };
