@@ -31,7 +31,7 @@ LabelLoaded step before found after =
     → (after ≡ (Reads (with_seen (seen_of before.0) i (label_of found)), before.1))
     × IsTrue (label_le (label_at (seen_of before.0).labels i) (label_of found))
 
--- load holder: the word of a process keeps no holder, or another process
+-- load holder: the word, whose place is the number of its process, keeps no holder, or another process
 abbrev pub HolderLoaded : StepOf → SeatState → ℕ → SeatState → Type 0
 HolderLoaded step before found after =
     (after ≡ before) × IfSome (holder_of found) (λ holder. IsAnother (length (seen_of before.0).labels) step.word holder)
@@ -42,7 +42,7 @@ LabelStored step before found after =
     (i : ℕ) → step.word ≡ length (published_of before.0).histories + i
     → after ≡ (Publishes (with_label (published_of before.0) i (label_of step.first)), before.1)
 
--- store holder: the holder of that process is what the word keeps
+-- store holder: the holder of the process of that number is what the word keeps
 abbrev pub HolderStored : StepOf → SeatState → ℕ → SeatState → Type 0
 HolderStored step before found after =
     after ≡ (Publishes (with_holder (published_of before.0) step.word (holder_of step.first)), before.1)
