@@ -1,7 +1,7 @@
 -- The status that the program exits with, and the fault that it tells.
 use Rattle.std.specs.Prelude.{ℕ, zero, suc, Option, None, Result, Ok, Err}
 use Rattle.std.specs.Result.{result_err}
-use Rattle.mm_work.specs.declared.script.ScriptFault.{ScriptFault}
+use Rattle.mm_script.specs.declared.ScriptFault.{ScriptFault}
 use Rattle.mm_detect.specs.declared.ending.Ending.{Ending}
 use Rattle.mm_detect.specs.declared.ending.Ending.TheVariants.{Ran, Helped, Wrong, Worked, Refused}
 

@@ -2,7 +2,7 @@
 ghost use Rattle.std.specs.Prelude.{◌≡◌};
 ghost use Rattle.mm_detect.specs.Ending.{ending_status, fault_told, status_of};
 
-use mm_work::ScriptFault;
+use mm_script::ScriptFault;
 
 /// How a run of the program ended.
 #[derive(Clone, Copy, Debug, PartialEq, Eq)]

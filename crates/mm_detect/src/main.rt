@@ -23,7 +23,7 @@ use command_line::{Request, StormOptions, asked};
 use ending::{Ending, fault, status};
 use file::{Taken, taken_from};
 use mm_table::Refusal;
-use mm_work::{ScriptFault, run_script};
+use mm_script::{ScriptFault, run_script};
 use mm_workload::Workload;
 use std::alloc::Global;
 use std::io::{Read, Write};

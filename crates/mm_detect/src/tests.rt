@@ -5,7 +5,7 @@ mod workloads;
 use crate::command_line::{Request, request_of};
 use crate::ending::script_status;
 use mm_rows::ROWS;
-use mm_work::run_script;
+use mm_script::run_script;
 use std::test::Fail;
 
 /// Each script is answered by its row, and none of them meets a fault.

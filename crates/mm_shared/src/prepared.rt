@@ -40,21 +40,26 @@ impl Prepared {
         ensures refused { IfErr result (λ refusal. Opens config (Err refusal)) }
     {
         let table = Table::open(alloc, config)?;
-        let Ok(board) = RawBoard::new(alloc, config.processes) else {
-            return Err(Refusal::Memory);
-        };
-        let Ok(woken) = Vec::with_capacity(alloc, config.processes as usize) else {
-            return Err(Refusal::Memory);
-        };
-        Ok(Prepared {
+        let (board, woken) = board_and_list(alloc, config.processes)?;
+        Ok(Prepared::of(table, board, woken, config.processes))
+    }
+
+    fn of(table: Table, board: RawBoard, woken: Vec<u32>, processes: u32) -> Prepared
+        requires opened { table ≡ opening table.config }
+        requires sized { processes ≡ table.config.processes }
+        requires as_many { processes_of board ≡ processes }
+        requires room { processes ≤ vec_capacity woken }
+        ensures { result.table ≡ table }
+    {
+        Prepared {
             table,
             board,
             woken,
-            processes: config.processes,
+            processes,
             accepted: Blank::new(ALL_PARTS),
             verdicts: Blank::new(ALL_PARTS),
             aborts: Blank::new(ALL_PARTS),
-        })
+        }
     }
 
     /// The table under its names, and the pass that has all parts.
@@ -101,4 +106,21 @@ impl Prepared {
         );
         (SharedTable::new(board, inside, processes), pass)
     }
+}
+
+/// What the board and the list of the woken need, for so many processes.
+fn board_and_list(alloc: Global, processes: u32) -> Result<(RawBoard, Vec<u32>), Refusal>
+    requires some_processes { 1 ≤ processes }
+    requires in_range { processes ≤ 65536 }
+    ensures as_many { IfOk result (λ made. processes_of made.0 ≡ processes) }
+    ensures room { IfOk result (λ made. processes ≤ vec_capacity made.1) }
+    ensures refusal { IfErr result (λ refusal. refusal ≡ Refusal.Memory) }
+{
+    let Ok(board) = RawBoard::new(alloc, processes) else {
+        return Err(Refusal::Memory);
+    };
+    let Ok(woken) = Vec::with_capacity(alloc, processes as usize) else {
+        return Err(Refusal::Memory);
+    };
+    Ok((board, woken))
 }

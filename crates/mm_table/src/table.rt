@@ -57,12 +57,15 @@ impl Table {
     pub fn open(alloc: Global, config: Config) -> Result<Table, Refusal>
         ensures { Opens config result }
     {
+        let records = Records::open(alloc, config)?;
+        let (changed, touched) = two_empty_sets(alloc, config.processes)?;
+        let (pending, checks) = two_empty_sets(alloc, config.processes)?;
         Ok(Table {
-            records: Records::open(alloc, config)?,
-            changed: empty_set(alloc, config.processes)?,
-            touched: empty_set(alloc, config.processes)?,
-            pending: empty_set(alloc, config.processes)?,
-            checks: empty_set(alloc, config.processes)?,
+            records,
+            changed,
+            touched,
+            pending,
+            checks,
         })
     }
 
@@ -319,6 +322,17 @@ impl Table {
     {
         let _ = &self.records;
     }
+}
+
+/// The empty set of processes, twice.
+fn two_empty_sets(alloc: Global, processes: u32) -> Result<(Marks, Marks), Refusal>
+    ensures first { IfOk result (λ sets. sets.0 ≡ replicate processes false) }
+    ensures second { IfOk result (λ sets. sets.1 ≡ replicate processes false) }
+    ensures refusal { IfErr result (λ refusal. refusal ≡ Refusal.Memory) }
+{
+    let one = empty_set(alloc, processes)?;
+    let other = empty_set(alloc, processes)?;
+    Ok((one, other))
 }
 
 /// The empty set of processes.

@@ -1,15 +1,10 @@
-//! What the program does for its user.
-//!
-//! - `script`: answers the lines of a script, from any reader to any writer. It has no threads.
-//!
-//! Workloads, and the workers that run them on threads, stand in `mm_workload` and `mm_workers`; their names can be had here too.
+//! What the program does for its user, under one name: scripts (`mm_script`), workloads (`mm_workload`), and the workers that run them
+//! on threads (`mm_workers`). It has no code of its own.
 #![tactic(auto)]
 
-mod script;
-
+pub use mm_script::{ScriptFault, run_script};
 pub use mm_workers::{
     Client, Counts, Desk, End, Gate, Hint, HintKind, Outcome, Report, SharedGate, Steps,
     Transmitter, run_threads, shared_gates,
 };
 pub use mm_workload::{Config, Place, StepFault, WorkFault, WorkStep, Workload, storm};
-pub use script::{ScriptFault, run_script};

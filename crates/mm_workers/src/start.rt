@@ -1,5 +1,5 @@
 //! The threads of the workers.
-ghost use Rattle.std.specs.Prelude.{◌≡◌, ◌+◌, ◌<◌, IfOk, length, vec_len};
+ghost use Rattle.std.specs.Prelude.{◌≡◌, ◌+◌, ◌<◌, IfOk, length, vec_len, vec_capacity};
 
 use crate::gate::Gate;
 use crate::job::{ClientJob, Ended, Stopped, TransmitterJob};
@@ -9,7 +9,7 @@ use std::alloc::{AllocError, Global};
 use std::sync::Wait;
 use std::sync::ledger::Ledger;
 use std::thread;
-use std::thread::{Scope, Threads};
+use std::thread::{JoinHandle, Scope, Threads};
 
 /// A job for each client, in order, each with a part of the pass.
 pub fn client_jobs<'a, N: Name, A: Ledger, V: Ledger, B: Ledger, R: Wait, G: Gate + Drop>(
@@ -108,21 +108,79 @@ fn run_in<
     ensures ended { IfOk result (λ done. vec_len done.0 ≡ vec_len clients.entry) }
     ensures stopped { IfOk result (λ done. vec_len done.1 ≡ vec_len transmitters.entry) }
 {
-    let mut client_threads = Vec::with_capacity(alloc, clients.len())?;
-    let mut transmitter_threads = Vec::with_capacity(alloc, transmitters.len())?;
-    let mut ended = Vec::with_capacity(alloc, clients.len())?;
-    let mut stopped = Vec::with_capacity(alloc, transmitters.len())?;
-    for job in clients {
-        client_threads.push_reserved(scope.spawn(move || job.run())?);
-    }
-    for job in transmitters {
-        transmitter_threads.push_reserved(scope.spawn(move || job.run())?);
-    }
-    for thread in client_threads {
-        ended.push_reserved(thread.join(rt));
-    }
-    for thread in transmitter_threads {
-        stopped.push_reserved(thread.join(rt));
-    }
+    let (mut client_threads, mut ended) = two_lists(alloc, clients.len())?;
+    let (mut transmitter_threads, mut stopped) = two_lists(alloc, transmitters.len())?;
+    start_clients(scope, clients, &mut client_threads)?;
+    start_transmitters(scope, transmitters, &mut transmitter_threads)?;
+    join_all(rt, client_threads, &mut ended);
+    join_all(rt, transmitter_threads, &mut stopped);
     Ok((ended, stopped))
+}
+
+/// Two empty lists with room for so many.
+fn two_lists<T: Drop, U: Drop>(alloc: Global, len: usize) -> Result<(Vec<T>, Vec<U>), AllocError>
+    ensures first { IfOk result (λ lists. (vec_len lists.0 ≡ 0) × (vec_capacity lists.0 ≡ len)) }
+    ensures second { IfOk result (λ lists. (vec_len lists.1 ≡ 0) × (vec_capacity lists.1 ≡ len)) }
+{
+    let first = Vec::with_capacity(alloc, len)?;
+    let second = Vec::with_capacity(alloc, len)?;
+    Ok((first, second))
+}
+
+/// Starts a thread for each client.
+fn start_clients<
+    's,
+    'e,
+    N: Name + Send + Sync + 'e,
+    A: Ledger + Send + Sync + 'e,
+    V: Ledger + Send + Sync + 'e,
+    B: Ledger + Send + Sync + 'e,
+    R: Threads + Wait + Sync,
+    G: Gate + Send + Drop + 'e,
+>(
+    scope: &'s Scope<'s, &'e ()>,
+    clients: Vec<ClientJob<'e, N, A, V, B, R, G>>,
+    threads: &mut Vec<JoinHandle<Ended<N, A, V, B>>>,
+) -> Result<(), AllocError>
+    requires room { (vec_len threads.old ≡ 0) × (vec_capacity threads.old ≡ vec_len clients) }
+    ensures each { IfOk result (λ _. vec_len threads.new ≡ vec_len clients.entry) }
+{
+    for job in clients {
+        threads.push_reserved(scope.spawn(move || job.run())?);
+    }
+    Ok(())
+}
+
+/// Starts a thread for each transmitter.
+fn start_transmitters<
+    's,
+    'e,
+    N: Name + Send + Sync + 'e,
+    A: Ledger + Send + Sync + 'e,
+    V: Ledger + Send + Sync + 'e,
+    B: Ledger + Send + Sync + 'e,
+    R: Threads + Wait + Sync,
+    G: Gate + Send + Drop + 'e,
+>(
+    scope: &'s Scope<'s, &'e ()>,
+    transmitters: Vec<TransmitterJob<'e, N, A, V, B, R, G>>,
+    threads: &mut Vec<JoinHandle<Stopped<N, A, V, B>>>,
+) -> Result<(), AllocError>
+    requires room { (vec_len threads.old ≡ 0) × (vec_capacity threads.old ≡ vec_len transmitters) }
+    ensures each { IfOk result (λ _. vec_len threads.new ≡ vec_len transmitters.entry) }
+{
+    for job in transmitters {
+        threads.push_reserved(scope.spawn(move || job.run())?);
+    }
+    Ok(())
+}
+
+/// Waits for all of these threads. What they give back stands in their order.
+fn join_all<R: Threads + Wait, T: Drop>(rt: &R, threads: Vec<JoinHandle<T>>, came: &mut Vec<T>)
+    requires room { (vec_len came.old ≡ 0) × (vec_capacity came.old ≡ vec_len threads) }
+    ensures each { vec_len came.new ≡ vec_len threads }
+{
+    for thread in threads {
+        came.push_reserved(thread.join(rt));
+    }
 }

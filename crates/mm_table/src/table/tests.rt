@@ -1,9 +1,12 @@
 //! A table whose counts come to their limit, two to the 62: no test gets there by its calls alone.
+mod steps;
+
 use super::Table;
-use crate::{Acquired, Config, Detected, Key, Label, Refusal, Settled, State, Totals, Transmitted};
+use crate::{Config, Key, Refusal, Settled, State, Totals};
 use std::alloc::Global;
 use std::process::Abort;
 use std::test::Fail;
+use steps::{Step, make, same};
 
 /// Where the accepted or the verdict count is this or more, every event is refused.
 const LIMIT: u64 = 1 << 62;
@@ -46,14 +49,8 @@ fn key(process: u32, generation: u32) -> Key {
     }
 }
 
-fn waits(holder: Key, counter: u64, process: u32) -> Result<Acquired, Fail> {
-    let label = Label::new(counter, process).ok_or("in range")?;
-    Ok(Acquired::Waits { holder, label })
-}
-
-/// A table of four processes and four resources, in which two have begun: each owns the resource of its number, and the first waits
-/// for the second.
-fn two(rt: &impl Abort, alloc: Global) -> Result<Table, Fail> {
+/// Opens a table of four processes and four resources, in which two wait for each other, and makes the calls on it.
+fn answers(rt: &impl Abort, alloc: Global, steps: &[Step]) -> Result<(), Refusal> {
     let mut table = Table::open(
         alloc,
         Config {
@@ -63,28 +60,65 @@ fn two(rt: &impl Abort, alloc: Global) -> Result<Table, Fail> {
             generation_limit: 9,
         },
     )?;
-    for process in 0..2 {
-        assert_eq!(rt; table.begin(), Ok(key(process, 1)));
-        assert_eq!(rt;
-            table.acquire(key(process, 1), process),
-            Ok(Acquired::Granted)
-        );
-    }
-    assert_eq!(rt; table.acquire(key(0, 1), 1), Ok(waits(key(1, 1), 1, 0)?));
-    Ok(table)
+    make(rt, &mut table, &TWO);
+    make(rt, &mut table, steps);
+    Ok(())
 }
+
+/// The first transaction of each process, and the second of the second.
+const FIRST: Key = Key {
+    process: 0,
+    generation: 1,
+};
+
+const SECOND: Key = Key {
+    process: 1,
+    generation: 1,
+};
+
+const THIRD: Key = Key {
+    process: 2,
+    generation: 1,
+};
+
+const FOURTH: Key = Key {
+    process: 3,
+    generation: 1,
+};
+
+const ANEW: Key = Key {
+    process: 1,
+    generation: 2,
+};
+
+/// Two begin: each owns the resource of its number, and the first waits for the second.
+const TWO: [Step; 5] = [
+    Step::Begin(Ok(FIRST)),
+    Step::Grants(FIRST, 0),
+    Step::Begin(Ok(SECOND)),
+    Step::Grants(SECOND, 1),
+    Step::Waits(FIRST, 1, SECOND, 1, 0),
+];
 
 /// Ends the test unless each event with this key is refused because of the counts.
 fn is_refused(rt: &impl Abort, table: &mut Table, key: Key) {
     for resource in [0, 1, 3, 4] {
-        assert_eq!(rt; table.acquire(key, resource), Err(Refusal::CountsExhausted));
-        assert_eq!(rt; table.release(key, resource), Err(Refusal::CountsExhausted));
+        same(
+            rt,
+            table.acquire(key, resource),
+            Err(Refusal::CountsExhausted),
+        );
+        same(
+            rt,
+            table.release(key, resource),
+            Err(Refusal::CountsExhausted),
+        );
     }
-    assert_eq!(rt; table.finish(key), Err(Refusal::CountsExhausted));
-    assert_eq!(rt; table.abort(key), Err(Refusal::CountsExhausted));
-    assert_eq!(rt; table.give_up(key), Err(Refusal::CountsExhausted));
-    assert_eq!(rt; table.transmit(key), Err(Refusal::CountsExhausted));
-    assert_eq!(rt; table.detect(key), Err(Refusal::CountsExhausted));
+    same(rt, table.finish(key), Err(Refusal::CountsExhausted));
+    same(rt, table.abort(key), Err(Refusal::CountsExhausted));
+    same(rt, table.give_up(key), Err(Refusal::CountsExhausted));
+    same(rt, table.transmit(key), Err(Refusal::CountsExhausted));
+    same(rt, table.detect(key), Err(Refusal::CountsExhausted));
 }
 
 /// Ends the test unless every event is refused because of the counts, also by a key that is not live, and what can be read stays.
@@ -95,75 +129,78 @@ fn all_are_refused(rt: &impl Abort, table: &mut Table) {
             is_refused(rt, table, key(process, generation));
         }
     }
-    assert_eq!(rt; table.begin(), Err(Refusal::CountsExhausted));
-    assert_eq!(rt; table.settle(), Err(Refusal::CountsExhausted));
-    assert_eq!(rt; Seen::of(table), before);
+    same(rt, table.begin(), Err(Refusal::CountsExhausted));
+    same(rt, table.settle(), Err(Refusal::CountsExhausted));
+    same(rt, Seen::of(table), before);
 }
+
+const LAST_EVENT: [Step; 7] = [
+    Step::Recount(u64::MAX, 0, None),
+    Step::Recount(LIMIT - 6, 0, Some(())),
+    Step::Totals(Totals {
+        accepted: LIMIT - 1,
+        verdicts: 0,
+        aborts: 0,
+    }),
+    Step::Begin(Ok(THIRD)),
+    Step::AllRefused,
+    Step::Recount(u64::MAX - LIMIT, 0, Some(())),
+    Step::AllRefused,
+];
 
 #[test]
 fn the_last_event_that_is_counted(rt: HostRuntime) -> Result<(), Fail> {
-    let mut table = two(&rt, rt.alloc())?;
-    assert_eq!(rt; recount(&mut table, u64::MAX, 0), None);
-    assert_eq!(rt; recount(&mut table, LIMIT - 6, 0), Some(()));
-    assert_eq!(rt; table.totals().accepted, LIMIT - 1);
-    assert_eq!(rt; table.begin(), Ok(key(2, 1)));
-    assert_eq!(rt; table.totals().accepted, LIMIT);
-    all_are_refused(&rt, &mut table);
-    assert_eq!(rt; recount(&mut table, u64::MAX - LIMIT, 0), Some(()));
-    all_are_refused(&rt, &mut table);
+    answers(&rt, rt.alloc(), &LAST_EVENT)?;
     Ok(())
 }
 
-#[test]
-fn the_last_verdict_that_is_counted(rt: HostRuntime) -> Result<(), Fail> {
-    let mut table = two(&rt, rt.alloc())?;
-    assert_eq!(rt; table.acquire(key(1, 1), 0), Ok(waits(key(0, 1), 2, 1)?));
-    let one = Settled {
+const LAST_VERDICT: [Step; 12] = [
+    Step::Waits(SECOND, 0, FIRST, 2, 1),
+    Step::Settle(Ok(Settled {
         raises: 1,
         verdicts: 1,
-    };
-    assert_eq!(rt; table.settle(), Ok(one));
-    assert_eq!(rt; recount(&mut table, 0, LIMIT - 2), Some(()));
-    assert_eq!(rt; table.abort(key(1, 1)), Ok(()));
-    let before = Totals {
+    })),
+    Step::Recount(0, LIMIT - 2, Some(())),
+    Step::Abort(SECOND, Ok(())),
+    Step::Totals(Totals {
         accepted: 8,
         verdicts: LIMIT - 1,
         aborts: LIMIT - 1,
-    };
-    assert_eq!(rt; table.totals(), before);
+    }),
     // The first owns both resources now, and the second begins anew, takes another, and the two wait for each other.
-    assert_eq!(rt; table.begin(), Ok(key(1, 2)));
-    assert_eq!(rt; table.acquire(key(1, 2), 2), Ok(Acquired::Granted));
-    assert_eq!(rt; table.acquire(key(0, 1), 2), Ok(waits(key(1, 2), 3, 0)?));
-    assert_eq!(rt; table.acquire(key(1, 2), 0), Ok(waits(key(0, 1), 4, 1)?));
-    let label = Label::new(4, 1).ok_or("in range")?;
-    assert_eq!(rt; table.transmit(key(0, 1)), Ok(Transmitted::Raised(label)));
-    assert_eq!(rt; table.detect(key(1, 2)), Ok(Detected::Deadlock(label)));
-    assert_eq!(rt; table.totals().verdicts, LIMIT);
-    all_are_refused(&rt, &mut table);
+    Step::Begin(Ok(ANEW)),
+    Step::Grants(ANEW, 2),
+    Step::Waits(FIRST, 2, ANEW, 3, 0),
+    Step::Waits(ANEW, 0, FIRST, 4, 1),
+    Step::Raises(FIRST, 4, 1),
+    Step::Convicts(ANEW, 4, 1),
+    Step::AllRefused,
+];
+
+#[test]
+fn the_last_verdict_that_is_counted(rt: HostRuntime) -> Result<(), Fail> {
+    answers(&rt, rt.alloc(), &LAST_VERDICT)?;
     Ok(())
 }
 
-#[test]
-fn a_settle_may_pass_the_limit_of_verdicts(rt: HostRuntime) -> Result<(), Fail> {
-    let mut table = two(&rt, rt.alloc())?;
-    assert_eq!(rt; table.acquire(key(1, 1), 0), Ok(waits(key(0, 1), 2, 1)?));
-    for process in 2..4 {
-        assert_eq!(rt; table.begin(), Ok(key(process, 1)));
-        assert_eq!(rt;
-            table.acquire(key(process, 1), process),
-            Ok(Acquired::Granted)
-        );
-    }
-    assert_eq!(rt; table.acquire(key(2, 1), 3), Ok(waits(key(3, 1), 1, 2)?));
-    assert_eq!(rt; table.acquire(key(3, 1), 2), Ok(waits(key(2, 1), 2, 3)?));
-    assert_eq!(rt; recount(&mut table, 0, LIMIT - 1), Some(()));
-    let both = Settled {
+const PAST_THE_LIMIT: [Step; 10] = [
+    Step::Waits(SECOND, 0, FIRST, 2, 1),
+    Step::Begin(Ok(THIRD)),
+    Step::Grants(THIRD, 2),
+    Step::Begin(Ok(FOURTH)),
+    Step::Grants(FOURTH, 3),
+    Step::Waits(THIRD, 3, FOURTH, 1, 2),
+    Step::Waits(FOURTH, 2, THIRD, 2, 3),
+    Step::Recount(0, LIMIT - 1, Some(())),
+    Step::Settle(Ok(Settled {
         raises: 2,
         verdicts: 2,
-    };
-    assert_eq!(rt; table.settle(), Ok(both));
-    assert_eq!(rt; table.totals().verdicts, LIMIT + 1);
-    all_are_refused(&rt, &mut table);
+    })),
+    Step::AllRefused,
+];
+
+#[test]
+fn a_settle_may_pass_the_limit_of_verdicts(rt: HostRuntime) -> Result<(), Fail> {
+    answers(&rt, rt.alloc(), &PAST_THE_LIMIT)?;
     Ok(())
 }

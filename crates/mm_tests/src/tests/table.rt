@@ -1,34 +1,34 @@
 mod steps;
 
 use crate::tests::same::same;
-use mm_table::{
-    Acquired, Config, Detected, Key, Label, Mode, Refusal, Settled, State, Table, Totals,
-    Transmitted,
-};
+use mm_table::{Acquired, Config, Detected, Key, Mode, Refusal, Settled, Table, Totals};
 use std::alloc::{AllocError, Global};
 use std::process::Abort;
 use std::test::Fail;
-use steps::{Step, make};
+use steps::{Named, Step, answers};
 
 /// The first transaction of each process.
-const FIRST: [Key; 4] = [
-    Key {
-        process: 0,
-        generation: 1,
-    },
-    Key {
-        process: 1,
-        generation: 1,
-    },
-    Key {
-        process: 2,
-        generation: 1,
-    },
-    Key {
-        process: 3,
-        generation: 1,
-    },
-];
+const FIRST: [Key; 4] = [P0, P1, P2, P3];
+
+const P0: Key = Key {
+    process: 0,
+    generation: 1,
+};
+
+const P1: Key = Key {
+    process: 1,
+    generation: 1,
+};
+
+const P2: Key = Key {
+    process: 2,
+    generation: 1,
+};
+
+const P3: Key = Key {
+    process: 3,
+    generation: 1,
+};
 
 fn config(processes: u32, resources: u32) -> Config {
     Config {
@@ -55,41 +55,31 @@ fn are_printed(
 #[test]
 fn keys_are_printed_with_their_generations(rt: HostRuntime) -> Result<(), Fail> {
     let mut table = Table::open(rt.alloc(), config(4, 4))?;
+    two_keys_are_printed(&rt, rt.alloc(), &mut table)
+}
+
+fn two_keys_are_printed(rt: &impl Abort, alloc: Global, table: &mut Table) -> Result<(), Fail> {
     let first = table.begin()?;
     let second = table.begin()?;
-    are_printed(&rt, rt.alloc(), first, second, "0.1 1.1")?;
-    same(&rt, table.acquire(first, 0), Ok(Acquired::Granted));
-    same(&rt, table.acquire(second, 1), Ok(Acquired::Granted));
+    are_printed(rt, alloc, first, second, "0.1 1.1")?;
+    same(rt, table.acquire(first, 0), Ok(Acquired::Granted));
+    same(rt, table.acquire(second, 1), Ok(Acquired::Granted));
     Ok(())
 }
 
+const ASKS: [Step; 7] = [
+    Step::Begin(Ok(P0)),
+    Step::Begin(Ok(P1)),
+    Step::Acquire(P0, 0, Ok(Acquired::Granted)),
+    Step::Acquire(P1, 1, Ok(Acquired::Granted)),
+    Step::Waits(P0, 1, P1, Named(1, 0)),
+    Step::Lives(P0, Mode::Waiting(1), Named(1, 0), Named(1, 0)),
+    Step::Acquire(P0, 2, Err(Refusal::Waiting)),
+];
+
 #[test]
 fn the_second_that_asks_waits(rt: HostRuntime) -> Result<(), Fail> {
-    let [first, second, ..] = FIRST;
-    let label = Label::new(1, 0).ok_or("in range")?;
-    let waits = Acquired::Waits {
-        holder: second,
-        label,
-    };
-    let state = State {
-        mode: Mode::Waiting(1),
-        private: label,
-        public: label,
-    };
-    let mut table = Table::open(rt.alloc(), config(4, 4))?;
-    make(
-        &rt,
-        &mut table,
-        &[
-            Step::Begin(Ok(first)),
-            Step::Begin(Ok(second)),
-            Step::Acquire(first, 0, Ok(Acquired::Granted)),
-            Step::Acquire(second, 1, Ok(Acquired::Granted)),
-            Step::Acquire(first, 1, Ok(waits)),
-            Step::State(first, Ok(state)),
-            Step::Acquire(first, 2, Err(Refusal::Waiting)),
-        ],
-    );
+    answers(&rt, rt.alloc(), config(4, 4), &ASKS)?;
     Ok(())
 }
 
@@ -144,108 +134,69 @@ fn make_ring(table: &mut Table, count: u32) -> Result<(), Refusal> {
     Ok(())
 }
 
+const RING_OF_THREE: [Step; 10] = [
+    Step::Ring(3),
+    Step::Settle(Ok(Settled {
+        raises: 3,
+        verdicts: 1,
+    })),
+    Step::Tenant(0, Some(P0)),
+    Step::Lives(P0, Mode::Waiting(1), Named(1, 0), Named(2, 2)),
+    Step::Tenant(1, Some(P1)),
+    Step::Lives(P1, Mode::Waiting(2), Named(1, 1), Named(2, 2)),
+    Step::Tenant(2, Some(P2)),
+    Step::Lives(P2, Mode::Convicted(0), Named(2, 2), Named(2, 2)),
+    Step::Totals(Totals {
+        accepted: 10,
+        verdicts: 1,
+        aborts: 0,
+    }),
+    Step::Settle(Ok(Settled {
+        raises: 0,
+        verdicts: 0,
+    })),
+];
+
 #[test]
 fn a_ring_of_three_settles(rt: HostRuntime) -> Result<(), Fail> {
-    let [first, second, third, ..] = FIRST;
-    let own = Label::new(1, 0).ok_or("in range")?;
-    let seconds = Label::new(1, 1).ok_or("in range")?;
-    let greatest = Label::new(2, 2).ok_or("in range")?;
-    let mut table = Table::open(rt.alloc(), config(4, 4))?;
-    make_ring(&mut table, 3)?;
-    make(
-        &rt,
-        &mut table,
-        &[
-            Step::Settle(Ok(Settled {
-                raises: 3,
-                verdicts: 1,
-            })),
-            Step::Tenant(0, Some(first)),
-            Step::State(
-                first,
-                Ok(State {
-                    mode: Mode::Waiting(1),
-                    private: own,
-                    public: greatest,
-                }),
-            ),
-            Step::Tenant(1, Some(second)),
-            Step::State(
-                second,
-                Ok(State {
-                    mode: Mode::Waiting(2),
-                    private: seconds,
-                    public: greatest,
-                }),
-            ),
-            Step::Tenant(2, Some(third)),
-            Step::State(
-                third,
-                Ok(State {
-                    mode: Mode::Convicted(0),
-                    private: greatest,
-                    public: greatest,
-                }),
-            ),
-            Step::Totals(Totals {
-                accepted: 10,
-                verdicts: 1,
-                aborts: 0,
-            }),
-            Step::Settle(Ok(Settled {
-                raises: 0,
-                verdicts: 0,
-            })),
-        ],
-    );
+    answers(&rt, rt.alloc(), config(4, 4), &RING_OF_THREE)?;
     Ok(())
 }
 
-#[test]
-fn a_ring_of_four_settles(rt: HostRuntime) -> Result<(), Fail> {
-    let mut table = Table::open(rt.alloc(), config(5, 4))?;
-    make_ring(&mut table, 4)?;
-    let answer = Settled {
+const RING_OF_FOUR: [Step; 2] = [
+    Step::Ring(4),
+    Step::Settle(Ok(Settled {
         raises: 6,
         verdicts: 1,
-    };
-    same(&rt, table.settle(), Ok(answer));
+    })),
+];
+
+#[test]
+fn a_ring_of_four_settles(rt: HostRuntime) -> Result<(), Fail> {
+    answers(&rt, rt.alloc(), config(5, 4), &RING_OF_FOUR)?;
     Ok(())
 }
 
 /// Two wait for each other; the one whose label comes round gives way to the other.
+const GIVES_WAY: [Step; 13] = [
+    Step::Ring(2),
+    Step::Tenant(0, Some(P0)),
+    Step::Tenant(1, Some(P1)),
+    Step::Detect(P1, Ok(Detected::Clear)),
+    Step::Abort(P1, Err(Refusal::NoVerdict)),
+    Step::Raises(P0, Named(2, 1)),
+    Step::Convicts(P1, Named(2, 1)),
+    Step::Finish(P1, Err(Refusal::Waiting)),
+    Step::Abort(P1, Ok(())),
+    Step::Owner(1, Ok(Some(P0))),
+    Step::Tenant(0, Some(P0)),
+    Step::Lives(P0, Mode::Active, Named(1, 0), Named(2, 1)),
+    Step::State(P1, Err(Refusal::Stale)),
+];
+
 #[test]
 fn the_convicted_one_gives_way(rt: HostRuntime) -> Result<(), Fail> {
-    let [first, second, ..] = FIRST;
-    let own = Label::new(1, 0).ok_or("in range")?;
-    let greatest = Label::new(2, 1).ok_or("in range")?;
-    let mut table = Table::open(rt.alloc(), config(4, 4))?;
-    make_ring(&mut table, 2)?;
-    make(
-        &rt,
-        &mut table,
-        &[
-            Step::Tenant(0, Some(first)),
-            Step::Tenant(1, Some(second)),
-            Step::Detect(second, Ok(Detected::Clear)),
-            Step::Abort(second, Err(Refusal::NoVerdict)),
-            Step::Transmit(first, Ok(Transmitted::Raised(greatest))),
-            Step::Detect(second, Ok(Detected::Deadlock(greatest))),
-            Step::Finish(second, Err(Refusal::Waiting)),
-            Step::Abort(second, Ok(())),
-            Step::Owner(1, Ok(Some(first))),
-            Step::Tenant(0, Some(first)),
-            Step::State(
-                first,
-                Ok(State {
-                    mode: Mode::Active,
-                    private: own,
-                    public: greatest,
-                }),
-            ),
-            Step::State(second, Err(Refusal::Stale)),
-        ],
-    );
+    answers(&rt, rt.alloc(), config(4, 4), &GIVES_WAY)?;
     Ok(())
 }
 
@@ -262,30 +213,18 @@ fn make_three_wait(table: &mut Table) -> Result<(), Refusal> {
 }
 
 /// One that finishes hands over each of its resources to the longest waiter.
+const HANDS_OVER: [Step; 7] = [
+    Step::ThreeWait,
+    Step::Finish(P0, Ok(())),
+    Step::Owner(0, Ok(Some(P2))),
+    Step::Owner(1, Ok(Some(P1))),
+    Step::Tenant(3, Some(P3)),
+    Step::Lives(P3, Mode::Waiting(0), Named(2, 3), Named(2, 3)),
+    Step::Finish(P0, Err(Refusal::Stale)),
+];
+
 #[test]
 fn a_finish_hands_over(rt: HostRuntime) -> Result<(), Fail> {
-    let [first, second, third, fourth] = FIRST;
-    let label = Label::new(2, 3).ok_or("in range")?;
-    let mut table = Table::open(rt.alloc(), config(4, 2))?;
-    make_three_wait(&mut table)?;
-    make(
-        &rt,
-        &mut table,
-        &[
-            Step::Finish(first, Ok(())),
-            Step::Owner(0, Ok(Some(third))),
-            Step::Owner(1, Ok(Some(second))),
-            Step::Tenant(3, Some(fourth)),
-            Step::State(
-                fourth,
-                Ok(State {
-                    mode: Mode::Waiting(0),
-                    private: label,
-                    public: label,
-                }),
-            ),
-            Step::Finish(first, Err(Refusal::Stale)),
-        ],
-    );
+    answers(&rt, rt.alloc(), config(4, 2), &HANDS_OVER)?;
     Ok(())
 }

@@ -1,6 +1,8 @@
 use crate::tests::same::same;
 use mm_examples::abort_and_wake;
 use mm_table::{Config, Key, Refusal, Table};
+use std::alloc::Global;
+use std::process::Abort;
 use std::test::Fail;
 
 /// Two transactions, each of which waits for what the other one owns. The second has a verdict.
@@ -18,9 +20,6 @@ fn make_deadlock(table: &mut Table) -> Result<(Key, Key), Refusal> {
 // The example of README.md.
 #[test]
 fn the_other_one_of_two_is_woken(rt: HostRuntime) -> Result<(), Fail> {
-    let most = Config::MOST_PROCESSES as usize;
-    let mut changed = Vec::with_capacity(rt.alloc(), most)?;
-    let mut woken = Vec::with_capacity(rt.alloc(), most)?;
     let mut table = Table::open(
         rt.alloc(),
         Config {
@@ -30,11 +29,18 @@ fn the_other_one_of_two_is_woken(rt: HostRuntime) -> Result<(), Fail> {
             generation_limit: 9,
         },
     )?;
-    let (first, second) = make_deadlock(&mut table)?;
+    the_other_one_is_woken(&rt, rt.alloc(), &mut table)
+}
+
+fn the_other_one_is_woken(rt: &impl Abort, alloc: Global, table: &mut Table) -> Result<(), Fail> {
+    let most = Config::MOST_PROCESSES as usize;
+    let mut changed = Vec::with_capacity(alloc, most)?;
+    let mut woken = Vec::with_capacity(alloc, most)?;
+    let (first, second) = make_deadlock(table)?;
     table.keeps_laws();
-    abort_and_wake(&mut table, second, &mut changed, &mut woken)?;
-    same(&rt, changed.as_slice(), &[0, 1]);
-    same(&rt, woken.as_slice(), &[first]);
-    same(&rt, table.owner(1), Ok(Some(first)));
+    abort_and_wake(table, second, &mut changed, &mut woken)?;
+    same(rt, changed.as_slice(), &[0, 1]);
+    same(rt, woken.as_slice(), &[first]);
+    same(rt, table.owner(1), Ok(Some(first)));
     Ok(())
 }

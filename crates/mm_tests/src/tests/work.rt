@@ -4,7 +4,7 @@ mod faults;
 mod ring;
 
 use faults::{FailingReader, FailingWriter, Newlines, WhenFull, read_is_at_fault, write_ends};
-use mm_work::{ScriptFault, run_script};
+use mm_script::{ScriptFault, run_script};
 use std::io::ErrorKind;
 use std::test::Fail;
 
@@ -13,7 +13,7 @@ const SCRIPT: &str = "table 1 1 9 2\nbegin\nfinish 0.1\nbegin\nfinish 0.2\nbegin
 
 const REPLIES: &str = "ok\nkey 0.1\nfinished\nkey 0.2\nfinished\nrefused 6 Full\n";
 
-/// The example of mm_work's page: the last line needs no newline, and one line is malformed.
+/// The example of mm_script's page: the last line needs no newline, and one line is malformed.
 #[test]
 fn malformed_line_is_counted(rt: HostRuntime) -> Result<(), Fail> {
     let mut script = b"table 1 1 9 9\nbegin\nfly".as_slice();

@@ -1,6 +1,6 @@
 //! A reader and a writer that fail at a chosen call, what comes of a script of each, and a reader of newlines.
 
-use mm_work::{ScriptFault, run_script};
+use mm_script::{ScriptFault, run_script};
 use std::alloc::Global;
 use std::io;
 use std::io::{ErrorKind, Read, Write};

@@ -1,7 +1,7 @@
 //! A script each read and each write of which fails in turn: three transactions that wait in a ring.
 
 use super::faults::{FailingReader, FailingWriter, WhenFull, read_is_at_fault, write_ends};
-use mm_work::ScriptFault;
+use mm_script::ScriptFault;
 use std::alloc::{AllocError, Global};
 use std::io::ErrorKind;
 use std::test::Fail;

@@ -9,17 +9,17 @@ use Rattle.mm_table.proofs.table.Table.open.Goals as goal
 
 pub invariant_of-result : goal.invariant_of-result
 invariant_of-result c =
-    let opened = c.in_ok-open.ensures in
+    let opened = c.in_ok-records.ensures in
     let processes = c.args.config.processes in
-    let sized : (set : List Bool) → set ≡ replicate processes false → length set ≡ c.in_ok-open.field-0.config.processes = λ set is. ap length is ∙ length-replicate processes false ∙ sym (ap (λ s. s.config.processes) opened.1) in
+    let sized : (set : List Bool) → set ≡ replicate processes false → length set ≡ c.in_ok-records.records.config.processes = λ set is. ap length is ∙ length-replicate processes false ∙ sym (ap (λ s. s.config.processes) opened.1) in
     record {
       laws = subst Laws (sym opened.1) (opening_lawful c.args.config opened.0);
-      changed = subst (λ (s : TableState). AreChanged s c.in_ok-empty_set.field-0) (sym opened.1) (opened_changed c.args.config c.in_ok-empty_set.field-0);
+      changed = subst (λ (s : TableState). AreChanged s c.in_ok-changed.changed) (sym opened.1) (opened_changed c.args.config c.in_ok-changed.changed);
       sized = record {
-        changed_sized = sized c.in_ok-empty_set.field-0 c.in_ok-empty_set.ensures.set;
-        pending_sized = sized c.in_ok-empty_set-3.field-0 c.in_ok-empty_set-3.ensures.set;
-        checks_sized = sized c.in_ok-empty_set-4.field-0 c.in_ok-empty_set-4.ensures.set;
+        changed_sized = sized c.in_ok-changed.changed c.in_ok-changed.ensures.first;
+        pending_sized = sized c.in_ok-pending.pending c.in_ok-pending.ensures.first;
+        checks_sized = sized c.in_ok-pending.checks c.in_ok-pending.ensures.second;
       };
-      touched_sized = sized c.in_ok-empty_set-2.field-0 c.in_ok-empty_set-2.ensures.set;
-      touched_none = emptied c.in_ok-empty_set-2.field-0 processes c.in_ok-empty_set-2.ensures.set;
+      touched_sized = sized c.in_ok-changed.touched c.in_ok-changed.ensures.second;
+      touched_none = emptied c.in_ok-changed.touched processes c.in_ok-changed.ensures.second;
     }

@@ -1,0 +1,93 @@
+//! Calls of the table that stands, if one does.
+ghost use Rattle.std.specs.Prelude.{◌≡◌, None, Some};
+ghost use Rattle.mm_script.specs.Text.{OpensBy, Replies, RepliesWithNone, RepliesWithTable, most_processes};
+
+use super::line::{Call, Header};
+use super::reply::Reply;
+use mm_table::{Config, Refusal, Table};
+use std::alloc::Global;
+
+impl Header {
+    /// How many processes a table may have that this word opens.
+    fn most_processes(self) -> u32
+        ensures { result ≡ most_processes self }
+    {
+        match self {
+            Header::Table => 4096,
+            Header::Table2 => Config::MOST_PROCESSES,
+        }
+    }
+}
+
+/// Makes a call of the table, or opens one, and returns the reply. Only `table` and `table2` allocate.
+pub fn make(table: &mut Option<Table>, alloc: Global, call: Call) -> Reply
+    ensures { Replies call table.old result table.new }
+{
+    match table {
+        Some(table) => make_with_table(table, call),
+        None => make_with_none(table, alloc, call),
+    }
+}
+
+fn make_with_table(table: &mut Table, call: Call) -> Reply
+    ensures { RepliesWithTable call table.old result (Some table.new) }
+{
+    match call {
+        Call::Table { .. } => Reply::TableStands,
+        Call::Begin => table.begin().map_or_else(Reply::Refused, Reply::Begun),
+        Call::Acquire { key, resource } => table
+            .acquire(key, resource)
+            .map_or_else(Reply::Refused, Reply::Acquired),
+        Call::Release { key, resource } => table
+            .release(key, resource)
+            .map_or_else(Reply::Refused, Reply::Released),
+        Call::Finish(key) => table
+            .finish(key)
+            .map_or_else(Reply::Refused, |()| Reply::Finished),
+        Call::Transmit(key) => table
+            .transmit(key)
+            .map_or_else(Reply::Refused, Reply::Transmitted),
+        Call::Detect(key) => table
+            .detect(key)
+            .map_or_else(Reply::Refused, Reply::Detected),
+        Call::Abort(key) => table
+            .abort(key)
+            .map_or_else(Reply::Refused, |()| Reply::Aborted),
+        Call::GiveUp(key) => table
+            .give_up(key)
+            .map_or_else(Reply::Refused, |()| Reply::Withdrawn),
+        Call::Settle => table.settle().map_or_else(Reply::Refused, Reply::Settled),
+        Call::State(key) => table.state(key).map_or_else(Reply::Refused, Reply::Read),
+        Call::Owner(resource) => table
+            .owner(resource)
+            .map_or_else(Reply::Refused, Reply::Owned),
+        Call::Totals => Reply::Counted(table.totals()),
+    }
+}
+
+/// Makes a call while no table stands. A header that is refused leaves none.
+fn make_with_none(table: &mut Option<Table>, alloc: Global, call: Call) -> Reply
+    requires { table.old ≡ None }
+    ensures { RepliesWithNone call result table.new }
+{
+    let Call::Table { header, config } = call else {
+        return Reply::NoTable;
+    };
+    match open(alloc, header, config) {
+        Ok(opened) => {
+            *table = Some(opened);
+            Reply::Opened
+        }
+        Err(refusal) => Reply::Refused(refusal),
+    }
+}
+
+/// Opens a table by a header. Refused as `BadConfig` before any request for memory where it has more processes than the header allows.
+fn open(alloc: Global, header: Header, config: Config) -> Result<Table, Refusal>
+    ensures { OpensBy header config result }
+{
+    if config.processes > header.most_processes() {
+        return Err(Refusal::BadConfig);
+    }
+    Table::open(alloc, config)
+}

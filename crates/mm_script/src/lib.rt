@@ -1,0 +1,95 @@
+//! Scripts: lines that call a table, and the replies to them, from any reader to any writer. It has no threads.
+//!
+//! - `line`: what a line is, and the call that it makes. Below it, `words` cuts words and reads numbers and keys.
+//! - `calls`: makes a call of the table that stands, if one does.
+//! - `reply`: replies, and how they are printed.
+//! - `input`: the bytes that are read and not yet answered.
+//! - `engine`: a script as far as it is answered.
+//! - `output`: writes the replies that wait.
+//! - `cut`: where bytes are cut.
+#![tactic(auto)]
+
+ghost use Rattle.std.specs.Prelude.{◌≡◌, ◌≤◌, ℕ, List, [], None, length, OnOk};
+ghost use Rattle.std.specs.Io.KnownBytes.{Appends, Consumes, IsAtEnd};
+ghost use Rattle.mm_script.specs.Script.{Ends};
+ghost use Rattle.mm_script.specs.private.Input.{held, IsReady};
+
+mod calls;
+mod cut;
+mod engine;
+mod input;
+mod line;
+mod output;
+mod reply;
+mod words;
+
+use engine::Session;
+use input::Input;
+use std::alloc::Global;
+use std::io::{Read, Write};
+use thiserror::Error;
+
+/// Why a script was not answered to its end.
+#[derive(Clone, Copy, Debug, PartialEq, Eq, Error)]
+pub enum ScriptFault {
+    #[error("read fault")]
+    Read,
+    #[error("write fault")]
+    Write,
+    #[error("input too long")]
+    TooLong,
+}
+
+/// Reads a script to the reader's end, writes one reply for each call and each malformed line, in their order, and returns how many
+/// lines are malformed. A script has at most 16,777,216 bytes.
+///
+/// The replies to the lines of a piece of input are written before the next read, and the writer is flushed once, at the end.
+/// After a fault nothing is read or written:
+///
+/// - `Read`: a read failed. The replies to all lines whose newline was read are written.
+/// - `TooLong`: one byte past the limit was read. The replies to the lines whose newline is within the limit are written.
+/// - `Write`: a write or the flush failed, or a write took no byte. A part of the replies from the front on is written.
+///
+/// O(bytes) time beside that of the table's calls. Only `table` and `table2` allocate; input and replies take about 100 KiB of the stack.
+pub fn run_script<R: Read, W: Write>(
+    alloc: Global,
+    reader: &mut R,
+    writer: &mut W,
+) -> Result<u64, ScriptFault>
+    ensures ends { (read : List ℕ) × (written : List ℕ) × Consumes (R.remaining reader.old) (R.remaining reader.new) read
+        × Appends (W.contents writer.old) (W.contents writer.new) written × Ends result read written }
+    ensures end { OnOk result (IsAtEnd (R.remaining reader.new)) }
+    ensures limit { (read : List ℕ) × Consumes (R.remaining reader.old) (R.remaining reader.new) read × (length read ≤ 16777217) }
+{
+    let mut input = Input::new();
+    let mut session = Session::new(alloc);
+    answer_all(&mut input, &mut session, reader, writer)
+}
+
+/// Reads and answers a script from its first byte on.
+fn answer_all<R: Read, W: Write>(
+    input: &mut Input,
+    session: &mut Session,
+    reader: &mut R,
+    writer: &mut W,
+) -> Result<u64, ScriptFault>
+    requires held { held input.old ≡ [] }
+    requires taken { input.old.taken ≡ 0 }
+    requires ready { IsReady input.old }
+    requires table { session.old.table ≡ None }
+    requires malformed { session.old.malformed ≡ 0 }
+    requires replies { session.old.replies.items ≡ [] }
+    ensures ends { (read : List ℕ) × (written : List ℕ) × Consumes (R.remaining reader.old) (R.remaining reader.new) read
+        × Appends (W.contents writer.old) (W.contents writer.new) written × Ends result read written }
+    ensures end { OnOk result (IsAtEnd (R.remaining reader.new)) }
+    ensures limit { (read : List ℕ) × Consumes (R.remaining reader.old) (R.remaining reader.new) read × (length read ≤ 16777217) }
+{
+    while input.read(reader)? {
+        let count = session.answer_piece(input.within_limit(), writer)?;
+        if input.is_past_limit() {
+            return Err(ScriptFault::TooLong);
+        }
+        input.drop_front(count);
+    }
+    session.finish(input.within_limit(), writer)
+}

@@ -1,0 +1,84 @@
+//! Words, and the numbers and keys that they spell.
+ghost use Rattle.std.specs.Prelude.{◌≡◌, ◌+◌, ◌-◌, ◌^◌};
+ghost use Rattle.std.specs.Iterator.{YieldsFirstRef, item_count};
+ghost use Rattle.mm_script.specs.Words.{words_of, number_at_most, key_of};
+
+use super::cut::{index_of, index_of_other, split_around};
+use mm_table::Key;
+
+/// The words of a line: what stands between spaces.
+#[derive(Drop)]
+pub struct Words<'a> {
+    rest: &'a [u8],
+}
+
+impl<'a> Words<'a> {
+    ghost use Rattle.mm_script.specs.private.WordsLeft.{words_left};
+
+    pub fn new(line: &'a [u8]) -> Self
+        ensures { words_left result ≡ words_of line.now }
+    {
+        Words { rest: line }
+    }
+}
+
+impl<'a> Iterator for Words<'a> {
+    ghost use Rattle.mm_script.specs.private.WordsLeft.{words_left};
+
+    type Item = &'a [u8];
+
+    ghost next_gives = { YieldsFirstRef words_left };
+
+    ghost remaining = { item_count words_left };
+
+    fn next(&mut self) -> Option<&'a [u8]> {
+        let (_, rest) = self.rest.split_at(index_of_other(b' ', self.rest));
+        if rest.is_empty() {
+            self.rest = rest;
+            return None;
+        }
+        let (word, rest) = rest.split_at(index_of(b' ', rest));
+        self.rest = rest;
+        Some(word)
+    }
+}
+
+/// The longest number in digits.
+const MOST_DIGITS: usize = 20;
+
+/// The number that a word spells.
+pub fn number64(word: &[u8]) -> Option<u64>
+    ensures { result ≡ number_at_most u64.MAX word.now }
+{
+    if word.is_empty() || word.len() > MOST_DIGITS {
+        return None;
+    }
+    let mut number = 0u64;
+    for digit in word {
+        if !digit.is_ascii_digit() {
+            return None;
+        }
+        number = number
+            .checked_mul(10)?
+            .checked_add(u64::from(digit - b'0'))?;
+    }
+    Some(number)
+}
+
+/// The number that a word spells, if it fits.
+pub fn number32(word: &[u8]) -> Option<u32>
+    ensures { result ≡ number_at_most u32.MAX word.now }
+{
+    u32::try_from(number64(word)?).ok()
+}
+
+/// The key that a word spells.
+pub fn key(word: &[u8]) -> Option<Key>
+    ensures { result ≡ key_of word.now }
+{
+    let (process, generation) = split_around(b'.', word);
+    Some(Key {
+        process: number32(process)?,
+        generation: number32(generation)?,
+    })
+}
