@@ -1,12 +1,22 @@
-# Part of tests/try_program: help, and words that are wrong.
+# Part of tests/try_program: help, and words that are wrong. Where no program is built, wrapper/unbuilt answers in its place: with the same
+# text, but for the program's tips, which guess at what was meant.
+
+# as_unbuilt STATUS: the words of the case have this answer of wrapper/unbuilt too, by the files out and err
+as_unbuilt() {
+  wrapper/unbuilt "${words[@]}" < /dev/null > "$work/out2" 2> "$work/err2"
+  same "status where nothing is built" "$1" $?
+  same "standard output where nothing is built" "$(as_is "$work/out")" "$(as_is "$work/out2")"
+  same "standard error where nothing is built" "$(sed '/^  tip: /,+1d' "$work/err"; echo .)" "$(as_is "$work/err2")"
+}
 
 # Help goes to standard output.
-for words in --help -h help "script --help" "script -h" "help script" "threads --help" "storm -h" "help storm"; do
-  case_is "$words"
-  # shellcheck disable=SC2086
-  run $words < "$work/script" > "$work/out" 2> "$work/err"
+for line in --help -h help "script --help" "script -h" "help script" "threads --help" "storm -h" "help storm" "help help" "threads a -h"; do
+  read -ra words <<< "$line"
+  case_is "$line"
+  run "${words[@]}" < "$work/script" > "$work/out" 2> "$work/err"
   ends 0 "$(cat "$work/out")" "" $?
   says "Usage: mmdetect"
+  as_unbuilt 0
 done
 for words in --help -h help "help script" "script --help" "script -h"; do
   case_is "what $words tells"
@@ -19,12 +29,24 @@ for words in --help -h help "help script" "script --help" "script -h"; do
 done
 
 # Wrong words: nothing is run.
-for words in fly --fly "script extra" "script --fly" "fly script" "help fly" --version "Script" threads "threads a b" "threads --fly a" --verbose; do
-  case_is "$words"
-  # shellcheck disable=SC2086
-  run $words < "$work/script" > "$work/out" 2> "$work/err"
+for line in fly --fly -x - "script extra" "script script" "script --fly" "script --verbose" "fly script" "help fly" "help --help" --version \
+  Script scrip prove threads "threads a b" "threads --fly a" "threads -v -v a" --verbose "-- x" "storm extra" "storm --clients 0" \
+  "storm --clients 65" "storm --clients" "storm --clients -1" "storm --transmitters 65" "storm --seed 18446744073709551616" \
+  "storm --seed x" "storm --seed=" "storm --seed -1" "storm --clients 8 --clients 8" "storm --verbose --verbose"; do
+  read -ra words <<< "$line"
+  case_is "$line"
+  # ('prove' is the wrapper's word, not the program's)
+  timeout "$seconds" crates/mm_detect/out/mm_detect "${words[@]}" < "$work/script" > "$work/out" 2> "$work/err"
   ends 2 "" some $?
+  [ "$line" = prove ] || as_unbuilt 2
 done
+case_is "an empty word"
+words=("")
+run "" < "$work/script" > "$work/out" 2> "$work/err"
+ends 2 "" some $?
+as_unbuilt 2
 case_is "a word that is no text"
+words=($'\xff')
 run $'\xff' < "$work/script" > "$work/out" 2> "$work/err"
 ends 2 "" some $?
+as_unbuilt 2

@@ -1,0 +1,186 @@
+"""What the words of a command line ask for, where no program is built that could say it.
+
+`asked(words)` gives a Script, Threads or Storm where the words ask for a run, a Help with the name of its text, or a Wrong with the
+program's text (without its tips, which guess at what was meant). tests/try/words.sh holds these texts against the program's own."""
+from dataclasses import dataclass, field
+
+U64_MOST = 2**64 - 1
+# each number of a storm, with its range
+NUMBERS = {"seed": (0, U64_MOST), "clients": (1, 64), "transmitters": (0, 64)}
+NONE_USAGE = "mmdetect [COMMAND]"
+THREADS_USAGE = "mmdetect threads [OPTIONS] <FILE>"
+STORM_USAGE = "mmdetect storm [OPTIONS]"
+
+
+@dataclass
+class Script:
+    pass
+
+
+@dataclass
+class Threads:
+    file: str
+    verbose: bool
+
+
+@dataclass
+class Storm:
+    pass
+
+
+@dataclass
+class Help:
+    of: str
+
+
+@dataclass
+class Wrong(Exception):
+    text: str
+
+
+def wrong(error, usage=None):
+    lines = [f"error: {error}", ""]
+    if usage:
+        lines += [f"Usage: {usage}", ""]
+    return Wrong("\n".join([*lines, "For more information, try '--help'.", ""]))
+
+
+def asked(words):
+    try:
+        for word in words:
+            word.encode("utf-8")
+    except UnicodeEncodeError:
+        return wrong("a word is not UTF-8 text", NONE_USAGE)
+    try:
+        return of_command(words)
+    except Wrong as found:
+        return found
+
+
+def of_command(words):
+    if words and words[0] == "--":
+        words = words[1:]
+        if words:
+            raise unknown(words[0])
+    if not words:
+        return Script()
+    first, rest = words[0], words[1:]
+    if first in ("-h", "--help"):
+        return Help("mmdetect")
+    if first == "help":
+        return of_help(rest)
+    if first in PARTS:
+        return PARTS[first](rest)
+    if first.startswith("-") and first != "-":
+        raise unexpected(first, NONE_USAGE)
+    raise unknown(first)
+
+
+def unknown(word):
+    return wrong(f"unrecognized subcommand '{word}'", NONE_USAGE)
+
+
+def unexpected(word, usage):
+    return wrong(f"unexpected argument '{word}' found", usage)
+
+
+def of_help(words):
+    if not words:
+        return Help("mmdetect")
+    if words[0] == "help" or words[0] in PARTS:
+        if words[1:]:
+            raise unknown(words[1])
+        return Help(words[0])
+    raise unknown(words[0])
+
+
+def of_script(words):
+    if not words or words == ["--"]:
+        return Script()
+    word = words[1] if words[0] == "--" else words[0]
+    if words[0] in ("-h", "--help"):
+        return Help("script")
+    raise unexpected(word, "mmdetect script")
+
+
+@dataclass
+class Reading:
+    """Words of a subcommand as far as they are read."""
+
+    left: list
+    usage: str
+    verbose: bool = False
+    files: list = field(default_factory=list)
+    given: set = field(default_factory=set)
+
+    def take_flag(self, word):
+        """Takes a word that every subcommand with options knows, and returns whether it was one."""
+        if word not in ("-v", "--verbose"):
+            return False
+        if self.verbose:
+            raise wrong("the argument '--verbose' cannot be used multiple times", self.usage)
+        self.verbose = True
+        return True
+
+
+def of_threads(words):
+    reading, is_open = Reading(list(words), THREADS_USAGE), True
+    while reading.left:
+        word = reading.left.pop(0)
+        if is_open and word == "--":
+            is_open = False
+        elif is_open and word in ("-h", "--help"):
+            return Help("threads")
+        elif is_open and reading.take_flag(word):
+            continue
+        elif is_open and word.startswith("-") and word != "-" or reading.files:
+            raise unexpected(word, THREADS_USAGE)
+        else:
+            reading.files.append(word)
+    if not reading.files:
+        raise wrong("the following required arguments were not provided:\n  <FILE>", "mmdetect threads <FILE>")
+    return Threads(reading.files[0], reading.verbose)
+
+
+def of_storm(words):
+    reading = Reading(list(words), STORM_USAGE)
+    while reading.left:
+        word = reading.left.pop(0)
+        if word in ("-h", "--help"):
+            return Help("storm")
+        if not reading.take_flag(word):
+            take_number(reading, word)
+    return Storm()
+
+
+def take_number(reading, word):
+    name, has_value, value = word.partition("=")
+    if name[:2] != "--" or name[2:] not in NUMBERS:
+        raise unexpected(name, STORM_USAGE)
+    if not has_value:
+        if not reading.left:
+            raise wrong(f"a value is required for '{name} <N>' but none was supplied")
+        value = reading.left.pop(0)
+        if value.startswith("-") and value != "-":
+            raise unexpected(value, STORM_USAGE)
+    if name in reading.given:
+        raise wrong(f"the argument '{name} <N>' cannot be used multiple times", STORM_USAGE)
+    reading.given.add(name)
+    fault = fault_of(value, *NUMBERS[name[2:]])
+    if fault:
+        raise wrong(f"invalid value '{value}' for '{name} <N>': {fault}")
+
+
+def fault_of(text, least, most):
+    """Why the text is no number of this range, or None."""
+    digits = text.removeprefix("+")
+    if not text:
+        return "cannot parse integer from empty string"
+    if not (digits.isascii() and digits.isdigit()):
+        return "invalid digit found in string"
+    if int(digits) > U64_MOST:
+        return "number too large to fit in target type"
+    return None if least <= int(digits) <= most else f"{text} is not in {least}..={most}"
+
+
+PARTS = {"script": of_script, "threads": of_threads, "storm": of_storm}
