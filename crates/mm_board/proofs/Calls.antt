@@ -19,26 +19,26 @@ seated view held = (view, held)
 
 module _ (slots seat : ℕ) (me : SeatState) where
   module _ (i : ℕ) (is : IsReading me) (inside : i < length (seen_of me.0).labels) where
-    pub reader_loads_label : (word : ℕ) → word ≡ length (seen_of me.0).labels + i → Allows IsBoard slots seat me word (λ n. n) (LabelLoaded (step slots word 0 0 none) me)
-    reader_loads_label word place =
-        let n : ℕ = length (seen_of me.0).labels + i in
-        subst (λ (w : ℕ). Allows IsBoard slots seat me w (λ n. n) (LabelLoaded (step slots w 0 0 none) me)) (sym place)
-        (subst (λ (m : SeatState). Allows IsBoard slots seat m n (λ n. n) (LabelLoaded (step slots n 0 0 none) m)) (sym is) (loads_label slots seat (seen_of me.0) i inside))
+    pub reader_loads_label : Allows IsBoard slots seat me i (λ n. n) (LabelLoaded (step slots i 0 0 none) me)
+    reader_loads_label = subst (λ (m : SeatState). Allows IsBoard slots seat m i (λ n. n) (LabelLoaded (step slots i 0 0 none) m)) (sym is) (loads_label slots seat (seen_of me.0) i inside)
 
-    pub reader_loads_holder : Allows IsBoard slots seat me i (λ n. n) (HolderLoaded (step slots i 0 0 none) me)
-    reader_loads_holder = subst (λ (m : SeatState). Allows IsBoard slots seat m i (λ n. n) (HolderLoaded (step slots i 0 0 none) m)) (sym is) (loads_holder slots seat (seen_of me.0) i inside)
+    pub reader_loads_holder : (word : ℕ) → word ≡ length (seen_of me.0).labels + i → Allows IsBoard slots seat me word (λ n. n) (HolderLoaded (step slots word 0 0 none) me)
+    reader_loads_holder word place =
+        let n : ℕ = length (seen_of me.0).labels + i in
+        subst (λ (w : ℕ). Allows IsBoard slots seat me w (λ n. n) (HolderLoaded (step slots w 0 0 none) me)) (sym place)
+        (subst (λ (m : SeatState). Allows IsBoard slots seat m n (λ n. n) (HolderLoaded (step slots n 0 0 none) m)) (sym is) (loads_holder slots seat (seen_of me.0) i inside))
 
   module _ (i x : ℕ) (is : IsPublishing me) (inside : i < length (published_of me.0).histories) where
-    pub publisher_stores_label : (word : ℕ) → word ≡ length (published_of me.0).histories + i → IsTrue (label_le (current_label (published_of me.0) i) (label_of x))
-        → Allows IsBoard slots seat me word (λ _. x) (λ _. LabelStored (step slots word x 0 none) me x)
-    publisher_stores_label word place above =
-        let n : ℕ = length (published_of me.0).histories + i in
-        subst (λ (w : ℕ). Allows IsBoard slots seat me w (λ _. x) (λ _. LabelStored (step slots w x 0 none) me x)) (sym place)
-        (subst (λ (m : SeatState). Allows IsBoard slots seat m n (λ _. x) (λ _. LabelStored (step slots n x 0 none) m x)) (sym is) (stores_label slots seat (published_of me.0) i x inside above))
+    pub publisher_stores_label : IsTrue (label_le (current_label (published_of me.0) i) (label_of x)) → Allows IsBoard slots seat me i (λ _. x) (λ _. LabelStored (step slots i x 0 none) me x)
+    publisher_stores_label above =
+        subst (λ (m : SeatState). Allows IsBoard slots seat m i (λ _. x) (λ _. LabelStored (step slots i x 0 none) m x)) (sym is) (stores_label slots seat (published_of me.0) i x inside above)
 
-    pub publisher_stores_holder : IfSome (holder_of x) (λ holder. IsAnother (length (published_of me.0).histories) i holder) → Allows IsBoard slots seat me i (λ _. x) (λ _. HolderStored (step slots i x 0 none) me x)
-    publisher_stores_holder another =
-        subst (λ (m : SeatState). Allows IsBoard slots seat m i (λ _. x) (λ _. HolderStored (step slots i x 0 none) m x)) (sym is) (stores_holder slots seat (published_of me.0) i x inside another)
+    pub publisher_stores_holder : (word : ℕ) → word ≡ length (published_of me.0).histories + i → IfSome (holder_of x) (λ holder. IsAnother (length (published_of me.0).histories) i holder)
+        → Allows IsBoard slots seat me word (λ _. x) (λ _. HolderStored (step slots word x 0 none) me x)
+    publisher_stores_holder word place another =
+        let n : ℕ = length (published_of me.0).histories + i in
+        subst (λ (w : ℕ). Allows IsBoard slots seat me w (λ _. x) (λ _. HolderStored (step slots w x 0 none) me x)) (sym place)
+        (subst (λ (m : SeatState). Allows IsBoard slots seat m n (λ _. x) (λ _. HolderStored (step slots n x 0 none) m x)) (sym is) (stores_holder slots seat (published_of me.0) i x inside another))
 
   pub publisher_looks : (i : ℕ) → IsPublishing me → Allows IsBoard slots seat me i (λ n. n) (Looked (step slots i 0 0 none) me)
   publisher_looks i is = subst (λ (m : SeatState). Allows IsBoard slots seat m i (λ n. n) (Looked (step slots i 0 0 none) m)) (sym is) (looks slots seat (published_of me.0) i)
@@ -67,10 +67,6 @@ is_reading me seen e = e ∙ ap (λ (m : SeatState). seated (Reads (seen_of m.0)
 -- a seat that was the publisher's, and has another view of a publisher, is the publisher's
 pub still_publishing : (old me : SeatState) (p : Published) → IsPublishing old → me ≡ (Publishes p, old.1) → IsPublishing me
 still_publishing old me p was e = is_publishing me p (e ∙ ap (seated (Publishes p)) (ap (λ (m : SeatState). m.1) was))
-
--- a seat that was a reader's, and has another view of a reader, is a reader's
-pub still_reading : (old me : SeatState) (seen : Seen) → IsReading old → me ≡ (Reads seen, old.1) → IsReading me
-still_reading old me seen was e = is_reading me seen (e ∙ ap (seated (Reads seen)) (ap (λ (m : SeatState). m.1) was))
 
 -- after show's join
 pub joined : (me split join old : SeatState) → IsPublishing me → split ≡ me → join ≡ (having_met split.0 old.0, split.1) → join ≡ (Publishes (with_met (published_of me.0) (seen_of old.0).labels), me.1)

@@ -7,11 +7,11 @@ use Rattle.std.proofs.lemmas.List.FromFn.{length-map-range_with_len, get_or-map-
 use mathlib.Core.Option.{some, some-injective, some-ne-none}
 use lib.ListN.{get_elem?}
 use Rattle.atomic_table.specs.Table.{opening}
-use Rattle.mm_label.specs.Label.{Label, label_of, opening_label}
+use Rattle.mm_label.specs.Label.{Label, opening_label}
 use Rattle.mm_board.specs.declared.views.Published.{Published}
 use Rattle.mm_board.specs.declared.views.View.{View}
 use Rattle.mm_board.specs.declared.views.View.TheVariants.{Publishes}
-use Rattle.mm_board.specs.Views.{label_at, last_label, history, current_labels, current_holder, opening_labels, opening_published}
+use Rattle.mm_board.specs.Views.{label_at, last_label, history, current_labels, current_holder, opening_labels, opening_published, holder_of}
 use Rattle.mm_board.specs.Rule.{Rises, IsPublished, MayKnow, IsBoard}
 use Rattle.mm_board.specs.private.Opening.{AreOpening}
 use Rattle.mm_board.proofs.Order.{label_le_same}
@@ -56,8 +56,8 @@ opening_is_published words n are =
     record {
       words_sized = omega (arith, are.sized);
       holders_sized = length-replicate n None ∙ sym sized;
-      holders = λ i low. are.holders i (omega arith) ∙ sym (holder_at_first n i (omega arith));
-      labels = λ i low. ap (λ k. label_of (slice_index words (k + i))) sized ∙ are.labels i (omega arith) ∙ sym (ap last_label (history_at_first n i (omega arith)));
+      labels = λ i low. are.labels i (omega arith) ∙ sym (ap last_label (history_at_first n i (omega arith)));
+      holders = λ i low. ap (λ k. holder_of (slice_index words (k + i))) sized ∙ are.holders i (omega arith) ∙ sym (holder_at_first n i (omega arith));
       others = λ i low. rw (holder_at_first n i (omega arith)) tt;
       histories = λ i low. rw (history_at_first n i (omega arith)) (omega arith, refl, single_rises (opening_label i));
       met = (

@@ -1,5 +1,5 @@
 pub mod Views
-pub mod Waiters
+pub mod Waiter
 pub mod Rule
 pub mod Steps
 pub mod private

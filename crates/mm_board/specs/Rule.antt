@@ -22,12 +22,12 @@ IsHistory i labels = (0 < length labels) × (label_at labels 0 ≡ opening_label
 abbrev pub WereStored : Published → List Label → Type 0
 WereStored p labels = (length labels ≡ length p.histories) × ((i : ℕ) → i < length p.histories → Among (label_at labels i) (history p i))
 
--- the words keep what the publisher stored last: the holders of all processes, and then the labels
+-- the words keep what the publisher stored last: the labels of all processes, and then the holders
 pub record IsPublished (words : List ℕ) (p : Published) : Type 0 where
   pub words_sized : length words ≡ length p.histories + length p.histories
   pub holders_sized : length p.holders ≡ length p.histories
-  pub holders : (i : ℕ) → i < length p.histories → holder_of (slice_index words i) ≡ current_holder p i
-  pub labels : (i : ℕ) → i < length p.histories → label_of (slice_index words (length p.histories + i)) ≡ current_label p i
+  pub labels : (i : ℕ) → i < length p.histories → label_of (slice_index words i) ≡ current_label p i
+  pub holders : (i : ℕ) → i < length p.histories → holder_of (slice_index words (length p.histories + i)) ≡ current_holder p i
   pub others : (i : ℕ) → i < length p.histories → IfSome (current_holder p i) (λ holder. IsAnother (length p.histories) i holder)
   pub histories : (i : ℕ) → i < length p.histories → IsHistory i (history p i)
   pub met : WereStored p p.met

@@ -24,28 +24,29 @@ abbrev pub seen_of : View → Seen
 seen_of (Reads s) = s
 seen_of _ = new_seen []
 
--- load label: the reader has seen the label of process i, which is not below what it had seen
+-- load label: the reader has seen the label of that word, which is not below what it had seen
 abbrev pub LabelLoaded : StepOf → SeatState → ℕ → SeatState → Type 0
 LabelLoaded step before found after =
-    (i : ℕ) → step.word ≡ length (seen_of before.0).labels + i
-    → (after ≡ (Reads (with_seen (seen_of before.0) i (label_of found)), before.1))
-    × IsTrue (label_le (label_at (seen_of before.0).labels i) (label_of found))
+    (after ≡ (Reads (with_seen (seen_of before.0) step.word (label_of found)), before.1))
+    × IsTrue (label_le (label_at (seen_of before.0).labels step.word) (label_of found))
 
--- load holder: the word, whose place is the number of its process, keeps no holder, or another process
+-- load holder: the word of process i keeps no holder, or another process
 abbrev pub HolderLoaded : StepOf → SeatState → ℕ → SeatState → Type 0
 HolderLoaded step before found after =
-    (after ≡ before) × IfSome (holder_of found) (λ holder. IsAnother (length (seen_of before.0).labels) step.word holder)
+    let processes = length (seen_of before.0).labels in
+    (after ≡ before)
+    × ((i : ℕ) → step.word ≡ processes + i → IfSome (holder_of found) (λ holder. IsAnother processes i holder))
 
--- store label: the label goes last in the history of process i
+-- store label: the label of that word goes last in the history of its process
 abbrev pub LabelStored : StepOf → SeatState → ℕ → SeatState → Type 0
 LabelStored step before found after =
-    (i : ℕ) → step.word ≡ length (published_of before.0).histories + i
-    → after ≡ (Publishes (with_label (published_of before.0) i (label_of step.first)), before.1)
+    after ≡ (Publishes (with_label (published_of before.0) step.word (label_of step.first)), before.1)
 
--- store holder: the holder of the process of that number is what the word keeps
+-- store holder: the holder of process i is what the word keeps
 abbrev pub HolderStored : StepOf → SeatState → ℕ → SeatState → Type 0
 HolderStored step before found after =
-    after ≡ (Publishes (with_holder (published_of before.0) step.word (holder_of step.first)), before.1)
+    (i : ℕ) → step.word ≡ length (published_of before.0).histories + i
+    → after ≡ (Publishes (with_holder (published_of before.0) i (holder_of step.first)), before.1)
 
 -- split: the new reader has seen what the reader has
 abbrev pub reader_of_reader : View → View

@@ -18,9 +18,7 @@ use std::marker::{Model, PhantomData};
 /// A board has at most so many processes.
 pub const MOST_PROCESSES: u32 = 65_536;
 
-/// The holder words of all processes, and then their label words.
-// Each split and join loads the first word. That is no label, since a label is stored just before the board is shown to a reader, and a
-// load of what was just stored waits for the store.
+/// The label words of all processes, and then their holder words. Each split and join loads the first, the label word of process 0.
 type Words = Table<(), View, u32, BoardRule, Global>;
 
 /// The words that all threads share. A contract sees the number of processes.
@@ -134,14 +132,14 @@ fn opening_words(alloc: Global, processes: u32) -> Result<Vec<u64>, AllocError>
     ensures { IfOk result (λ words. AreOpening words.items processes) }
 {
     let mut words = Vec::with_capacity(alloc, 2 * processes as usize)?;
-    for _ in 0..processes {
-        words.push_reserved(holder::word_of(None));
-    }
     for process in 0..processes {
         let Some(label) = Label::new(0, process) else {
             unreachable!()
         };
         words.push_reserved(label.word());
+    }
+    for _ in 0..processes {
+        words.push_reserved(holder::word_of(None));
     }
     Ok(words)
 }

@@ -5,7 +5,7 @@
 //! - `board`: `RawBoard`, a board before it has a name, and `Board`, the words that all threads share.
 //! - `publisher`: `Publisher`, the one who stores.
 //! - `reader`: `Reader`, who loads.
-//! - `waiters`: `Waiters`, those of four processes that have a holder, and the walk that finds them.
+//! - `waiter`: the walk along the processes for one that has a holder.
 //! - `holder`: `Waiter`, a process that has a holder, and the word that keeps one.
 //! - `views`: what contracts know of the publisher and of a reader.
 //! - `rule`: the rule that holds between any two steps, and the names of boards.
@@ -21,7 +21,7 @@ mod reader;
 mod rule;
 mod steps;
 mod views;
-mod waiters;
+mod waiter;
 
 pub use board::{Board, MOST_PROCESSES, RawBoard};
 pub use holder::Waiter;
@@ -30,4 +30,3 @@ pub use publisher::Publisher;
 pub use reader::Reader;
 pub use rule::{BoardRule, Name};
 pub use views::{Published, Seen, View};
-pub use waiters::Waiters;

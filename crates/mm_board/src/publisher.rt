@@ -46,11 +46,10 @@ impl<N: Name> Publisher<N> {
         ensures current { current_label self.new process ≡ label }
     {
         let word = label.word();
-        let place = board.processes as usize + process as usize;
         board
             .table
             .shared
-            .store::<StoresLabel>(&mut self.seat, place, word);
+            .store::<StoresLabel>(&mut self.seat, process as usize, word);
     }
 
     /// Stores the holder of a process: none, or another process of the board. All else stays. Constant time: one store.
@@ -62,10 +61,11 @@ impl<N: Name> Publisher<N> {
         ensures current { current_holder self.new process ≡ holder }
     {
         let word = holder::word_of(holder);
+        let place = board.processes as usize + process as usize;
         board
             .table
             .shared
-            .store::<StoresHolder>(&mut self.seat, process as usize, word);
+            .store::<StoresHolder>(&mut self.seat, place, word);
     }
 
     /// Lets a reader see each current label, in place of what it had seen. No label that it had seen was above. Constant time: three loads.

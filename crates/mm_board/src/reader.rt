@@ -43,8 +43,10 @@ impl<N: Name> Reader<N> {
         ensures label { result ≡ label_at self.new.labels process }
         ensures rises { IsTrue (label_le (label_at self.old.labels process) result) }
     {
-        let place = board.processes as usize + process as usize;
-        let word = board.table.shared.load::<LoadsLabel>(&mut self.seat, place);
+        let word = board
+            .table
+            .shared
+            .load::<LoadsLabel>(&mut self.seat, process as usize);
         Label::of_word(word)
     }
 
@@ -55,16 +57,7 @@ impl<N: Name> Reader<N> {
         ensures holder { IfSome result (λ holder. IsAnother board.now process holder) }
         ensures same { self.new ≡ self.old }
     {
-        self.holder_at(board, process as usize)
-    }
-
-    /// The holder in this place of the words.
-    #[inline(always)]
-    pub(crate) fn holder_at(&mut self, board: &Board<N>, place: usize) -> Option<u32>
-        requires { place < board.now }
-        ensures holder { IfSome result (λ holder. IsAnother board.now place holder) }
-        ensures same { self.new ≡ self.old }
-    {
+        let place = board.processes as usize + process as usize;
         let word = board
             .table
             .shared

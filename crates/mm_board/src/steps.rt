@@ -4,12 +4,12 @@
 //! |---|---|---|
 //! | `LoadsLabel` | a label word | the reader's: it has seen that label |
 //! | `LoadsHolder` | a holder word | none |
-//! | `Splits` | the first word, a load | none; a new reader has seen what the splitting reader has |
+//! | `Splits` | label word of process 0, a load | none; a new reader has seen what the splitting reader has |
 //! | `StoresLabel` | a label word | the publisher's: the label goes last in that process's history |
 //! | `StoresHolder` | a holder word | the publisher's: that holder |
-//! | `Shows`, as a split | the first word, a load | none; a new reader has seen every current label |
-//! | `Shows`, as a join | the first word, a load | the publisher's: the labels met are the old reader's, whose view is spent |
-//! | `Looks` | the first word, a load | none; by the rule no label met is above the current one |
+//! | `Shows`, as a split | label word of process 0, a load | none; a new reader has seen every current label |
+//! | `Shows`, as a join | label word of process 0, a load | the publisher's: the labels met are the old reader's, whose view is spent |
+//! | `Looks` | label word of process 0, a load | none; by the rule no label met is above the current one |
 use crate::views::View;
 use atomic_table::{Join, Play, Split};
 

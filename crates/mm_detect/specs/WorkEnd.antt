@@ -1,11 +1,13 @@
 -- The status after a workload.
-use Rattle.std.specs.Prelude.{◌≡◌, ◌≢◌, if◌then◌else◌, ℕ, Bool, true, false, Result, Ok, Err}
+use Rattle.std.specs.Prelude.{◌≡◌, if◌then◌else◌, ℕ, Bool, true, false, Result, Ok, Err, length, vec_len, ⊥}
 use Rattle.std.specs.List.{list_all}
+use Rattle.mm_rules.specs.Event.{Opens}
+use Rattle.mm_rules.specs.declared.refusal.Refusal.TheVariants as refusals
 use Rattle.mm_workers.specs.declared.end.End.{End}
 use Rattle.mm_workers.specs.declared.end.End.TheVariants.{Finished, Aborted}
 use Rattle.mm_workload.specs.Work.{Work}
 use Rattle.mm_workload.specs.declared.fault.WorkFault.{WorkFault}
-use Rattle.mm_workload.specs.declared.fault.WorkFault.TheVariants.{Memory}
+use Rattle.mm_workload.specs.declared.fault.WorkFault.TheVariants as faults
 use Rattle.mm_detect.specs.declared.work_end.WorkEnd.{WorkEnd}
 use Rattle.mm_detect.specs.declared.work_end.WorkEnd.TheVariants.{Ran, Malformed, Refused}
 
@@ -20,7 +22,11 @@ work_status (Ran outcome) = if list_all has_ended outcome.ends.items then 0 else
 work_status (Malformed place) = 1
 work_status (Refused refusal) = 4
 
--- only a workload that is malformed ends as malformed
+-- a workload is run, with an end for each client, or refused as its table is; what is malformed ends so, at the same place; and where
+-- memory for the workload was refused, that is told
 abbrev pub EndsAs : Result Work WorkFault → WorkEnd → Type 0
-EndsAs (Ok work) end = work_status end ≢ 1
-EndsAs (Err fault) end = work_status end ≡ 1 → ¬ (fault ≡ Memory)
+EndsAs (Ok work) (Ran outcome) = vec_len outcome.ends ≡ length work.clients
+EndsAs (Ok work) (Refused refusal) = Opens work.config (Err refusal)
+EndsAs (Err (faults.Malformed place)) (Malformed at) = at ≡ place
+EndsAs (Err faults.Memory) (Refused refusal) = refusal ≡ refusals.Memory
+EndsAs _ _ = ⊥

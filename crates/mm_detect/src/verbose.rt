@@ -3,10 +3,10 @@ ghost use Rattle.std.specs.Prelude.{◌≡◌, ◌≢◌, ◌+◌, IsErrAnd, len
 ghost use Rattle.mm_workload.specs.declared.fault.WorkFault.TheVariants.{Memory};
 ghost use Rattle.mm_detect.specs.WorkEnd.{work_status};
 
-use crate::work::printed;
+use crate::work::{gates_of, printed};
 use crate::work_end::WorkEnd;
 use mm_table::Refusal;
-use mm_workers::{End, Outcome, SharedGate, run_threads, shared_gates};
+use mm_workers::{End, Outcome, SharedGate, run_threads};
 use mm_workload::{WorkFault, Workload};
 use std::alloc::Global;
 use std::io::{Eprint, Write};
@@ -108,17 +108,13 @@ fn run<R: Clock + Eprint + Threads + Wait + Sync>(
     alloc: Global,
     work: &Workload,
 ) -> Result<Outcome, Refusal> {
-    let clients = work.clients().len() as u32;
-    let workers = clients + work.transmitters();
-    let Ok(mut gates) = shared_gates(rt, alloc, clients, workers + 1) else {
-        return Err(Refusal::Memory);
-    };
+    let mut gates = gates_of(rt, alloc, work, 1)?;
     let Some(gate) = gates.pop() else {
         return Err(Refusal::Memory);
     };
     let watch = Watch {
         gate,
-        clients,
+        clients: work.clients().len(),
         is_over: AtomicBool::new(false),
     };
     thread::scope(
@@ -152,7 +148,7 @@ fn run_watched<'s, 'e, R: Clock + Eprint + Threads + Wait + Sync>(
 #[derive(Drop)]
 struct Watch<'a, R: Wait> {
     gate: SharedGate<'a, R>,
-    clients: u32,
+    clients: usize,
     is_over: AtomicBool,
 }
 

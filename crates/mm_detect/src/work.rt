@@ -1,14 +1,16 @@
 //! Runs of workloads, on threads.
-ghost use Rattle.std.specs.Prelude.{◌≡◌, ◌≢◌, ◌⊎◌, MatchResult};
-ghost use Rattle.mm_workload.specs.Json.{SaysNone};
+ghost use Rattle.std.specs.Prelude.{◌≡◌, ◌≢◌, ◌≤◌, ◌+◌, ◌⊎◌, Err, IfOk, IfErr, MatchResult, length, vec_len};
+ghost use Rattle.mm_rules.specs.Event.{Opens};
+ghost use Rattle.mm_workload.specs.Json.{Says, SaysNone};
 ghost use Rattle.mm_workload.specs.Storm.{storm_of};
+ghost use Rattle.mm_workload.specs.Work.{Work};
 ghost use Rattle.mm_workload.specs.declared.fault.WorkFault.TheVariants.{Memory};
 ghost use Rattle.mm_detect.specs.WorkEnd.{EndsAs, work_status};
 
 use crate::command_line::StormOptions;
 use crate::work_end::WorkEnd;
 use mm_table::Refusal;
-use mm_workers::{Outcome, run_threads, shared_gates};
+use mm_workers::{Outcome, SharedGate, run_threads, shared_gates};
 use mm_workload::{WorkFault, Workload, storm};
 use std::alloc::Global;
 use std::io::Write;
@@ -27,6 +29,7 @@ pub fn threads_on<R: Threads + Wait + Sync, W: Write>(
     writer: &mut W,
 ) -> u8
     ensures malformed { result ≡ 1 → SaysNone bytes.now }
+    ensures ran { (result ≡ 0) ⊎ (result ≡ 5) → (work : Work) × Says bytes.now work }
 {
     let end = end_of(rt, alloc, Workload::read(alloc, bytes));
     printed(&end, writer)
@@ -70,16 +73,37 @@ fn end_of<R: Threads + Wait + Sync>(
     }
 }
 
-/// Runs all workers of the workload.
+/// Runs all workers of the workload. Refused as the table is, or as `Memory` where a thread cannot be started.
 fn run<R: Threads + Wait + Sync>(
     rt: &R,
     alloc: Global,
     work: &Workload,
-) -> Result<Outcome, Refusal> {
+) -> Result<Outcome, Refusal>
+    ensures { IfErr result (λ refusal. Opens work.now.config (Err refusal)) }
+{
+    let gates = gates_of(rt, alloc, work, 0)?;
+    run_threads(rt, alloc, work, gates)
+}
+
+/// A gate for each worker of the workload, and so many more. The numbers of the table are tested first, so it is refused as `Memory` only
+/// where these are in range.
+pub fn gates_of<'a, R: Wait>(
+    rt: &'a R,
+    alloc: Global,
+    work: &Workload,
+    more: u32,
+) -> Result<Vec<SharedGate<'a, R>>, Refusal>
+    requires few { more ≤ 1 }
+    ensures each { IfOk result (λ gates. vec_len gates ≡ length work.now.clients + work.now.transmitters + more) }
+    ensures refused { IfErr result (λ refusal. Opens work.now.config (Err refusal)) }
+{
+    if !work.config().is_in_range() {
+        return Err(Refusal::BadConfig);
+    }
     let clients = work.clients().len() as u32;
-    let workers = clients + work.transmitters();
+    let workers = clients + work.transmitters() + more;
     match shared_gates(rt, alloc, clients, workers) {
-        Ok(gates) => run_threads(rt, alloc, work, gates),
+        Ok(gates) => Ok(gates),
         Err(_) => Err(Refusal::Memory),
     }
 }

@@ -43,51 +43,14 @@ fn all_have_ended(ends: &[End]) -> bool
         .all(|end| matches!(end, End::Finished | End::Aborted))
 }
 
-/// How many clients ended in each way.
-#[derive(Clone, Copy, Debug, PartialEq, Eq)]
-struct Counted {
-    finished: usize,
-    aborted: usize,
-    spent: usize,
-    refused: usize,
-}
-
-fn count_of(ends: &[End]) -> Counted {
-    Counted {
-        finished: ends.iter().filter(|end| **end == End::Finished).count(),
-        aborted: ends.iter().filter(|end| **end == End::Aborted).count(),
-        spent: ends.iter().filter(|end| **end == End::Spent).count(),
-        refused: ends
-            .iter()
-            .filter(|end| matches!(end, End::Refused(_)))
-            .count(),
-    }
-}
-
 impl Display for WorkEnd {
     fn fmt<W: fmt::Write>(&self, f: &mut Formatter<W>) -> fmt::Result {
-        let outcome = match self {
-            WorkEnd::Ran(outcome) => outcome,
-            WorkEnd::Malformed(_) => return f.write_str("malformed workload"),
+        match self {
+            WorkEnd::Ran(outcome) => write!(f, "{outcome}"),
+            WorkEnd::Malformed(_) => f.write_str("malformed workload"),
             WorkEnd::Refused(refusal) => {
-                return write!(f, "refused {} {}", refusal.number(), refusal.name());
+                write!(f, "refused {} {}", refusal.number(), refusal.name())
             }
-        };
-        let Counted {
-            finished,
-            aborted,
-            spent,
-            refused,
-        } = count_of(outcome.ends.as_slice());
-        write!(
-            f,
-            "clients finished {finished} aborted {aborted} spent {spent} refused {refused}\n"
-        )?;
-        let report = outcome.report;
-        write!(
-            f,
-            "table verdicts {} aborts {}",
-            report.verdicts, report.aborts
-        )
+        }
     }
 }

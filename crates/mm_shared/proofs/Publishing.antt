@@ -5,7 +5,7 @@ use Rattle.mm_label.specs.Label.{Label, label_le}
 use Rattle.mm_arena.specs.declared.key.Key.{Key}
 use Rattle.mm_lists.specs.Members.{Among}
 use Rattle.mm_board.specs.declared.views.Published.{Published}
-use Rattle.mm_board.specs.Views.{last_label, history, current_label, current_holder, with_label, with_holder, with_met, IsAnother}
+use Rattle.mm_board.specs.Views.{last_label, history, current_label, current_holder, with_label, with_holder, IsAnother}
 use Rattle.mm_board.proofs.Current.{current_label_stored, current_holder_stored}
 use Rattle.mm_board.proofs.Histories.{length-with_label, history_here, history_else}
 use Rattle.mm_board.proofs.Order.{label_le_same}
@@ -234,13 +234,6 @@ then_shown p m q r t n l stored histories holders may = (
   still_published m r t (histories ∙ ap (λ (q : Published). q.histories) stored) (holders ∙ ap (λ (q : Published). q.holders) stored) may.published,
   λ k. ((may.appends k).0, ap (λ hs. slice_index_or hs k []) (histories ∙ ap (λ (q : Published). q.histories) stored) ∙ (may.appends k).1),
 )
-
--- the same where it was shown between the store of the label and that of the holder
-pub shown_between : (p labelled shown r : Published) (t : TableState) (n : ℕ) (l : Label) (h : Option ℕ) (met : List Label) → labelled ≡ with_label p n l → shown ≡ with_met labelled met → r ≡ with_holder shown n h
-    → MayStore p (with_holder (with_label p n l) n h) t n l → IsPublished r t × AppendsOnly p r t
-shown_between p labelled shown r t n l h met first second third may =
-    let whole : r ≡ with_holder (with_met (with_label p n l) met) n h = third ∙ ap (λ q. with_holder q n h) (second ∙ ap (λ q. with_met q met) first) in
-    then_shown p _ _ r t n l refl (ap (λ (q : Published). q.histories) whole) (ap (λ (q : Published). q.holders) whole) may
 
 module _ (n : ℕ) (p : Published) (t : TableState) (l : Label) (h : Option ℕ) (left : IsToPublish (n ∷ []) p t) (shows : Shows t n l h) where
   appends_here : AppendsOnly p (with_label p n l) t

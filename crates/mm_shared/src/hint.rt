@@ -1,7 +1,6 @@
 //! What a look at the board suggests.
-ghost use Rattle.std.specs.Prelude.{◌≡◌, ◌<◌, ℕ, IfSome};
+ghost use Rattle.std.specs.Prelude.{◌≡◌, ◌<◌, IfSome};
 ghost use Rattle.mm_board.specs.Views.{IsAnother, NoneFalls};
-ghost use Rattle.mm_board.specs.Waiters.{AreWaiters};
 ghost use Rattle.mm_shared.specs.Hints.{IsHint};
 
 use mm_board::{Board, Name, Reader, Waiter};
@@ -54,26 +53,6 @@ fn hint_of<N: Name>(board: &Board<N>, reader: &mut Reader<N>, waiter: Waiter) ->
     None
 }
 
-/// The first hint of these.
-fn hint_among<N: Name>(
-    board: &Board<N>,
-    reader: &mut Reader<N>,
-    found: [Option<Waiter>; 4],
-) -> Option<Hint>
-    requires { AreWaiters board.now 0 found }
-    ensures hint { (from : ℕ) → AreWaiters board.now from found → IfSome result (λ hint. IsHint board.now from reader.new.labels hint) }
-    ensures rises { NoneFalls reader.old.labels reader.new.labels }
-{
-    for waiter in found {
-        let Some(waiter) = waiter else { continue };
-        let hint = hint_of(board, reader, waiter);
-        if hint.is_some() {
-            return hint;
-        }
-    }
-    None
-}
-
 /// The first hint of the processes from this one on, by rising number.
 pub(crate) fn first_hint<N: Name>(
     board: &Board<N>,
@@ -83,13 +62,15 @@ pub(crate) fn first_hint<N: Name>(
     ensures hint { IfSome result (λ hint. IsHint board.now from reader.new.labels hint) }
     ensures rises { NoneFalls reader.old.labels reader.new.labels }
 {
+    let processes = board.processes();
     let mut next = from;
-    while let Some(waiters) = reader.next_waiters(board, next) {
-        let hint = hint_among(board, reader, waiters.found);
+    while next < processes {
+        let waiter = reader.next_waiter(board, next)?;
+        let hint = hint_of(board, reader, waiter);
         if hint.is_some() {
             return hint;
         }
-        next = waiters.next;
+        next = waiter.process + 1;
     }
     None
 }

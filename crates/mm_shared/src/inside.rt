@@ -1,7 +1,7 @@
 //! The value behind the lock of a shared table.
 ghost use Rattle.std.specs.Prelude.{◌≡◌, ◌+◌, ◌≤◌, OnOk, OnErr, IfOk, Ok, vec_capacity};
 ghost use Rattle.mm_arena.specs.declared.key.Key.{Key};
-ghost use Rattle.mm_board.specs.Views.{label_at, NoneFalls};
+ghost use Rattle.mm_board.specs.Views.{current_labels, label_at, new_seen, NoneFalls};
 ghost use Rattle.mm_label.specs.Label.{Label};
 ghost use Rattle.mm_rules.specs.Event.{Step, Begin, Acquire, Release, Finish, Transmit, Detect, Abort, GiveUp, Settle, state_of, owner_told, tenant_of};
 ghost use Rattle.mm_rules.specs.Laws.{HasSoundVerdicts, verdicts_made};
@@ -68,7 +68,7 @@ impl<N: Name, A: Ledger, V: Ledger, B: Ledger> Inside<N, A, V, B> {
     /// `Table::begin`: starts a transaction in the first free process, and returns its key.
     ///
     /// Refused as `CountsExhausted` or `Full`. Constant time.
-    pub fn begin(&mut self, _board: &Board<N>, pass: &mut Pass<N, A, V, B>) -> Result<Key, Refusal>
+    pub fn begin(&mut self, board: &Board<N>, pass: &mut Pass<N, A, V, B>) -> Result<Key, Refusal>
         ensures step { Step Begin self.old.table result self.new.table }
         ensures first { OnOk result (pass.new.accepted ≡ pass.old.accepted + 1) }
         ensures second { pass.new.verdicts ≡ pass.old.verdicts }
@@ -85,7 +85,7 @@ impl<N: Name, A: Ledger, V: Ledger, B: Ledger> Inside<N, A, V, B> {
     }
 
     /// `Table::acquire`: grants a free resource; for an owned one the transaction waits, last in its queue, with a fresh label.
-    /// Where it waits, the board is shown to the pass once that label stands there, so the pass has seen it.
+    /// Where it waits, the board is then shown to the pass, which so has seen that label.
     ///
     /// Refused as `CountsExhausted`, `Stale`, `NoResource`, `Waiting`, `AlreadyOwns` or `LabelsExhausted`. Constant time.
     pub fn acquire(
@@ -101,6 +101,7 @@ impl<N: Name, A: Ledger, V: Ledger, B: Ledger> Inside<N, A, V, B> {
         ensures third { pass.new.aborts ≡ pass.old.aborts }
         ensures others { pass.new.parts ≡ pass.old.parts }
         ensures seen { (holder : Key) (label : Label) → result ≡ Ok (Acquired.Waits holder label) → label_at pass.new.seen.labels key.process ≡ label }
+        ensures shown { (holder : Key) (label : Label) → result ≡ Ok (Acquired.Waits holder label) → pass.new.seen ≡ new_seen (current_labels self.new.publisher) }
         ensures rises { NoneFalls pass.old.seen.labels pass.new.seen.labels }
         ensures appends { AppendsOnly self.old.publisher self.new.publisher self.new.table }
         ensures refused { OnErr result (pass.new ≡ pass.old) }
@@ -114,8 +115,8 @@ impl<N: Name, A: Ledger, V: Ledger, B: Ledger> Inside<N, A, V, B> {
         };
         let publisher = &mut self.publisher;
         publisher.store_label(board, key.process, label);
-        publisher.show(board, &mut pass.reader);
         publisher.store_holder(board, key.process, Some(holder.process));
+        publisher.show(board, &mut pass.reader);
         Ok(answer)
     }
 
@@ -186,6 +187,7 @@ impl<N: Name, A: Ledger, V: Ledger, B: Ledger> Inside<N, A, V, B> {
         ensures third { pass.new.aborts ≡ pass.old.aborts }
         ensures others { pass.new.parts ≡ pass.old.parts }
         ensures seen { (label : Label) → result ≡ Ok (Transmitted.Raised label) → label_at pass.new.seen.labels key.process ≡ label }
+        ensures shown { (label : Label) → result ≡ Ok (Transmitted.Raised label) → pass.new.seen ≡ new_seen (current_labels self.new.publisher) }
         ensures rises { NoneFalls pass.old.seen.labels pass.new.seen.labels }
         ensures appends { AppendsOnly self.old.publisher self.new.publisher self.new.table }
         ensures refused { OnErr result (pass.new ≡ pass.old) }
@@ -208,7 +210,7 @@ impl<N: Name, A: Ledger, V: Ledger, B: Ledger> Inside<N, A, V, B> {
     /// Refused as `CountsExhausted`, `Stale` or `NotWaiting`. Constant time.
     pub fn detect(
         &mut self,
-        _board: &Board<N>,
+        board: &Board<N>,
         pass: &mut Pass<N, A, V, B>,
         key: Key,
     ) -> Result<Detected, Refusal>
@@ -315,8 +317,14 @@ impl<N: Name, A: Ledger, V: Ledger, B: Ledger> Inside<N, A, V, B> {
     /// `Table::state`: what the transaction does, and its two labels.
     ///
     /// Refused as `Stale`. Changes nothing and is not counted. Constant time.
-    pub fn state(&self, key: Key) -> Result<State, Refusal>
-        ensures { result ≡ state_of self.now.table key }
+    pub fn state(
+        &mut self,
+        board: &Board<N>,
+        pass: &mut Pass<N, A, V, B>,
+        key: Key,
+    ) -> Result<State, Refusal>
+        ensures answer { result ≡ state_of self.old.table key }
+        ensures same { (self.new ≡ self.old) × (pass.new ≡ pass.old) }
     {
         self.table.state(key)
     }
@@ -324,8 +332,14 @@ impl<N: Name, A: Ledger, V: Ledger, B: Ledger> Inside<N, A, V, B> {
     /// `Table::owner`: the key that owns the resource; `None` where it is free.
     ///
     /// Refused as `NoResource`. Changes nothing and is not counted. Constant time.
-    pub fn owner(&self, resource: u32) -> Result<Option<Key>, Refusal>
-        ensures { result ≡ owner_told self.now.table resource }
+    pub fn owner(
+        &mut self,
+        board: &Board<N>,
+        pass: &mut Pass<N, A, V, B>,
+        resource: u32,
+    ) -> Result<Option<Key>, Refusal>
+        ensures answer { result ≡ owner_told self.old.table resource }
+        ensures same { (self.new ≡ self.old) × (pass.new ≡ pass.old) }
     {
         self.table.owner(resource)
     }
@@ -333,8 +347,14 @@ impl<N: Name, A: Ledger, V: Ledger, B: Ledger> Inside<N, A, V, B> {
     /// `Table::tenant`: the live key of the process; `None` where it has none, or is not one of the table's.
     ///
     /// Changes nothing and is not counted. Constant time.
-    pub fn tenant(&self, process: u32) -> Option<Key>
-        ensures { result ≡ tenant_of self.now.table process }
+    pub fn tenant(
+        &mut self,
+        board: &Board<N>,
+        pass: &mut Pass<N, A, V, B>,
+        process: u32,
+    ) -> Option<Key>
+        ensures answer { result ≡ tenant_of self.old.table process }
+        ensures same { (self.new ≡ self.old) × (pass.new ≡ pass.old) }
     {
         self.table.tenant(process)
     }

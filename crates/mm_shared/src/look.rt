@@ -29,8 +29,7 @@ impl<N: Name, A: Ledger, V: Ledger, B: Ledger> SharedTable<N, A, V, B> {
     /// seen above its own or is the same. `None` where there is none; so it is where `from` is not below the number of processes.
     ///
     /// The two labels are read one after the other, and the table may have changed since: a hint promises nothing of it.
-    /// `O(processes looked at)`: one load for each, and two more where it has a holder. Holders are loaded four at a time, so up to three
-    /// are looked at behind the one that is returned. It takes no lock and no memory.
+    /// `O(processes looked at)`: one load for each, and two more where it has a holder. It takes no lock and no memory.
     pub fn scan(&self, pass: &mut Pass<N, A, V, B>, from: u32) -> Option<Hint>
         ensures hint { IfSome result (λ hint. IsHint self.now from pass.new.seen.labels hint) }
         ensures rises { NoneFalls pass.old.seen.labels pass.new.seen.labels }

@@ -285,12 +285,12 @@ impl<N: Name, A: Ledger, V: Ledger, B: Ledger> SharedTable<N, A, V, B> {
     pub fn state<R: Wait>(
         &self,
         rt: &R,
-        _pass: &mut Pass<N, A, V, B>,
+        pass: &mut Pass<N, A, V, B>,
         key: Key,
     ) -> Result<State, Refusal>
-        ensures { _pass.new ≡ _pass.old }
+        ensures { pass.new ≡ pass.old }
     {
-        self.locked(rt).state(key)
+        self.locked(rt).state(&self.board, pass, key)
     }
 
     /// `Table::owner`: the key that owns the resource; `None` where it is free.
@@ -299,21 +299,21 @@ impl<N: Name, A: Ledger, V: Ledger, B: Ledger> SharedTable<N, A, V, B> {
     pub fn owner<R: Wait>(
         &self,
         rt: &R,
-        _pass: &mut Pass<N, A, V, B>,
+        pass: &mut Pass<N, A, V, B>,
         resource: u32,
     ) -> Result<Option<Key>, Refusal>
-        ensures { _pass.new ≡ _pass.old }
+        ensures { pass.new ≡ pass.old }
     {
-        self.locked(rt).owner(resource)
+        self.locked(rt).owner(&self.board, pass, resource)
     }
 
     /// `Table::tenant`: the live key of the process; `None` where it has none, or is not one of the table's.
     ///
     /// Changes nothing and is not counted. Constant time.
-    pub fn tenant<R: Wait>(&self, rt: &R, _pass: &mut Pass<N, A, V, B>, process: u32) -> Option<Key>
-        ensures { _pass.new ≡ _pass.old }
+    pub fn tenant<R: Wait>(&self, rt: &R, pass: &mut Pass<N, A, V, B>, process: u32) -> Option<Key>
+        ensures { pass.new ≡ pass.old }
     {
-        self.locked(rt).tenant(process)
+        self.locked(rt).tenant(&self.board, pass, process)
     }
 }
 

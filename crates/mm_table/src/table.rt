@@ -299,6 +299,13 @@ impl Table {
         self.records.holder_at(process)
     }
 
+    /// The numbers that the table was opened with. Constant time.
+    pub fn config(&self) -> Config
+        ensures { result ≡ self.now.config }
+    {
+        self.records.config()
+    }
+
     /// What was counted since the opening. Changes nothing and is not counted. Constant time.
     pub fn totals(&self) -> Totals
         ensures { result ≡ self.now.totals }

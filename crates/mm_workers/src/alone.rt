@@ -5,7 +5,7 @@ ghost use Rattle.mm_workers.specs.Hints.{IsHintOf};
 
 use crate::steps::Steps;
 use mm_shared::{
-    Acquired, Config, Detected, Hint, HintKind, Key, Refusal, Released, Settled, Transmitted,
+    Acquired, Detected, Hint, HintKind, Key, Refusal, Released, Settled, Transmitted,
 };
 use mm_table::Table;
 use std::cmp::Ordering;
@@ -55,7 +55,7 @@ impl Steps for Table {
     }
 
     fn scan(&mut self, from: u32) -> Option<Hint> {
-        for process in from..Config::MOST_PROCESSES {
+        for process in from..self.config().processes {
             if let Some(hint) = look(self, process) {
                 return Some(hint);
             }

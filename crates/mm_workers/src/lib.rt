@@ -7,6 +7,7 @@
 //! - `desk`: `Desk`, a shared table with a pass. `alone`: a `Table` that nobody shares.
 //! - `end`: how a client ends. `client`, `transmitter`: the rules by which they go.
 //! - `job`: what a worker's thread takes along, and what it gives back.
+//! - `outcome`: `Outcome`, what came of a workload, and the two lines that say so.
 //! - `run`: `run_threads`, all workers of a workload at once. `start` starts them, and `gather` joins their passes.
 #![tactic(auto)]
 
@@ -17,6 +18,7 @@ mod end;
 mod gate;
 mod gather;
 mod job;
+mod outcome;
 mod run;
 mod shared_gate;
 mod start;
@@ -28,7 +30,8 @@ pub use desk::Desk;
 pub use end::End;
 pub use gate::Gate;
 pub use mm_shared::{Hint, HintKind, Report};
-pub use run::{Outcome, run_threads};
+pub use outcome::Outcome;
+pub use run::run_threads;
 pub use shared_gate::{Counts, SharedGate, shared_gates};
 pub use steps::Steps;
 pub use transmitter::Transmitter;

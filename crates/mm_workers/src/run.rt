@@ -5,27 +5,18 @@ ghost use Rattle.mm_rules.specs.Event.{Opens};
 ghost use Rattle.mm_shared.specs.Shares.{all_parts};
 ghost use Rattle.mm_workers.specs.End.{is_aborted};
 
-use crate::end::End;
 use crate::gate::Gate;
 use crate::gather::{gather_clients, gather_transmitters};
 use crate::job::{Ended, Stopped};
+use crate::outcome::Outcome;
 use crate::start::{client_jobs, run_jobs, transmitter_jobs};
-use mm_shared::{Name, Pass, Prepared, Refusal, Report, SharedTable};
+use mm_shared::{Name, Pass, Prepared, Refusal, SharedTable};
 use mm_workload::Workload;
 use std::alloc::{AllocError, Global};
 use std::marker::Brand;
 use std::sync::Wait;
 use std::sync::ledger::Ledger;
 use std::thread::Threads;
-
-/// What came of a workload.
-#[derive(Debug, Drop)]
-pub struct Outcome {
-    /// How each client ended, in the order of the clients.
-    pub ends: Vec<End>,
-    /// What the table counted.
-    pub report: Report,
-}
 
 /// Runs all clients and transmitters of a workload at once, each on a thread of its own, on a table that is opened for them, and waits
 /// until all have ended. There is one gate for each worker: those of the clients, in their order, and then those of the transmitters.

@@ -4,7 +4,7 @@ ghost use Rattle.mm_rules.specs.TableState.{wait_of, holder_of, is_live, has_ver
 ghost use Rattle.mm_rules.specs.Event.{state_of, owner_told, tenant_of};
 
 use super::Records;
-use crate::{Key, Mode, Refusal, State, Totals};
+use crate::{Config, Key, Mode, Refusal, State, Totals};
 use mm_label::Label;
 
 impl Records {
@@ -45,6 +45,13 @@ impl Records {
         ensures idle { IfNone result (wait_of self.now process ≡ None) }
     {
         self.transactions.tenant(process)
+    }
+
+    /// The numbers that the table was opened with. Constant time.
+    pub fn config(&self) -> Config
+        ensures { result ≡ self.now.config }
+    {
+        self.config
     }
 
     /// What was counted. Constant time.

@@ -4,7 +4,7 @@ ghost use Rattle.mm_board.specs.Views.{processes_of, current_label};
 
 use crate::tests::label::label;
 use crate::tests::same::same;
-use mm_board::{Board, Name, Publisher, RawBoard, Reader, Waiter, Waiters};
+use mm_board::{Board, Name, Publisher, RawBoard, Reader, Waiter};
 use mm_label::{COUNTER_RANGE, Label};
 use std::marker::Brand;
 use std::process::Abort;
@@ -33,12 +33,8 @@ fn store_read_and_show<N: Name, R: Abort>(rt: &R, raw: RawBoard)
         process: 0,
         holder: 1,
     };
-    let waiters = Waiters {
-        found: [Some(waiter), None, None, None],
-        next: 1,
-    };
-    same(rt, reader.next_waiters(&board, 0), Some(waiters));
-    same(rt, reader.next_waiters(&board, 1), None);
+    same(rt, reader.next_waiter(&board, 0), Some(waiter));
+    same(rt, reader.next_waiter(&board, 1), None);
     publisher.store_holder(&board, 0, None);
     same(rt, reader.read_holder(&board, 0), None);
     let mut other = reader.split(&board);
@@ -101,16 +97,11 @@ fn find_from_each<N: Name, R: Abort>(
 ) {
     for from in 0..=board.processes() {
         let expected = (from <= waiter.process).then_some(waiter);
-        same(rt, first_from(board, reader, from), expected);
+        same(rt, reader.next_waiter(board, from), expected);
     }
 }
 
-fn first_from<N: Name>(board: &Board<N>, reader: &mut Reader<N>, from: u32) -> Option<Waiter> {
-    let [first, second, third, fourth] = reader.next_waiters(board, from)?.found;
-    first.or(second).or(third).or(fourth)
-}
-
-// A walk finds all that have a holder: several of the same four, and one at a time of the last that are no four.
+// A walk finds all that have a holder, one after another.
 #[test]
 fn finds_all_waiters(rt: HostRuntime) -> Result<(), Fail> {
     let raw = RawBoard::new(rt.alloc(), 11)?;
@@ -126,19 +117,10 @@ fn let_six_wait<N: Name, R: Abort>(rt: &R, raw: RawBoard)
     for process in [1, 2, 4, 7, 9, 10] {
         publisher.store_holder(&board, process, Some(0));
     }
-    for (from, found, next) in [
-        (0, [None, waits(1), waits(2), None], 4),
-        (4, [waits(4), None, None, waits(7)], 8),
-        (8, [waits(9), None, None, None], 10),
-        (10, [waits(10), None, None, None], 11),
-    ] {
-        same(
-            rt,
-            reader.next_waiters(&board, from),
-            Some(Waiters { found, next }),
-        );
+    for (from, found) in [(0, 1), (2, 2), (3, 4), (5, 7), (8, 9), (10, 10)] {
+        same(rt, reader.next_waiter(&board, from), waits(found));
     }
-    same(rt, reader.next_waiters(&board, 11), None);
+    same(rt, reader.next_waiter(&board, 11), None);
 }
 
 /// This process waits for process 0.

@@ -1,5 +1,6 @@
 //! Clients and transmitters at work.
 //!
+//! - `client`: one client, call by call. `script` has the calls with their answers, `scripted` the steps and the gate that give them.
 //! - `alone`: one client on a table that nobody shares.
 //! - `transmitters`: one transmitter, call by call.
 //! - `threads`: workloads by threads.
@@ -8,9 +9,12 @@
 //! - `open_gate`, `fake`, `recorder`: a gate and steps for workers that run one after another.
 
 mod alone;
+mod client;
 mod fake;
 mod open_gate;
 mod recorder;
+mod script;
+mod scripted;
 mod storms;
 mod threads;
 mod transmitters;

@@ -1,4 +1,4 @@
-use Rattle.std.proofs.Common.{◌≡◌, ◌+◌, length, IsTrue, sym, ap, ◌∙◌, subst, arith}
+use Rattle.std.proofs.Common.{IsTrue, sym, ap, ◌∙◌, subst, arith}
 use Rattle.mm_label.specs.Label.{Label, label_le, label_of}
 use Rattle.mm_board.specs.Views.{current_label}
 use Rattle.mm_board.specs.Steps.{SeatState, published_of}
@@ -14,13 +14,12 @@ store-requires g c =
     let known : IsTrue (label_le (current_label (published_of c.self.inside.seat.me.0) c.args.process) c.args.label) = rw c.self.view_is c.requires.rises in
     let above : IsTrue (label_le (current_label (published_of c.self.inside.seat.me.0) c.args.process) (label_of c.word-word.result))
     = subst (λ (l : Label). IsTrue (label_le (current_label (published_of c.self.inside.seat.me.0) c.args.process) l)) (sym c.word-word.ensures.given_back) known in
-    (i.0 ∙ sym b.0, omega arith, publisher_stores_label _ _ _ c.args.process _ i.1 (omega arith) _ (omega arith) above)
+    (i.0 ∙ sym b.0, omega arith, publisher_stores_label _ _ _ _ _ i.1 (omega arith) above)
 
 pub returns-clause-current : goal.returns-clause-current
 returns-clause-current g c =
     let i = c.self.invariant in
     let b = c.board.invariant in
-    let place : c.board.inside.processes + c.args.process ≡ length (published_of c.self.inside.seat.me.0).histories + c.args.process = omega arith in
-    ap (λ (m : SeatState). current_label (published_of m.0) c.args.process) (c.store.ensures.2 c.args.process place)
+    ap (λ (m : SeatState). current_label (published_of m.0) c.args.process) c.store.ensures.2
     ∙ current_label_stored (published_of c.self.inside.seat.me.0) c.args.process (label_of c.word-word.result) (omega arith)
     ∙ c.word-word.ensures.given_back

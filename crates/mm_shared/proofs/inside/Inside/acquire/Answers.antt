@@ -1,7 +1,9 @@
-use Rattle.std.proofs.Common.{Ok, ap, refl, ◌∙◌, arith}
+use Rattle.std.proofs.Common.{Ok, Some, ap, refl, ◌∙◌, arith}
+use Rattle.mm_board.specs.declared.views.Published.{Published}
+use Rattle.mm_board.specs.Views.{with_holder}
 use Rattle.mm_rules.specs.Event.{Acquire}
 use Rattle.mm_shared.proofs.Counted.{room_stays, refused_booked, accepted_booked}
-use Rattle.mm_shared.proofs.Publishing.{left_after, refused_published, shown_between, granted_published, wait_stored, waits_for_another}
+use Rattle.mm_shared.proofs.Publishing.{left_after, refused_published, then_shown, granted_published, wait_stored, waits_for_another}
 use Rattle.mm_shared.proofs.inside.Inside.acquire.Goals as goal
 
 pub invariant_of-self : goal.invariant_of-self
@@ -81,8 +83,9 @@ invariant_of-self-2 g c =
     let t = c.acquire.new.self in
     let said = c.acquire.result in
     let step = c.acquire.ensures in
+    let stored = c.store_holder.ensures.stored ∙ ap (λ (q : Published). with_holder q c.args.key.process (Some c.in-Waits.holder.process)) c.store_label.ensures.stored in
     let may = wait_stored old.publisher s t c.args.key c.keeps_laws.ensures old.published c.args.resource said step c.in-Waits.holder c.in-Waits.label (c.in_ok-answer.was ∙ ap Ok c.in-Waits.is) in
-    let shown = shown_between old.publisher _ _ _ t c.args.key.process _ _ _ c.store_label.ensures.stored c.show.ensures.met c.store_holder.ensures.stored may in
+    let shown = then_shown old.publisher _ _ c.show.new.self t c.args.key.process _ stored (ap (λ (q : Published). q.histories) c.show.ensures.met) (ap (λ (q : Published). q.holders) c.show.ensures.met) may in
     record {
       room = room_stays e s t said step _ _ refl old.room;
       published = shown.0;
@@ -97,6 +100,7 @@ returns-clause-appends g c =
     let t = c.acquire.new.self in
     let said = c.acquire.result in
     let step = c.acquire.ensures in
+    let stored = c.store_holder.ensures.stored ∙ ap (λ (q : Published). with_holder q c.args.key.process (Some c.in-Waits.holder.process)) c.store_label.ensures.stored in
     let may = wait_stored old.publisher s t c.args.key c.keeps_laws.ensures old.published c.args.resource said step c.in-Waits.holder c.in-Waits.label (c.in_ok-answer.was ∙ ap Ok c.in-Waits.is) in
-    let shown = shown_between old.publisher _ _ _ t c.args.key.process _ _ _ c.store_label.ensures.stored c.show.ensures.met c.store_holder.ensures.stored may in
+    let shown = then_shown old.publisher _ _ c.show.new.self t c.args.key.process _ stored (ap (λ (q : Published). q.histories) c.show.ensures.met) (ap (λ (q : Published). q.holders) c.show.ensures.met) may in
     shown.1
