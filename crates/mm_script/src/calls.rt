@@ -75,11 +75,19 @@ fn make_with_none(table: &mut Option<Table>, alloc: Global, call: Call) -> Reply
     };
     match open(alloc, header, config) {
         Ok(opened) => {
-            *table = Some(opened);
+            fill(table, opened);
             Reply::Opened
         }
         Err(refusal) => Reply::Refused(refusal),
     }
+}
+
+/// Puts a value where there is none.
+fn fill<T: Drop>(place: &mut Option<T>, value: T)
+    requires { place.old ≡ None }
+    ensures { place.new ≡ Some value }
+{
+    *place = Some(value);
 }
 
 /// Opens a table by a header. Refused as `BadConfig` before any request for memory where it has more processes than the header allows.

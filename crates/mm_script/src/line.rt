@@ -2,6 +2,7 @@
 ghost use Rattle.std.specs.Prelude.{◌≡◌};
 ghost use Rattle.std.specs.Str.Lines.{strip_carriage_return};
 ghost use Rattle.mm_script.specs.Line.{line_of, call_of, table_call, no_arguments, key_and_resource, key_alone, resource_alone};
+ghost use Rattle.mm_script.specs.private.Calls.{key_call, other_call};
 ghost use Rattle.mm_script.specs.private.WordsLeft.{words_left};
 
 use super::words::{Words, key, number32, number64};
@@ -77,6 +78,7 @@ fn without_carriage_return(line: &[u8]) -> &[u8]
     }
 }
 
+/// The call that a word makes with these arguments.
 fn call_of(word: &[u8], arguments: Words<'_>) -> Option<Call>
     ensures { result ≡ call_of word.now (words_left arguments.entry) }
 {
@@ -92,7 +94,16 @@ fn call_of(word: &[u8], arguments: Words<'_>) -> Option<Call>
     } else if word == b"release".as_slice() {
         let (key, resource) = key_and_resource(arguments)?;
         Some(Call::Release { key, resource })
-    } else if word == b"finish".as_slice() {
+    } else {
+        key_call(word, arguments)
+    }
+}
+
+/// A call with a key alone, or another one.
+fn key_call(word: &[u8], arguments: Words<'_>) -> Option<Call>
+    ensures { result ≡ key_call word.now (words_left arguments.entry) }
+{
+    if word == b"finish".as_slice() {
         key_alone(arguments).map(Call::Finish)
     } else if word == b"transmit".as_slice() {
         key_alone(arguments).map(Call::Transmit)
@@ -102,7 +113,16 @@ fn call_of(word: &[u8], arguments: Words<'_>) -> Option<Call>
         key_alone(arguments).map(Call::Abort)
     } else if word == b"give_up".as_slice() {
         key_alone(arguments).map(Call::GiveUp)
-    } else if word == b"settle".as_slice() {
+    } else {
+        other_call(word, arguments)
+    }
+}
+
+/// A settle, or a read of the table.
+fn other_call(word: &[u8], arguments: Words<'_>) -> Option<Call>
+    ensures { result ≡ other_call word.now (words_left arguments.entry) }
+{
+    if word == b"settle".as_slice() {
         no_arguments(Call::Settle, arguments)
     } else if word == b"state".as_slice() {
         key_alone(arguments).map(Call::State)

@@ -1,7 +1,7 @@
 //! Replies, and how they are printed.
 ghost use Rattle.std.specs.Prelude.{◌≡◌, ◌≤◌, ◌+◌, ◌++◌, length, codes, decimal};
 ghost use Rattle.arrayvec.specs.ArrayVec.{array_vec_len};
-ghost use Rattle.mm_script.specs.Reply.{reply_line, settled_text, state_text, totals_text, refusal_text};
+ghost use Rattle.mm_script.specs.Reply.{reply_line, reply_text, settled_text, state_text, totals_text, refusal_text};
 ghost use Rattle.mm_script.specs.private.Prints.{Prints};
 ghost use Rattle.mm_arena.specs.Key.{key_text};
 ghost use Rattle.mm_label.specs.Label.{label_text};
@@ -48,6 +48,14 @@ pub fn print_reply(replies: &mut Replies, reply: &Reply)
     requires { array_vec_len replies.old + LONGEST_REPLY ≤ REPLIES_LEN }
     ensures { Prints replies.old.items (reply_line reply.now) LONGEST_REPLY replies.new.items }
 {
+    print_without_newline(replies, reply);
+    replies.push(b'\n');
+}
+
+fn print_without_newline(replies: &mut Replies, reply: &Reply)
+    requires { array_vec_len replies.old + 127 ≤ REPLIES_LEN }
+    ensures { Prints replies.old.items (reply_text reply.now) 127 replies.new.items }
+{
     match reply {
         Reply::Malformed => print_text(replies, b"malformed"),
         Reply::NoTable => print_text(replies, b"no table"),
@@ -82,7 +90,6 @@ pub fn print_reply(replies: &mut Replies, reply: &Reply)
         Reply::Counted(totals) => print_totals(replies, totals),
         Reply::Refused(refusal) => print_refusal(replies, *refusal),
     }
-    replies.push(b'\n');
 }
 
 fn print_text(replies: &mut Replies, text: &[u8])

@@ -58,8 +58,7 @@ impl Table {
         ensures { Opens config result }
     {
         let records = Records::open(alloc, config)?;
-        let (changed, touched) = two_empty_sets(alloc, config.processes)?;
-        let (pending, checks) = two_empty_sets(alloc, config.processes)?;
+        let ((changed, touched), (pending, checks)) = four_empty_sets(alloc, config.processes)?;
         Ok(Table {
             records,
             changed,
@@ -329,6 +328,22 @@ impl Table {
     {
         let _ = &self.records;
     }
+}
+
+/// The empty set of processes, four times.
+fn four_empty_sets(
+    alloc: Global,
+    processes: u32,
+) -> Result<((Marks, Marks), (Marks, Marks)), Refusal>
+    ensures first { IfOk result (λ sets. sets.0.0 ≡ replicate processes false) }
+    ensures second { IfOk result (λ sets. sets.0.1 ≡ replicate processes false) }
+    ensures third { IfOk result (λ sets. sets.1.0 ≡ replicate processes false) }
+    ensures fourth { IfOk result (λ sets. sets.1.1 ≡ replicate processes false) }
+    ensures refusal { IfErr result (λ refusal. refusal ≡ Refusal.Memory) }
+{
+    let two = two_empty_sets(alloc, processes)?;
+    let others = two_empty_sets(alloc, processes)?;
+    Ok((two, others))
 }
 
 /// The empty set of processes, twice.

@@ -66,12 +66,52 @@ fn run_on<
     ensures aborts { IfOk result (λ outcome. count_by is_aborted outcome.ends.items ≡ outcome.report.aborts) }
 {
     let (table, mut pass) = prepared.open::<N, A, V, B>();
+    let ends = ends_of(rt, alloc, &table, &mut pass, workload, gates)?;
+    Ok(Outcome {
+        ends,
+        report: report_of(table, pass),
+    })
+}
+
+/// Runs them on this table, and lists how each client ended. All parts are back in the pass then.
+fn ends_of<
+    N: Name + Send + Sync,
+    A: Ledger + Send + Sync,
+    V: Ledger + Send + Sync,
+    B: Ledger + Send + Sync,
+    R: Threads + Wait + Sync,
+    G: Gate + Send + Drop,
+>(
+    rt: &R,
+    alloc: Global,
+    table: &SharedTable<N, A, V, B>,
+    pass: &mut Pass<N, A, V, B>,
+    workload: &Workload,
+    gates: Vec<G>,
+) -> Result<Vec<End>, AllocError>
+    requires gates { vec_len gates ≡ length workload.now.clients + workload.now.transmitters }
+    requires pass { (pass.old.parts ≡ all_parts) × (pass.old.aborts ≡ 0) }
+    ensures each { IfOk result (λ ends. vec_len ends ≡ length workload.now.clients) }
+    ensures parts { OnOk result (pass.new.parts ≡ all_parts) }
+    ensures aborts { IfOk result (λ ends. count_by is_aborted ends.items ≡ pass.new.aborts) }
+{
     let mut ends = Vec::with_capacity(alloc, workload.clients().len())?;
-    let (ended, stopped) = at_work(rt, alloc, &table, &mut pass, workload, gates)?;
-    gather_clients(&table, &mut pass, ended, &mut ends);
-    gather_transmitters(&table, &mut pass, stopped);
+    let (ended, stopped) = at_work(rt, alloc, table, pass, workload, gates)?;
+    gather_clients(table, pass, ended, &mut ends);
+    gather_transmitters(table, pass, stopped);
+    Ok(ends)
+}
+
+/// Closes the table with a pass of all parts.
+fn report_of<N: Name, A: Ledger, V: Ledger, B: Ledger>(
+    table: SharedTable<N, A, V, B>,
+    pass: Pass<N, A, V, B>,
+) -> Report
+    requires { pass.parts ≡ all_parts }
+    ensures { result.aborts ≡ pass.aborts }
+{
     match table.close(pass) {
-        Ok(report) => Ok(Outcome { ends, report }),
+        Ok(report) => report,
         Err(_) => unreachable!(),
     }
 }

@@ -108,23 +108,90 @@ fn run_in<
     ensures ended { IfOk result (λ done. vec_len done.0 ≡ vec_len clients.entry) }
     ensures stopped { IfOk result (λ done. vec_len done.1 ≡ vec_len transmitters.entry) }
 {
-    let (mut client_threads, mut ended) = two_lists(alloc, clients.len())?;
-    let (mut transmitter_threads, mut stopped) = two_lists(alloc, transmitters.len())?;
-    start_clients(scope, clients, &mut client_threads)?;
-    start_transmitters(scope, transmitters, &mut transmitter_threads)?;
-    join_all(rt, client_threads, &mut ended);
-    join_all(rt, transmitter_threads, &mut stopped);
-    Ok((ended, stopped))
+    let (mut client_crew, mut transmitter_crew) = two_crews(
+        alloc,
+        clients.len(),
+        transmitters.len(),
+    )?;
+    start_all(
+        scope,
+        clients,
+        transmitters,
+        &mut client_crew.threads,
+        &mut transmitter_crew.threads,
+    )?;
+    Ok((client_crew.join(rt), transmitter_crew.join(rt)))
 }
 
-/// Two empty lists with room for so many.
-fn two_lists<T: Drop, U: Drop>(alloc: Global, len: usize) -> Result<(Vec<T>, Vec<U>), AllocError>
-    ensures first { IfOk result (λ lists. (vec_len lists.0 ≡ 0) × (vec_capacity lists.0 ≡ len)) }
-    ensures second { IfOk result (λ lists. (vec_len lists.1 ≡ 0) × (vec_capacity lists.1 ≡ len)) }
+/// The threads of workers of one kind, and the list of what they give back.
+#[derive(Drop)]
+struct Crew<T: Drop> {
+    threads: Vec<JoinHandle<T>>,
+    came: Vec<T>,
+}
+
+impl<T: Drop> Crew<T> {
+    /// Nobody yet, with room for so many.
+    fn new(alloc: Global, len: usize) -> Result<Crew<T>, AllocError>
+        ensures threads { IfOk result (λ crew. (vec_len crew.threads ≡ 0) × (vec_capacity crew.threads ≡ len)) }
+        ensures came { IfOk result (λ crew. (vec_len crew.came ≡ 0) × (vec_capacity crew.came ≡ len)) }
+    {
+        let threads = Vec::with_capacity(alloc, len)?;
+        let came = Vec::with_capacity(alloc, len)?;
+        Ok(Crew { threads, came })
+    }
+
+    /// Waits for all threads. What they give back stands in their order.
+    fn join<R: Threads + Wait>(self, rt: &R) -> Vec<T>
+        requires room { (vec_len self.came ≡ 0) × (vec_capacity self.came ≡ vec_len self.threads) }
+        ensures each { vec_len result ≡ vec_len self.threads }
+    {
+        let Crew { threads, mut came } = self;
+        join_all(rt, threads, &mut came);
+        came
+    }
+}
+
+/// A crew with room for so many clients, and one with room for so many transmitters.
+fn two_crews<T: Drop, U: Drop>(
+    alloc: Global,
+    clients: usize,
+    transmitters: usize,
+) -> Result<(Crew<T>, Crew<U>), AllocError>
+    ensures client_threads { IfOk result (λ crews. (vec_len crews.0.threads ≡ 0) × (vec_capacity crews.0.threads ≡ clients)) }
+    ensures clients { IfOk result (λ crews. (vec_len crews.0.came ≡ 0) × (vec_capacity crews.0.came ≡ clients)) }
+    ensures transmitter_threads { IfOk result (λ crews. (vec_len crews.1.threads ≡ 0) × (vec_capacity crews.1.threads ≡ transmitters)) }
+    ensures transmitters { IfOk result (λ crews. (vec_len crews.1.came ≡ 0) × (vec_capacity crews.1.came ≡ transmitters)) }
 {
-    let first = Vec::with_capacity(alloc, len)?;
-    let second = Vec::with_capacity(alloc, len)?;
-    Ok((first, second))
+    let client_crew = Crew::new(alloc, clients)?;
+    let transmitter_crew = Crew::new(alloc, transmitters)?;
+    Ok((client_crew, transmitter_crew))
+}
+
+/// Starts a thread for each client and then for each transmitter.
+fn start_all<
+    's,
+    'e,
+    N: Name + Send + Sync + 'e,
+    A: Ledger + Send + Sync + 'e,
+    V: Ledger + Send + Sync + 'e,
+    B: Ledger + Send + Sync + 'e,
+    R: Threads + Wait + Sync,
+    G: Gate + Send + Drop + 'e,
+>(
+    scope: &'s Scope<'s, &'e ()>,
+    clients: Vec<ClientJob<'e, N, A, V, B, R, G>>,
+    transmitters: Vec<TransmitterJob<'e, N, A, V, B, R, G>>,
+    client_threads: &mut Vec<JoinHandle<Ended<N, A, V, B>>>,
+    transmitter_threads: &mut Vec<JoinHandle<Stopped<N, A, V, B>>>,
+) -> Result<(), AllocError>
+    requires clients { (vec_len client_threads.old ≡ 0) × (vec_capacity client_threads.old ≡ vec_len clients) }
+    requires transmitters { (vec_len transmitter_threads.old ≡ 0) × (vec_capacity transmitter_threads.old ≡ vec_len transmitters) }
+    ensures clients { IfOk result (λ _. vec_len client_threads.new ≡ vec_len clients.entry) }
+    ensures transmitters { IfOk result (λ _. vec_len transmitter_threads.new ≡ vec_len transmitters.entry) }
+{
+    start_clients(scope, clients, client_threads)?;
+    start_transmitters(scope, transmitters, transmitter_threads)
 }
 
 /// Starts a thread for each client.

@@ -1,9 +1,9 @@
 use Rattle.std.proofs.Common.{refl, subst, sym, arith}
 use Rattle.mm_board.specs.declared.views.Published.{Published}
 use Rattle.mm_rules.specs.Event.{GiveUp}
-use Rattle.mm_shared.specs.Published.{IsPublished}
+use Rattle.mm_shared.specs.Published.{AppendsOnly, IsPublished}
 use Rattle.mm_shared.proofs.Counted.{room_stays, refused_booked, accepted_booked}
-use Rattle.mm_shared.proofs.Publishing.{given_up_within, given_up_stored, refused_published}
+use Rattle.mm_shared.proofs.Publishing.{appends_none, given_up_within, given_up_stored, refused_published}
 use Rattle.mm_shared.proofs.inside.Inside.give_up.Goals as goal
 
 pub invariant_of-self : goal.invariant_of-self
@@ -38,3 +38,9 @@ invariant_of-self-2 g c =
       published = subst (λ (p : Published). IsPublished p t) (sym c.store_holder.ensures.stored) (given_up_stored old.publisher s t c.args.key c.keeps_laws.ensures old.published said step _ c.in_ok-give_up.was);
       booked = accepted_booked e s t said step _ _ _ _ _ _ _ c.in_ok-give_up.was old.booked c.count_accepted.ensures.book (omega arith) (omega arith);
     }
+
+pub returns-clause-appends : goal.returns-clause-appends
+returns-clause-appends g c =
+    let old = c.args.self.now in
+    let t = c.give_up.new.self in
+    subst (λ (p : Published). AppendsOnly old.publisher p t) (sym c.store_holder.ensures.stored) (appends_none old.publisher t)

@@ -17,8 +17,8 @@ invariant_of-result c =
       changed = subst (λ (s : TableState). AreChanged s c.in_ok-changed.changed) (sym opened.1) (opened_changed c.args.config c.in_ok-changed.changed);
       sized = record {
         changed_sized = sized c.in_ok-changed.changed c.in_ok-changed.ensures.first;
-        pending_sized = sized c.in_ok-pending.pending c.in_ok-pending.ensures.first;
-        checks_sized = sized c.in_ok-pending.checks c.in_ok-pending.ensures.second;
+        pending_sized = sized c.in_ok-changed.pending c.in_ok-changed.ensures.third;
+        checks_sized = sized c.in_ok-changed.checks c.in_ok-changed.ensures.fourth;
       };
       touched_sized = sized c.in_ok-changed.touched c.in_ok-changed.ensures.second;
       touched_none = emptied c.in_ok-changed.touched processes c.in_ok-changed.ensures.second;
