@@ -1,3 +1,4 @@
 pub mod Woken
 pub mod AtRest
+pub mod AtLimit
 pub mod Shown

@@ -1,14 +1,20 @@
 //! Examples of callers of a table and of a board, with their proofs.
 //!
+//! - `counts`: what becomes of a table whose counts come to their limit.
 //! - `rest`: settles a table, and cites the law of what it is then.
 //! - `wake`: aborts a transaction, and lists whom to wake.
 //! - `watch`: opens a board, stores labels, and returns what two readers see.
 #![tactic(auto)]
 
+mod counts;
 mod rest;
 mod wake;
 mod watch;
 
+pub use counts::{
+    last_event_is_counted, last_verdict_is_counted, refused_at_limit, refused_only_at_limit,
+    settle_passes_limit,
+};
 pub use rest::settle_to_rest;
 pub use wake::abort_and_wake;
 pub use watch::{Watched, watch_labels};

@@ -55,6 +55,3 @@ impl Owner {
         })
     }
 }
-
-#[cfg(test)]
-mod tests;

@@ -22,8 +22,6 @@ mod give_up;
 mod hand_over;
 mod open;
 mod read;
-#[cfg(test)]
-mod recount;
 mod release;
 mod settle;
 mod sweep;

@@ -367,6 +367,3 @@ fn empty_set(alloc: Global, processes: u32) -> Result<Marks, Refusal>
     };
     Ok(set)
 }
-
-#[cfg(test)]
-mod tests;
