@@ -1,5 +1,5 @@
 -- The status after a workload.
-use Rattle.std.specs.Prelude.{◌≡◌, if◌then◌else◌, ℕ, Bool, true, false, Result, Ok, Err, length, vec_len, ⊥}
+use Rattle.std.specs.Prelude.{◌≡◌, if◌then◌else◌, ℕ, Bool, true, false, Result, Ok, Err, length, vec_len}
 use Rattle.std.specs.List.{list_all}
 use Rattle.mm_rules.specs.Event.{Opens}
 use Rattle.mm_rules.specs.declared.refusal.Refusal.TheVariants as refusals

@@ -74,12 +74,9 @@ fn end_of<R: Threads + Wait + Sync>(
 }
 
 /// Runs all workers of the workload. Refused as the table is, or as `Memory` where a thread cannot be started.
-fn run<R: Threads + Wait + Sync>(
-    rt: &R,
-    alloc: Global,
-    work: &Workload,
-) -> Result<Outcome, Refusal>
-    ensures { IfErr result (λ refusal. Opens work.now.config (Err refusal)) }
+fn run<R: Threads + Wait + Sync>(rt: &R, alloc: Global, work: &Workload) -> Result<Outcome, Refusal>
+    ensures each { IfOk result (λ outcome. vec_len outcome.ends ≡ length work.now.clients) }
+    ensures refused { IfErr result (λ refusal. Opens work.now.config (Err refusal)) }
 {
     let gates = gates_of(rt, alloc, work, 0)?;
     run_threads(rt, alloc, work, gates)

@@ -4,9 +4,7 @@ ghost use Rattle.mm_board.specs.Views.{new_seen};
 ghost use Rattle.mm_workers.specs.Hints.{IsHintOf};
 
 use crate::steps::Steps;
-use mm_shared::{
-    Acquired, Detected, Hint, HintKind, Key, Refusal, Released, Settled, Transmitted,
-};
+use mm_shared::{Acquired, Detected, Hint, HintKind, Key, Refusal, Released, Settled, Transmitted};
 use mm_table::Table;
 use std::cmp::Ordering;
 

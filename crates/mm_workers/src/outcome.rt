@@ -49,7 +49,9 @@ impl Display for Outcome {
             "clients finished {finished} aborted {aborted} spent {spent} refused {refused}\n"
         )?;
         let Report {
-            verdicts, aborts, ..
+            verdicts,
+            aborts,
+            ..
         } = self.report;
         write!(f, "table verdicts {verdicts} aborts {aborts}")
     }

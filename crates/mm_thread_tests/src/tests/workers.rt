@@ -2,6 +2,7 @@
 //!
 //! - `client`: one client, call by call. `script` has the calls with their answers, `scripted` the steps and the gate that give them.
 //! - `alone`: one client on a table that nobody shares.
+//! - `gates`: what workers ask of their gates, and what a run reports. `lines`: the two lines that say what came of a workload.
 //! - `transmitters`: one transmitter, call by call.
 //! - `threads`: workloads by threads.
 //! - `storms`: workloads from seeds by threads.
@@ -11,6 +12,8 @@
 mod alone;
 mod client;
 mod fake;
+mod gates;
+mod lines;
 mod open_gate;
 mod recorder;
 mod script;

@@ -25,7 +25,7 @@ fn printed<E: Error>(alloc: Global, error: &E) -> Result<String, AllocError> {
     format!(in alloc; "{error}")
 }
 
-/// Ends the test unless a table is not closed without a pass that made one accepted call, and is closed with it.
+/// Ends the test unless a table is not closed without a pass that made one accepted call, goes on after that, and is closed with it.
 fn keep_a_pass<
     N: Name + Drop,
     A: Ledger + Drop,
@@ -53,8 +53,9 @@ fn keep_a_pass<
             } = refused;
             same(rt, refusal, Refusal::SharesMissing);
             same(rt, pass.parts(), 1_047_576);
+            assert!(rt; table.begin(rt, &mut kept).is_ok());
             kept.join(&table, pass);
-            same(rt, table.close(kept).ok(), Some(accepted(1)));
+            same(rt, table.close(kept).ok(), Some(accepted(2)));
         }
     }
     Ok(())

@@ -16,9 +16,9 @@ use std::thread::{Threads, map_vec};
 /// How many threads there are. Each two of them make deadlocks with each other.
 const THREADS: u32 = 8;
 
-/// How many transactions each thread makes. Each one meets one of its partner's in a deadlock, which one of the two breaks. Each makes at
-/// least four calls that are accepted, so together they make a million.
-const ROUNDS: u64 = 31_250;
+/// How many transactions each thread makes. Each one meets one of its partner's in a deadlock, which one of the two breaks, and makes at
+/// least four calls that are accepted. That takes some seconds on one processor that has twice as much else to do.
+const ROUNDS: u64 = 4_000;
 
 fn eight_threads<
     N: Name + Send + Sync,
@@ -50,7 +50,7 @@ fn eight_threads<
         worker.join_to(&table, &mut pass, &mut made);
     }
     let deadlocks = u64::from(THREADS) / 2 * ROUNDS;
-    assert!(rt; made.accepted >= 1_000_000);
+    assert!(rt; made.accepted >= 4 * u64::from(THREADS) * ROUNDS);
     same(rt, (made.verdicts, made.aborts), (deadlocks, deadlocks));
     same(rt, table.close(pass).ok(), Some(made));
     Ok(())
