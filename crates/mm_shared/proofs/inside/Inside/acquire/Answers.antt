@@ -1,7 +1,9 @@
 use Rattle.std.proofs.Common.{Ok, ap, refl, ◌∙◌, arith}
 use Rattle.mm_rules.specs.Event.{Acquire}
+use Rattle.mm_shared.specs.Shares.{Shares}
 use Rattle.mm_shared.proofs.Counted.{room_stays, refused_booked, accepted_booked}
 use Rattle.mm_shared.proofs.Publishing.{left_after, refused_published, shown_between, granted_published, wait_stored, waits_for_another}
+use Rattle.mm_shared.proofs.Rising.{none_falls}
 use Rattle.mm_shared.proofs.inside.Inside.acquire.Goals as goal
 
 pub invariant_of-self : goal.invariant_of-self
@@ -100,3 +102,10 @@ returns-clause-appends g c =
     let may = wait_stored old.publisher s t c.args.key c.keeps_laws.ensures old.published c.args.resource said step c.in-Waits.holder c.in-Waits.label (c.in_ok-answer.was ∙ ap Ok c.in-Waits.is) in
     let shown = shown_between old.publisher _ _ _ t c.args.key.process _ _ _ c.store_label.ensures.stored c.show.ensures.met c.store_holder.ensures.stored may in
     shown.1
+
+pub returns-in_err-answer-clause-rises : goal.returns-in_err-answer-clause-rises
+returns-in_err-answer-clause-rises g c = none_falls c.args.pass.now.seen.labels c.args.pass.now.seen.labels refl
+
+pub returns-in_default-clause-rises : goal.returns-in_default-clause-rises
+returns-in_default-clause-rises g c =
+    none_falls c.args.pass.now.seen.labels c.count_accepted.new.self.seen.labels (ap (λ (s : Shares). s.seen.labels) c.count_accepted.ensures.share)
