@@ -32,12 +32,11 @@ use std::rt::Runtime;
 use std::sync::Wait;
 use std::thread::Threads;
 use verbose::run_verbose;
-use work::{WRITE_FAULT, generated, printed, storm_on, threads_on};
-use work_end::WorkEnd;
+use work::{WRITE_FAULT, generated, memory_refused, storm_on, threads_on};
 
 fn main(rt: HostRuntime) -> ExitCode {
     let (mut input, mut output) = (rt.stdin(), rt.stdout());
-    let ending = answer(&rt, rt.alloc(), asked(&rt), &mut input, &mut output);
+    let ending = answer(&rt, rt.alloc(), &asked(&rt), &mut input, &mut output);
     if let Some(fault) = fault(&ending) {
         // Where standard error cannot be written either, the status alone reports it.
         let _ = eprintln!(rt; "{fault}");
@@ -49,19 +48,19 @@ fn main(rt: HostRuntime) -> ExitCode {
 fn answer<R: Runtime + Threads + Wait + Sync, I: Read, W: Write>(
     rt: &R,
     alloc: Global,
-    request: Request,
+    request: &Request,
     input: &mut I,
     output: &mut W,
 ) -> Ending
-    ensures { IsEndOf request result }
+    ensures { IsEndOf request.now result }
 {
     match request {
         Request::Script => Ending::Ran(run_script(alloc, input, output)),
         Request::Threads { file, verbose } => {
-            Ending::Worked(threads(rt, alloc, file.as_str(), verbose, output))
+            Ending::Worked(threads(rt, alloc, file.as_str(), *verbose, output))
         }
         Request::Storm { options, verbose } => {
-            Ending::Worked(stormed(rt, alloc, options, verbose, output))
+            Ending::Worked(stormed(rt, alloc, *options, *verbose, output))
         }
         Request::Help(text) => {
             Ending::Helped(print!(rt; "{text}").map_err(|_| ScriptFault::Write))
@@ -85,19 +84,27 @@ fn threads<R: Runtime + Threads + Wait + Sync, W: Write>(
     verbose: bool,
     output: &mut W,
 ) -> Result<u8, ScriptFault> {
-    let bytes = match taken_from(rt, alloc, file) {
-        Taken::Bytes(bytes) => bytes,
-        Taken::Memory => {
-            return written(printed(&WorkEnd::Refused(Refusal::Memory), output));
-        }
+    match taken_from(rt, alloc, file) {
+        Taken::Bytes(bytes) => said(rt, alloc, file, bytes.as_slice(), verbose, output),
+        Taken::Memory => written(memory_refused(output)),
         Taken::Fault(error) => {
             if verbose {
                 let _ = eprintln!(rt; "{file}: {error}");
             }
-            return Err(ScriptFault::Read);
+            Err(ScriptFault::Read)
         }
-    };
-    let bytes = bytes.as_slice();
+    }
+}
+
+/// Runs the workload that these bytes of a file say, and returns the status.
+fn said<R: Runtime + Threads + Wait + Sync, W: Write>(
+    rt: &R,
+    alloc: Global,
+    file: &str,
+    bytes: &[u8],
+    verbose: bool,
+    output: &mut W,
+) -> Result<u8, ScriptFault> {
     written(if verbose {
         run_verbose(rt, alloc, file, Workload::read(alloc, bytes), output)
     } else {

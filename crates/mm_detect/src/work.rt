@@ -114,3 +114,8 @@ pub fn printed<W: Write>(end: &WorkEnd, writer: &mut W) -> u8
     }
     end.status()
 }
+
+/// Prints that memory was refused, and returns the status.
+pub fn memory_refused<W: Write>(writer: &mut W) -> u8 {
+    printed(&WorkEnd::Refused(Refusal::Memory), writer)
+}

@@ -1,3 +1,4 @@
 pub mod Counted
 pub mod Publishing
 pub mod Opening
+pub mod Rising

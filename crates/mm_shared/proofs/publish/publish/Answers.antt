@@ -1,11 +1,19 @@
 use Rattle.std.proofs.Common.{◌≡◌, ◌<◌, ℕ, Bool, false, Option, Some, None, is_some, IfNone, length, slice_index, subst, sym, ap, ◌∙◌, arith}
+use Rattle.std.proofs.lemmas.List.{drop_all}
 use Rattle.mm_board.specs.declared.views.Published.{Published}
 use Rattle.mm_board.specs.Views.{with_label, with_holder}
 use Rattle.mm_shared.specs.Published.{AppendsOnly}
-use Rattle.mm_shared.specs.private.Publishing.{IdleAreShown}
-use Rattle.mm_shared.proofs.Publishing.{listed_within, both_stored_at, holder_stored_at, appends_at, idle_at}
+use Rattle.mm_shared.specs.private.Publishing.{IdleAreShown, IsToPublish}
+use Rattle.mm_shared.proofs.Publishing.{all_stored, appends_none, listed_within, both_stored_at, holder_stored_at, appends_at, idle_at}
 use Rattle.mm_shared.proofs.publish.publish.Goals.{then-is_some, else-is_some}
 use Rattle.mm_shared.proofs.publish.publish.Goals as goal
+
+pub loop-process-init : goal.loop-process-init
+loop-process-init g c = record {
+  left = c.requires.left;
+  idle = c.requires.idle;
+  appends = appends_none c.args.publisher.now c.args.table.now;
+}
 
 pub public_label-requires : goal.public_label-requires
 public_label-requires g c = listed_within c.loop-process.process-index c.args.processes.now c.loop-process.publisher c.args.table.now c.loop-process-test.true c.loop-process.invariant.left
@@ -59,3 +67,9 @@ loop-process-preserved g c =
             appends = subst (λ (p : Published). AppendsOnly first p s) (sym put) kept.appends;
           }
     ]
+
+pub returns-clause-published : goal.returns-clause-published
+returns-clause-published g c =
+    let s = c.args.table.now in
+    let now = c.loop-process.publisher in
+    all_stored now s (subst (λ ns. IsToPublish ns now s) (drop_all c.loop-process.process-index c.args.processes.now c.loop-process-test.false) c.loop-process.invariant.left)

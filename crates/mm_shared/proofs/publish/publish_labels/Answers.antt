@@ -1,8 +1,16 @@
 use Rattle.std.proofs.Common.{arith, slice_index, subst, sym}
+use Rattle.std.proofs.lemmas.List.{drop_all}
 use Rattle.mm_board.specs.declared.views.Published.{Published}
-use Rattle.mm_shared.specs.private.Publishing.{HoldersAreShown}
-use Rattle.mm_shared.proofs.Publishing.{listed_within, label_stored_at, appends_at}
+use Rattle.mm_shared.specs.private.Publishing.{HoldersAreShown, IsToPublish}
+use Rattle.mm_shared.proofs.Publishing.{all_stored, appends_none, listed_within, label_stored_at, appends_at}
 use Rattle.mm_shared.proofs.publish.publish_labels.Goals as goal
+
+pub loop-process-init : goal.loop-process-init
+loop-process-init g c = record {
+  left = c.requires.labels;
+  holders = c.requires.holders;
+  appends = appends_none c.args.publisher.now c.args.table.now;
+}
 
 pub public_label-requires : goal.public_label-requires
 public_label-requires g c = listed_within c.loop-process.process-index c.args.processes.now c.loop-process.publisher c.args.table.now c.loop-process-test.true c.loop-process.invariant.left
@@ -25,3 +33,9 @@ loop-process-preserved g c =
       holders = subst (λ (p : Published). HoldersAreShown p s) (sym c.store_label.ensures.stored) kept.holders;
       appends = appends_at c.args.publisher.now now c.store_label.new.self s (slice_index ns i) c.public_label.result kept.appends (omega (arith, within, kept.left.histories)) c.store_label.ensures.stored c.public_label.ensures;
     }
+
+pub returns-clause-published : goal.returns-clause-published
+returns-clause-published g c =
+    let s = c.args.table.now in
+    let now = c.loop-process.publisher in
+    all_stored now s (subst (λ ns. IsToPublish ns now s) (drop_all c.loop-process.process-index c.args.processes.now c.loop-process-test.false) c.loop-process.invariant.left)

@@ -2,8 +2,10 @@ use Rattle.std.proofs.Common.{Ok, Some, ap, refl, ◌∙◌, arith}
 use Rattle.mm_board.specs.declared.views.Published.{Published}
 use Rattle.mm_board.specs.Views.{with_holder}
 use Rattle.mm_rules.specs.Event.{Acquire}
+use Rattle.mm_shared.specs.Shares.{Shares}
 use Rattle.mm_shared.proofs.Counted.{room_stays, refused_booked, accepted_booked}
 use Rattle.mm_shared.proofs.Publishing.{left_after, refused_published, then_shown, granted_published, wait_stored, waits_for_another}
+use Rattle.mm_shared.proofs.Rising.{none_falls}
 use Rattle.mm_shared.proofs.inside.Inside.acquire.Goals as goal
 
 pub invariant_of-self : goal.invariant_of-self
@@ -104,3 +106,10 @@ returns-clause-appends g c =
     let may = wait_stored old.publisher s t c.args.key c.keeps_laws.ensures old.published c.args.resource said step c.in-Waits.holder c.in-Waits.label (c.in_ok-answer.was ∙ ap Ok c.in-Waits.is) in
     let shown = then_shown old.publisher _ _ c.show.new.self t c.args.key.process _ stored (ap (λ (q : Published). q.histories) c.show.ensures.met) (ap (λ (q : Published). q.holders) c.show.ensures.met) may in
     shown.1
+
+pub returns-in_err-answer-clause-rises : goal.returns-in_err-answer-clause-rises
+returns-in_err-answer-clause-rises g c = none_falls c.args.pass.now.seen.labels c.args.pass.now.seen.labels refl
+
+pub returns-in_default-clause-rises : goal.returns-in_default-clause-rises
+returns-in_default-clause-rises g c =
+    none_falls c.args.pass.now.seen.labels c.count_accepted.new.self.seen.labels (ap (λ (s : Shares). s.seen.labels) c.count_accepted.ensures.share)

@@ -1,5 +1,7 @@
-use Rattle.std.proofs.Common.{refl, arith, rules}
-use Rattle.mm_rules.specs.Event.{Detect}
+use Rattle.std.proofs.Common.{refl, arith, rules, Result, subst}
+use Rattle.mm_rules.specs.declared.refusal.Refusal.{Refusal}
+use Rattle.mm_rules.specs.declared.reply.Detected.{Detected}
+use Rattle.mm_rules.specs.Event.{Detect, Step}
 use Rattle.mm_shared.proofs.Counted.{room_stays, refused_booked, accepted_booked}
 use Rattle.mm_shared.proofs.Publishing.{all_stored, left_after, refused_published}
 use Rattle.mm_shared.proofs.inside.Inside.detect.Goals.{in-Deadlock, in-Standing, in-Clear}
@@ -38,3 +40,7 @@ invariant_of-self-2 g c =
         | in-Clear w ↦ search (rules, made, w.in-Clear.is, w.new_verdicts-is)
       ]) (omega arith);
     }
+
+pub returns-clause-step : goal.returns-clause-step
+returns-clause-step g c =
+    subst (λ (said : Result Detected Refusal). Step (Detect c.args.key) c.args.self.now.table said c.detect.new.self) c.in_ok-answer.was c.detect.ensures

@@ -1,5 +1,6 @@
-use Rattle.std.proofs.Common.{List, ℕ, sym, subst, ◌∙◌, arith}
-use Rattle.mm_rules.specs.Event.{Finish}
+use Rattle.std.proofs.Common.{List, ℕ, sym, subst, ◌∙◌, arith, Result}
+use Rattle.mm_rules.specs.declared.refusal.Refusal.{Refusal}
+use Rattle.mm_rules.specs.Event.{Finish, Step}
 use Rattle.mm_shared.specs.private.Publishing.{IsToPublish}
 use Rattle.mm_shared.proofs.Counted.{room_stays, refused_booked, accepted_booked}
 use Rattle.mm_shared.proofs.Publishing.{left_after, known, idle_stand, refused_published}
@@ -45,3 +46,10 @@ invariant_of-self-2 g c =
       published = c.publish.ensures.published;
       booked = accepted_booked e s t said step _ _ _ _ _ _ _ c.in_ok-finish_waking.was old.booked c.count_accepted.ensures.book (omega arith) (omega arith);
     }
+
+pub returns-clause-step : goal.returns-clause-step
+returns-clause-step g c =
+    subst (λ (said : Result (Unit {0}) Refusal). Step (Finish c.args.key) c.args.self.now.table said c.finish_waking.new.self) c.in_ok-finish_waking.was c.finish_waking.ensures.step
+
+pub returns-clause-appends : goal.returns-clause-appends
+returns-clause-appends g c = c.publish.ensures.appends

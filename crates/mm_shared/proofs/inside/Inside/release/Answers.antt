@@ -1,5 +1,7 @@
-use Rattle.std.proofs.Common.{List, ℕ, sym, subst, ◌∙◌, arith}
-use Rattle.mm_rules.specs.Event.{Release}
+use Rattle.std.proofs.Common.{List, ℕ, sym, subst, ◌∙◌, arith, Result}
+use Rattle.mm_rules.specs.declared.refusal.Refusal.{Refusal}
+use Rattle.mm_rules.specs.declared.reply.Released.{Released}
+use Rattle.mm_rules.specs.Event.{Release, Step}
 use Rattle.mm_shared.specs.private.Publishing.{IsToPublish}
 use Rattle.mm_shared.proofs.Counted.{room_stays, refused_booked, accepted_booked}
 use Rattle.mm_shared.proofs.Publishing.{left_after, known, idle_stand, refused_published}
@@ -45,3 +47,10 @@ invariant_of-self-2 g c =
       published = c.publish.ensures.published;
       booked = accepted_booked e s t said step _ _ _ _ _ _ _ c.in_ok-answer.was old.booked c.count_accepted.ensures.book (omega arith) (omega arith);
     }
+
+pub returns-clause-step : goal.returns-clause-step
+returns-clause-step g c =
+    subst (λ (said : Result Released Refusal). Step (Release c.args.key c.args.resource) c.args.self.now.table said c.release_waking.new.self) c.in_ok-answer.was c.release_waking.ensures.step
+
+pub returns-clause-appends : goal.returns-clause-appends
+returns-clause-appends g c = c.publish.ensures.appends

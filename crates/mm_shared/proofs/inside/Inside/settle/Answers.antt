@@ -1,5 +1,7 @@
-use Rattle.std.proofs.Common.{List, ℕ, sym, subst, ◌∙◌, arith}
-use Rattle.mm_rules.specs.Event.{Settle}
+use Rattle.std.proofs.Common.{List, ℕ, sym, subst, ◌∙◌, arith, Result}
+use Rattle.mm_rules.specs.declared.refusal.Refusal.{Refusal}
+use Rattle.mm_rules.specs.declared.reply.Settled.{Settled}
+use Rattle.mm_rules.specs.Event.{Settle, Step}
 use Rattle.mm_shared.specs.private.Publishing.{IsToPublish}
 use Rattle.mm_shared.proofs.Counted.{room_stays, refused_booked, accepted_booked}
 use Rattle.mm_shared.proofs.Publishing.{left_after, known, holders_stand, refused_published}
@@ -45,3 +47,10 @@ invariant_of-self-2 g c =
       published = c.publish_labels.ensures.published;
       booked = accepted_booked e s t said step _ _ _ _ _ _ _ c.in_ok-answer.was old.booked c.count_accepted.ensures.book c.count_verdicts.ensures.book (omega arith);
     }
+
+pub returns-clause-step : goal.returns-clause-step
+returns-clause-step g c =
+    subst (λ (said : Result Settled Refusal). Step Settle c.args.self.now.table said c.settle_waking.new.self) c.in_ok-answer.was c.settle_waking.ensures.step
+
+pub returns-clause-appends : goal.returns-clause-appends
+returns-clause-appends g c = c.publish_labels.ensures.appends

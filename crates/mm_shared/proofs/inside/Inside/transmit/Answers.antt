@@ -1,8 +1,10 @@
 use Rattle.std.proofs.Common.{Ok, ap, refl, ◌∙◌, arith}
 use Rattle.mm_board.specs.declared.views.Published.{Published}
 use Rattle.mm_rules.specs.Event.{Transmit}
+use Rattle.mm_shared.specs.Shares.{Shares}
 use Rattle.mm_shared.proofs.Counted.{room_stays, refused_booked, accepted_booked}
 use Rattle.mm_shared.proofs.Publishing.{left_after, refused_published, then_shown, unraised_published, raise_stored}
+use Rattle.mm_shared.proofs.Rising.{none_falls}
 use Rattle.mm_shared.proofs.inside.Inside.transmit.Goals as goal
 
 pub invariant_of-self : goal.invariant_of-self
@@ -83,3 +85,10 @@ returns-clause-appends g c =
     let may = raise_stored old.publisher s t c.args.key c.keeps_laws.ensures old.published said step c.in-Raised.label (c.in_ok-answer.was ∙ ap Ok c.in-Raised.is) in
     let shown = then_shown old.publisher _ _ c.show.new.self t c.args.key.process _ stored (ap (λ (q : Published). q.histories) c.show.ensures.met) (ap (λ (q : Published). q.holders) c.show.ensures.met) may in
     shown.1
+
+pub returns-in_err-answer-clause-rises : goal.returns-in_err-answer-clause-rises
+returns-in_err-answer-clause-rises g c = none_falls c.args.pass.now.seen.labels c.args.pass.now.seen.labels refl
+
+pub returns-in_default-clause-rises : goal.returns-in_default-clause-rises
+returns-in_default-clause-rises g c =
+    none_falls c.args.pass.now.seen.labels c.count_accepted.new.self.seen.labels (ap (λ (s : Shares). s.seen.labels) c.count_accepted.ensures.share)

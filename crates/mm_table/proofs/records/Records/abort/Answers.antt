@@ -1,6 +1,7 @@
-use Rattle.std.proofs.Common.{◌≡◌, ℕ, true, false, Option, Some, None, is_some, refl, ap, sym, subst, ◌∙◌, arith, IsTrue}
+use Rattle.std.proofs.Common.{◌≡◌, ◌+◌, ℕ, Ok, true, false, Option, Some, None, is_some, refl, ap, sym, subst, ◌∙◌, arith, IsTrue}
 use Rattle.mm_rules.specs.TableState.{TableState, wait_of}
-use Rattle.mm_rules.specs.Change.{vacate_fits, withdraw}
+use Rattle.mm_rules.specs.Change.{abort, vacate, vacate_fits, withdraw}
+use Rattle.mm_rules.specs.Event.{abort_tests, allowed, decided}
 use Rattle.mm_rules.specs.Laws.{Laws}
 use Rattle.mm_rules.proofs.States.Activate.{waits_no_longer}
 use Rattle.mm_rules.proofs.States.GiveUp.{withdraw_keeps}
@@ -39,3 +40,15 @@ returns-clause-touched c =
     let vacated : IsVacating (withdraw s n) n u mid new = subst (λ (t : TableState). IsVacating t n u mid new) c.withdraw.ensures c.vacate.ensures.touched in
     subst (λ (t : TableState). Touches s t old new) (sym c.count.ensures)
     (touches_counted s u old new _ (abort_touches s u n waits.0 old mid new waits.1 (adds_set old mid n (omega (arith, live_within s c.args.key c.requires.laws.lawful.well_formed.sizes c.in_ok-may_abort.ensures.live, c.requires.sized)) c.add.ensures) vacated))
+
+pub returns-clause-step : goal.returns-clause-step
+returns-clause-step c =
+    let s = c.args.self.now in
+    let n = c.args.key.process in
+    let passed : allowed (abort_tests s c.args.key) ≡ Ok tt = sym c.may_abort.ensures.tests ∙ c.in_ok-may_abort.was in
+    let given = sym (ap (λ v. decided v s tt (abort s n)) passed) in
+    let vacated : c.vacate.new.self ≡ abort s n = c.vacate.ensures.state ∙ ap (λ (t : TableState). vacate t n) c.withdraw.ensures in
+    (
+      ap (λ o. o.reply) given,
+      c.count.ensures ∙ ap (λ (t : TableState). record t { totals = record t.totals { accepted = t.totals.accepted + 1 } }) vacated ∙ ap (λ o. o.state) given,
+    )

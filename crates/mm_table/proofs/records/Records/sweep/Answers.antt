@@ -1,4 +1,5 @@
-use Rattle.std.proofs.Common.{◌≡◌, ◌+◌, ℕ, Bool, List, if◌then◌else◌, ap, sym, subst, arith}
+use Rattle.std.proofs.Common.{◌≡◌, ◌+◌, ◌<◌, ℕ, Bool, List, if◌then◌else◌, length, length-set, ap, ◌∙◌, sym, subst, arith}
+use Rattle.mm_lists.proofs.Lemmas.Set.{true_within}
 use Rattle.mm_settle.specs.private.Pass.{IsPassed}
 use Rattle.mm_settle.proofs.Lemmas.Passes.{pass_starts, pass_ends}
 use Rattle.mm_settle.proofs.Lemmas.Settling.{settling_starts, settling_then}
@@ -33,3 +34,30 @@ returns-clause-passed c =
     subst (λ (p : List Bool). IsPassed c.args.self.now c.loop-process.raises p c.loop-process.checks c.loop-process.self) (sym c.in_default.ensures.none.1)
     (pass_ends c.args.self.now c.loop-process.from c.loop-process.raises c.loop-process.pending c.loop-process.checks c.loop-process.self
     c.loop-process.invariant.way c.in_default.ensures.none.0)
+
+pub turn-requires : goal.turn-requires
+turn-requires c =
+    let way = c.loop-process.invariant.way in
+    let n = c.in-Some.process in
+    record {
+      laws = way.marked.laws;
+      process = omega (arith, true_within c.loop-process.pending n c.in-Some.ensures.member.0.member, way.marked.pending_sized);
+      pending = ap length c.in-Some.ensures.member.1 ∙ length-set c.loop-process.pending n _ ∙ way.marked.pending_sized;
+      checks = way.marked.checks_sized;
+      touched = c.loop-process.invariant.settling.sized ∙ c.requires.touched ∙ sym (ap (λ config. config.processes) way.config);
+    }
+
+pub loop-process-smaller : goal.loop-process-smaller
+loop-process-smaller c =
+    let way = c.loop-process.invariant.way in
+    let inside : c.in-Some.process < c.args.self.now.config.processes =
+    omega (
+      arith,
+      true_within c.loop-process.pending c.in-Some.process c.in-Some.ensures.member.0.member,
+      way.marked.pending_sized,
+      ap (λ config. config.processes) way.config,
+    ) in
+    omega (arith, c.in-Some.ensures.member.0.at_least)
+
+pub returns-clause-touched : goal.returns-clause-touched
+returns-clause-touched c = c.loop-process.invariant.settling
