@@ -3,16 +3,36 @@ ghost use Rattle.std.specs.Prelude.{◌≡◌};
 
 mod call;
 
-use call::{Call, call_of, config_of};
+use crate::tests::same::same;
+use call::{Answer, Call, call_of, config_of};
 use mm_rows::{ROWS, Row};
-use mm_shared::{Name, Pass, Prepared, SharedTable};
-use mm_table::Table;
+use mm_shared::{Config, Name, Pass, Prepared, Report, SharedTable};
+use mm_table::{Table, Totals};
 use std::alloc::{AllocError, Global};
 use std::marker::Brand;
 use std::process::Abort;
 use std::sync::Wait;
 use std::sync::ledger::Ledger;
 use std::test::Fail;
+
+/// Ends the test unless each process has the same tenant in both tables.
+fn have_the_same_tenants<N: Name, A: Ledger, V: Ledger, B: Ledger, R: Wait + Abort>(
+    rt: &R,
+    shared: &SharedTable<N, A, V, B>,
+    pass: &mut Pass<N, A, V, B>,
+    table: &Table,
+) {
+    for process in 0..shared.processes() {
+        same(rt, shared.tenant(rt, pass, process), table.tenant(process));
+    }
+}
+
+/// Ends the test unless the answer is this reply.
+fn is_told(rt: &impl Abort, alloc: Global, answer: Answer, reply: &str) -> Result<(), AllocError> {
+    let text = answer.text(alloc)?;
+    same(rt, text.as_str(), reply);
+    Ok(())
+}
 
 /// Makes one call on both tables. Its answer is this reply on either, and both have the same tenants afterwards.
 fn call_both<N: Name, A: Ledger, V: Ledger, B: Ledger, R: Wait + Abort>(
@@ -26,14 +46,10 @@ fn call_both<N: Name, A: Ledger, V: Ledger, B: Ledger, R: Wait + Abort>(
 ) -> Result<(), AllocError> {
     let answer = call.on_table(table);
     if !matches!(call, Call::Totals) {
-        assert_eq!(rt; call.on_shared(rt, shared, pass), answer);
+        same(rt, call.on_shared(rt, shared, pass), answer);
     }
-    for process in 0..shared.processes() {
-        assert_eq!(rt; shared.tenant(rt, pass, process), table.tenant(process));
-    }
-    let text = answer.text(alloc)?;
-    assert_eq!(rt; text.as_str(), reply);
-    Ok(())
+    have_the_same_tenants(rt, shared, pass, table);
+    is_told(rt, alloc, answer, reply)
 }
 
 /// Makes the calls of a script on both tables, which are open: each line after the first, with its reply.
@@ -55,6 +71,26 @@ fn calls_agree<N: Name, A: Ledger, V: Ledger, B: Ledger, R: Wait + Abort>(
     Ok(())
 }
 
+/// Closes the shared table. Ends the test unless it counted as much as this.
+fn closes_with<N: Name, A: Ledger, V: Ledger, B: Ledger>(
+    rt: &impl Abort,
+    shared: SharedTable<N, A, V, B>,
+    pass: Pass<N, A, V, B>,
+    totals: Totals,
+) {
+    let Totals {
+        accepted,
+        verdicts,
+        aborts,
+    } = totals;
+    let expected = Report {
+        accepted,
+        verdicts,
+        aborts,
+    };
+    same(rt, shared.close(pass).ok(), Some(expected));
+}
+
 /// Makes the calls of a script on both tables. At the end both counted the same.
 fn side_by_side<N: Name, A: Ledger, V: Ledger, B: Ledger, R: Wait + Abort>(
     rt: &R,
@@ -69,16 +105,29 @@ fn side_by_side<N: Name, A: Ledger, V: Ledger, B: Ledger, R: Wait + Abort>(
     requires aborts { (prepared.aborts.name ≡ B.name) × (prepared.aborts.parts ≡ B.parts) }
 {
     let (shared, mut pass) = prepared.open::<N, A, V, B>();
-    calls_agree(rt, alloc, &shared, &mut pass, table, row)?;
-    let totals = table.totals();
-    let Ok(report) = shared.close(pass) else {
-        return Err(Fail::from("the pass has all parts"));
-    };
-    assert_eq!(rt;
-        (report.accepted, report.verdicts, report.aborts),
-        (totals.accepted, totals.verdicts, totals.aborts)
-    );
-    Ok(())
+    let agreed = calls_agree(rt, alloc, &shared, &mut pass, table, row);
+    closes_with(rt, shared, pass, table.totals());
+    agreed
+}
+
+/// Opens a shared table beside this one.
+fn beside<R: Wait + Abort>(
+    rt: &R,
+    alloc: Global,
+    config: Config,
+    table: &mut Table,
+    row: &Row,
+) -> Result<(), Fail> {
+    let prepared = Prepared::new(alloc, config)?;
+    side_by_side::<Brand, Brand, Brand, Brand, _>(rt, alloc, prepared, table, row)
+}
+
+/// Opens the table of a script, and a shared one, and makes the other calls on both.
+fn on_both<R: Wait + Abort>(rt: &R, alloc: Global, row: &Row) -> Result<(), Fail> {
+    let first = row.input.lines().next();
+    let config = first.and_then(config_of).ok_or("a configuration")?;
+    let mut table = Table::open(alloc, config)?;
+    beside(rt, alloc, config, &mut table, row)
 }
 
 /// Those scripts that begin by opening a table and have no malformed line.
@@ -86,21 +135,7 @@ fn side_by_side<N: Name, A: Ledger, V: Ledger, B: Ledger, R: Wait + Abort>(
 fn shared_calls_answer_as_those_of_a_table(rt: HostRuntime) -> Result<(), Fail> {
     for row in &ROWS {
         if row.malformed == 0 && row.output.starts_with("ok\n") {
-            let config = row
-                .input
-                .lines()
-                .next()
-                .and_then(config_of)
-                .ok_or("a configuration")?;
-            let mut table = Table::open(rt.alloc(), config)?;
-            let prepared = Prepared::new(rt.alloc(), config)?;
-            side_by_side::<Brand, Brand, Brand, Brand, _>(
-                &rt,
-                rt.alloc(),
-                prepared,
-                &mut table,
-                row,
-            )?;
+            on_both(&rt, rt.alloc(), row)?;
         }
     }
     Ok(())

@@ -3,7 +3,7 @@ ghost use Rattle.std.specs.Prelude.{◌≡◌};
 
 use crate::tests::same::same;
 use crate::tests::shared::config;
-use mm_shared::{CloseRefused, Name, Prepared, Refusal, Report};
+use mm_shared::{CloseRefused, Name, Pass, Prepared, Refusal, Report, SharedTable};
 use std::alloc::{AllocError, Global};
 use std::error::Error;
 use std::marker::Brand;
@@ -21,8 +21,54 @@ fn accepted(calls: u64) -> Report {
     }
 }
 
-fn printed<E: Error>(alloc: Global, error: &E) -> Result<String, AllocError> {
-    format!(in alloc; "{error}")
+/// Ends the test unless this text is printed.
+fn is_printed<E: Error>(
+    rt: &impl Abort,
+    alloc: Global,
+    error: &E,
+    expected: &str,
+) -> Result<(), AllocError> {
+    let text = format!(in alloc; "{error}")?;
+    same(rt, text.as_str(), expected);
+    Ok(())
+}
+
+/// Ends the test unless the table goes on, and is closed with both passes.
+fn closes_with_both<N: Name, A: Ledger, V: Ledger, B: Ledger, R: Wait + Abort>(
+    rt: &R,
+    table: SharedTable<N, A, V, B>,
+    pass: Pass<N, A, V, B>,
+    kept: Pass<N, A, V, B>,
+) {
+    let mut kept = kept;
+    same(rt, pass.parts(), 1_047_576);
+    same(rt, table.begin(rt, &mut kept).is_ok(), true);
+    kept.join(&table, pass);
+    same(rt, table.close(kept).ok(), Some(accepted(2)));
+}
+
+/// Ends the test unless the table was not closed for want of the pass that was kept, and is closed with it.
+fn misses<
+    N: Name + Drop,
+    A: Ledger + Drop,
+    V: Ledger + Drop,
+    B: Ledger + Drop,
+    R: Wait + Abort,
+>(
+    rt: &R,
+    alloc: Global,
+    refused: CloseRefused<N, A, V, B>,
+    kept: Pass<N, A, V, B>,
+) -> Result<(), AllocError> {
+    let told = is_printed(rt, alloc, &refused, "the pass does not have all parts");
+    let CloseRefused {
+        refusal,
+        table,
+        pass,
+    } = refused;
+    same(rt, refusal, Refusal::SharesMissing);
+    closes_with_both(rt, table, pass, kept);
+    told
 }
 
 /// Ends the test unless a table is not closed without a pass that made one accepted call, goes on after that, and is closed with it.
@@ -40,25 +86,12 @@ fn keep_a_pass<
 {
     let (table, mut pass) = prepared.open::<N, A, V, B>();
     let mut kept = pass.split(&table, 1000);
-    assert!(rt; table.begin(rt, &mut kept).is_ok());
-    match table.close(pass) {
-        Ok(_) => assert!(rt; false),
-        Err(refused) => {
-            let text = printed(alloc, &refused)?;
-            same(rt, text.as_str(), "the pass does not have all parts");
-            let CloseRefused {
-                refusal,
-                table,
-                pass,
-            } = refused;
-            same(rt, refusal, Refusal::SharesMissing);
-            same(rt, pass.parts(), 1_047_576);
-            assert!(rt; table.begin(rt, &mut kept).is_ok());
-            kept.join(&table, pass);
-            same(rt, table.close(kept).ok(), Some(accepted(2)));
-        }
-    }
-    Ok(())
+    same(rt, table.begin(rt, &mut kept).is_ok(), true);
+    let Err(refused) = table.close(pass) else {
+        assert!(rt; false);
+        return Ok(());
+    };
+    misses(rt, alloc, refused, kept)
 }
 
 #[test]

@@ -4,7 +4,7 @@ ghost use Rattle.std.specs.Prelude.{◌≡◌};
 use crate::tests::same::same;
 use crate::tests::shared::config;
 use crate::tests::shared::worker::{NOTHING, Worker};
-use mm_shared::{Name, Prepared};
+use mm_shared::{Name, Pass, Prepared, Report, SharedTable};
 use std::alloc::{AllocError, Global};
 use std::marker::Brand;
 use std::process::Abort;
@@ -20,6 +20,60 @@ const THREADS: u32 = 8;
 /// least four calls that are accepted. That takes some seconds on one processor that has twice as much else to do.
 const ROUNDS: u64 = 4_000;
 
+/// A worker for each thread, each with a part of this pass.
+fn eight_workers<N: Name, A: Ledger, V: Ledger, B: Ledger>(
+    alloc: Global,
+    table: &SharedTable<N, A, V, B>,
+    pass: &mut Pass<N, A, V, B>,
+) -> Result<Vec<Worker<N, A, V, B>>, AllocError> {
+    let mut workers = Vec::new(alloc);
+    for number in 0..THREADS {
+        if pass.parts() > 1 {
+            workers.push(Worker::new(number, pass.split(table, 1)))?;
+        }
+    }
+    Ok(workers)
+}
+
+/// Lets the threads work, joins their passes to this one, and returns what they made together.
+fn work_all<
+    N: Name + Send + Sync,
+    A: Ledger + Send + Sync,
+    V: Ledger + Send + Sync,
+    B: Ledger + Send + Sync,
+    R: Threads + Wait + Sync,
+>(
+    rt: &R,
+    alloc: Global,
+    table: &SharedTable<N, A, V, B>,
+    pass: &mut Pass<N, A, V, B>,
+) -> Result<Report, AllocError> {
+    let workers = eight_workers(alloc, table, pass)?;
+    let ended = map_vec(
+        rt,
+        workers,
+        &|worker: Worker<N, A, V, B>| worker.work(rt, table, ROUNDS),
+    )?;
+    let mut made = NOTHING;
+    for worker in ended {
+        worker.join_to(table, pass, &mut made);
+    }
+    Ok(made)
+}
+
+/// Ends the test unless each two threads made and broke a deadlock in each round, and the table counted what they made.
+fn are_counted<N: Name, A: Ledger, V: Ledger, B: Ledger>(
+    rt: &impl Abort,
+    table: SharedTable<N, A, V, B>,
+    pass: Pass<N, A, V, B>,
+    made: Report,
+) {
+    let deadlocks = u64::from(THREADS) / 2 * ROUNDS;
+    assert!(rt; made.accepted >= 4 * u64::from(THREADS) * ROUNDS);
+    same(rt, (made.verdicts, made.aborts), (deadlocks, deadlocks));
+    same(rt, table.close(pass).ok(), Some(made));
+}
+
 fn eight_threads<
     N: Name + Send + Sync,
     A: Ledger + Send + Sync,
@@ -33,26 +87,8 @@ fn eight_threads<
     requires aborts { (prepared.aborts.name ≡ B.name) × (prepared.aborts.parts ≡ B.parts) }
 {
     let (table, mut pass) = prepared.open::<N, A, V, B>();
-    let mut workers = Vec::new(alloc);
-    for number in 0..THREADS {
-        if pass.parts() > 1 {
-            workers.push(Worker::new(number, pass.split(&table, 1)))?;
-        }
-    }
-    let shared = &table;
-    let ended = map_vec(
-        rt,
-        workers,
-        &|worker: Worker<N, A, V, B>| worker.work(rt, shared, ROUNDS),
-    )?;
-    let mut made = NOTHING;
-    for worker in ended {
-        worker.join_to(&table, &mut pass, &mut made);
-    }
-    let deadlocks = u64::from(THREADS) / 2 * ROUNDS;
-    assert!(rt; made.accepted >= 4 * u64::from(THREADS) * ROUNDS);
-    same(rt, (made.verdicts, made.aborts), (deadlocks, deadlocks));
-    same(rt, table.close(pass).ok(), Some(made));
+    let made = work_all(rt, alloc, &table, &mut pass)?;
+    are_counted(rt, table, pass, made);
     Ok(())
 }
 

@@ -114,6 +114,54 @@ fn beginners<N: Name, A: Ledger, V: Ledger, B: Ledger>(
     Ok(beginners)
 }
 
+/// Lets the threads work, each with a part of this pass, and joins all.
+fn work_all<
+    N: Name + Send + Sync,
+    A: Ledger + Send + Sync,
+    V: Ledger + Send + Sync,
+    B: Ledger + Send + Sync,
+    R: Threads + Wait + Abort + Sync,
+>(
+    rt: &R,
+    alloc: Global,
+    table: &SharedTable<N, A, V, B>,
+    pass: Pass<N, A, V, B>,
+) -> Result<Beginner<N, A, V, B>, AllocError> {
+    let mut pass = pass;
+    let workers = beginners(alloc, table, &mut pass)?;
+    let ended = map_vec(
+        rt,
+        workers,
+        &|worker: Beginner<N, A, V, B>| worker.work(rt, table),
+    )?;
+    // What the threads left over, where one missed a transaction that began while it looked.
+    let mut all = Beginner::new(pass).work(rt, table);
+    for worker in ended {
+        all.join(table, worker);
+    }
+    Ok(all)
+}
+
+/// Ends the test unless each slot was given in each of its generations once, and none is given again.
+fn are_used_up<N: Name, A: Ledger, V: Ledger, B: Ledger, R: Wait + Abort>(
+    rt: &R,
+    table: SharedTable<N, A, V, B>,
+    all: Beginner<N, A, V, B>,
+) {
+    let mut all = all;
+    all.is_refused_for_good(rt, &table);
+    let processes = u64::from(PROCESSES);
+    let last = u64::from(GENERATIONS);
+    same(rt, all.begun, processes * last);
+    same(rt, all.generations, processes * (last * (last + 1) / 2));
+    let expected = Report {
+        accepted: 2 * (processes * last),
+        verdicts: 0,
+        aborts: 0,
+    };
+    same(rt, table.close(all.pass).ok(), Some(expected));
+}
+
 fn use_up<
     N: Name + Send + Sync,
     A: Ledger + Send + Sync,
@@ -126,30 +174,9 @@ fn use_up<
     requires verdicts { (prepared.verdicts.name ≡ V.name) × (prepared.verdicts.parts ≡ V.parts) }
     requires aborts { (prepared.aborts.name ≡ B.name) × (prepared.aborts.parts ≡ B.parts) }
 {
-    let (table, mut pass) = prepared.open::<N, A, V, B>();
-    let workers = beginners(alloc, &table, &mut pass)?;
-    let shared = &table;
-    let ended = map_vec(
-        rt,
-        workers,
-        &|worker: Beginner<N, A, V, B>| worker.work(rt, shared),
-    )?;
-    // What the threads left over, where one missed a transaction that began while it looked.
-    let mut all = Beginner::new(pass).work(rt, &table);
-    for worker in ended {
-        all.join(&table, worker);
-    }
-    all.is_refused_for_good(rt, &table);
-    let processes = u64::from(PROCESSES);
-    let last = u64::from(GENERATIONS);
-    same(rt, all.begun, processes * last);
-    same(rt, all.generations, processes * (last * (last + 1) / 2));
-    let expected = Report {
-        accepted: 2 * (processes * last),
-        verdicts: 0,
-        aborts: 0,
-    };
-    same(rt, table.close(all.pass).ok(), Some(expected));
+    let (table, pass) = prepared.open::<N, A, V, B>();
+    let all = work_all(rt, alloc, &table, pass)?;
+    are_used_up(rt, table, all);
     Ok(())
 }
 

@@ -7,7 +7,7 @@ use crate::tests::same::same;
 use crate::tests::workers::fake::Fake;
 use crate::tests::workers::open_gate::OpenGate;
 use crate::tests::workers::recorder::{Call, Recorder};
-use mm_shared::{Config, Detected, Key, Name, Prepared, Refusal, Transmitted};
+use mm_shared::{Config, Detected, Key, Name, Pass, Prepared, Refusal, SharedTable, Transmitted};
 use mm_table::{Table, Totals};
 use mm_workers::{Desk, Hint, HintKind, Report, Steps, Transmitter};
 use std::alloc::{AllocError, Global};
@@ -122,14 +122,47 @@ fn whoever_is_gone_is_passed_by(rt: HostRuntime) -> Result<(), Fail> {
     Ok(())
 }
 
-/// Two transactions that own a resource each, and wait for that of the other.
-fn wait_crosswise<S: Steps>(steps: &mut S) -> Result<(), Refusal> {
-    let first = steps.begin()?;
-    let second = steps.begin()?;
-    steps.acquire(first, 0)?;
-    steps.acquire(second, 1)?;
-    steps.acquire(first, 1)?;
-    steps.acquire(second, 0)?;
+/// Runs a transmitter for four processes, ends the test unless it makes these calls, and gives back the table.
+fn makes<S: Steps + Drop>(
+    rt: &impl Abort,
+    alloc: Global,
+    steps: S,
+    turns: u64,
+    calls: &[Call],
+) -> Result<S, AllocError> {
+    let Recorder { steps, calls: came } = transmit(alloc, steps, turns, false)?;
+    same(rt, came.as_slice(), calls);
+    Ok(steps)
+}
+
+/// So many transactions that own a resource each, and wait for that of the next: two under 1.0 and 2.1, three under 1.0, 1.1 and 2.2.
+fn wait_in_a_ring<S: Steps>(steps: &mut S, count: u32) -> Result<(), Refusal> {
+    for _ in 0..count {
+        steps.begin()?;
+    }
+    for process in 0..count {
+        steps.acquire(first_key(process), process)?;
+    }
+    for process in 0..count {
+        steps.acquire(first_key(process), (process + 1) % count)?;
+    }
+    Ok(())
+}
+
+/// Opens a table on which so many transactions wait for each other. Ends the test unless a transmitter makes these calls of it in so many
+/// turns, and the table has counted so much then.
+fn goes_round<R: Abort>(
+    rt: &R,
+    alloc: Global,
+    count: u32,
+    turns: u64,
+    calls: &[Call],
+    totals: Totals,
+) -> Result<(), Fail> {
+    let mut table = Table::open(alloc, FOUR)?;
+    same(rt, wait_in_a_ring(&mut table, count), Ok(()));
+    let table = makes(rt, alloc, table, turns, calls)?;
+    same(rt, table.totals(), totals);
     Ok(())
 }
 
@@ -154,41 +187,20 @@ fn calls_of_four_turns() -> [Call; 10] {
 
 #[test]
 fn a_deadlock_on_a_table_alone(rt: HostRuntime) -> Result<(), Fail> {
-    let mut table = Table::open(rt.alloc(), FOUR)?;
-    wait_crosswise(&mut table)?;
-    let Recorder { steps, calls } = transmit(rt.alloc(), table, 4, false)?;
-    same(&rt, calls.as_slice(), calls_of_four_turns().as_slice());
     let totals = Totals {
         accepted: 9,
         verdicts: 1,
         aborts: 0,
     };
-    same(&rt, steps.totals(), totals);
-    Ok(())
+    let calls = calls_of_four_turns();
+    goes_round(&rt, rt.alloc(), 2, 4, calls.as_slice(), totals)
 }
 
-/// Three transactions that own a resource each, and wait for that of the next: under 1.0, 1.1 and 2.2.
-fn wait_in_a_ring<S: Steps>(steps: &mut S) -> Result<(), Refusal> {
-    let first = steps.begin()?;
-    let second = steps.begin()?;
-    let third = steps.begin()?;
-    steps.acquire(first, 0)?;
-    steps.acquire(second, 1)?;
-    steps.acquire(third, 2)?;
-    steps.acquire(first, 1)?;
-    steps.acquire(second, 2)?;
-    steps.acquire(third, 0)?;
-    Ok(())
-}
-
-#[test]
-fn a_ring_of_three_on_a_table_alone(rt: HostRuntime) -> Result<(), Fail> {
-    let mut table = Table::open(rt.alloc(), FOUR)?;
-    wait_in_a_ring(&mut table)?;
-    let came = transmit(rt.alloc(), table, 6, false)?;
+/// What six turns make of a ring of three.
+fn calls_of_six_turns() -> [Call; 16] {
     let (first, second, third) = (first_key(0), first_key(1), first_key(2));
     let greatest = label(2, 2);
-    let calls = [
+    [
         Call::Scan(0, hint(0, 1, HintKind::Raise)),
         Call::Tenant(0, Some(first)),
         Call::Transmit(first, Ok(Transmitted::Raised(label(1, 1)))),
@@ -205,9 +217,38 @@ fn a_ring_of_three_on_a_table_alone(rt: HostRuntime) -> Result<(), Fail> {
         Call::Scan(2, hint(2, 0, HintKind::Equal)),
         Call::Tenant(2, Some(third)),
         Call::Detect(third, Ok(Detected::Deadlock(greatest))),
-    ];
-    same(&rt, came.calls.as_slice(), calls.as_slice());
-    Ok(())
+    ]
+}
+
+#[test]
+fn a_ring_of_three_on_a_table_alone(rt: HostRuntime) -> Result<(), Fail> {
+    let totals = Totals {
+        accepted: 14,
+        verdicts: 1,
+        aborts: 0,
+    };
+    let calls = calls_of_six_turns();
+    goes_round(&rt, rt.alloc(), 3, 6, calls.as_slice(), totals)
+}
+
+/// Two wait for each other at a desk of a shared table, and a transmitter makes four turns there.
+fn make_four_turns<
+    N: Name + Drop,
+    A: Ledger + Drop,
+    V: Ledger + Drop,
+    B: Ledger + Drop,
+    R: Wait + Abort,
+>(
+    rt: &R,
+    alloc: Global,
+    table: &SharedTable<N, A, V, B>,
+    pass: Pass<N, A, V, B>,
+) -> Result<Pass<N, A, V, B>, AllocError> {
+    let mut desk = Desk::new(rt, table, pass);
+    same(rt, wait_in_a_ring(&mut desk, 2), Ok(()));
+    let calls = calls_of_four_turns();
+    let desk = makes(rt, alloc, desk, 4, calls.as_slice())?;
+    Ok(desk.into_pass())
 }
 
 /// The deadlock of two at a desk of a shared table.
@@ -224,11 +265,7 @@ fn four_turns_at_a_desk<
     requires aborts { (prepared.aborts.name ≡ B.name) × (prepared.aborts.parts ≡ B.parts) }
 {
     let (table, pass) = prepared.open::<N, A, V, B>();
-    let mut desk = Desk::new(rt, &table, pass);
-    wait_crosswise(&mut desk)?;
-    let Recorder { steps, calls } = transmit(alloc, desk, 4, false)?;
-    same(rt, calls.as_slice(), calls_of_four_turns().as_slice());
-    let pass = steps.into_pass();
+    let pass = make_four_turns(rt, alloc, &table, pass)?;
     let report = Report {
         accepted: 9,
         verdicts: 1,

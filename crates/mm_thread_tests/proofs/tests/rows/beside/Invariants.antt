@@ -1,4 +1,4 @@
-use Rattle.mm_thread_tests.proofs.tests.rows.shared_calls_answer_as_those_of_a_table.Given as goal
+use Rattle.mm_thread_tests.proofs.tests.rows.beside.Given as goal
 
 -- the board and the ledgers that were just made
 abbrev pub ghosts-side_by_side-N-Name : goal.ghosts-side_by_side-N-Name
