@@ -48,13 +48,7 @@ fn closes_with_both<N: Name, A: Ledger, V: Ledger, B: Ledger, R: Wait + Abort>(
 }
 
 /// Ends the test unless the table was not closed for want of the pass that was kept, and is closed with it.
-fn misses<
-    N: Name + Drop,
-    A: Ledger + Drop,
-    V: Ledger + Drop,
-    B: Ledger + Drop,
-    R: Wait + Abort,
->(
+fn misses<N: Name + Drop, A: Ledger + Drop, V: Ledger + Drop, B: Ledger + Drop, R: Wait + Abort>(
     rt: &R,
     alloc: Global,
     refused: CloseRefused<N, A, V, B>,

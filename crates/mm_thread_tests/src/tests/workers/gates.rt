@@ -61,7 +61,8 @@ fn each_transmitter_has_all_turns_and_each_call_is_reported(rt: HostRuntime) -> 
             times: Arc::try_clone(&times)?,
         })?;
     }
-    assert_eq!(rt; gates.len(), 5);
+    let workers = workload.clients().len() + workload.transmitters() as usize;
+    assert_eq!(rt; gates.len(), workers);
     let outcome = run_threads(&rt, rt.alloc(), &workload, gates)?;
     same(&rt, times.load(SeqCst), 15);
     same(&rt, outcome.report.accepted, 7);

@@ -1,5 +1,5 @@
 //! Steps and a gate that answer by a script.
-ghost use Rattle.std.specs.Prelude.{◌≡◌, ◌+◌, ◌×◌, [], OnOk, OnErr};
+ghost use Rattle.std.specs.Prelude.{◌≡◌, ◌+◌, [], OnOk, OnErr};
 ghost use Rattle.mm_board.specs.Views.{new_seen};
 
 use crate::tests::label::label;
