@@ -13,8 +13,6 @@ mod command_line;
 mod ending;
 mod file;
 mod help;
-#[cfg(test)]
-mod tests;
 mod verbose;
 mod work;
 mod work_end;
@@ -22,8 +20,8 @@ mod work_end;
 use command_line::{Request, StormOptions, asked};
 use ending::{Ending, fault, status};
 use file::{Taken, taken_from};
-use mm_table::Refusal;
 use mm_script::{ScriptFault, run_script};
+use mm_table::Refusal;
 use mm_workload::Workload;
 use std::alloc::Global;
 use std::io::{Read, Write};
