@@ -2,7 +2,8 @@
 for script in examples/*.script; do
   case_is "$script"
   run < "$script" > "$work/out" 2> "$work/err"
-  ends 0 "$(cat "${script%.script}.replies")" "" $?
+  status=$?
+  ends 0 "$(cat "${script%.script}.replies")" "" $status
 done
 
 # pairs_of SCRIPT: each call and its reply, as docs/TOUR.md has them

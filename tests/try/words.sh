@@ -14,7 +14,8 @@ for line in --help -h help "script --help" "script -h" "help script" "threads --
   read -ra words <<< "$line"
   case_is "$line"
   run "${words[@]}" < "$work/script" > "$work/out" 2> "$work/err"
-  ends 0 "$(cat "$work/out")" "" $?
+  status=$?
+  ends 0 "$(cat "$work/out")" "" $status
   says "Usage: mmdetect"
   as_unbuilt 0
 done
@@ -22,8 +23,9 @@ for words in --help -h help "help script" "script --help" "script -h"; do
   case_is "what $words tells"
   # shellcheck disable=SC2086
   run $words > "$work/out" 2> "$work/err"
-  ends 0 "$(cat "$work/out")" "" $?
-  for call in "table P R L G" "table2 P R L G" "begin" "acquire K r" "release K r" "finish K" "transmit K" "detect K" "abort K" "give_up K" "settle" "state K" "owner r" "totals" "refused N Name" threads storm "Exit statuses" "1 to 17592186044415" " 7 LabelsExhausted " "15 CountsExhausted "; do
+  status=$?
+  ends 0 "$(cat "$work/out")" "" $status
+  for call in "table P R L G" "table2 P R L G" "begin" "acquire K r" "release K r" "finish K" "transmit K" "detect K" "abort K" "give_up K" "settle" "state K" "owner r" "totals" "refused N Name" threads storm "Exit statuses:" "1 to 17592186044415" " 7 LabelsExhausted " "15 CountsExhausted "; do
     says "$call"
   done
 done

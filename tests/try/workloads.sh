@@ -43,6 +43,20 @@ case_is "a workload from a pipe"
 run threads /dev/stdin < examples/workloads/crosswise.json > "$work/out" 2> "$work/err"
 ends 0 "$crosswise_lines" "" $?
 
+for flag in "" --verbose -v; do
+  case_is "a name with a space $flag"
+  cp examples/workloads/crosswise.json "$work/a file.json"
+  # shellcheck disable=SC2086
+  run threads $flag "$work/a file.json" > "$work/out" 2> "$work/err"
+  status=$?
+  ends 0 "$crosswise_lines" "$(cat "$work/err")" $status
+  if [ -z "$flag" ]; then
+    same "standard error" "" "$(cat "$work/err")"
+  else
+    reports "$work/a file.json: clients 2, transmitters 1, turns of each 10000000"
+  fi
+done
+
 case_is "a workload that is not there"
 run threads "$work/nothing" > "$work/out" 2> "$work/err"
 ends 3 "" "read fault" $?
@@ -97,12 +111,26 @@ case_is "what --verbose says of clients that are left over"
 run threads -v "$work/workload" > "$work/out" 2> "$work/err"
 reports "client 1 refused 2"
 reports "client 2 spent"
+printf '%s' '{"processes":2,"resources":1,"label_limit":9,"generation_limit":9,"transmitters":0,"turns":100,"clients":[[["meet",2]],[["acquire",5]]]}' \
+  > "$work/workload"
+workload "a client that waits for an arrival, and one that asks for a resource that there is not" 5 "clients finished 0 aborted 0 spent 1 refused 1
+table verdicts 0 aborts 0" some
 with_clients '[[]]' > "$work/workload"
 workload "a client without steps" 0 "clients finished 1 aborted 0 $none_left_over
+table verdicts 0 aborts 0" some
+printf '%s' '{"processes":1,"resources":1,"label_limit":9,"generation_limit":9,"transmitters":0,"turns":1,"clients":[[]]}' > "$work/workload"
+workload "a client without steps, with one turn" 0 "clients finished 1 aborted 0 $none_left_over
+table verdicts 0 aborts 0" some
+in_order='[["acquire",0],["acquire",1],["acquire",2]]'
+printf '{"processes":8,"resources":3,"label_limit":1000000,"generation_limit":9,"transmitters":4,"turns":10000000,"clients":[%s]}' \
+  "$in_order$(printf ",$in_order%.0s" {1..7})" > "$work/workload"
+workload "eight clients that acquire in one order" 0 "clients finished 8 aborted 0 $none_left_over
 table verdicts 0 aborts 0" some
 printf '%s' '{"processes":0,"resources":1,"label_limit":9,"generation_limit":9,"transmitters":0,"turns":1,"clients":[[]]}' \
   > "$work/workload"
 workload "a table that is refused" 4 "refused 11 BadConfig" some
+printf '%s' '{"processes":0,"resources":2,"label_limit":1000,"generation_limit":9,"transmitters":1,"turns":10,"clients":[[]]}' > "$work/workload"
+workload "a table that is refused, with a transmitter" 4 "refused 11 BadConfig" some
 
 case_is "a run of some seconds says how far it is"
 printf '%s' '{"processes":1,"resources":1,"label_limit":9,"generation_limit":9,"transmitters":0,"turns":20000000,"clients":[[["meet",2]]]}' \
@@ -116,22 +144,62 @@ ends 5 "clients finished 0 aborted 0 spent 1 refused 0
 table verdicts 0 aborts 0" some $status
 reports "after 1 s: clients ended 0 of 1"
 
-# Storms.
-for words in "" "--seed 7" "--clients 64 --transmitters 0" "--transmitters=64 --clients=1" "--seed 18446744073709551615 --verbose"; do
+# Storms. Each row: the words, and how many clients and transmitters they ask for.
+while IFS='|' read -r words clients transmitters; do
   case_is "storm $words"
   # shellcheck disable=SC2086
-  run storm $words > "$work/out" 2> "$work/err"
-  ends 0 "$(cat "$work/out")" "$(cat "$work/err")" $?
+  run storm $words < /dev/null > "$work/out" 2> "$work/err"
+  status=$?
+  ends 0 "$(cat "$work/out")" "$(cat "$work/err")" $status
   [[ $(cat "$work/out") =~ ^"clients finished "([0-9]+)" aborted "([0-9]+)" $none_left_over"$'\n'"table verdicts "([0-9]+)" aborts "([0-9]+)$ ]] ||
     fails "not the two lines"
+  same clients "$clients" $((BASH_REMATCH[1] + BASH_REMATCH[2]))
   same verdicts "${BASH_REMATCH[2]}" "${BASH_REMATCH[3]}"
   same aborts "${BASH_REMATCH[2]}" "${BASH_REMATCH[4]}"
   case $words in
-    *--verbose*) reports "storm: clients 8, transmitters 2, turns of each 10000000" ;;
+    *--verbose* | *-v*) reports "storm: clients $clients, transmitters $transmitters, turns of each 10000000" ;;
     *) same "standard error" "" "$(cat "$work/err")" ;;
   esac
-done
-for words in "--clients 0" "--clients 65" "--clients" "--clients -1" "--transmitters 65" "--seed 18446744073709551616" "--seed x" extra; do
+done << 'ROWS'
+|8|2
+--verbose|8|2
+--seed 0|8|2
+--seed 1|8|2
+--seed 2|8|2
+--seed 3|8|2
+--seed 7|8|2
+-v --seed 7|8|2
+--clients 64 --transmitters 0|64|0
+--clients 64 --transmitters=64|64|64
+--clients 64 --transmitters=64 --verbose|64|64
+--transmitters=64 --clients=1|1|64
+--transmitters 0 --clients 1|1|0
+--transmitters 0 --clients 1 --verbose|1|0
+--seed 18446744073709551615 --verbose|8|2
+--verbose --seed 18446744073709551615|8|2
+ROWS
+
+# Which seed is asked for is seen by how many calls are accepted of two clients: each begins, acquires what tests/storm_table prints, and
+# finishes. It is just so many where the two acquire nothing in common, so that none waits, and else at least so many.
+while IFS='|' read -r words least most; do
+  case_is "the calls of storm $words"
+  # shellcheck disable=SC2086
+  run storm --clients 2 --transmitters 0 --verbose $words < /dev/null > "$work/out" 2> "$work/err"
+  same status 0 $?
+  accepted=$(sed -n 's/.*calls accepted //p' "$work/err")
+  [ "$accepted" -ge "$least" ] || fails "at least $least calls are to be accepted, and $accepted are"
+  [ -z "$most" ] || same "accepted calls" "$most" "$accepted"
+done << 'ROWS'
+|7|7
+--seed 1|7|7
+--seed 2|10|10
+--seed 3|9|
+--seed 0|9|
+--seed 18446744073709551615|8|
+ROWS
+
+for words in "--clients 0" "--clients 65" "--clients" "--clients -1" "--clients 8 --clients 8" "--transmitters 65" \
+  "--seed 18446744073709551616" "--seed -1" "--seed x" extra; do
   case_is "storm $words"
   # shellcheck disable=SC2086
   run storm $words > "$work/out" 2> "$work/err"

@@ -104,7 +104,8 @@ for part in mmdetect script threads storm; do
   words=("$part" --help)
   [ "$part" != mmdetect ] || words=(--help)
   with_fake "$checkout/mmdetect" "${words[@]}" > "$work/out" 2> "$work/err"
-  ends 0 "$(cat "wrapper/help/$part.txt")" "" $?
+  status=$?
+  ends 0 "$(cat "wrapper/help/$part.txt")" "" $status
 done
 with_fake "$checkout/mmdetect" fly > "$work/out" 2> "$work/err"
 ends 2 "" "error: unrecognized subcommand 'fly'

@@ -13,8 +13,6 @@ mod command_line;
 mod ending;
 mod file;
 mod help;
-#[cfg(test)]
-mod tests;
 mod verbose;
 mod work;
 mod work_end;

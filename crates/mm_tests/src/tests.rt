@@ -1,4 +1,4 @@
-//! One module for each library, `shelf` for the shelves of mm_arena, and `wake` for mm_examples.
+//! One module for each library, `shelf` for the shelves of mm_arena, `wake` for mm_examples, and `rows` for the worked scripts.
 
 mod arena;
 mod label;
@@ -6,6 +6,7 @@ mod links;
 mod marks;
 mod owned;
 mod queue;
+mod rows;
 mod same;
 mod shelf;
 mod table;

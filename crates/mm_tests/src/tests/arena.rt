@@ -62,13 +62,23 @@ fn gives_the_slot_freed_last_first(rt: HostRuntime) -> Result<(), Fail> {
     Ok(())
 }
 
+/// Writes at the end of a text.
+fn add_mark(arena: &mut Arena<String>, key: Key) -> Result<(), Fail> {
+    arena.get_mut(key).ok_or("not live")?.push('!')?;
+    Ok(())
+}
+
 /// Inserts a text, writes at its end, and gives its key.
 fn insert_hello(rt: &impl Abort, alloc: Global, arena: &mut Arena<String>) -> Result<Key, Fail> {
     let hello = format!(in alloc; "hello")?;
     let first = arena.insert(hello).map_err(|_| "full")?;
-    arena.get_mut(first).ok_or("not live")?.push('!')?;
-    assert!(rt; arena.contains(first));
-    same(rt, arena.get(first).ok_or("not live")?.as_str(), "hello!");
+    add_mark(arena, first)?;
+    same(rt, arena.contains(first), true);
+    same(
+        rt,
+        arena.get(first).map(|text| text.as_str()),
+        Some("hello!"),
+    );
     Ok(first)
 }
 
@@ -84,16 +94,29 @@ fn insert_kept(
     Ok(())
 }
 
+/// Takes the first text out.
+fn remove_hello(rt: &impl Abort, arena: &mut Arena<String>, key: Key) {
+    let removed = arena.remove(key);
+    same(
+        rt,
+        removed.as_ref().map(|text| text.as_str()),
+        Some("hello!"),
+    );
+    same(rt, arena.get_mut(key).is_none(), true);
+}
+
+fn keep_two_texts(rt: &impl Abort, alloc: Global, arena: &mut Arena<String>) -> Result<(), Fail> {
+    let first = insert_hello(rt, alloc, arena)?;
+    insert_kept(rt, alloc, arena)?;
+    remove_hello(rt, arena, first);
+    Ok(())
+}
+
 // The values are not `Copy`, and those left are dropped with the arena.
 #[test]
 fn keeps_texts(rt: HostRuntime) -> Result<(), Fail> {
     let mut arena = Arena::<String>::new(rt.alloc(), 2, 1)?;
-    let first = insert_hello(&rt, rt.alloc(), &mut arena)?;
-    insert_kept(&rt, rt.alloc(), &mut arena)?;
-    let removed = arena.remove(first).ok_or("not live")?;
-    same(&rt, removed.as_str(), "hello!");
-    assert!(rt; arena.get_mut(first).is_none());
-    Ok(())
+    keep_two_texts(&rt, rt.alloc(), &mut arena)
 }
 
 /// Inserts the number of each process under its first key.
@@ -120,14 +143,18 @@ fn fill_again(rt: &impl Abort, arena: &mut Arena<u32>) {
 #[test]
 fn fills_the_largest_capacity_twice(rt: HostRuntime) -> Result<(), Fail> {
     let mut arena = Arena::new(rt.alloc(), MAX_CAPACITY, u32::MAX)?;
-    fill(&rt, &mut arena);
-    same(&rt, arena.insert(0), Err(0));
-    same(&rt, arena.live(), MAX_CAPACITY);
-    clear(&rt, &mut arena);
-    same(&rt, arena.live(), 0);
-    fill_again(&rt, &mut arena);
-    same(&rt, arena.insert(0), Err(0));
+    fill_twice(&rt, &mut arena);
     Ok(())
+}
+
+fn fill_twice(rt: &impl Abort, arena: &mut Arena<u32>) {
+    fill(rt, arena);
+    same(rt, arena.insert(0), Err(0));
+    same(rt, arena.live(), MAX_CAPACITY);
+    clear(rt, arena);
+    same(rt, arena.live(), 0);
+    fill_again(rt, arena);
+    same(rt, arena.insert(0), Err(0));
 }
 
 #[test]

@@ -1,6 +1,7 @@
 ghost use Rattle.std.specs.Prelude.{IsTrue, IfSome, ◌<◌, ◌≡◌};
 ghost use Rattle.mm_label.specs.Label.{counter_range, process_range, label_le, label_lt};
 
+use crate::tests::same::same;
 use mm_label::{Label, fresh};
 use std::test::Fail;
 
@@ -35,12 +36,12 @@ fn words_of_labels(rt: HostRuntime) -> Result<(), Fail> {
     ];
     for (counter, process, word) in table {
         let label = Label::new(counter, process).ok_or("in range")?;
-        assert_eq!(rt; label.word(), word, "the word of {label}");
+        same(&rt, label.word(), word);
         let kept = Label::of_word(word);
-        assert_eq!(rt;
-            (kept.counter(), kept.process()),
-            (counter, process),
-            "of {word}"
+        same(
+            &rt,
+            (word, kept.counter(), kept.process()),
+            (word, counter, process),
         );
     }
     Ok(())
@@ -58,14 +59,14 @@ fn words_of_the_former_packing(rt: HostRuntime) -> Result<(), Fail> {
     ];
     for (counter, process, word) in table {
         let kept = Label::of_old_word(word).ok_or("in range")?;
-        assert_eq!(rt;
-            (kept.counter(), kept.process()),
-            (counter, process),
-            "of {word}"
+        same(
+            &rt,
+            (word, kept.counter(), kept.process()),
+            (word, counter, process),
         );
     }
-    assert_eq!(rt; Label::of_old_word(1152921504606846976), None);
-    assert_eq!(rt; Label::of_old_word(u64::MAX), None);
+    same(&rt, Label::of_old_word(1152921504606846976), None);
+    same(&rt, Label::of_old_word(u64::MAX), None);
     Ok(())
 }
 

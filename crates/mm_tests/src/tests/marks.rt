@@ -1,5 +1,8 @@
+ghost use Rattle.std.specs.Prelude.{◌≡◌, ◌≤◌, length, vec_capacity};
+
 use crate::tests::same::same;
 use mm_marks::Marks;
+use std::process::Abort;
 use std::test::Fail;
 
 // The example of README.md.
@@ -22,17 +25,25 @@ fn moves_lists_and_clears(rt: HostRuntime) -> Result<(), Fail> {
     let mut marks = Marks::new(rt.alloc(), 200)?;
     let mut other = Marks::new(rt.alloc(), 200)?;
     let mut list = Vec::with_capacity(rt.alloc(), 200)?;
+    move_list_and_clear(&rt, &mut marks, &mut other, &mut list);
+    Ok(())
+}
+
+fn move_list_and_clear(rt: &impl Abort, marks: &mut Marks, other: &mut Marks, list: &mut Vec<u32>)
+    requires marks { length marks.old ≡ 200 }
+    requires other { length other.old ≡ 200 }
+    requires list { 200 ≤ vec_capacity list.old }
+{
     other.add(64);
     other.add(7);
     marks.add(130);
-    other.move_all(&mut marks, &mut list);
-    same(&rt, list.as_slice(), &[7, 64]);
-    same(&rt, other.next(0), None);
-    marks.take_all(&mut list);
-    same(&rt, list.as_slice(), &[7, 64, 130]);
-    same(&rt, marks.next(0), None);
+    other.move_all(marks, list);
+    same(rt, list.as_slice(), &[7, 64]);
+    same(rt, other.next(0), None);
+    marks.take_all(list);
+    same(rt, list.as_slice(), &[7, 64, 130]);
+    same(rt, marks.next(0), None);
     other.add(64);
     other.clear();
-    same(&rt, other.next(0), None);
-    Ok(())
+    same(rt, other.next(0), None);
 }

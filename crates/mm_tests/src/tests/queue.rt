@@ -3,6 +3,7 @@ ghost use Rattle.std.specs.Prelude.{◌≡◌, ◌<◌, length};
 use crate::tests::same::same;
 use mm_arena::Key;
 use mm_queue::Lists;
+use std::process::Abort;
 use std::test::Fail;
 
 fn key(process: u32, generation: u32) -> Key
@@ -30,22 +31,29 @@ fn push(lists: &mut Lists, list: u32, key: Key)
 #[test]
 fn keeps_each_list_in_order(rt: HostRuntime) -> Result<(), Fail> {
     let mut lists = Lists::new(rt.alloc(), 2, 4)?;
-    push(&mut lists, 0, key(1, 1));
-    push(&mut lists, 0, key(3, 1));
-    push(&mut lists, 1, key(0, 2));
-    push(&mut lists, 0, key(2, 1));
-    same(&rt, lists.front(0), Some(key(1, 1)));
-    same(&rt, lists.next(key(1, 1)), Some(key(3, 1)));
-    same(&rt, lists.len(0), 3);
-    assert!(rt; lists.remove(key(3, 1)));
-    same(&rt, lists.next(key(1, 1)), Some(key(2, 1)));
-    assert!(rt; !lists.remove(key(3, 1)));
-    assert!(rt; !lists.remove(key(2, 9)));
-    same(&rt, lists.list_of(key(2, 1)), Some(0));
-    assert!(rt; !lists.occupied(3));
-    same(&rt, lists.pop_front(0), Some(key(1, 1)));
-    same(&rt, lists.len(0), 1);
-    same(&rt, lists.pop_front(1), Some(key(0, 2)));
-    same(&rt, lists.front(1), None);
+    keep_two_lists(&rt, &mut lists);
     Ok(())
+}
+
+fn keep_two_lists(rt: &impl Abort, lists: &mut Lists)
+    requires lists { length lists.old.lists ≡ 2 }
+    requires processes { lists.old.processes ≡ 4 }
+{
+    push(lists, 0, key(1, 1));
+    push(lists, 0, key(3, 1));
+    push(lists, 1, key(0, 2));
+    push(lists, 0, key(2, 1));
+    same(rt, lists.front(0), Some(key(1, 1)));
+    same(rt, lists.next(key(1, 1)), Some(key(3, 1)));
+    same(rt, lists.len(0), 3);
+    same(rt, lists.remove(key(3, 1)), true);
+    same(rt, lists.next(key(1, 1)), Some(key(2, 1)));
+    same(rt, lists.remove(key(3, 1)), false);
+    same(rt, lists.remove(key(2, 9)), false);
+    same(rt, lists.list_of(key(2, 1)), Some(0));
+    same(rt, lists.occupied(3), false);
+    same(rt, lists.pop_front(0), Some(key(1, 1)));
+    same(rt, lists.len(0), 1);
+    same(rt, lists.pop_front(1), Some(key(0, 2)));
+    same(rt, lists.front(1), None);
 }

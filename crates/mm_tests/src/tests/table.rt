@@ -1,9 +1,7 @@
-mod steps;
+pub mod steps;
 
 use crate::tests::same::same;
 use mm_table::{Acquired, Config, Detected, Key, Mode, Refusal, Settled, Table, Totals};
-use std::alloc::{AllocError, Global};
-use std::process::Abort;
 use std::test::Fail;
 use steps::{Named, Step, answers};
 
@@ -39,31 +37,17 @@ fn config(processes: u32, resources: u32) -> Config {
     }
 }
 
-/// Ends the test unless two keys, with a space between them, are printed so.
-fn are_printed(
-    rt: &impl Abort,
-    alloc: Global,
-    first: Key,
-    second: Key,
-    expected: &str,
-) -> Result<(), AllocError> {
-    let printed = format!(in alloc; "{first} {second}")?;
-    same(rt, printed.as_str(), expected);
-    Ok(())
-}
+const PRINTS: [Step; 5] = [
+    Step::Begin(Ok(P0)),
+    Step::Begin(Ok(P1)),
+    Step::ArePrinted(P0, P1, "0.1 1.1"),
+    Step::Acquire(P0, 0, Ok(Acquired::Granted)),
+    Step::Acquire(P1, 1, Ok(Acquired::Granted)),
+];
 
 #[test]
 fn keys_are_printed_with_their_generations(rt: HostRuntime) -> Result<(), Fail> {
-    let mut table = Table::open(rt.alloc(), config(4, 4))?;
-    two_keys_are_printed(&rt, rt.alloc(), &mut table)
-}
-
-fn two_keys_are_printed(rt: &impl Abort, alloc: Global, table: &mut Table) -> Result<(), Fail> {
-    let first = table.begin()?;
-    let second = table.begin()?;
-    are_printed(rt, alloc, first, second, "0.1 1.1")?;
-    same(rt, table.acquire(first, 0), Ok(Acquired::Granted));
-    same(rt, table.acquire(second, 1), Ok(Acquired::Granted));
+    answers(&rt, rt.alloc(), config(4, 4), &PRINTS)?;
     Ok(())
 }
 
@@ -92,31 +76,33 @@ fn fill(table: &mut Table) -> Result<(), Refusal> {
     Ok(())
 }
 
+const LARGEST: Config = Config {
+    processes: Config::MOST_PROCESSES,
+    resources: Config::MOST_RESOURCES,
+    label_limit: Config::GREATEST_LABEL_LIMIT,
+    generation_limit: u32::MAX,
+};
+
+const FILLS: [Step; 2] = [Step::Fill, Step::Begin(Err(Refusal::Full))];
+
 #[test]
 fn the_largest_table_opens_and_fills(rt: HostRuntime) -> Result<(), Fail> {
-    let mut table = Table::open(
-        rt.alloc(),
-        Config {
-            processes: Config::MOST_PROCESSES,
-            resources: Config::MOST_RESOURCES,
-            label_limit: Config::GREATEST_LABEL_LIMIT,
-            generation_limit: u32::MAX,
-        },
-    )?;
-    fill(&mut table)?;
-    same(&rt, table.begin(), Err(Refusal::Full));
+    answers(&rt, rt.alloc(), LARGEST, &FILLS)?;
     Ok(())
 }
 
 #[test]
 fn each_refusal_has_its_number_and_name(rt: HostRuntime) -> Result<(), Fail> {
-    assert_eq!(rt;
+    same(
+        &rt,
         (Refusal::Stale.number(), Refusal::Stale.name()),
-        (1, "Stale")
+        (1, "Stale"),
     );
-    assert_eq!(rt; Refusal::CountsExhausted.number(), 15);
-    assert!(rt;
-        Table::open(rt.alloc(), config(0, 1)).is_err_and(|refusal| refusal == Refusal::BadConfig)
+    same(&rt, Refusal::CountsExhausted.number(), 15);
+    same(
+        &rt,
+        answers(&rt, rt.alloc(), config(0, 1), &[]),
+        Err(Refusal::BadConfig),
     );
     Ok(())
 }

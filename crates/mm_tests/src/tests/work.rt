@@ -3,7 +3,9 @@
 mod faults;
 mod ring;
 
+use crate::tests::rows::is_answered;
 use faults::{FailingReader, FailingWriter, Newlines, WhenFull, read_is_at_fault, write_ends};
+use mm_rows::Row;
 use mm_script::{ScriptFault, run_script};
 use std::io::ErrorKind;
 use std::test::Fail;
@@ -14,13 +16,16 @@ const SCRIPT: &str = "table 1 1 9 2\nbegin\nfinish 0.1\nbegin\nfinish 0.2\nbegin
 const REPLIES: &str = "ok\nkey 0.1\nfinished\nkey 0.2\nfinished\nrefused 6 Full\n";
 
 /// The example of mm_script's page: the last line needs no newline, and one line is malformed.
+const EXAMPLE: Row = Row {
+    name: "example",
+    input: "table 1 1 9 9\nbegin\nfly",
+    output: "ok\nkey 0.1\nmalformed\n",
+    malformed: 1,
+};
+
 #[test]
 fn malformed_line_is_counted(rt: HostRuntime) -> Result<(), Fail> {
-    let mut script = b"table 1 1 9 9\nbegin\nfly".as_slice();
-    let mut replies = Vec::new(rt.alloc());
-    let outcome = run_script(rt.alloc(), &mut script, &mut replies);
-    assert_eq!(rt; outcome, Ok(1));
-    assert_eq!(rt; replies.as_slice(), b"ok\nkey 0.1\nmalformed\n".as_slice());
+    is_answered(&rt, rt.alloc(), &EXAMPLE);
     Ok(())
 }
 

@@ -26,6 +26,29 @@ fn changed(alloc: Global, part: &str, other: &str) -> Result<String, Fail> {
     Ok(format!(in alloc; "{before}{other}{after}")?)
 }
 
+/// The workload of the text with other text in place of its part.
+fn read_changed(alloc: Global, part: &str, other: &str) -> Result<Workload, Fail> {
+    let text = changed(alloc, part, other)?;
+    Ok(Workload::read(alloc, text.as_bytes())?)
+}
+
+/// Ends the test unless the workload of the text with other text in place of its part has the same turns, and begins with this step.
+fn begins_with(
+    rt: &impl Abort,
+    alloc: Global,
+    change: (&str, &str),
+    step: WorkStep,
+) -> Result<(), Fail> {
+    let work = read_changed(alloc, change.0, change.1)?;
+    same(rt, work.turns(), 10_000_000);
+    let first = work
+        .clients()
+        .first()
+        .and_then(|client| client.as_slice().first());
+    same(rt, first.copied(), Some(step));
+    Ok(())
+}
+
 /// The text with these clients, each of so many steps.
 fn with_clients(alloc: Global, clients: usize, steps: usize) -> Result<String, Fail> {
     let mut text = String::new(alloc);
@@ -61,9 +84,9 @@ fn with_nested_arrays(alloc: Global, depth: usize) -> Result<String, Fail> {
 
 /// Ends the test where the workload's clients have other steps.
 fn has_steps(rt: &impl Abort, work: &Workload, clients: &[&[WorkStep]]) {
-    assert_eq!(rt; work.clients().len(), clients.len());
+    same(rt, work.clients().len(), clients.len());
     for (came, expected) in work.clients().iter().zip(clients.iter()) {
-        assert_eq!(rt; came.as_slice(), *expected);
+        same(rt, came.as_slice(), *expected);
     }
 }
 
@@ -93,23 +116,26 @@ fn what_is_read(rt: HostRuntime) -> Result<(), Fail> {
     Ok(())
 }
 
+/// Ends the test unless two clients without steps are read.
+fn are_without_steps(rt: &impl Abort, alloc: Global) -> Result<(), Fail> {
+    let text = with_clients(alloc, 2, 0)?;
+    let work = Workload::read(alloc, text.as_bytes())?;
+    has_steps(rt, &work, &[[].as_slice(), [].as_slice()]);
+    Ok(())
+}
+
 /// A table that cannot be opened is no fault of a workload, and neither is a resource that is not there or a client without steps.
 #[test]
 fn what_is_tested_later(rt: HostRuntime) -> Result<(), Fail> {
-    let text = changed(rt.alloc(), "\"processes\":2", "\"processes\":0")?;
-    let work = Workload::read(rt.alloc(), text.as_bytes())?;
-    same(&rt, work.config().processes, 0);
-    let text = changed(rt.alloc(), "[\"acquire\",0]", "[\"release\",4294967295]")?;
-    let work = Workload::read(rt.alloc(), text.as_bytes())?;
-    same(
+    let none = read_changed(rt.alloc(), "\"processes\":2", "\"processes\":0")?;
+    same(&rt, none.config().processes, 0);
+    begins_with(
         &rt,
-        work.clients()[0].as_slice().first().copied(),
-        Some(WorkStep::Release(u32::MAX)),
-    );
-    let text = with_clients(rt.alloc(), 2, 0)?;
-    let work = Workload::read(rt.alloc(), text.as_bytes())?;
-    has_steps(&rt, &work, &[[].as_slice(), [].as_slice()]);
-    Ok(())
+        rt.alloc(),
+        ("[\"acquire\",0]", "[\"release\",4294967295]"),
+        WorkStep::Release(u32::MAX),
+    )?;
+    are_without_steps(&rt, rt.alloc())
 }
 
 /// The greatest numbers of all.
@@ -134,22 +160,17 @@ fn the_greatest(rt: HostRuntime) -> Result<(), Fail> {
     Ok(())
 }
 
+const OF_THE_SAME: [(&str, &str); 3] = [
+    ("]]]}", "]]],\"note\":[null,1.5,-0,{\"turns\":3}]} \n"),
+    ("{\"processes\":2", "\r\n{ \"\":0,\t\"processes\" : 2 "),
+    ("[\"acquire\",0]", "[\"\\u0061cquire\",0]"),
+];
+
 /// Other keys are passed over, spaces too, and an escaped word is that word.
 #[test]
 fn other_texts_of_the_same(rt: HostRuntime) -> Result<(), Fail> {
-    for (part, other) in [
-        ("]]]}", "]]],\"note\":[null,1.5,-0,{\"turns\":3}]} \n"),
-        ("{\"processes\":2", "\r\n{ \"\":0,\t\"processes\" : 2 "),
-        ("[\"acquire\",0]", "[\"\\u0061cquire\",0]"),
-    ] {
-        let text = changed(rt.alloc(), part, other)?;
-        let work = Workload::read(rt.alloc(), text.as_bytes())?;
-        same(&rt, work.turns(), 10_000_000);
-        same(
-            &rt,
-            work.clients()[0].as_slice().first().copied(),
-            Some(WorkStep::Acquire(0)),
-        );
+    for change in OF_THE_SAME {
+        begins_with(&rt, rt.alloc(), change, WorkStep::Acquire(0))?;
     }
     let nested = with_nested_arrays(rt.alloc(), 126)?;
     let work = Workload::read(rt.alloc(), nested.as_bytes())?;

@@ -1,12 +1,13 @@
 //! Calls on a table, each with its answer.
 
-use super::{make_ring, make_three_wait};
+use super::{fill, make_ring, make_three_wait};
 use crate::tests::same::same;
+use mm_examples::abort_and_wake;
 use mm_table::{
     Acquired, Config, Detected, Key, Label, Mode, Refusal, Settled, State, Table, Totals,
     Transmitted,
 };
-use std::alloc::Global;
+use std::alloc::{AllocError, Global};
 use std::process::Abort;
 
 /// A label: its counter and its process.
@@ -20,6 +21,10 @@ pub enum Step {
     Ring(u32),
     /// Three wait for what the first owns.
     ThreeWait,
+    /// As many begin as the largest table has processes, and each asks for its last resource.
+    Fill,
+    /// Two keys, with a space between them, are printed so.
+    ArePrinted(Key, Key, &'static str),
     Begin(Result<Key, Refusal>),
     Acquire(Key, u32, Result<Acquired, Refusal>),
     /// An acquire that waits for this holder.
@@ -38,6 +43,8 @@ pub enum Step {
     Owner(u32, Result<Option<Key>, Refusal>),
     Tenant(u32, Option<Key>),
     Totals(Totals),
+    /// An abort by `abort_and_wake`, which changes these processes and wakes these transactions.
+    Wakes(Key, &'static [u32], &'static [Key]),
 }
 
 /// `None` where there is no such label.
@@ -51,12 +58,52 @@ fn state_of(mode: Mode, private: Named, public: Named) -> Option<Result<State, R
     }))
 }
 
+/// Ends the test unless two keys, with a space between them, are printed so.
+fn are_printed(
+    rt: &impl Abort,
+    alloc: Global,
+    first: Key,
+    second: Key,
+    expected: &str,
+) -> Result<(), AllocError> {
+    let printed = format!(in alloc; "{first} {second}")?;
+    same(rt, printed.as_str(), expected);
+    Ok(())
+}
+
+/// Aborts a transaction. Ends the test unless the call changes these processes, and these transactions are to be woken.
+fn wakes(
+    rt: &impl Abort,
+    alloc: Global,
+    table: &mut Table,
+    key: Key,
+    changed: &[u32],
+    woken: &[Key],
+) -> Result<(), AllocError> {
+    let most = Config::MOST_PROCESSES as usize;
+    let mut came = Vec::with_capacity(alloc, most)?;
+    let mut active = Vec::with_capacity(alloc, most)?;
+    table.keeps_laws();
+    same(
+        rt,
+        abort_and_wake(table, key, &mut came, &mut active),
+        Ok(()),
+    );
+    same(rt, came.as_slice(), changed);
+    same(rt, active.as_slice(), woken);
+    Ok(())
+}
+
 /// Makes the calls one after the other, and ends the test at the first with another answer.
-pub fn make(rt: &impl Abort, table: &mut Table, steps: &[Step]) {
+pub fn make(rt: &impl Abort, alloc: Global, table: &mut Table, steps: &[Step]) {
     for step in steps {
         match *step {
             Step::Ring(count) => same(rt, make_ring(table, count), Ok(())),
             Step::ThreeWait => same(rt, make_three_wait(table), Ok(())),
+            Step::Fill => same(rt, fill(table), Ok(())),
+            Step::ArePrinted(first, second, expected) => {
+                same(rt, are_printed(rt, alloc, first, second, expected), Ok(()));
+            }
             Step::Begin(answer) => same(rt, table.begin(), answer),
             Step::Acquire(key, resource, answer) => same(rt, table.acquire(key, resource), answer),
             Step::Waits(key, resource, holder, Named(counter, process)) => {
@@ -89,6 +136,9 @@ pub fn make(rt: &impl Abort, table: &mut Table, steps: &[Step]) {
             Step::Owner(resource, answer) => same(rt, table.owner(resource), answer),
             Step::Tenant(process, answer) => same(rt, table.tenant(process), answer),
             Step::Totals(answer) => same(rt, table.totals(), answer),
+            Step::Wakes(key, changed, woken) => {
+                same(rt, wakes(rt, alloc, table, key, changed, woken), Ok(()));
+            }
         }
     }
 }
@@ -101,6 +151,6 @@ pub fn answers(
     steps: &[Step],
 ) -> Result<(), Refusal> {
     let mut table = Table::open(alloc, config)?;
-    make(rt, &mut table, steps);
+    make(rt, alloc, &mut table, steps);
     Ok(())
 }

@@ -1,5 +1,6 @@
 //! A reader and a writer that fail at a chosen call, what comes of a script of each, and a reader of newlines.
 
+use crate::tests::same::same;
 use mm_script::{ScriptFault, run_script};
 use std::alloc::Global;
 use std::io;
@@ -42,12 +43,9 @@ pub fn read_is_at_fault(
     let FailingReader { piece, calls, .. } = *reader;
     let mut output = Vec::new(alloc);
     let outcome = run_script(alloc, reader, &mut output);
-    assert_eq!(rt;
-        outcome,
-        Err(ScriptFault::Read),
-        "{piece} bytes, {calls} calls"
-    );
-    assert_eq!(rt; output.as_slice(), replies, "{piece} bytes, {calls} calls");
+    let expected = (piece, calls, Err(ScriptFault::Read));
+    same(rt, (piece, calls, outcome), expected);
+    same(rt, output.as_slice(), replies);
 }
 
 /// What a writer does that has no room left.
@@ -107,8 +105,8 @@ pub fn write_ends(
     let FailingWriter { piece, room, .. } = *writer;
     let mut input = script;
     let ended = run_script(alloc, &mut input, writer);
-    assert_eq!(rt; ended, outcome, "{piece} bytes a call, {room} in all");
-    assert_eq!(rt; writer.taken.as_slice(), taken);
+    same(rt, (piece, room, ended), (piece, room, outcome));
+    same(rt, writer.taken.as_slice(), taken);
 }
 
 /// Gives newlines alone, so many.
