@@ -1,5 +1,5 @@
 -- Labels that a reader has seen do not fall.
-use Rattle.std.proofs.Common.{◌≡◌, ◌≢◌, ℕ, List, IsTrue, inl, inr, sym, ap, ◌∙◌, subst, get_or-set_other}
+use Rattle.std.proofs.Common.{◌≡◌, ℕ, List, IsTrue, inl, inr, sym, ap, ◌∙◌, subst, get_or-set_other}
 use Rattle.std.proofs.lemmas.Bool.{cases_eq}
 use Rattle.mm_label.specs.Label.{Label, label_le, opening_label}
 use Rattle.mm_board.specs.declared.views.Seen.{Seen}

@@ -31,7 +31,7 @@ pub fn client_jobs<'a, N: Name, A: Ledger, V: Ledger, B: Ledger, R: Wait, G: Gat
     let mut place = 0usize;
     for gate in gates {
         let work = clients[place].clone()?;
-        jobs.push(ClientJob::new(rt, table, pass, gate, work, turns))?;
+        jobs.push_reserved(ClientJob::new(rt, table, pass, gate, work, turns));
         place += 1;
     }
     Ok(jobs)
@@ -54,7 +54,7 @@ pub fn transmitter_jobs<'a, N: Name, A: Ledger, V: Ledger, B: Ledger, R: Wait, G
 {
     let mut jobs = Vec::with_capacity(alloc, workload.transmitters() as usize)?;
     for gate in gates {
-        jobs.push(TransmitterJob::new(rt, table, pass, gate, workload.turns()))?;
+        jobs.push_reserved(TransmitterJob::new(rt, table, pass, gate, workload.turns()));
     }
     Ok(jobs)
 }

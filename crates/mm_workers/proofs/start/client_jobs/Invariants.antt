@@ -1,4 +1,4 @@
-use Rattle.std.specs.Prelude.{◌≡◌, ◌+◌, vec_len}
+use Rattle.std.specs.Prelude.{◌≡◌, ◌+◌, ◌≤◌, vec_len, vec_capacity}
 use Rattle.std.specs.Vec.Iter.{into_iter_len}
 use Rattle.mm_workers.proofs.start.client_jobs.Given as goal
 
@@ -10,3 +10,4 @@ invariant-loop-gate g l =
     × (vec_len l.jobs ≡ l.place)
     × (l.pass.parts + vec_len l.jobs ≡ l.fn.pass.parts)
     × (l.pass.aborts ≡ l.fn.pass.aborts)
+    × (vec_len l.fn.gates ≤ vec_capacity l.jobs)

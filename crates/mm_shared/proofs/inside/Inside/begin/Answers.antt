@@ -1,7 +1,7 @@
 use Rattle.std.proofs.Common.{refl, arith}
 use Rattle.mm_rules.specs.Event.{Begin}
 use Rattle.mm_shared.proofs.Counted.{room_stays, refused_booked, accepted_booked}
-use Rattle.mm_shared.proofs.Publishing.{all_stored, appends_none, left_after, refused_published}
+use Rattle.mm_shared.proofs.Publishing.{all_stored, left_after, refused_published}
 use Rattle.mm_shared.proofs.inside.Inside.begin.Goals as goal
 
 pub invariant_of-self : goal.invariant_of-self
