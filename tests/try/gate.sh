@@ -130,10 +130,10 @@ os.execv(sys.argv[1], sys.argv[1:])' ./run_tests) > "$work/out" 2> "$work/err" &
   watch=
   for ((i = 0; i < 100; i++)); do
     watch=$(watch_of "$child")
-    [ -z "$watch" ] || break
+    # (it is ready once it holds signals back)
+    [ -z "$watch" ] || grep -q '^SigBlk:.0*$' "/proc/$watch/status" || break
     sleep 0.1
   done
-  sleep 1
   # (SIGINT comes from a terminal, which sends it to all)
   if [ "$signal" = INT ]; then
     kill -s INT -- "-$child"
