@@ -35,11 +35,13 @@ class Process(NamedTuple):
 
 
 def process(number):
-    """The process of this number, or None."""
+    """The process of this number, or None where there is none or it has ended."""
     try:
         with open(f"/proc/{number}/stat", encoding="utf-8", errors="replace") as it:
             # (the name of its program, in brackets, may hold anything)
             said = it.read().rpartition(")")[2].split()
+        if said[0] in ("Z", "X"):
+            return None
         return Process(int(number), int(said[1]), int(said[19]), int(said[11]) + int(said[12]), int(said[13]) + int(said[14]))
     except (OSError, IndexError, ValueError):
         return None

@@ -16,7 +16,8 @@ CONSTRUCTORS = {"Some", "Ok", "Err"}
 
 # An operator calls the method of a trait.
 OPERATORS = {"PartialEq", "PartialOrd", "Ord", "From", "Deref", "DerefMut", "Index", "IndexMut", "Drop"}
-OPERATORS |= {it + end for it in ("Add", "Sub", "Mul", "Div", "Rem", "BitAnd", "BitOr", "BitXor", "Shl", "Shr") for end in ("", "Assign")} | {"Not", "Neg"}
+OF_TWO = ("Add", "Sub", "Mul", "Div", "Rem", "BitAnd", "BitOr", "BitXor", "Shl", "Shr")
+OPERATORS |= {"Not", "Neg", *OF_TWO, *(f"{it}Assign" for it in OF_TWO)}
 
 LOOPS = {"for", "while", "loop"}
 ITERATORS = set(

@@ -5,6 +5,7 @@ from loops.walk import Walk, faults_of_idle, key
 
 HEAD = "struct Table { rows: Vec<Row>, count: u32 }\nstruct Row { links: Option<Row>, size: u32 }\n"
 IDLE = {("low", "", "fills"): ("low", "Table", "begins")}
+UNKNOWN = (".frobs of Table", "frobs", "frobs!", "std::frobs", "given", ".is_some_and of no closure", "a value")
 
 # By name: a text, which begins with a function start() of Table, and what each fault says, in their order.
 TEXTS = {
@@ -14,19 +15,21 @@ TEXTS = {
     ),
     "each kind of loop": (
         "impl Table { fn start(&self) { while self.count > 0 {} \n 'on: loop {} \n self.rows.iter(); \n self.rows.get(0).map(|it| it); } }",
-        ["low.rt:3: Table::start has a loop: while", "low.rt:4: Table::start has a loop: loop", "low.rt:5: Table::start has a loop: .iter", "low.rt:6: Table::start has a loop: .map"],
+        [f"low.rt:{at}: Table::start has a loop: {it}" for at, it in ((3, "while"), (4, "loop"), (5, ".iter"), (6, ".map"))],
     ),
     "a recursion of two": (
         "impl Table { fn start(&self) { odd(1) } }\nfn odd(n: u32) { even(n - 1) }\nfn even(n: u32) { odd(n - 1) }",
         ["low.rt:4: a recursion: odd calls even calls odd"],
     ),
     "calls that cannot be resolved": (
-        "impl Table { fn start(&self, given: u32) {\n self.frobs(); \n frobs(); \n frobs!(); \n std::frobs(); \n given(); \n self.rows.get(0).is_some_and(frobs); \n (self.rows)(1) } }",
-        [f"low.rt:{at}: Table::start calls {what}, which cannot be resolved" for at, what in ((4, ".frobs of Table"), (5, "frobs"), (6, "frobs!"), (7, "std::frobs"), (8, "given"), (9, ".is_some_and of no closure"), (10, "a value"))],
+        "impl Table { fn start(&self, given: u32) {\n self.frobs(); \n frobs(); \n frobs!(); \n std::frobs(); \n given();\n"
+        " self.rows.get(0).is_some_and(frobs); \n (self.rows)(1) } }",
+        [f"low.rt:{at}: Table::start calls {it}, which cannot be resolved" for at, it in enumerate(UNKNOWN, 4)],
     ),
     "what is no code": (
         "impl Table { /// for it in loop\n fn start(&self) -> u32\n requires some { for x while y }\n ensures { λ loop. for }\n {\n"
-        ' ghost use for.loop.{while};\n // while true {}\n /* loop { /* for */ } while */\n let text = "for x in y { }"; let raw = r#"loop "{" "#; let one = \'{\';\n'
+        " ghost use for.loop.{while};\n // while true {}\n /* loop { /* for */ } while */\n"
+        ' let text = "for x in y { }"; let raw = r#"loop "{" "#; let one = \'{\';\n'
         " self.count } }\n#[cfg(test)]\nmod tests;",
         [],
     ),
@@ -41,7 +44,8 @@ TEXTS = {
         ["low.rt:6: Other::size has a loop: loop"],
     ),
     "an operator": (
-        "impl Table { fn start(&self) -> bool { self.rows[0] == self.rows[1] } }\nimpl PartialEq for Row { fn eq(&self, other: &Row) -> bool { loop {} } }",
+        "impl Table { fn start(&self) -> bool { self.rows[0] == self.rows[1] } }\n"
+        "impl PartialEq for Row { fn eq(&self, other: &Row) -> bool { loop {} } }",
         ["low.rt:4: Row::eq has a loop: loop"],
     ),
     "a function that is named and not called": (
@@ -58,7 +62,10 @@ TEXTS = {
     ),
     "a loop of which no turn was taken": (
         "impl Table { fn start(&self) { fills() } fn begins(&self) {} }\nfn fills() {}",
-        ["low::fills has no loop that is reached: take it out of IDLE", "low::Table::begins does not reach the loop of fills any more, so a turn of it may be left to others"],
+        [
+            "low::fills has no loop that is reached: take it out of IDLE",
+            "low::Table::begins does not reach the loop of fills any more, so a turn of it may be left to others",
+        ],
     ),
 }
 

@@ -11,13 +11,13 @@ for script in no_loops try_program refuse_memory; do
   printf '#!/bin/sh\necho "1 passed, 0 failed"\n' > "$gate/top/tests/$script"
 done
 
-# A check computes for as many seconds as 'takes' says, or, where that is 'long', until 'next' is there, which it removes.
+# A check computes for as many seconds as 'takes' says, or, where that is 'long', waits until 'next' is there, which it removes.
 cat > "$gate/bin/rattle" << 'RATTLE'
 #!/usr/bin/env bash
 fake=$(dirname "$0")/..
 takes=$(cat "$fake/takes")
 if [ "$takes" = long ]; then
-  while [ -d "$fake" ] && [ ! -e "$fake/next" ]; do :; done
+  while [ -d "$fake" ] && [ ! -e "$fake/next" ]; do sleep 0.1; done
   rm -f "$fake/next"
 else
   end=$((${EPOCHREALTIME/./} + takes * 1000000))
@@ -91,7 +91,7 @@ tests/refuse_memory: 1 passed, 0 failed
 gated ./run_tests --times
 same status 0 $?
 says "The last run: commit unknown, begun 20"
-says "It said: rt ci: 4 passed, 0 failed, tests/no_loops: 1 passed, 0 failed, tests/no_loops --self-test: 1 passed, 0 failed, tests/try_program --built: 1 passed, 0 failed"
+says "It said: rt ci: 4 passed, 0 failed, tests/no_loops: 1 passed, 0 failed, tests/no_loops --self-test: 1 passed, 0 failed, "
 same "the dearest" edits "$(sed -n '4s/.* mm_low \(edits\) (1 of 2 kept)$/\1/p' "$work/out")"
 for what in proof tests; do
   seconds_of=$(sed -n "s/^ *\([0-9.]*\) .* mm_low $what$/\1/p" "$work/out")
@@ -117,6 +117,7 @@ watch_of() {
   done
 }
 
+# (INT comes from a terminal, which sends it to all)
 for signal in TERM INT; do
   case_is "SIG$signal ends the watch, and says that the run was broken off"
   echo long > "$gate/takes"
@@ -130,11 +131,10 @@ os.execv(sys.argv[1], sys.argv[1:])' ./run_tests) > "$work/out" 2> "$work/err" &
   watch=
   for ((i = 0; i < 100; i++)); do
     watch=$(watch_of "$child")
-    # (it is ready once it holds signals back)
-    [ -z "$watch" ] || grep -q '^SigBlk:.0*$' "/proc/$watch/status" || break
+    # (it is ready once it takes SIGUSR1)
+    [ -z "$watch" ] || ! grep -q '^SigCgt:.*[2367abef]..$' "/proc/$watch/status" || break
     sleep 0.1
   done
-  # (SIGINT comes from a terminal, which sends it to all)
   if [ "$signal" = INT ]; then
     kill -s INT -- "-$child"
   else
@@ -143,8 +143,8 @@ os.execv(sys.argv[1], sys.argv[1:])' ./run_tests) > "$work/out" 2> "$work/err" &
   wait "$child" 2> /dev/null
   status=$?
   same status $((128 + $(kill -l "$signal"))) "$status"
-  touch "$gate/next"
   echo 0 > "$gate/takes"
+  touch "$gate/next"
   for ((i = 0; i < 100; i++)); do
     kill -0 "$watch" 2> /dev/null || break
     sleep 0.1
