@@ -47,8 +47,7 @@ returns-clause-step c =
     let n = c.args.key.process in
     let passed : allowed (abort_tests s c.args.key) ≡ Ok tt = sym c.may_abort.ensures.tests ∙ c.in_ok-may_abort.was in
     let given = sym (ap (λ v. decided v s tt (abort s n)) passed) in
-    let vacated : c.vacate.new.self ≡ abort s n = c.vacate.ensures.state ∙ ap (λ (t : TableState). vacate t n) c.withdraw.ensures in
-    (
+    let vacated : c.vacate.new.self ≡ abort s n = c.vacate.ensures.state ∙ ap (λ (t : TableState). vacate t n) c.withdraw.ensures in (
       ap (λ o. o.reply) given,
       c.count.ensures ∙ ap (λ (t : TableState). record t { totals = record t.totals { accepted = t.totals.accepted + 1 } }) vacated ∙ ap (λ o. o.state) given,
     )

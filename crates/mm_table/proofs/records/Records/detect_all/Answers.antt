@@ -63,7 +63,7 @@ pub loop-process-smaller : goal.loop-process-smaller
 loop-process-smaller c =
     let inside : c.in-Some.process < c.args.self.now.config.processes =
     check_within c.args.self.now c.loop-process.from c.loop-process.verdicts c.loop-process.checks c.loop-process.self c.loop-process.invariant.way
-        c.in-Some.process c.in-Some.ensures.member.0 in
+    c.in-Some.process c.in-Some.ensures.member.0 in
     omega (arith, c.in-Some.ensures.member.0.at_least)
 
 pub returns-clause-touched : goal.returns-clause-touched
