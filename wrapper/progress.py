@@ -1,7 +1,7 @@
 """How far `rt ci` is with the crates of the program, and how long it may still take.
 
-wrapper/seconds has, for each crate, when its proof began and ended in one run from nothing on four processors. The time that is left is
-what was left there, times how much faster or slower this run has been so far."""
+wrapper/seconds has, for each crate, when its proof had ended in one run from nothing on four processors. Each time that a crate ends, the
+time that is left is reckoned anew: what was left in that run, times how much faster or slower this one has been so far."""
 import os
 import re
 import time
@@ -9,8 +9,7 @@ import time
 import telling
 
 ENDED = re.compile(r"^rt: (\w+) (proved|is kept:)", re.M)
-COUNTED = re.compile(r"^so far: (\d+) of (\d+) functions checked", re.M)
-# how often a line is written where standard error is no terminal
+# how often a line is written where standard error is no terminal, in seconds
 EVERY = 30
 
 
@@ -26,67 +25,58 @@ def text_of(path):
         return ""
 
 
-def proofs_below(pid):
-    """For each crate whose proof runs below this process, how many of how many functions are checked, where that is known."""
-    found = {}
+def under_way(session):
+    """The crates that are proved by the processes of this session. (Nothing is read of what they print: that would take it away from rt.)"""
+    found = set()
     for name in filter(str.isdigit, os.listdir("/proc")):
         words = text_of(f"/proc/{name}/cmdline").split("\0")
-        if "--crate-name" not in words or session_of(name) != pid:
-            continue
-        counts = COUNTED.findall(text_of(f"/proc/{name}/fd/1")[-20000:])
-        found[words[words.index("--crate-name") + 1]] = tuple(map(int, counts[-1])) if counts else None
+        if "--crate-name" in words and session_of(name) == session:
+            found.add(words[words.index("--crate-name") + 1])
     return found
 
 
-def session_of(pid):
-    fields = text_of(f"/proc/{pid}/stat").rpartition(")")[2].split()
+def session_of(process):
+    fields = text_of(f"/proc/{process}/stat").rpartition(")")[2].split()
     return int(fields[3]) if len(fields) > 3 else 0
 
 
 class Reckoning:
-    def __init__(self, seconds, crates, log, pid):
-        self.names, self.log, self.pid = names_of(text_of(crates)), log, pid
+    def __init__(self, seconds, crates, log, session):
+        self.names, self.log, self.session = names_of(text_of(crates)), log, session
         rows = [line.split() for line in text_of(seconds).splitlines() if line and not line.startswith("#")]
-        self.run = {name: (float(start), float(end)) for name, start, end in rows}
-        self.started = self.since = time.monotonic()
-        self.from_place = 0.0
-        self.told, self.told_at = None, self.started
+        self.ends = {name: float(end) for name, end in rows}
+        self.whole = max(self.ends.values(), default=0.0)
+        self.started = self.since = self.at = time.monotonic()
+        self.kept_until, self.left = 0.0, self.whole
+        self.seen, self.told_at = 0, self.started
 
     def tell(self):
         ended = dict(ENDED.findall(text_of(self.log)))
-        under_way = {name: count for name, count in proofs_below(self.pid).items() if name not in ended}
         now = time.monotonic()
-        left = self.left(ended, under_way, now)
-        text = f"{len(ended)} of {len(self.names)} crates proved"
-        text += "".join(f"; {name}{counted(count)}" for name, count in under_way.items())
-        text += f"; {now - self.started:.0f} s" + (f", about {left} left" if left else "")
+        is_new = len(ended) != self.seen
+        if is_new:
+            self.reckon(ended, now)
+        names = sorted(under_way(self.session) - ended.keys())
+        text = f"{len(ended)} of {len(self.names)} crates proved; " + "".join(f"{name} " for name in names) + f"under way; {now - self.started:.0f} s"
+        if self.whole:
+            text += f", about {about(self.left - (now - self.at))} left"
         if telling.is_terminal:
             telling.shows(text)
-        elif (len(ended) != self.told or now - self.told_at >= EVERY) and ended:
+        elif is_new or now - self.told_at >= EVERY:
             telling.says(text)
-            self.told, self.told_at = len(ended), now
+            self.told_at = now
 
-    def left(self, ended, under_way, now):
-        """About how much time is left, as a text; nothing where it cannot be known yet."""
-        kept = [name for name, how in ended.items() if how != "proved"]
-        place = max([self.run[name][1] for name in ended if name in self.run], default=0.0)
-        for name, count in under_way.items():
-            if name in self.run and count and count[1]:
-                start, end = self.run[name]
-                place = max(place, start + (end - start) * count[0] / count[1])
-        if len(kept) == len(ended) and ended:
+    def reckon(self, ended, now):
+        """A crate has ended: how much time is left now."""
+        self.seen, self.at = len(ended), now
+        place = max([self.ends[name] for name in ended if name in self.ends], default=0.0)
+        if all(how != "proved" for how in ended.values()):
             # what was proved before this run took none of its time
-            self.since, self.from_place = now, place
-        whole = max((end for _, end in self.run.values()), default=0.0)
-        gone = place - self.from_place
-        if not whole or gone < whole / 30:
-            return about(whole - place) if whole else ""
-        return about((whole - place) * (now - self.since) / gone)
-
-
-def counted(count):
-    return f": {count[0]} of {count[1]} functions" if count else ""
+            self.since, self.kept_until = now, place
+        gone = place - self.kept_until
+        pace = (now - self.since) / gone if gone > self.whole / 30 else 1.0
+        self.left = (self.whole - place) * pace
 
 
 def about(seconds):
-    return f"{max(1, round(seconds / 60))} min" if seconds >= 90 else f"{max(10, round(seconds / 10) * 10):.0f} s"
+    return f"{round(seconds / 60)} min" if seconds >= 90 else f"{max(10, round(seconds / 10) * 10)} s"
