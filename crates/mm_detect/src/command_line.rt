@@ -40,7 +40,7 @@ pub enum Request {
     Memory,
 }
 
-/// Returns what the command line asks for that the program was started with. Allocates.
+/// What the program's command line asks for. Allocates.
 pub fn asked(rt: &HostRuntime) -> Request {
     asked_or_refused(rt).unwrap_or(Request::Memory)
 }
