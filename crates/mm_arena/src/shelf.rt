@@ -241,7 +241,7 @@ impl<T> Shelf<T> {
     {
         match &self.entries[process as usize] {
             Some(stored) => stored.generation,
-            // Never so: a number, and no stop, lets the compiler leave out the read where nobody wants the generation.
+            // Unreachable. A number in place of a panic lets the compiler drop the read where the caller ignores the result.
             None => 0,
         }
     }

@@ -18,7 +18,7 @@ StepOf = Step (Unit {0})
 -- what the publisher knows, and what a reader knows
 abbrev pub published_of : View → Published
 published_of (Publishes p) = p
-published_of _ = record { histories = []; holders = []; met = [] }
+published_of _ = record { histories = []; holders = []; holders_stored = 0; met = [] }
 
 abbrev pub seen_of : View → Seen
 seen_of (Reads s) = s

@@ -36,7 +36,7 @@ with_label p i label = record p { histories = slice_set p.histories i (history p
 
 -- after this holder is stored for process i
 abbrev pub with_holder : Published → ℕ → Option ℕ → Published
-with_holder p i holder = record p { holders = slice_set p.holders i holder }
+with_holder p i holder = record p { holders = slice_set p.holders i holder; holders_stored = p.holders_stored + 1 }
 
 -- after the board is shown to a reader that had seen these labels
 abbrev pub with_met : Published → List Label → Published
@@ -59,6 +59,7 @@ abbrev pub opening_published : ℕ → Published
 opening_published processes = record {
   histories = map (λ i. opening_label i ∷ []) (range_with_len 0 processes);
   holders = replicate processes None;
+  holders_stored = 0;
   met = opening_labels processes;
 }
 

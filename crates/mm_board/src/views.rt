@@ -8,6 +8,8 @@ pub struct Published {
     pub histories: LinkedList<LinkedList<Label>>,
     /// Of each process the holder that was stored last.
     pub holders: LinkedList<Option<u32>>,
+    /// How many holders were stored.
+    pub holders_stored: u64,
     /// Of each process the label that was seen by the reader to which the publisher showed the board last.
     pub met: LinkedList<Label>,
 }

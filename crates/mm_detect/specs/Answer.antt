@@ -1,7 +1,7 @@
 -- How what is asked for ends.
 use Rattle.std.specs.Prelude.{⊤}
-use Rattle.mm_detect.specs.declared.command_line.Request.{Request}
-use Rattle.mm_detect.specs.declared.command_line.Request.TheVariants as request
+use Rattle.mm_command.specs.declared.command_line.Request.{Request}
+use Rattle.mm_command.specs.declared.command_line.Request.TheVariants as request
 use Rattle.mm_detect.specs.declared.ending.Ending.{Ending}
 use Rattle.mm_detect.specs.declared.ending.Ending.TheVariants as ending
 

@@ -1,4 +1,3 @@
 pub mod Answer
-pub mod CommandLine
 pub mod Ending
 pub mod WorkEnd

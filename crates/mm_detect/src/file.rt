@@ -6,7 +6,7 @@ use std::io;
 use std::io::{ErrorKind, Read};
 use std::rt::Files;
 
-/// One byte more than a workload may have, so that a longer file is known to be longer.
+/// One byte more than a workload may have, so that a longer file is told from one of the greatest length.
 const MOST_BYTES: u64 = 1_048_577;
 
 /// What came of a file.
@@ -26,7 +26,7 @@ pub fn taken_from(rt: &impl Files, alloc: Global, path: &str) -> Taken {
     }
 }
 
-/// The bytes that are left to a reader.
+/// The bytes that a reader has left, up to that many.
 pub fn taken_of<R: Read + Drop>(alloc: Global, reader: R) -> Taken {
     let mut bytes = Vec::new(alloc);
     match reader.take(MOST_BYTES).read_to_end(&mut bytes) {

@@ -1,7 +1,5 @@
-//! A deadlock detector for transactions.
+//! A deadlock detector for transactions. `mm_command` says what the words of the command line ask for.
 //!
-//! - `command_line`: what the words of the command line ask for.
-//! - `help`: the text of the help.
 //! - `file`: the bytes of a file.
 //! - `work`: runs of workloads. `work_end`: what came of one. `verbose`: what is printed meanwhile for a person.
 //! - `ending`: how a run of the program ends, and the status that it exits with.
@@ -9,17 +7,15 @@
 
 ghost use Rattle.mm_detect.specs.Answer.{IsEndOf};
 
-mod command_line;
 mod ending;
 mod file;
-mod help;
 mod verbose;
 mod work;
 mod work_end;
 
-use command_line::{Request, StormOptions, asked};
 use ending::{Ending, fault, status};
 use file::{Taken, taken_from};
+use mm_command::{Request, StormOptions, asked};
 use mm_script::{ScriptFault, run_script};
 use mm_table::Refusal;
 use mm_workload::Workload;

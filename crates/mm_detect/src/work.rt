@@ -7,8 +7,8 @@ ghost use Rattle.mm_workload.specs.Work.{Work};
 ghost use Rattle.mm_workload.specs.declared.fault.WorkFault.TheVariants.{Memory};
 ghost use Rattle.mm_detect.specs.WorkEnd.{EndsAs, work_status};
 
-use crate::command_line::StormOptions;
 use crate::work_end::WorkEnd;
+use mm_command::StormOptions;
 use mm_table::Refusal;
 use mm_workers::{Outcome, SharedGate, run_threads, shared_gates};
 use mm_workload::{WorkFault, Workload, storm};

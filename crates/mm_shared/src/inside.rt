@@ -6,7 +6,7 @@ ghost use Rattle.mm_label.specs.Label.{Label};
 ghost use Rattle.mm_rules.specs.Event.{Step, Begin, Acquire, Release, Finish, Transmit, Detect, Abort, GiveUp, Settle, state_of, owner_told, tenant_of};
 ghost use Rattle.mm_rules.specs.Laws.{HasSoundVerdicts, verdicts_made};
 ghost use Rattle.mm_shared.specs.Booked.{Booked};
-ghost use Rattle.mm_shared.specs.Published.{AppendsOnly, IsPublished};
+ghost use Rattle.mm_shared.specs.Published.{AppendsOnly, IsPublished, holders_of};
 
 use crate::close::Report;
 use crate::pass::Pass;
@@ -26,7 +26,7 @@ pub struct Inside<N: Name, A: Ledger, V: Ledger, B: Ledger> {
     table: Table,
     /// The one that stores on the board.
     publisher: Publisher<N>,
-    /// Whom the last event changed that lists them, with room for each process.
+    /// The processes that the last event with such a list changed, with room for all.
     woken: Vec<u32>,
     accepted: Book<A>,
     verdicts: Book<V>,
@@ -39,7 +39,7 @@ pub struct Inside<N: Name, A: Ledger, V: Ledger, B: Ledger> {
 /// Each event is the one call of its name on the table; a shared call makes it under the lock. Where it is accepted, it adds one to the
 /// pass's first share, its new verdicts to the second, and one to the third where it is an abort; where it is refused, nothing changes.
 ///
-/// Before an accepted event returns, it stores on the board what it changed of public labels and holders, and nothing else.
+/// Before an accepted event returns, it stores on the board what it changed of public labels and holders.
 impl<N: Name, A: Ledger, V: Ledger, B: Ledger> Inside<N, A, V, B> {
     /// The table, the publisher and the books that stand in a new shared table.
     pub(crate) fn new(
@@ -104,6 +104,7 @@ impl<N: Name, A: Ledger, V: Ledger, B: Ledger> Inside<N, A, V, B> {
         ensures shown { (holder : Key) (label : Label) → result ≡ Ok (Acquired.Waits holder label) → pass.new.seen ≡ new_seen (current_labels self.new.publisher) }
         ensures rises { NoneFalls pass.old.seen.labels pass.new.seen.labels }
         ensures appends { AppendsOnly self.old.publisher self.new.publisher self.new.table }
+        ensures held { IfOk result (λ answer. self.new.publisher.holders_stored ≡ self.old.publisher.holders_stored + holders_of answer) }
         ensures refused { OnErr result (pass.new ≡ pass.old) }
     {
         self.table.keeps_laws();
@@ -278,6 +279,7 @@ impl<N: Name, A: Ledger, V: Ledger, B: Ledger> Inside<N, A, V, B> {
         ensures others { pass.new.parts ≡ pass.old.parts }
         ensures seen { pass.new.seen ≡ pass.old.seen }
         ensures appends { AppendsOnly self.old.publisher self.new.publisher self.new.table }
+        ensures held { OnOk result (self.new.publisher.holders_stored ≡ self.old.publisher.holders_stored + 1) }
         ensures refused { OnErr result (pass.new ≡ pass.old) }
     {
         self.table.keeps_laws();

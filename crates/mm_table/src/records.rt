@@ -35,7 +35,8 @@ struct Labels {
     public: Label,
 }
 
-/// How a table is kept. Each event is one step by its definition; the laws of reached states are not known here.
+/// How a table is kept. Each event is one step by its definition. Most events ask for the laws of the state before; that they hold after
+/// it is for `Table` to say.
 #[derive(Drop)]
 pub struct Records {
     config: Config,

@@ -212,8 +212,9 @@ impl Table {
     /// Refused as `CountsExhausted`. It looks at those alone whose labels or waits changed since the last settle and at those that
     /// wait for them, and again at those that wait for whoever it raises: `O(changed + raised, each with its resources and their
     /// waiters)`. Where nothing changed it reads at most one word for each 4,096 processes and does no more. A settle raises no more
-    /// than waiting transactions times processes: the first settle of a long chain of waits that was built from its head comes near
-    /// half of that. The two rules are Mitchell and Merritt's; to call them in sweeps is this project's way.
+    /// than waiting transactions times processes. The worst case known is the first settle of a chain of waits, each made before the
+    /// one that it waits for: n waits take n (n - 1) / 2 raises, which took 0.2 s with 4,096 processes and 36 s with 65,536. A caller
+    /// that settles after each `acquire` that waits never has such a chain. The two rules are Mitchell and Merritt's; to call them in sweeps is this project's way.
     pub fn settle(&mut self) -> Result<Settled, Refusal>
         ensures { Step Settle self.old result self.new }
     {

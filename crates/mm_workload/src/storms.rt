@@ -46,7 +46,7 @@ pub fn storm(
     Ok(Workload::of(config, transmitters, 10_000_000, clients))
 }
 
-/// The steps of so many clients.
+/// The steps of each of `count` clients.
 fn acquiring_clients(alloc: Global, seed: u64, count: u32) -> Result<Vec<Vec<WorkStep>>, AllocError>
     ensures { IfOk result (λ v. map (λ c. c.items) v.items ≡ clients_from count (generator seed)) }
 {

@@ -42,9 +42,8 @@ impl Records {
         Ok(Acquired::Waits { holder, label })
     }
 
-    /// `acquire` by a transaction that may use the resource, of one that process `holder`, another one, owns. Returns the label by which
-    /// it waits; `None` past the label limit, and then nothing changes. It stands apart, so that a grant is short, and returns no more
-    /// than registers take.
+    /// `acquire` of a resource that another process, `holder`, owns. Returns the label by which the transaction waits; `None` past the
+    /// label limit, and then nothing changes. It is not inlined, so that the code of a grant is short, and its result fits in registers.
     #[inline(never)]
     fn wait(&mut self, key: Key, resource: u32, holder: u32, touched: &mut Marks) -> Option<Label>
         requires live { IsTrue (is_live self.old key) }

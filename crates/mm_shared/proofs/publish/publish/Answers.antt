@@ -13,6 +13,7 @@ loop-process-init g c = record {
   left = c.requires.left;
   idle = c.requires.idle;
   appends = appends_none c.args.publisher.now c.args.table.now;
+  held = omega arith;
 }
 
 pub public_label-requires : goal.public_label-requires
@@ -32,6 +33,10 @@ store_holder-requires-clause-process_in_range g c =
 waits_not : (holder : Option ℕ) (found : Bool) (Idle : Type 0) → found ≡ is_some holder → found ≡ false → IfNone holder Idle → Idle
 waits_not None found Idle is none idle = idle
 waits_not (Some h) found Idle is none idle = absurd (cc)
+
+-- equal publishers have stored as many holders
+count : {p q : Published} → p ≡ q → p.holders_stored ≡ q.holders_stored
+count e = ap (λ (p : Published). p.holders_stored) e
 
 pub loop-process-preserved : goal.loop-process-preserved
 loop-process-preserved g c =
@@ -58,6 +63,7 @@ loop-process-preserved g c =
             left = both_stored_at i ns now then after s l holder listed kept.left put is stored has;
             idle = subst (λ (p : Published). IdleAreShown p s) (sym stored) (idle_at now then s x l kept.idle inside put is);
             appends = subst (λ (p : Published). AppendsOnly first p s) (sym stored) (appends_at first now then s x l kept.appends inside put is);
+            held = omega (arith, count stored, count put, kept.held);
           }
       | else-is_some w ↦
           let put : after ≡ with_holder now x holder = stored ∙ ap (λ (p : Published). with_holder p x holder) w.publisher-is in
@@ -65,6 +71,7 @@ loop-process-preserved g c =
             left = holder_stored_at i ns now after s holder listed kept.left put has kept.idle (waits_not holder c.is_some.result _ c.is_some.ensures w.if-is_some.false c.holder-holder.ensures.idle);
             idle = subst (λ (p : Published). IdleAreShown p s) (sym put) kept.idle;
             appends = subst (λ (p : Published). AppendsOnly first p s) (sym put) kept.appends;
+            held = omega (arith, count put, kept.held);
           }
     ]
 

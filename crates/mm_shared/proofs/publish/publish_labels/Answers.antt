@@ -1,4 +1,4 @@
-use Rattle.std.proofs.Common.{arith, slice_index, subst, sym}
+use Rattle.std.proofs.Common.{arith, slice_index, subst, sym, ap, refl, ◌∙◌}
 use Rattle.std.proofs.lemmas.List.{drop_all}
 use Rattle.mm_board.specs.declared.views.Published.{Published}
 use Rattle.mm_shared.specs.private.Publishing.{HoldersAreShown, IsToPublish}
@@ -10,6 +10,7 @@ loop-process-init g c = record {
   left = c.requires.labels;
   holders = c.requires.holders;
   appends = appends_none c.args.publisher.now c.args.table.now;
+  held = refl;
 }
 
 pub public_label-requires : goal.public_label-requires
@@ -32,6 +33,7 @@ loop-process-preserved g c =
       left = label_stored_at i ns now c.store_label.new.self s c.public_label.result c.loop-process-test.true kept.left c.store_label.ensures.stored c.public_label.ensures kept.holders;
       holders = subst (λ (p : Published). HoldersAreShown p s) (sym c.store_label.ensures.stored) kept.holders;
       appends = appends_at c.args.publisher.now now c.store_label.new.self s (slice_index ns i) c.public_label.result kept.appends (omega (arith, within, kept.left.histories)) c.store_label.ensures.stored c.public_label.ensures;
+      held = ap (λ (p : Published). p.holders_stored) c.store_label.ensures.stored ∙ kept.held;
     }
 
 pub returns-clause-published : goal.returns-clause-published

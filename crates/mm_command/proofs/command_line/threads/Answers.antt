@@ -1,7 +1,7 @@
 use Rattle.std.proofs.Common.{◌≡◌, ◌∙◌, sym, ap, true, false, codes, is_some}
 use Rattle.clap.specs.Words.{found_of}
-use Rattle.mm_detect.proofs.Lemmas.Faultless.{text_read}
-use Rattle.mm_detect.proofs.command_line.threads.Goals as goal
+use Rattle.mm_command.proofs.Lemmas.Faultless.{text_read}
+use Rattle.mm_command.proofs.command_line.threads.Goals as goal
 
 pub returns-in_default : goal.returns-in_default
 returns-in_default c = λ has.

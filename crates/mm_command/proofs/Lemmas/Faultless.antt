@@ -22,18 +22,18 @@ use Rattle.std.specs.Result.{IfOk, result_unwrap_or}
 use Rattle.std.specs.declared.alloc.AllocError.{AllocError}
 use Rattle.clap.specs.Simple.{HasMatchesOf, subcommand_rows_of}
 use Rattle.clap.specs.declared.parser.matches.ArgMatches.{ArgMatches}
-use Rattle.mm_detect.specs.declared.command_line.Request.{Request}
-use Rattle.mm_detect.specs.declared.command_line.Request.TheVariants.{Memory}
-use Rattle.mm_detect.proofs.Lemmas.CommandLine.{simple}
+use Rattle.mm_command.specs.declared.command_line.Request.{Request}
+use Rattle.mm_command.specs.declared.command_line.Request.TheVariants.{Memory}
+use Rattle.mm_command.proofs.Lemmas.CommandLine.{simple}
 use Rattle.std.specs.Str.Parse.{ParsesUnsigned, digits_value, without_leading_plus}
 use Rattle.clap.specs.Matches.{ReadsOne, first_value, one_text}
 use Rattle.clap.specs.Values.{IsUnsignedIn}
 use Rattle.clap.specs.declared.parser.matches.Found.{Found}
 use Rattle.clap.proofs.WalkLemmas.{first_value-rows, one_text-rows}
 use Rattle.clap.proofs.ValueTestLemmas.{accepts-Accepts}
-use Rattle.mm_detect.specs.CommandLine.{HasNumber, HasNumbers, HasText, HasWanted, IsRun, program, runs}
-use Rattle.mm_detect.proofs.Lemmas.Walked.{Listed, find_listed, or_none}
-use Rattle.mm_detect.proofs.Lemmas.Filled.{EachFits, HasOne, default_has, given_has, has_found, leaf_fits}
+use Rattle.mm_command.specs.CommandLine.{HasNumber, HasNumbers, HasText, HasWanted, IsRun, program, runs}
+use Rattle.mm_command.proofs.Lemmas.Walked.{Listed, find_listed, or_none}
+use Rattle.mm_command.proofs.Lemmas.Filled.{EachFits, HasOne, default_has, given_has, has_found, leaf_fits}
 
 -- a subcommand as clap builds it: `script`, `threads`, `storm` and `help`
 abbrev sub_at : ℕ → Shape

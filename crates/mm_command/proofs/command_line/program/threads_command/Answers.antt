@@ -2,8 +2,8 @@ use Rattle.std.proofs.Common.{◌≡◌, ◌∙◌, rules, ap₂, codes, false, 
 use Rattle.std.proofs.lemmas.Result.{IfOk-weaker}
 use Rattle.clap.specs.Words.{app_of, new_app, rule_of, with_rule}
 use Rattle.clap.specs.declared.builder.command.Command.TheViews.{out-Command as fields_of}
-use Rattle.mm_detect.specs.CommandLine.{file_rule}
-use Rattle.mm_detect.proofs.command_line.program.threads_command.Goals as goal
+use Rattle.mm_command.specs.CommandLine.{file_rule}
+use Rattle.mm_command.proofs.command_line.program.threads_command.Goals as goal
 
 pub returns : goal.returns
 returns c =

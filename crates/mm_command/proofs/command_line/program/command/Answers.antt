@@ -1,7 +1,7 @@
 use Rattle.std.proofs.Common.{◌≡◌, ◌∙◌, rules, ap, ap₂, codes}
 use Rattle.std.proofs.lemmas.Result.{IfOk-weaker}
 use Rattle.clap.specs.Words.{App, app_of, new_app, with_subcommand}
-use Rattle.mm_detect.proofs.command_line.program.command.Goals as goal
+use Rattle.mm_command.proofs.command_line.program.command.Goals as goal
 
 pub returns : goal.returns
 returns c =

@@ -2,7 +2,7 @@
 ghost use Rattle.std.specs.Prelude.{◌≡◌, IfOk, false};
 ghost use Rattle.clap.specs.Words.{app_of, rule_of};
 ghost use Rattle.clap.specs.declared.builder.command.Command.TheViews.{out-Command as fields_of};
-ghost use Rattle.mm_detect.specs.CommandLine.{number_rule, program, script_app, storm_app, threads_app, verbose_rule};
+ghost use Rattle.mm_command.specs.CommandLine.{number_rule, program, script_app, storm_app, threads_app, verbose_rule};
 
 use crate::help::{ABOUT, AFTER, SCRIPT, STORM, THREADS, VERBOSE};
 use clap::builder::ValueParser;

@@ -7,8 +7,8 @@ use Rattle.clap.specs.declared.builder.value_parser.ValueParser.TheVariants.{Uns
 use Rattle.clap.specs.declared.error.Error.{Error}
 use Rattle.clap.specs.declared.error.kind.ErrorKind.{ErrorKind}
 use Rattle.clap.specs.declared.error.kind.ErrorKind.TheVariants as kind
-use Rattle.mm_detect.specs.declared.command_line.Request.{Request}
-use Rattle.mm_detect.specs.declared.command_line.Request.TheVariants.{Script, Threads, Storm, Help, Wrong, Memory}
+use Rattle.mm_command.specs.declared.command_line.Request.{Request}
+use Rattle.mm_command.specs.declared.command_line.Request.TheVariants.{Script, Threads, Storm, Help, Wrong, Memory}
 
 -- the flag `--verbose`, or `-v`
 abbrev pub verbose_rule : Rule

@@ -1,9 +1,9 @@
 use Rattle.std.proofs.Common.{◌≡◌, ◌∙◌, ◌≤◌, ℕ, sym, ap, true, false, codes, is_some, arith, inl, inr, Option, Some, None, subst}
 use Rattle.std.specs.Str.Parse.{ParsesUnsigned, ExplainsUnsignedError, HasUnsignedDigitsIfOk}
 use Rattle.clap.specs.Words.{found_of}
-use Rattle.mm_detect.proofs.Lemmas.Faultless.{one_read}
-use Rattle.mm_detect.proofs.command_line.storm.Goals as goal
-use Rattle.mm_detect.proofs.command_line.storm.Goals.{in_default-via-in-Some+in-Some+in_default, in_default-via-in-Some+in_default, in_default-via-in_default}
+use Rattle.mm_command.proofs.Lemmas.Faultless.{one_read}
+use Rattle.mm_command.proofs.command_line.storm.Goals as goal
+use Rattle.mm_command.proofs.command_line.storm.Goals.{in_default-via-in-Some+in-Some+in_default, in_default-via-in-Some+in_default, in_default-via-in_default}
 
 never : (r : Option ℕ) (n : ℕ) → r ≡ Some n → r ≡ None → ⊥
 never r n some none =

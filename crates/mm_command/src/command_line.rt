@@ -4,7 +4,7 @@
 //! - `options`: the numbers of a generated workload.
 ghost use Rattle.std.specs.Prelude.{◌≡◌, ◌≢◌, List, [], IfOk, codes, true, map};
 ghost use Rattle.clap.specs.Words.{FailsBy, HasMatchesOf, Text, fault_of, found_of, rows_of, subcommand_name_of};
-ghost use Rattle.mm_detect.specs.CommandLine.{AsksForHelp, AsksForScript, HasNumbers, HasText, HasWanted, IsByFault, IsHelp, IsRun, IsScript, IsScriptName, program, request_at, runs};
+ghost use Rattle.mm_command.specs.CommandLine.{AsksForHelp, AsksForScript, HasNumbers, HasText, HasWanted, IsByFault, IsHelp, IsRun, IsScript, IsScriptName, program, request_at, runs};
 
 mod options;
 mod program;
@@ -40,7 +40,7 @@ pub enum Request {
     Memory,
 }
 
-/// Returns what the command line asks for that the program was started with. Allocates.
+/// What the program's command line asks for. Allocates.
 pub fn asked(rt: &HostRuntime) -> Request {
     asked_or_refused(rt).unwrap_or(Request::Memory)
 }

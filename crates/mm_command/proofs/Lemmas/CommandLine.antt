@@ -9,8 +9,8 @@ use Rattle.clap.proofs.OnLiterals.{clap_on_literals}
 use Rattle.clap.specs.declared.error.Error.{Error}
 use Rattle.clap.specs.declared.error.kind.ErrorKind.TheVariants.{DisplayHelp, OutOfMemory}
 use Rattle.clap.specs.declared.parser.matches.ArgMatches.{ArgMatches}
-use Rattle.mm_detect.specs.CommandLine.{AsksForHelp, AsksForScript, IsByFault, IsHelp, IsRun, IsScript, program, request_at, request_by, IsScriptName}
-use Rattle.mm_detect.specs.declared.command_line.Request.TheVariants.{Help, Memory}
+use Rattle.mm_command.specs.CommandLine.{AsksForHelp, AsksForScript, IsByFault, IsHelp, IsRun, IsScript, program, request_at, request_by, IsScriptName}
+use Rattle.mm_command.specs.declared.command_line.Request.TheVariants.{Help, Memory}
 
 -- the kinds that clap's rules give for the words behind the program's name
 faults : List Text → Kinds

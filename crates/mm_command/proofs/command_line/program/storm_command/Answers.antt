@@ -2,7 +2,7 @@ use Rattle.std.proofs.Common.{◌≡◌, ◌∙◌, rules, ap₂, codes, false, 
 use Rattle.std.proofs.lemmas.Result.{IfOk-weaker}
 use Rattle.clap.specs.Words.{app_of, new_app, with_rule}
 use Rattle.clap.specs.declared.builder.command.Command.TheViews.{out-Command as fields_of}
-use Rattle.mm_detect.proofs.command_line.program.storm_command.Goals as goal
+use Rattle.mm_command.proofs.command_line.program.storm_command.Goals as goal
 
 pub returns : goal.returns
 returns c =

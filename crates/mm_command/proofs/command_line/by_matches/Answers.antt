@@ -1,8 +1,8 @@
 use Rattle.std.proofs.Common.{◌≡◌, ◌∙◌, Some, ap, sym, option_map}
 use Rattle.clap.specs.Words.{found_of, rows_of, subcommand_rows_of}
-use Rattle.mm_detect.proofs.Lemmas.CommandLine.{name_is}
-use Rattle.mm_detect.proofs.Lemmas.Faultless.{matches_wanted, pair_is}
-use Rattle.mm_detect.proofs.command_line.by_matches.Goals as goal
+use Rattle.mm_command.proofs.Lemmas.CommandLine.{name_is}
+use Rattle.mm_command.proofs.Lemmas.Faultless.{matches_wanted, pair_is}
+use Rattle.mm_command.proofs.command_line.by_matches.Goals as goal
 
 pub returns-in-Some-clause-taken : goal.returns-in-Some-clause-taken
 returns-in-Some-clause-taken c = λ words has none.

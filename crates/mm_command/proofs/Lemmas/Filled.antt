@@ -19,7 +19,7 @@ use Rattle.clap.specs.declared.builder.action.ArgAction.TheVariants as action
 use Rattle.clap.specs.declared.error.kind.ErrorKind.TheVariants as kind
 use Rattle.clap.specs.declared.parser.matches.ValueSource.{ValueSource}
 use Rattle.clap.specs.declared.parser.matches.ValueSource.TheVariants.{CommandLine, DefaultValue}
-use Rattle.mm_detect.proofs.Lemmas.Walked.{Listed, UsesKeep, leaf_keeps, or_none}
+use Rattle.mm_command.proofs.Lemmas.Walked.{Listed, UsesKeep, leaf_keeps, or_none}
 
 abbrev pub HasOne : List Text → Type 0
 HasOne [] = ⊥

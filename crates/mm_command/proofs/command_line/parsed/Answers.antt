@@ -1,8 +1,8 @@
 use Rattle.std.proofs.Common.{◌∙◌, ap, map, subst}
 use Rattle.clap.specs.Words.{App, FailsBy, fault_of}
 use Rattle.clap.specs.Faults.{is_simple_and_free}
-use Rattle.mm_detect.proofs.Lemmas.CommandLine.{simple_and_free}
-use Rattle.mm_detect.proofs.command_line.parsed.Goals as goal
+use Rattle.mm_command.proofs.Lemmas.CommandLine.{simple_and_free}
+use Rattle.mm_command.proofs.command_line.parsed.Goals as goal
 
 pub returns-clause-fails : goal.returns-clause-fails
 returns-clause-fails g c =
