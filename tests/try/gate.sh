@@ -7,7 +7,7 @@ cp -r tests/gate "$gate/top/tests"
 printf 'mm_low:\nmm_detect: mm_low # the program\n' > "$gate/top/crates.txt"
 echo '#[test]' > "$gate/top/crates/mm_low/src/lib.rt"
 touch "$gate/top/crates/mm_low/must-fail/one.edit" "$gate/top/crates/mm_low/must-fail/two.edit"
-for script in no_loops try_program refuse_memory; do
+for script in no_lock no_loops try_program refuse_memory; do
   printf '#!/bin/sh\necho "1 passed, 0 failed"\n' > "$gate/top/tests/$script"
 done
 
@@ -83,15 +83,16 @@ case_is "a run has its counts and its status as before, and leaves what it took"
 echo 1 > "$gate/takes"
 gated ./run_tests
 ends 0 "$(sed 's/^4 passed/rt ci: &/' "$gate/log")
+tests/no_lock: 1 passed, 0 failed
 tests/no_loops: 1 passed, 0 failed
 tests/no_loops --self-test: 1 passed, 0 failed
 tests/try_program --built: 1 passed, 0 failed
 tests/refuse_memory: 1 passed, 0 failed
-8 passed, 0 failed" "" $?
+9 passed, 0 failed" "" $?
 gated ./run_tests --times
 same status 0 $?
 says "The last run: commit unknown, begun 20"
-says "It said: rt ci: 4 passed, 0 failed, tests/no_loops: 1 passed, 0 failed, tests/no_loops --self-test: 1 passed, 0 failed, "
+says "It said: rt ci: 4 passed, 0 failed, tests/no_lock: 1 passed, 0 failed, tests/no_loops: 1 passed, 0 failed, tests/no_loops --self-test: 1 passed, 0 failed, "
 costs=$(sed -n 's/^ *\([0-9.]*\) *[0-9.]*  .*/\1/p' "$work/out" | head -n -1)
 same "the order" "$(sort -rn <<< "$costs")" "$costs"
 for what in proof tests 'edits (1 of 2 kept)'; do
@@ -108,7 +109,7 @@ echo 0 > "$gate/takes"
 printf '#!/bin/sh\nexit 3\n' > "$gate/top/tests/gate/watch"
 gated ./run_tests
 same status 0 $?
-same "the last line" "8 passed, 0 failed" "$(tail -n 1 "$work/out")"
+same "the last line" "9 passed, 0 failed" "$(tail -n 1 "$work/out")"
 cp tests/gate/watch "$gate/top/tests/gate/watch"
 
 # watch_of RUN: the process that watches this run
