@@ -1,7 +1,7 @@
 """What is called of the standard library and is known to have no loop, by the type of its receiver; and what is known to be one."""
 
 OF_LISTS = {"get", "get_mut", "len", "push_reserved"}
-OF_OPTIONS = {"as_mut", "as_ref", "is_none", "is_some", "replace", "take", "unwrap"}
+OF_OPTIONS = {"as_mut", "as_ref", "is_none", "is_some", "ok_or", "replace", "take", "unwrap"}
 OF_VALUES = {"checked_add", "checked_sub", "cmp", "max", "min", "then_some", "trailing_zeros"}
 # These call what they are given, which must be written where they are called, so that it is read as part of the caller.
 TAKE_A_CLOSURE = {"is_some_and"}

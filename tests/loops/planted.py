@@ -1,10 +1,9 @@
 """Small planted texts, each with the faults that are to be found in it."""
 from loops.program import Program
 from loops.sources import Sources, reads
-from loops.walk import Walk, faults_of_idle, key
+from loops.walk import Walk
 
 HEAD = "struct Table { rows: Vec<Row>, count: u32 }\nstruct Row { links: Option<Row>, size: u32 }\n"
-IDLE = {("low", "", "fills"): ("low", "Table", "begins")}
 UNKNOWN = (".frobs of Table", "frobs", "frobs!", "std::frobs", "given", ".is_some_and of no closure", "a value")
 
 # By name: a text, which begins with a function start() of Table, and what each fault says, in their order.
@@ -56,17 +55,6 @@ TEXTS = {
         "impl Table { fn start(&self) {} }\n#[derive(Clone, PartialEq)]\nstruct Text { bytes: Vec<u8> }",
         ["low.rt:5: Text derives a comparison or a clone, which goes through its Vec"],
     ),
-    "a loop of which no turn is taken": (
-        "impl Table { fn start(&self) { fills() } fn begins(&self) { fills() } }\nfn fills() { loop {} }",
-        [],
-    ),
-    "a loop of which no turn was taken": (
-        "impl Table { fn start(&self) { fills() } fn begins(&self) {} }\nfn fills() {}",
-        [
-            "low::fills has no loop that is reached: take it out of IDLE",
-            "low::Table::begins does not reach the loop of fills any more, so a turn of it may be left to others",
-        ],
-    ),
 }
 
 
@@ -75,9 +63,7 @@ def found_in(text):
     sources = Sources()
     reads(sources, "low", "low.rt", HEAD + text)
     program = Program(sources)
-    walk = Walk(program, program.named["start"])
-    idle = IDLE if any(key(it) in IDLE for it in program.functions) else {}
-    return [*walk.faults(idle), *sources.deep, *faults_of_idle(program, [walk], idle)]
+    return [*Walk(program, program.named["start"]).faults(), *sources.deep]
 
 
 def cases():

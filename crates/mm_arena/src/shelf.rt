@@ -1,5 +1,5 @@
 //! The shelf.
-ghost use Rattle.std.specs.Prelude.{◌≡◌, ◌+◌, ◌-◌, ◌<◌, ◌≤◌, ◌++◌, length, vec_capacity, replicate, slice_set, IsSome, IfOk, None, Some, option_copied, option_map};
+ghost use Rattle.std.specs.Prelude.{◌≡◌, ◌<◌, ◌≤◌, length, replicate, slice_set, IsSome, IfOk, None, Some, option_copied, option_map};
 ghost use Rattle.std.specs.Option.{option_copied_mut};
 ghost use Rattle.std.specs.Borrow.{sem};
 ghost use Rattle.mm_arena.specs.Shelf.{entry_at, value_at, taken, HasValue};
@@ -13,9 +13,8 @@ use std::marker::Model;
 /// It stands beside an arena, which gives the keys, and is never full: a value that is put takes the place of the one that its process had.
 #[derive(Drop)]
 pub struct Shelf<T> {
-    // By process: what is kept of each up to the last one whose place was filled. Those after it have no value.
+    // By process.
     entries: Vec<Option<Stored<T>>>,
-    capacity: u32,
 }
 
 /// A value, and the generation of the key that it was put with. The process of that key is known by the place.
@@ -26,42 +25,12 @@ struct Stored<T> {
 }
 
 impl<T> Model for Shelf<T> {
-    ghost use Rattle.std.specs.Prelude.{vec_capacity};
     ghost use Rattle.mm_arena.specs.Shelf.{Entries};
-    ghost use Rattle.mm_arena.specs.private.Stored.{seen, HasRoom};
+    ghost use Rattle.mm_arena.specs.private.Stored.{seen};
 
     ghost Value = { Entries T };
 
-    ghost view = { λ s. seen s.capacity s.entries.items };
-
-    ghost invariant = { λ s. HasRoom s.capacity s.entries.items (vec_capacity s.entries) };
-}
-
-/// Appends so many vacant places. `O(places)`.
-#[cold]
-#[inline(never)]
-fn append_vacant<T>(places: &mut Vec<Option<T>>, count: usize)
-    requires { length places.old.items + count ≤ vec_capacity places.old }
-    ensures places { places.new.items ≡ places.old.items ++ replicate count None }
-    ensures room { vec_capacity places.new ≡ vec_capacity places.old }
-{
-    for _ in 0..count {
-        places.push_reserved(None);
-    }
-}
-
-/// Appends vacant places where there is none for this process yet. `O(places that are appended)`.
-#[inline]
-fn fill<T>(places: &mut Vec<Option<T>>, process: u32)
-    requires { process < vec_capacity places.old }
-    ensures places { places.new.items ≡ places.old.items ++ replicate (process + 1 - length places.old.items) None }
-    ensures filled { process < length places.new.items }
-    ensures room { vec_capacity places.new ≡ vec_capacity places.old }
-{
-    let filled = places.len();
-    if filled <= process as usize {
-        append_vacant(places, process as usize + 1 - filled);
-    }
+    ghost view = { λ s. seen s.entries.items };
 }
 
 impl<T> Stored<T> {
@@ -81,8 +50,8 @@ impl<T> Shelf<T> {
     ghost use Rattle.mm_arena.specs.private.Stored.{entry_of};
     ghost use Rattle.mm_arena.specs.private.LendingStored.{lends_kept};
 
-    /// A shelf for the processes below `capacity`, none of which has a value, in constant time. It takes the memory for all of them, and no
-    /// later call takes any. Nothing is written to the place of a process before that is filled.
+    /// A shelf for the processes below `capacity`, none of which has a value, in `O(capacity)`. It takes the memory for all of them, and no
+    /// later call takes any.
     ///
     /// `Err` only where that memory is refused.
     pub fn new(alloc: Global, capacity: u32) -> Result<Self, Memory>
@@ -90,20 +59,11 @@ impl<T> Shelf<T> {
         requires capacity_in_range { capacity ≤ MAX_CAPACITY }
         ensures { IfOk result (λ shelf. shelf ≡ replicate capacity None) }
     {
-        let Ok(entries) = Vec::with_capacity(alloc, capacity as usize) else {
-            return Err(Memory);
-        };
-        Ok(Shelf { entries, capacity })
-    }
-
-    /// Fills the place of this process, and those of the processes below it, where they are not filled yet: who has no value has none after
-    /// it. Without it `put` does so. `O(places that are filled)`, so constant time for one process after the other, in rising order.
-    #[inline]
-    pub fn fill_to(&mut self, process: u32)
-        requires { process < length self.old }
-        ensures { self.new ≡ self.old }
-    {
-        fill(&mut self.entries, process);
+        let mut entries = Vec::with_capacity(alloc, capacity as usize).map_err(|_| Memory)?;
+        for _ in 0..capacity {
+            entries.push_reserved(None);
+        }
+        Ok(Shelf { entries })
     }
 
     // What is kept of a process. `None` where it has no value, or is not below the capacity.
@@ -150,12 +110,11 @@ impl<T> Shelf<T> {
         ensures was { entry_of process result ≡ entry_at self.old process }
         ensures now { self.new ≡ slice_set self.old process (entry_of process (Some stored)) }
     {
-        fill(&mut self.entries, process);
         self.entries[process as usize].replace(stored)
     }
 
-    /// Stores a value under a key whose process is below the capacity. Gives what its process had: a value, and the key that it was under.
-    /// Constant time where the place of the process was filled, as by an earlier `put` of it or of a greater one; else as `fill_to`.
+    /// Stores a value under a key whose process is below the capacity, in constant time. Gives what its process had: a value, and the key
+    /// that it was under.
     #[inline]
     pub fn put(&mut self, key: Key, value: T) -> Option<(Key, T)>
         requires { key.process < length self.old }

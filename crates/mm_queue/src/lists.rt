@@ -31,7 +31,7 @@ impl Model for Lists {
 }
 
 impl Lists {
-    /// This many lists without keys, for this many processes, in `O(lists)`. It takes memory twice, and no later call takes any.
+    /// This many lists without keys, for this many processes, in `O(lists + processes)`. It takes memory twice, and no later call takes any.
     ///
     /// `Err` only where that memory is refused.
     pub fn new(alloc: Global, lists: u32, processes: u32) -> Result<Lists, Memory>
@@ -49,18 +49,7 @@ impl Lists {
         Ok(Lists { ends, entries })
     }
 
-    /// Makes the place of a process ready, and those of the processes below it, so that `push_back` need not. Nothing that a contract
-    /// sees changes. `O(places that were not ready)`, so constant time for one process after the other, in rising order.
-    #[inline]
-    pub fn prepare(&mut self, process: u32)
-        requires { process < self.old.processes }
-        ensures { self.new ≡ self.old }
-    {
-        self.entries.fill_to(process);
-    }
-
-    /// Puts a key last in a list. Its process stands in no list yet. Constant time where the place of the process is ready: `prepare`
-    /// was called of it or of a greater one, or a key of such a process was put in a list before.
+    /// Puts a key last in a list, in constant time. Its process stands in no list yet.
     #[inline]
     pub fn push_back(&mut self, list: u32, key: Key)
         requires list_in_range { list < length self.old.lists }

@@ -78,8 +78,6 @@ impl Transactions {
         let Ok(key) = self.slots.insert(entry) else {
             return None;
         };
-        // Processes that were never used begin in rising order, so this makes at most one place ready.
-        self.queues.prepare(key.process);
         Some(key)
     }
 

@@ -1,4 +1,4 @@
-use Rattle.std.proofs.Common.{◌≡◌, ℕ, [], ◌∷◌, List, ap, sym, ◌∙◌, slice_index, arith}
+use Rattle.std.proofs.Common.{◌≡◌, ℕ, [], ◌∷◌, List, ap, sym, ◌∙◌, slice_index}
 use Rattle.std.proofs.lemmas.List.{get_or-map}
 use Rattle.mm_arena.specs.declared.key.Key.{Key}
 use Rattle.mm_arena.specs.Slots.{never_used}
@@ -10,13 +10,10 @@ use Rattle.mm_transactions.proofs.transactions.Transactions.begin.Goals as goal
 abbrev key_at : ℕ → ℕ → Key
 key_at n g = record { process = n; generation = g }
 
-pub prepare-requires : goal.prepare-requires
-prepare-requires c = omega (arith, c.in-Ok.ensures.added.within, c.self.invariant.sized)
-
 pub invariant_of-self-2 : goal.invariant_of-self-2
 invariant_of-self-2 c =
     let inside = c.self.inside in
-    rw c.prepare.ensures (begun_consistent inside.arrivals.items inside.slots c.insert.new.self c.in-Ok.key c.insert.ensures.slots (taken inside.slots _ c.in-Ok.key c.in-Ok.ensures.key) c.in-Ok.ensures.added inside.queues inside.latest inside.waiting c.self.invariant)
+    (begun_consistent inside.arrivals.items inside.slots c.insert.new.self c.in-Ok.key c.insert.ensures.slots (taken inside.slots _ c.in-Ok.key c.in-Ok.ensures.key) c.in-Ok.ensures.added inside.queues inside.latest inside.waiting c.self.invariant)
 
 pub returns : goal.returns
 returns c =
@@ -26,6 +23,5 @@ returns c =
     let generation = get_or-map (λ q. q.generation) inside.slots.places process never_used 0 c.in-Ok.ensures.added.within in (
       λ none. let never : [] ≡ process ∷ free.rest = sym none ∙ ap (λ s. s.free) (sym c.self.view_is) ∙ free.free in cc,
       free.key_is ∙ ap (key_at process) (sym generation) ∙ ap (λ (l : List ℕ). key_of (seen inside.arrivals.items inside.slots inside.queues inside.latest) (slice_index l 0)) (sym free.free) ∙ ap (λ s. key_of s (slice_index s.free 0)) c.self.view_is,
-      rw c.prepare.ensures
-          (begun_seen inside.arrivals.items inside.slots c.insert.new.self c.in-Ok.key c.insert.ensures.slots free c.in-Ok.ensures.added inside.queues inside.latest ∙ ap begun c.self.view_is),
+      (begun_seen inside.arrivals.items inside.slots c.insert.new.self c.in-Ok.key c.insert.ensures.slots free c.in-Ok.ensures.added inside.queues inside.latest ∙ ap begun c.self.view_is),
     )
