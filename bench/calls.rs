@@ -1,6 +1,6 @@
 //! Times workloads over the proved table and over tables in plain Rust, and prints a line for each. `calls.py` runs it.
 //!
-//! The proved table is called through the static library of crates/mm_bench. Each workload is a loop inside the library, beside
+//! The proved table is called through the static library of crates/bench_table. Each workload is a loop inside the library, beside
 //! the table, as those in Rust are loops beside their tables, so that both compilers can inline. Each number is the least of many
 //! short rounds, in which the tables take turns, less what the same loop costs that only opens and prepares its tables. Memory that
 //! was freed stays with the program, so that a round asks the kernel for no pages.

@@ -1,4 +1,4 @@
-//! What `mm_shared_times storm` of crates/mm_shared_times does, over the plain Rust table behind a `std::sync::Mutex`:
+//! What `bench_shared storm` of crates/bench_shared does, over the plain Rust table behind a `std::sync::Mutex`:
 //! `storm CLIENTS COUNT` runs the storms of seeds 1 to COUNT with so many clients, one after another. It prints how many nanoseconds
 //! that took, how many clients finished and how many were aborted. The rules are those of docs/WORKLOADS.md.
 

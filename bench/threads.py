@@ -6,7 +6,7 @@ import subprocess
 import sys
 
 HERE = os.path.dirname(os.path.abspath(__file__))
-PROVED = os.path.join(HERE, "..", "crates", "mm_shared_times", "out", "mm_shared_times")
+PROVED = os.path.join(HERE, "..", "crates", "bench_shared", "out", "bench_shared")
 CALLS = 18  # of a transaction: begin, 16 acquires, finish
 TRANSACTIONS = 200_000  # of all threads together
 STORM_TRANSACTIONS = 1_000  # of all clients of all storms together

@@ -1,4 +1,4 @@
-//! The workloads of crates/mm_bench, step for step, over any table in Rust.
+//! The workloads of crates/bench_table, step for step, over any table in Rust.
 
 use crate::lock_table::{Key, LockTable, Refused};
 

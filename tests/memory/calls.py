@@ -3,7 +3,7 @@ from memory.answers import AMPLE, REFUSED
 from memory.program import refused
 from memory.requests import all_in_turn
 
-# The word of crates/mm_memory, and what is called.
+# The word of crates/test_memory, and what is called.
 CALLS = [
     ("open", "Table::open"),
     ("lists", "Table::open, and a list that is lent"),

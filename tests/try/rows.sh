@@ -1,4 +1,4 @@
-# Part of tests/try_program: each worked script of the crate mm_rows has its replies, and ends with status 1 where a line is malformed.
+# Part of tests/try_program: each worked script of the crate test_support has its replies, and ends with status 1 where a line is malformed.
 mkdir "$work/rows"
 case_is "the worked scripts are read"
 tests/worked_scripts "$work/rows" > "$work/out" 2> "$work/err"

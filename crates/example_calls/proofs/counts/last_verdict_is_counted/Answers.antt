@@ -1,0 +1,5 @@
+use Rattle.example_calls.proofs.AtLimit.{last_verdict_is_counted}
+use Rattle.example_calls.proofs.counts.last_verdict_is_counted.Goals as goal
+
+pub returns : goal.returns
+returns c = last_verdict_is_counted

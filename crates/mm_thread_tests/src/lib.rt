@@ -1,5 +1,0 @@
-//! Tests of the libraries that threads share, by what their callers can call.
-#![tactic(auto)]
-
-#[cfg(test)]
-mod tests;

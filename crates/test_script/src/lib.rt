@@ -1,0 +1,5 @@
+//! Tests of the script engine and of the reader of workloads, by what their callers can call.
+#![tactic(auto)]
+
+#[cfg(test)]
+mod tests;

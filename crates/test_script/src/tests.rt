@@ -1,0 +1,5 @@
+//! `rows` for the worked scripts, `script` for readers and writers that fail, `workload` for mm_workload.
+
+mod rows;
+mod script;
+mod workload;

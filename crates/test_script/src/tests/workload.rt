@@ -1,0 +1,179 @@
+//! Workloads that are read, and what they are.
+//!
+//! - `examples`: the files of examples/workloads.
+//! - `malformed`: texts that are no workload, and the place that a person is told.
+//! - `storms`: workloads from a seed.
+
+mod examples;
+mod malformed;
+mod storms;
+
+use mm_workload::{Config, WorkStep, Workload};
+use std::alloc::Global;
+use std::process::Abort;
+use std::test::Fail;
+use test_support::same;
+
+/// Two clients that acquire two resources crosswise.
+const CROSSWISE: &str =
+    r#"{"processes":2,"resources":2,"label_limit":1000,"generation_limit":9,"transmitters":1,"turns":10000000,"clients":[[["acquire",0],["meet",2],["acquire",1]],[["acquire",1],["meet",2],["acquire",0]]]}"#;
+
+/// The text with other text in place of its part.
+fn changed(alloc: Global, part: &str, other: &str) -> Result<String, Fail> {
+    let Some((before, after)) = CROSSWISE.split_once(part) else {
+        return Err(Fail::from("the part is not there"));
+    };
+    Ok(format!(in alloc; "{before}{other}{after}")?)
+}
+
+/// The workload of the text with other text in place of its part.
+fn read_changed(alloc: Global, part: &str, other: &str) -> Result<Workload, Fail> {
+    let text = changed(alloc, part, other)?;
+    Ok(Workload::read(alloc, text.as_bytes())?)
+}
+
+/// Ends the test unless the workload of the text with other text in place of its part has the same turns, and begins with this step.
+fn begins_with(
+    rt: &impl Abort,
+    alloc: Global,
+    change: (&str, &str),
+    step: WorkStep,
+) -> Result<(), Fail> {
+    let work = read_changed(alloc, change.0, change.1)?;
+    same(rt, work.turns(), 10_000_000);
+    let first = work
+        .clients()
+        .first()
+        .and_then(|client| client.as_slice().first());
+    same(rt, first.copied(), Some(step));
+    Ok(())
+}
+
+/// The text with these clients, each of so many steps.
+fn with_clients(alloc: Global, clients: usize, steps: usize) -> Result<String, Fail> {
+    let mut text = String::new(alloc);
+    for client in 0..clients {
+        text.push_str(if client == 0 { "[" } else { ",[" })?;
+        for step in 0..steps {
+            text.push_str(if step == 0 { "" } else { "," })?;
+            text.push_str("[\"release\",7]")?;
+        }
+        text.push(']')?;
+    }
+    let clients = text.as_str();
+    changed(
+        alloc,
+        r#"[["acquire",0],["meet",2],["acquire",1]],[["acquire",1],["meet",2],["acquire",0]]"#,
+        clients,
+    )
+}
+
+/// The text with one more key, whose value is this many arrays in one another.
+fn with_nested_arrays(alloc: Global, depth: usize) -> Result<String, Fail> {
+    let mut text = String::new(alloc);
+    text.push_str("]]],\"other\":")?;
+    for _ in 0..depth {
+        text.push('[')?;
+    }
+    for _ in 0..depth {
+        text.push(']')?;
+    }
+    text.push('}')?;
+    changed(alloc, "]]]}", text.as_str())
+}
+
+/// Ends the test where the workload's clients have other steps.
+fn has_steps(rt: &impl Abort, work: &Workload, clients: &[&[WorkStep]]) {
+    same(rt, work.clients().len(), clients.len());
+    for (came, expected) in work.clients().iter().zip(clients.iter()) {
+        same(rt, came.as_slice(), *expected);
+    }
+}
+
+#[test]
+fn what_is_read(rt: HostRuntime) -> Result<(), Fail> {
+    let work = Workload::read(rt.alloc(), CROSSWISE.as_bytes())?;
+    let config = Config {
+        processes: 2,
+        resources: 2,
+        label_limit: 1000,
+        generation_limit: 9,
+    };
+    same(&rt, work.config(), config);
+    same(&rt, work.transmitters(), 1);
+    same(&rt, work.turns(), 10_000_000);
+    let first = [
+        WorkStep::Acquire(0),
+        WorkStep::Meet(2),
+        WorkStep::Acquire(1),
+    ];
+    let second = [
+        WorkStep::Acquire(1),
+        WorkStep::Meet(2),
+        WorkStep::Acquire(0),
+    ];
+    has_steps(&rt, &work, &[first.as_slice(), second.as_slice()]);
+    Ok(())
+}
+
+/// Ends the test unless two clients without steps are read.
+fn are_without_steps(rt: &impl Abort, alloc: Global) -> Result<(), Fail> {
+    let text = with_clients(alloc, 2, 0)?;
+    let work = Workload::read(alloc, text.as_bytes())?;
+    has_steps(rt, &work, &[[].as_slice(), [].as_slice()]);
+    Ok(())
+}
+
+/// A table that cannot be opened is no fault of a workload, and neither is a resource that is not there or a client without steps.
+#[test]
+fn what_is_tested_later(rt: HostRuntime) -> Result<(), Fail> {
+    let none = read_changed(rt.alloc(), "\"processes\":2", "\"processes\":0")?;
+    same(&rt, none.config().processes, 0);
+    begins_with(
+        &rt,
+        rt.alloc(),
+        ("[\"acquire\",0]", "[\"release\",4294967295]"),
+        WorkStep::Release(u32::MAX),
+    )?;
+    are_without_steps(&rt, rt.alloc())
+}
+
+/// The greatest numbers of all.
+#[test]
+fn the_greatest(rt: HostRuntime) -> Result<(), Fail> {
+    let text = with_clients(rt.alloc(), 64, 256)?;
+    let work = Workload::read(rt.alloc(), text.as_bytes())?;
+    same(&rt, work.clients().len(), 64);
+    for client in work.clients() {
+        same(&rt, client.len(), 256);
+    }
+    let text = changed(
+        rt.alloc(),
+        "1000,\"generation_limit\":9,\"transmitters\":1,\"turns\":10000000",
+        "18446744073709551615,\"generation_limit\":4294967295,\"transmitters\":64,\"turns\":1000000000",
+    )?;
+    let work = Workload::read(rt.alloc(), text.as_bytes())?;
+    same(&rt, work.config().label_limit, u64::MAX);
+    same(&rt, work.config().generation_limit, u32::MAX);
+    same(&rt, work.transmitters(), 64);
+    same(&rt, work.turns(), 1_000_000_000);
+    Ok(())
+}
+
+const OF_THE_SAME: [(&str, &str); 3] = [
+    ("]]]}", "]]],\"note\":[null,1.5,-0,{\"turns\":3}]} \n"),
+    ("{\"processes\":2", "\r\n{ \"\":0,\t\"processes\" : 2 "),
+    ("[\"acquire\",0]", "[\"\\u0061cquire\",0]"),
+];
+
+/// Other keys are passed over, spaces too, and an escaped word is that word.
+#[test]
+fn other_texts_of_the_same(rt: HostRuntime) -> Result<(), Fail> {
+    for change in OF_THE_SAME {
+        begins_with(&rt, rt.alloc(), change, WorkStep::Acquire(0))?;
+    }
+    let nested = with_nested_arrays(rt.alloc(), 126)?;
+    let work = Workload::read(rt.alloc(), nested.as_bytes())?;
+    same(&rt, work.turns(), 10_000_000);
+    Ok(())
+}

@@ -1,0 +1,185 @@
+ghost use Rattle.std.specs.Prelude.{◌≡◌, ◌<◌, ◌≤◌, ◌^◌};
+ghost use Rattle.mm_label.specs.Label.{opening_label};
+ghost use Rattle.mm_board.specs.Views.{processes_of, current_label};
+
+use mm_board::{Board, Name, Publisher, RawBoard, Reader, Waiter};
+use mm_label::{COUNTER_RANGE, Label};
+use std::marker::Brand;
+use std::process::Abort;
+use std::test::Fail;
+use std::thread::{Threads, join};
+use test_support::{label, same};
+
+// The example of README.md.
+#[test]
+fn stores_reads_and_shows(rt: HostRuntime) -> Result<(), Fail> {
+    let raw = RawBoard::new(rt.alloc(), 3)?;
+    store_read_and_show::<Brand, _>(&rt, raw);
+    Ok(())
+}
+
+fn store_read_and_show<N: Name, R: Abort>(rt: &R, raw: RawBoard)
+    requires named { raw ≡ N.board }
+    requires processes { processes_of raw ≡ 3 }
+{
+    let (board, mut publisher, mut reader) = raw.open::<N>();
+    same(rt, reader.read_label(&board, 2), label(0, 2));
+    publisher.store_label(&board, 1, label(4, 1));
+    same(rt, reader.read_label(&board, 1), label(4, 1));
+    publisher.store_holder(&board, 0, Some(1));
+    same(rt, reader.read_holder(&board, 0), Some(1));
+    let waiter = Waiter {
+        process: 0,
+        holder: 1,
+    };
+    same(rt, reader.next_waiter(&board, 0), Some(waiter));
+    same(rt, reader.next_waiter(&board, 1), None);
+    publisher.store_holder(&board, 0, None);
+    same(rt, reader.read_holder(&board, 0), None);
+    let mut other = reader.split(&board);
+    same(rt, other.read_label(&board, 1), label(4, 1));
+    publisher.store_label(&board, 1, label(5, 1));
+    publisher.show(&board, &mut other);
+    same(rt, other.read_label(&board, 1), label(5, 1));
+}
+
+// One word keeps the greatest label of the greatest board, and another the greatest holder.
+#[test]
+fn keeps_the_greatest_of_all(rt: HostRuntime) -> Result<(), Fail> {
+    let raw = RawBoard::new(rt.alloc(), 65536)?;
+    store_the_greatest::<Brand, _>(&rt, raw);
+    Ok(())
+}
+
+fn store_the_greatest<N: Name, R: Abort>(rt: &R, raw: RawBoard)
+    requires named { raw ≡ N.board }
+    requires processes { processes_of raw ≡ 65536 }
+{
+    let (board, mut publisher, mut reader) = raw.open::<N>();
+    same(rt, board.processes(), 65536);
+    let greatest = label(COUNTER_RANGE - 1, 65535);
+    publisher.store_label(&board, 65535, greatest);
+    publisher.store_holder(&board, 0, Some(65535));
+    same(rt, reader.read_label(&board, 65535), greatest);
+    same(rt, reader.read_holder(&board, 0), Some(65535));
+    same(rt, reader.read_label(&board, 0), label(0, 0));
+    same(rt, reader.read_holder(&board, 65535), None);
+}
+
+// A walk finds the one process that has a holder, wherever it stands and wherever the walk begins.
+#[test]
+fn finds_each_waiter(rt: HostRuntime) -> Result<(), Fail> {
+    let raw = RawBoard::new(rt.alloc(), 11)?;
+    let_each_wait::<Brand, _>(&rt, raw);
+    Ok(())
+}
+
+fn let_each_wait<N: Name, R: Abort>(rt: &R, raw: RawBoard)
+    requires named { raw ≡ N.board }
+    requires processes { processes_of raw ≡ 11 }
+{
+    let (board, mut publisher, mut reader) = raw.open::<N>();
+    for process in 0..11 {
+        let holder = if process == 0 { 1 } else { 0 };
+        publisher.store_holder(&board, process, Some(holder));
+        find_from_each(rt, &board, &mut reader, Waiter { process, holder });
+        publisher.store_holder(&board, process, None);
+    }
+}
+
+/// A walk from each process on, and one from behind the last, on a board on which this process alone has a holder.
+fn find_from_each<N: Name, R: Abort>(
+    rt: &R,
+    board: &Board<N>,
+    reader: &mut Reader<N>,
+    waiter: Waiter,
+) {
+    for from in 0..=board.processes() {
+        let expected = (from <= waiter.process).then_some(waiter);
+        same(rt, reader.next_waiter(board, from), expected);
+    }
+}
+
+// A walk finds all that have a holder, one after another.
+#[test]
+fn finds_all_waiters(rt: HostRuntime) -> Result<(), Fail> {
+    let raw = RawBoard::new(rt.alloc(), 11)?;
+    let_six_wait::<Brand, _>(&rt, raw);
+    Ok(())
+}
+
+fn let_six_wait<N: Name, R: Abort>(rt: &R, raw: RawBoard)
+    requires named { raw ≡ N.board }
+    requires processes { processes_of raw ≡ 11 }
+{
+    let (board, mut publisher, mut reader) = raw.open::<N>();
+    for process in [1, 2, 4, 7, 9, 10] {
+        publisher.store_holder(&board, process, Some(0));
+    }
+    for (from, found) in [(0, 1), (2, 2), (3, 4), (5, 7), (8, 9), (10, 10)] {
+        same(rt, reader.next_waiter(&board, from), waits(found));
+    }
+    same(rt, reader.next_waiter(&board, 11), None);
+}
+
+/// This process waits for process 0.
+fn waits(process: u32) -> Option<Waiter> {
+    Some(Waiter { process, holder: 0 })
+}
+
+const TURNS: u32 = 100_000;
+
+// One thread stores rising labels of a process while another one loads them. What each load gives is proved: no label is below the one
+// before. The test shows that the program that was built does it.
+#[test]
+fn no_label_falls(rt: HostRuntime) -> Result<(), Fail> {
+    let raw = RawBoard::new(rt.alloc(), 2)?;
+    let (none_fell, last) = store_beside_a_reader::<Brand, _>(&rt, raw);
+    assert!(rt; none_fell);
+    same(&rt, last, label(u64::from(TURNS), 0));
+    Ok(())
+}
+
+/// Whether no label fell, and which one stands there at the end.
+fn store_beside_a_reader<N: Name + Send + Sync, R: Threads + Sync>(
+    rt: &R,
+    raw: RawBoard,
+) -> (bool, Label)
+    requires named { raw ≡ N.board }
+    requires processes { processes_of raw ≡ 2 }
+{
+    let (board, publisher, mut reader) = raw.open::<N>();
+    let other = reader.split(&board);
+    let shared = &board;
+    let ((), none_fell) = join(
+        rt,
+        || store_rising(shared, publisher),
+        || none_falls(shared, other),
+    );
+    (none_fell, reader.read_label(&board, 0))
+}
+
+/// Stores so many labels of process 0 as there are turns, each above the one before.
+fn store_rising<N: Name>(board: &Board<N>, mut publisher: Publisher<N>)
+    requires process { 0 < board.now }
+    requires opening { current_label publisher 0 ≡ opening_label 0 }
+{
+    for turn in 0..TURNS {
+        publisher.store_label(board, 0, label(u64::from(turn) + 1, 0));
+    }
+}
+
+/// Loads the label of process 0 in each turn, and returns whether none was below the one before.
+fn none_falls<N: Name>(board: &Board<N>, mut reader: Reader<N>) -> bool
+    requires { 0 < board.now }
+{
+    let mut last = reader.read_label(board, 0);
+    for _ in 0..TURNS {
+        let label = reader.read_label(board, 0);
+        if label < last {
+            return false;
+        }
+        last = label;
+    }
+    true
+}

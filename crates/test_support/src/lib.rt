@@ -1,0 +1,14 @@
+//! What the tests of several crates share.
+//!
+//! - `Row`, `ROWS`: scripts with the replies that they are to have.
+//! - `same`: the check that an answer is the one expected.
+//! - `label`: a label by its parts.
+#![tactic(auto)]
+
+mod label;
+mod rows;
+mod same;
+
+pub use label::label;
+pub use rows::{ROWS, Row};
+pub use same::same;

@@ -1,0 +1,11 @@
+//! One module for each library, `shelf` for the shelves of mm_arena, and `wake` for example_calls.
+
+mod arena;
+mod label;
+mod links;
+mod marks;
+mod owned;
+mod queue;
+mod shelf;
+mod table;
+mod wake;

@@ -1,0 +1,49 @@
+ghost use Rattle.std.specs.Prelude.{◌≡◌, ◌≤◌, length, vec_capacity};
+
+use mm_marks::Marks;
+use std::process::Abort;
+use std::test::Fail;
+use test_support::same;
+
+// The example of README.md.
+#[test]
+fn takes_the_first_from_a_place(rt: HostRuntime) -> Result<(), Fail> {
+    let mut marks = Marks::new(rt.alloc(), 200)?;
+    marks.add(130);
+    marks.add(3);
+    same(&rt, marks.next(0), Some(3));
+    same(&rt, marks.take_next(4), Some(130));
+    same(&rt, marks.take_next(4), None);
+    same(&rt, marks.take_next(0), Some(3));
+    same(&rt, marks.next(0), None);
+    Ok(())
+}
+
+// The second example of README.md.
+#[test]
+fn moves_lists_and_clears(rt: HostRuntime) -> Result<(), Fail> {
+    let mut marks = Marks::new(rt.alloc(), 200)?;
+    let mut other = Marks::new(rt.alloc(), 200)?;
+    let mut list = Vec::with_capacity(rt.alloc(), 200)?;
+    move_list_and_clear(&rt, &mut marks, &mut other, &mut list);
+    Ok(())
+}
+
+fn move_list_and_clear(rt: &impl Abort, marks: &mut Marks, other: &mut Marks, list: &mut Vec<u32>)
+    requires marks { length marks.old ≡ 200 }
+    requires other { length other.old ≡ 200 }
+    requires list { 200 ≤ vec_capacity list.old }
+{
+    other.add(64);
+    other.add(7);
+    marks.add(130);
+    other.move_all(marks, list);
+    same(rt, list.as_slice(), &[7, 64]);
+    same(rt, other.next(0), None);
+    marks.take_all(list);
+    same(rt, list.as_slice(), &[7, 64, 130]);
+    same(rt, marks.next(0), None);
+    other.add(64);
+    other.clear();
+    same(rt, other.next(0), None);
+}

@@ -1,0 +1,153 @@
+//! Calls that are refused: each call by each refusal that it can have. But for `begin` and `finish`, one try at `finish` follows, whatever
+//! that answers.
+
+use super::runs;
+use crate::tests::script::{Answer, Call};
+use mm_shared::Refusal;
+use mm_workers::End;
+use mm_workload::WorkStep;
+use std::alloc::{AllocError, Global};
+use std::process::Abort;
+use std::test::Fail;
+
+/// What a client is refused: the calls before, and the call with what it is refused as.
+struct Refused {
+    work: &'static [WorkStep],
+    before: &'static [(Call, Answer)],
+    call: Call,
+    refusals: &'static [(Refusal, u8)],
+    finishes: bool,
+}
+
+const WORK: [WorkStep; 2] = [WorkStep::Acquire(0), WorkStep::Release(0)];
+
+const REFUSED: [Refused; 7] = [
+    Refused {
+        work: &WORK,
+        before: &[],
+        call: Call::Begin,
+        refusals: &[(Refusal::CountsExhausted, 15)],
+        finishes: false,
+    },
+    Refused {
+        work: &WORK,
+        before: &[(Call::Begin, Answer::Done)],
+        call: Call::Acquire(0),
+        refusals: &[
+            (Refusal::CountsExhausted, 15),
+            (Refusal::Stale, 1),
+            (Refusal::NoResource, 2),
+            (Refusal::Waiting, 3),
+            (Refusal::AlreadyOwns, 4),
+            (Refusal::LabelsExhausted, 7),
+        ],
+        finishes: true,
+    },
+    Refused {
+        work: &WORK,
+        before: &[
+            (Call::Begin, Answer::Done),
+            (Call::Acquire(0), Answer::Done),
+        ],
+        call: Call::Release(0),
+        refusals: &[
+            (Refusal::CountsExhausted, 15),
+            (Refusal::Stale, 1),
+            (Refusal::NoResource, 2),
+            (Refusal::Waiting, 3),
+            (Refusal::NotOwner, 5),
+            (Refusal::LabelsExhausted, 7),
+        ],
+        finishes: true,
+    },
+    Refused {
+        work: &WORK,
+        before: &[
+            (Call::Begin, Answer::Done),
+            (Call::Acquire(0), Answer::Waits),
+        ],
+        call: Call::Transmit,
+        refusals: &[(Refusal::CountsExhausted, 15), (Refusal::Stale, 1)],
+        finishes: true,
+    },
+    Refused {
+        work: &WORK,
+        before: &[
+            (Call::Begin, Answer::Done),
+            (Call::Acquire(0), Answer::Waits),
+            (Call::Transmit, Answer::Done),
+        ],
+        call: Call::Detect,
+        refusals: &[(Refusal::CountsExhausted, 15), (Refusal::Stale, 1)],
+        finishes: true,
+    },
+    Refused {
+        work: &WORK,
+        before: &[
+            (Call::Begin, Answer::Done),
+            (Call::Acquire(0), Answer::Waits),
+            (Call::Transmit, Answer::Done),
+            (Call::Detect, Answer::Deadlock),
+        ],
+        call: Call::Abort,
+        refusals: &[
+            (Refusal::CountsExhausted, 15),
+            (Refusal::Stale, 1),
+            (Refusal::NoVerdict, 9),
+            (Refusal::LabelsExhausted, 7),
+        ],
+        finishes: true,
+    },
+    Refused {
+        work: &WORK,
+        before: &[
+            (Call::Begin, Answer::Done),
+            (Call::Acquire(0), Answer::Done),
+            (Call::Release(0), Answer::Done),
+        ],
+        call: Call::Finish,
+        refusals: &[
+            (Refusal::CountsExhausted, 15),
+            (Refusal::Stale, 1),
+            (Refusal::Waiting, 3),
+            (Refusal::LabelsExhausted, 7),
+        ],
+        finishes: false,
+    },
+];
+
+/// The calls of a client that is refused so, where its try at `finish` has this answer.
+fn calls_of(
+    alloc: Global,
+    refused: &Refused,
+    refusal: Refusal,
+    finish: Answer,
+) -> Result<Vec<(Call, Answer)>, AllocError> {
+    let mut calls = refused.before.to_vec(alloc)?;
+    calls.push((refused.call, Answer::Refused(refusal)))?;
+    if refused.finishes {
+        calls.push((Call::Finish, finish))?;
+    }
+    calls.push((Call::Leave, Answer::Done))?;
+    Ok(calls)
+}
+
+/// Ends the test unless each refusal of the call ends the client under its number.
+fn ends_by_each<R: Abort>(rt: &R, alloc: Global, refused: &Refused) -> Result<(), AllocError> {
+    for (refusal, number) in refused.refusals {
+        for finish in [Answer::Done, Answer::Refused(Refusal::Waiting)] {
+            let calls = calls_of(alloc, refused, *refusal, finish)?;
+            let end = End::Refused(*number);
+            runs(rt, alloc, refused.work, 9, calls.as_slice(), end)?;
+        }
+    }
+    Ok(())
+}
+
+#[test]
+fn a_client_is_refused(rt: HostRuntime) -> Result<(), Fail> {
+    for refused in &REFUSED {
+        ends_by_each(&rt, rt.alloc(), refused)?;
+    }
+    Ok(())
+}

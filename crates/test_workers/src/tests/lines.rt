@@ -1,0 +1,34 @@
+//! The two lines that say what came of a workload, with six different numbers.
+
+use mm_workers::{End, Outcome, Report};
+use std::test::Fail;
+use test_support::same;
+
+const ENDS: [End; 10] = [
+    End::Refused(7),
+    End::Spent,
+    End::Aborted,
+    End::Refused(2),
+    End::Finished,
+    End::Refused(15),
+    End::Spent,
+    End::Aborted,
+    End::Refused(1),
+    End::Spent,
+];
+
+#[test]
+fn an_outcome_is_two_lines(rt: HostRuntime) -> Result<(), Fail> {
+    let outcome = Outcome {
+        ends: ENDS.to_vec(rt.alloc())?,
+        report: Report {
+            accepted: 7,
+            verdicts: 6,
+            aborts: 5,
+        },
+    };
+    let text = format!(in rt.alloc(); "{outcome}")?;
+    let lines = "clients finished 1 aborted 2 spent 3 refused 4\ntable verdicts 6 aborts 5";
+    same(&rt, text.as_str(), lines);
+    Ok(())
+}

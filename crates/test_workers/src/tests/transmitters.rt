@@ -1,0 +1,282 @@
+//! One transmitter on steps that note its calls: on a fake, on a table that nobody shares, and on a shared one. Expected calls are those
+//! of the rules of docs/WORKLOADS.md, by hand.
+ghost use Rattle.std.specs.Prelude.{◌≡◌};
+
+use crate::tests::fake::Fake;
+use crate::tests::open_gate::OpenGate;
+use crate::tests::recorder::{Call, Recorder};
+use mm_shared::{Config, Detected, Key, Name, Pass, Prepared, Refusal, SharedTable, Transmitted};
+use mm_table::{Table, Totals};
+use mm_workers::{Desk, Hint, HintKind, Report, Steps, Transmitter};
+use std::alloc::{AllocError, Global};
+use std::cell::Cell;
+use std::marker::Brand;
+use std::process::Abort;
+use std::sync::Wait;
+use std::sync::ledger::Ledger;
+use std::test::Fail;
+use test_support::{label, same};
+
+/// The configuration of the tables: four processes and four resources.
+const FOUR: Config = Config {
+    processes: 4,
+    resources: 4,
+    label_limit: 100,
+    generation_limit: 9,
+};
+
+/// The first key of this process.
+fn first_key(process: u32) -> Key {
+    Key {
+        process,
+        generation: 1,
+    }
+}
+
+fn hint(process: u32, holder: u32, kind: HintKind) -> Option<Hint> {
+    Some(Hint {
+        process,
+        holder,
+        kind,
+    })
+}
+
+/// Runs a transmitter for four processes, and gives back the table and its calls.
+fn transmit<S: Steps + Drop>(
+    alloc: Global,
+    steps: S,
+    turns: u64,
+    over: bool,
+) -> Result<Recorder<S>, AllocError> {
+    let recorder = Recorder {
+        steps,
+        calls: Vec::with_capacity(alloc, 100)?,
+    };
+    let left = Cell::new(0);
+    let gate = OpenGate { left: &left, over };
+    let mut transmitter = Transmitter::new(recorder, gate, 4, turns);
+    transmitter.run();
+    Ok(transmitter.into_steps())
+}
+
+#[test]
+fn without_a_hint_it_looks_alone(rt: HostRuntime) -> Result<(), Fail> {
+    let fake = Fake {
+        hint: None,
+        tenant: Some(first_key(0)),
+    };
+    let came = transmit(rt.alloc(), fake, 100, false)?;
+    same(&rt, came.calls.len(), 100);
+    for call in &came.calls {
+        same(&rt, *call, Call::Scan(0, None));
+    }
+    Ok(())
+}
+
+#[test]
+fn once_all_clients_have_left_it_calls_nothing(rt: HostRuntime) -> Result<(), Fail> {
+    let fake = Fake {
+        hint: None,
+        tenant: None,
+    };
+    let came = transmit(rt.alloc(), fake, 100, true)?;
+    same(&rt, came.calls.len(), 0);
+    Ok(())
+}
+
+#[test]
+fn behind_the_last_process_it_begins_anew(rt: HostRuntime) -> Result<(), Fail> {
+    let raise = hint(3, 1, HintKind::Raise);
+    let tenant = Some(first_key(3));
+    let fake = Fake {
+        hint: raise,
+        tenant,
+    };
+    let came = transmit(rt.alloc(), fake, 2, false)?;
+    let calls = [
+        Call::Scan(0, raise),
+        Call::Tenant(3, tenant),
+        Call::Transmit(first_key(3), Err(Refusal::Stale)),
+        Call::Scan(0, None),
+    ];
+    same(&rt, came.calls.as_slice(), calls.as_slice());
+    Ok(())
+}
+
+#[test]
+fn whoever_is_gone_is_passed_by(rt: HostRuntime) -> Result<(), Fail> {
+    let equal = hint(1, 3, HintKind::Equal);
+    let fake = Fake {
+        hint: equal,
+        tenant: None,
+    };
+    let came = transmit(rt.alloc(), fake, 3, false)?;
+    let calls = [
+        Call::Scan(0, equal),
+        Call::Tenant(1, None),
+        Call::Scan(2, None),
+        Call::Scan(0, None),
+    ];
+    same(&rt, came.calls.as_slice(), calls.as_slice());
+    Ok(())
+}
+
+/// Runs a transmitter for four processes, ends the test unless it makes these calls, and gives back the table.
+fn makes<S: Steps + Drop>(
+    rt: &impl Abort,
+    alloc: Global,
+    steps: S,
+    turns: u64,
+    calls: &[Call],
+) -> Result<S, AllocError> {
+    let Recorder { steps, calls: came } = transmit(alloc, steps, turns, false)?;
+    same(rt, came.as_slice(), calls);
+    Ok(steps)
+}
+
+/// So many transactions that own a resource each, and wait for that of the next: two under 1.0 and 2.1, three under 1.0, 1.1 and 2.2.
+fn wait_in_a_ring<S: Steps>(steps: &mut S, count: u32) -> Result<(), Refusal> {
+    for _ in 0..count {
+        steps.begin()?;
+    }
+    for process in 0..count {
+        steps.acquire(first_key(process), process)?;
+    }
+    for process in 0..count {
+        steps.acquire(first_key(process), (process + 1) % count)?;
+    }
+    Ok(())
+}
+
+/// Opens a table on which so many transactions wait for each other. Ends the test unless a transmitter makes these calls of it in so many
+/// turns, and the table has counted so much then.
+fn goes_round<R: Abort>(
+    rt: &R,
+    alloc: Global,
+    count: u32,
+    turns: u64,
+    calls: &[Call],
+    totals: Totals,
+) -> Result<(), Fail> {
+    let mut table = Table::open(alloc, FOUR)?;
+    same(rt, wait_in_a_ring(&mut table, count), Ok(()));
+    let table = makes(rt, alloc, table, turns, calls)?;
+    same(rt, table.totals(), totals);
+    Ok(())
+}
+
+/// What four turns make of it: the first takes over the label of the second, which has its own back then and gets a verdict; the third
+/// turn comes to the end; and the fourth finds no verdict for the first.
+fn calls_of_four_turns() -> [Call; 10] {
+    let (first, second) = (first_key(0), first_key(1));
+    let greatest = label(2, 1);
+    [
+        Call::Scan(0, hint(0, 1, HintKind::Raise)),
+        Call::Tenant(0, Some(first)),
+        Call::Transmit(first, Ok(Transmitted::Raised(greatest))),
+        Call::Scan(1, hint(1, 0, HintKind::Equal)),
+        Call::Tenant(1, Some(second)),
+        Call::Detect(second, Ok(Detected::Deadlock(greatest))),
+        Call::Scan(2, None),
+        Call::Scan(0, hint(0, 1, HintKind::Equal)),
+        Call::Tenant(0, Some(first)),
+        Call::Detect(first, Ok(Detected::Clear)),
+    ]
+}
+
+#[test]
+fn a_deadlock_on_a_table_alone(rt: HostRuntime) -> Result<(), Fail> {
+    let totals = Totals {
+        accepted: 9,
+        verdicts: 1,
+        aborts: 0,
+    };
+    let calls = calls_of_four_turns();
+    goes_round(&rt, rt.alloc(), 2, 4, calls.as_slice(), totals)
+}
+
+/// What six turns make of a ring of three.
+fn calls_of_six_turns() -> [Call; 16] {
+    let (first, second, third) = (first_key(0), first_key(1), first_key(2));
+    let greatest = label(2, 2);
+    [
+        Call::Scan(0, hint(0, 1, HintKind::Raise)),
+        Call::Tenant(0, Some(first)),
+        Call::Transmit(first, Ok(Transmitted::Raised(label(1, 1)))),
+        Call::Scan(1, hint(1, 2, HintKind::Raise)),
+        Call::Tenant(1, Some(second)),
+        Call::Transmit(second, Ok(Transmitted::Raised(greatest))),
+        Call::Scan(2, None),
+        Call::Scan(0, hint(0, 1, HintKind::Raise)),
+        Call::Tenant(0, Some(first)),
+        Call::Transmit(first, Ok(Transmitted::Raised(greatest))),
+        Call::Scan(1, hint(1, 2, HintKind::Equal)),
+        Call::Tenant(1, Some(second)),
+        Call::Detect(second, Ok(Detected::Clear)),
+        Call::Scan(2, hint(2, 0, HintKind::Equal)),
+        Call::Tenant(2, Some(third)),
+        Call::Detect(third, Ok(Detected::Deadlock(greatest))),
+    ]
+}
+
+#[test]
+fn a_ring_of_three_on_a_table_alone(rt: HostRuntime) -> Result<(), Fail> {
+    let totals = Totals {
+        accepted: 14,
+        verdicts: 1,
+        aborts: 0,
+    };
+    let calls = calls_of_six_turns();
+    goes_round(&rt, rt.alloc(), 3, 6, calls.as_slice(), totals)
+}
+
+/// Two wait for each other at a desk of a shared table, and a transmitter makes four turns there.
+fn make_four_turns<
+    N: Name + Drop,
+    A: Ledger + Drop,
+    V: Ledger + Drop,
+    B: Ledger + Drop,
+    R: Wait + Abort,
+>(
+    rt: &R,
+    alloc: Global,
+    table: &SharedTable<N, A, V, B>,
+    pass: Pass<N, A, V, B>,
+) -> Result<Pass<N, A, V, B>, AllocError> {
+    let mut desk = Desk::new(rt, table, pass);
+    same(rt, wait_in_a_ring(&mut desk, 2), Ok(()));
+    let calls = calls_of_four_turns();
+    let desk = makes(rt, alloc, desk, 4, calls.as_slice())?;
+    Ok(desk.into_pass())
+}
+
+/// The deadlock of two at a desk of a shared table.
+fn four_turns_at_a_desk<
+    N: Name + Drop,
+    A: Ledger + Drop,
+    V: Ledger + Drop,
+    B: Ledger + Drop,
+    R: Wait + Abort,
+>(rt: &R, alloc: Global, prepared: Prepared) -> Result<(), Fail>
+    requires board { prepared.board ≡ N.board }
+    requires accepted { (prepared.accepted.name ≡ A.name) × (prepared.accepted.parts ≡ A.parts) }
+    requires verdicts { (prepared.verdicts.name ≡ V.name) × (prepared.verdicts.parts ≡ V.parts) }
+    requires aborts { (prepared.aborts.name ≡ B.name) × (prepared.aborts.parts ≡ B.parts) }
+{
+    let (table, pass) = prepared.open::<N, A, V, B>();
+    let pass = make_four_turns(rt, alloc, &table, pass)?;
+    let report = Report {
+        accepted: 9,
+        verdicts: 1,
+        aborts: 0,
+    };
+    same(rt, table.close(pass).ok(), Some(report));
+    Ok(())
+}
+
+#[test]
+fn a_deadlock_on_a_shared_table(rt: HostRuntime) -> Result<(), Fail> {
+    let prepared = Prepared::new(rt.alloc(), FOUR)?;
+    four_turns_at_a_desk::<Brand, Brand, Brand, Brand, _>(&rt, rt.alloc(), prepared)?;
+    Ok(())
+}
