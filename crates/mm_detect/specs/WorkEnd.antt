@@ -3,8 +3,8 @@ use Rattle.std.specs.Prelude.{◌≡◌, if◌then◌else◌, ℕ, Bool, true, f
 use Rattle.std.specs.List.{list_all}
 use Rattle.mm_rules.specs.Event.{Opens}
 use Rattle.mm_rules.specs.declared.refusal.Refusal.TheVariants as refusals
-use Rattle.mm_workers.specs.declared.end.End.{End}
-use Rattle.mm_workers.specs.declared.end.End.TheVariants.{Finished, Aborted}
+use Rattle.mm_clients.specs.declared.end.End.{End}
+use Rattle.mm_clients.specs.declared.end.End.TheVariants.{Finished, Aborted}
 use Rattle.mm_workload.specs.Work.{Work}
 use Rattle.mm_workload.specs.declared.fault.WorkFault.{WorkFault}
 use Rattle.mm_workload.specs.declared.fault.WorkFault.TheVariants as faults

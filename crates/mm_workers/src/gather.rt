@@ -1,9 +1,9 @@
 //! The passes of workers that have ended become one again.
 ghost use Rattle.std.specs.Prelude.{◌≡◌, ◌+◌, ◌≤◌, [], vec_len, vec_capacity, count_by};
-ghost use Rattle.mm_workers.specs.End.{is_aborted};
+ghost use Rattle.mm_clients.specs.End.{is_aborted};
 
-use crate::end::End;
 use crate::job::{Ended, Stopped};
+use mm_clients::End;
 use mm_shared::{Name, Pass, SharedTable};
 use std::sync::ledger::Ledger;
 

@@ -2,13 +2,10 @@
 //! keeps its facts by its type.
 ghost use Rattle.std.specs.Prelude.{◌≡◌, ◌<◌};
 ghost use Rattle.mm_shared.specs.Shares.{less_parts};
-ghost use Rattle.mm_workers.specs.End.{aborts_of};
+ghost use Rattle.mm_clients.specs.End.{aborts_of};
 
-use crate::client::Client;
 use crate::desk::Desk;
-use crate::end::End;
-use crate::gate::Gate;
-use crate::transmitter::Transmitter;
+use mm_clients::{Client, End, Gate, Transmitter};
 use mm_shared::{Name, Pass, SharedTable};
 use mm_workload::WorkStep;
 use std::sync::Wait;

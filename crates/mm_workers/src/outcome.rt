@@ -1,6 +1,6 @@
 //! What came of a workload, and the two lines that say so.
 
-use crate::end::End;
+use mm_clients::End;
 use mm_shared::Report;
 use std::fmt;
 use std::fmt::{Display, Formatter};

@@ -3,14 +3,13 @@ ghost use Rattle.std.specs.Prelude.{◌≡◌, ◌+◌, ◌≤◌, Err, OnOk, If
 ghost use Rattle.mm_rules.specs.TableState.{IsInRange};
 ghost use Rattle.mm_rules.specs.Event.{Opens};
 ghost use Rattle.mm_shared.specs.Shares.{all_parts};
-ghost use Rattle.mm_workers.specs.End.{is_aborted};
+ghost use Rattle.mm_clients.specs.End.{is_aborted};
 
-use crate::end::End;
-use crate::gate::Gate;
 use crate::gather::{gather_clients, gather_transmitters};
 use crate::job::{Ended, Stopped};
 use crate::outcome::Outcome;
 use crate::start::{client_jobs, run_jobs, transmitter_jobs};
+use mm_clients::{End, Gate};
 use mm_shared::{Name, Pass, Prepared, Refusal, Report, SharedTable};
 use mm_workload::Workload;
 use std::alloc::{AllocError, Global};

@@ -2,7 +2,7 @@
 ghost use Rattle.std.specs.Prelude.{◌≡◌, IfOk, IfErr, vec_len};
 ghost use Rattle.mm_workload.specs.declared.fault.WorkFault.TheVariants.{Memory};
 
-use crate::gate::Gate;
+use mm_clients::Gate;
 use mm_workload::WorkFault;
 use std::alloc::Global;
 use std::sync::{Arc, Mutex, Wait};

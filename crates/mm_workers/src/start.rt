@@ -1,8 +1,8 @@
 //! The threads of the workers.
 ghost use Rattle.std.specs.Prelude.{◌≡◌, ◌+◌, ◌<◌, IfOk, length, vec_len, vec_capacity};
 
-use crate::gate::Gate;
 use crate::job::{ClientJob, Ended, Stopped, TransmitterJob};
+use mm_clients::Gate;
 use mm_shared::{Name, Pass, SharedTable};
 use mm_workload::{WorkStep, Workload};
 use std::alloc::{AllocError, Global};

@@ -1,6 +1,6 @@
 use Rattle.std.specs.Prelude.{◌≡◌, ◌+◌, ◌≤◌, vec_len, vec_capacity, count_by}
 use Rattle.std.specs.Vec.Iter.{into_iter_len}
-use Rattle.mm_workers.specs.End.{is_aborted}
+use Rattle.mm_clients.specs.End.{is_aborted}
 use Rattle.mm_workers.proofs.gather.gather_clients.Given as goal
 
 abbrev pub invariant-loop-one : goal.invariant-loop-one

@@ -1,0 +1,13 @@
+-- How clients end.
+use Rattle.std.specs.Prelude.{ℕ, Bool, true, false, cond}
+use Rattle.mm_clients.specs.declared.end.End.{End}
+use Rattle.mm_clients.specs.declared.end.End.TheVariants.{Aborted}
+
+-- the client was aborted
+abbrev pub is_aborted : End → Bool
+is_aborted Aborted = true
+is_aborted e = false
+
+-- how many aborts a client makes that ends so: one, or none
+abbrev pub aborts_of : End → ℕ
+aborts_of e = cond (is_aborted e) 1 0

@@ -1,0 +1,243 @@
+//! A client runs one transaction.
+ghost use Rattle.std.specs.Prelude.{◌≡◌, ◌+◌, false, IfErr};
+ghost use Rattle.mm_clients.specs.End.{is_aborted, aborts_of};
+
+use crate::end::End;
+use crate::gate::Gate;
+use crate::steps::Steps;
+use mm_shared::{Acquired, Detected, Key, Refusal};
+use mm_workload::WorkStep;
+use std::marker::Model;
+use std::thread;
+
+/// A worker that runs one transaction: it begins, makes its steps in order, and finishes, or is aborted where it gets a verdict.
+///
+/// Each asking at the gate, each try at `begin` and each round of waiting uses one of its turns. Where it needs one and all are used, it
+/// ends `Spent` and calls the table no more: what it owns then stays owned. A contract sees it as its table.
+#[derive(Drop)]
+pub struct Client<S: Steps + Drop, G: Gate + Drop> {
+    steps: S,
+    gate: G,
+    work: Vec<WorkStep>,
+    turns: u64,
+}
+
+/// What a client does after a step.
+#[derive(Clone, Copy, Debug, PartialEq, Eq)]
+enum Next {
+    GoOn,
+    Abort,
+}
+
+impl<S: Steps + Drop, G: Gate + Drop> Model for Client<S, G> {
+    ghost Value = { S };
+
+    ghost view = { λ client. client.steps };
+}
+
+impl<S: Steps + Drop, G: Gate + Drop> Client<S, G> {
+    /// A client on this table, with these steps and so many turns. Constant time.
+    pub fn new(steps: S, gate: G, work: Vec<WorkStep>, turns: u64) -> Client<S, G>
+        ensures { result ≡ steps }
+    {
+        Client {
+            steps,
+            gate,
+            work,
+            turns,
+        }
+    }
+
+    /// Gives the table back. Constant time.
+    pub fn into_steps(self) -> S
+        ensures { result ≡ self }
+    {
+        let Client {
+            steps,
+            gate: _,
+            work: _,
+            turns: _,
+        } = self;
+        steps
+    }
+
+    /// Runs the transaction, and leaves the gate last. It makes one abort exactly where it ends `Aborted`, and else none.
+    ///
+    /// A call that is refused ends it as `Refused`, after one try at `finish`; but a `begin` that is refused as `Full` is tried again, and
+    /// a `transmit` or `detect` that is refused as `NotWaiting` says that the resource is its own by now. `O(steps + turns)` calls.
+    pub fn run(&mut self) -> End
+        ensures third { (S.shares self.new).aborts ≡ (S.shares self.old).aborts + aborts_of result }
+        ensures others { (S.shares self.new).parts ≡ (S.shares self.old).parts }
+    {
+        let end = self.transaction();
+        self.gate.leave();
+        end
+    }
+
+    /// The transaction, from its begin to its end.
+    fn transaction(&mut self) -> End
+        ensures third { (S.shares self.new).aborts ≡ (S.shares self.old).aborts + aborts_of result }
+        ensures others { (S.shares self.new).parts ≡ (S.shares self.old).parts }
+    {
+        let key = match self.begin() {
+            Ok(key) => key,
+            Err(end) => return end,
+        };
+        match self.all_steps(key) {
+            Ok(Next::GoOn) => self.finish(key),
+            Ok(Next::Abort) => self.abort(key),
+            Err(end) => end,
+        }
+    }
+
+    /// Tries to begin, until a process is free.
+    fn begin(&mut self) -> Result<Key, End>
+        ensures end { IfErr result (λ end. is_aborted end ≡ false) }
+        ensures third { (S.shares self.new).aborts ≡ (S.shares self.old).aborts }
+        ensures others { (S.shares self.new).parts ≡ (S.shares self.old).parts }
+    {
+        for _ in 0..u64::MAX {
+            if !self.spend() {
+                return Err(End::Spent);
+            }
+            match self.steps.begin() {
+                Ok(key) => return Ok(key),
+                Err(Refusal::Full) => thread::yield_now(),
+                Err(refusal) => return Err(End::Refused(refusal.number())),
+            }
+        }
+        Err(End::Spent)
+    }
+
+    /// Uses a turn. `false` where all are used.
+    fn spend(&mut self) -> bool
+        ensures { self.new ≡ self.old }
+    {
+        if self.turns == 0 {
+            return false;
+        }
+        self.turns -= 1;
+        true
+    }
+
+    /// All steps in order, up to a verdict.
+    fn all_steps(&mut self, key: Key) -> Result<Next, End>
+        ensures end { IfErr result (λ end. is_aborted end ≡ false) }
+        ensures third { (S.shares self.new).aborts ≡ (S.shares self.old).aborts }
+        ensures others { (S.shares self.new).parts ≡ (S.shares self.old).parts }
+    {
+        for place in 0..self.work.len() {
+            let Some(step) = self.work.get(place) else {
+                return Ok(Next::GoOn);
+            };
+            let step = *step;
+            if self.step(key, step)? == Next::Abort {
+                return Ok(Next::Abort);
+            }
+        }
+        Ok(Next::GoOn)
+    }
+
+    /// One step.
+    fn step(&mut self, key: Key, step: WorkStep) -> Result<Next, End>
+        ensures end { IfErr result (λ end. is_aborted end ≡ false) }
+        ensures third { (S.shares self.new).aborts ≡ (S.shares self.old).aborts }
+        ensures others { (S.shares self.new).parts ≡ (S.shares self.old).parts }
+    {
+        match step {
+            WorkStep::Acquire(resource) => match self.steps.acquire(key, resource) {
+                Ok(Acquired::Granted) => Ok(Next::GoOn),
+                Ok(Acquired::Waits { .. }) => self.wait(key),
+                Err(refusal) => Err(self.give_way(key, refusal)),
+            },
+            WorkStep::Release(resource) => match self.steps.release(key, resource) {
+                Ok(_) => Ok(Next::GoOn),
+                Err(refusal) => Err(self.give_way(key, refusal)),
+            },
+            WorkStep::Meet(arrivals) => self.meet(arrivals),
+        }
+    }
+
+    /// Rounds of waiting, until the resource is its own or a verdict stands.
+    fn wait(&mut self, key: Key) -> Result<Next, End>
+        ensures end { IfErr result (λ end. is_aborted end ≡ false) }
+        ensures third { (S.shares self.new).aborts ≡ (S.shares self.old).aborts }
+        ensures others { (S.shares self.new).parts ≡ (S.shares self.old).parts }
+    {
+        for _ in 0..u64::MAX {
+            if !self.spend() {
+                return Err(End::Spent);
+            }
+            match self.round(key) {
+                Ok(Some(next)) => return Ok(next),
+                Ok(None) => thread::yield_now(),
+                Err(Refusal::NotWaiting) => return Ok(Next::GoOn),
+                Err(refusal) => return Err(self.give_way(key, refusal)),
+            }
+        }
+        Err(End::Spent)
+    }
+
+    /// One round of waiting. `None` where it waits on.
+    fn round(&mut self, key: Key) -> Result<Option<Next>, Refusal>
+        ensures third { (S.shares self.new).aborts ≡ (S.shares self.old).aborts }
+        ensures others { (S.shares self.new).parts ≡ (S.shares self.old).parts }
+    {
+        self.steps.transmit(key)?;
+        match self.steps.detect(key)? {
+            Detected::Clear => Ok(None),
+            Detected::Deadlock(_) | Detected::Standing => Ok(Some(Next::Abort)),
+        }
+    }
+
+    /// Arrives at the gate, and asks until it may pass.
+    fn meet(&mut self, arrivals: u32) -> Result<Next, End>
+        ensures end { IfErr result (λ end. is_aborted end ≡ false) }
+        ensures same { self.new ≡ self.old }
+    {
+        self.gate.arrive();
+        for _ in 0..u64::MAX {
+            if !self.spend() {
+                return Err(End::Spent);
+            }
+            if self.gate.may_pass(arrivals) {
+                return Ok(Next::GoOn);
+            }
+            thread::yield_now();
+        }
+        Err(End::Spent)
+    }
+
+    /// The end of a transaction that made all of its steps.
+    fn finish(&mut self, key: Key) -> End
+        ensures end { is_aborted result ≡ false }
+        ensures third { (S.shares self.new).aborts ≡ (S.shares self.old).aborts }
+        ensures others { (S.shares self.new).parts ≡ (S.shares self.old).parts }
+    {
+        match self.steps.finish(key) {
+            Ok(()) => End::Finished,
+            Err(refusal) => End::Refused(refusal.number()),
+        }
+    }
+
+    /// The end of a transaction with a verdict.
+    fn abort(&mut self, key: Key) -> End
+        ensures third { (S.shares self.new).aborts ≡ (S.shares self.old).aborts + aborts_of result }
+        ensures others { (S.shares self.new).parts ≡ (S.shares self.old).parts }
+    {
+        match self.steps.abort(key) {
+            Ok(()) => End::Aborted,
+            Err(refusal) => self.give_way(key, refusal),
+        }
+    }
+
+    /// The end after a call that was refused: it tries once to finish, whatever that answers.
+    fn give_way(&mut self, key: Key, refusal: Refusal) -> End
+        ensures end { is_aborted result ≡ false }
+        ensures third { (S.shares self.new).aborts ≡ (S.shares self.old).aborts }
+        ensures others { (S.shares self.new).parts ≡ (S.shares self.old).parts }
+    {
+        let _ = self.steps.finish(key);
+        End::Refused(refusal.number())
+    }
+}

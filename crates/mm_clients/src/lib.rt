@@ -1,0 +1,21 @@
+//! Clients, each of which runs one transaction, and transmitters, which pass labels on and detect deadlocks: the rules by which they go,
+//! on whatever answers the calls of a table.
+//!
+//! - `gate`: `Gate`, where workers meet.
+//! - `steps`: `Steps`, the events of a table as a worker calls them. `alone`: a `Table` that nobody shares.
+//! - `end`: how a client ends. `client`, `transmitter`: the rules by which they go.
+#![tactic(auto)]
+
+mod alone;
+mod client;
+mod end;
+mod gate;
+mod steps;
+mod transmitter;
+
+pub use client::Client;
+pub use end::End;
+pub use gate::Gate;
+pub use mm_shared::{Hint, HintKind};
+pub use steps::Steps;
+pub use transmitter::Transmitter;

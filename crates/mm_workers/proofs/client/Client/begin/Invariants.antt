@@ -1,5 +1,0 @@
-use Rattle.std.specs.Prelude.{◌≡◌}
-use Rattle.mm_workers.proofs.client.Client.begin.Given as goal
-
-abbrev pub invariant-loop : goal.invariant-loop
-invariant-loop g l = ((g.S.Steps.shares l.self).aborts ≡ (g.S.Steps.shares l.fn.self).aborts) × ((g.S.Steps.shares l.self).parts ≡ (g.S.Steps.shares l.fn.self).parts)
