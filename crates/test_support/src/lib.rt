@@ -5,10 +5,10 @@
 //! - `label`: a label by its parts.
 #![tactic(auto)]
 
-mod label;
+mod compare;
+mod labels;
 mod rows;
-mod same;
 
-pub use label::label;
+pub use compare::same;
+pub use labels::label;
 pub use rows::{ROWS, Row};
-pub use same::same;
