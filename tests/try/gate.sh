@@ -7,8 +7,9 @@ cp -r tests/gate "$gate/top/tests"
 printf 'mm_low:\nmm_detect: mm_low # the program\n' > "$gate/top/crates.txt"
 echo '#[test]' > "$gate/top/crates/mm_low/src/lib.rt"
 touch "$gate/top/crates/mm_low/must-fail/one.edit" "$gate/top/crates/mm_low/must-fail/two.edit"
-for script in no_lock no_loops try_program refuse_memory; do
-  printf '#!/bin/sh\necho "1 passed, 0 failed"\n' > "$gate/top/tests/$script"
+mkdir "$gate/top/docs"
+for script in tests/no_lock tests/no_loops docs/contracts tests/try_program tests/refuse_memory; do
+  printf '#!/bin/sh\necho "1 passed, 0 failed"\n' > "$gate/top/$script"
 done
 
 # A check computes for as many seconds as 'takes' says, or, where that is 'long', waits until 'next' is there, which it removes.
@@ -43,7 +44,7 @@ echo "rt: mm_low: 1 of its 2 must-fail edits were tried by an earlier run on thi
 echo "rt: mm_low: its tests passed"
 echo "4 passed, 0 failed"
 RT
-chmod +x "$gate/bin/rattle" "$gate/bin/rt" "$gate"/top/tests/*_*
+chmod +x "$gate/bin/rattle" "$gate/bin/rt" "$gate"/top/tests/*_* "$gate/top/docs/contracts"
 
 # gated COMMAND..: the command at the top of that checkout, with that toolchain
 gated() {
@@ -86,9 +87,10 @@ ends 0 "$(sed 's/^4 passed/rt ci: &/' "$gate/log")
 tests/no_lock: 1 passed, 0 failed
 tests/no_loops: 1 passed, 0 failed
 tests/no_loops --self-test: 1 passed, 0 failed
+docs/contracts: 1 passed, 0 failed
 tests/try_program --built: 1 passed, 0 failed
 tests/refuse_memory: 1 passed, 0 failed
-9 passed, 0 failed" "" $?
+10 passed, 0 failed" "" $?
 gated ./run_tests --times
 same status 0 $?
 says "The last run: commit unknown, begun 20"

@@ -32,8 +32,8 @@ fn wait_once<N: Name, A: Ledger, V: Ledger, B: Ledger, R: Wait>(
     pass: &mut Pass<N, A, V, B>,
     key: Key,
 ) -> Result<Option<Asked>, Refusal>
-    ensures third { pass.new.aborts ≡ pass.old.aborts }
-    ensures others { pass.new.parts ≡ pass.old.parts }
+    ensures aborts { pass.new.aborts ≡ pass.old.aborts }
+    ensures parts { pass.new.parts ≡ pass.old.parts }
 {
     // A call that is refused since nothing waits says that the resource was handed over in the meantime.
     match table.transmit(rt, pass, key) {
@@ -57,8 +57,8 @@ fn take<N: Name, A: Ledger, V: Ledger, B: Ledger, R: Wait>(
     key: Key,
     resource: u32,
 ) -> Result<Asked, Refusal>
-    ensures third { pass.new.aborts ≡ pass.old.aborts }
-    ensures others { pass.new.parts ≡ pass.old.parts }
+    ensures aborts { pass.new.aborts ≡ pass.old.aborts }
+    ensures parts { pass.new.parts ≡ pass.old.parts }
 {
     let mut asked = Asked::Given;
     if table.acquire(rt, pass, key, resource)? != Acquired::Granted {
@@ -82,8 +82,8 @@ fn take_both<N: Name, A: Ledger, V: Ledger, B: Ledger, R: Wait>(
     first: u32,
     second: u32,
 ) -> Result<Asked, Refusal>
-    ensures third { pass.new.aborts ≡ pass.old.aborts }
-    ensures others { pass.new.parts ≡ pass.old.parts }
+    ensures aborts { pass.new.aborts ≡ pass.old.aborts }
+    ensures parts { pass.new.parts ≡ pass.old.parts }
 {
     match take(rt, table, pass, key, first)? {
         Asked::Given => take(rt, table, pass, key, second),
@@ -101,7 +101,7 @@ fn attempt<N: Name, A: Ledger, V: Ledger, B: Ledger, R: Wait>(
 ) -> Result<Ending, Refusal>
     ensures ended { IfOk result (λ ending. pass.new.aborts ≡ pass.old.aborts + aborts_of ending) }
     ensures refused { OnErr result (pass.new.aborts ≡ pass.old.aborts) }
-    ensures others { pass.new.parts ≡ pass.old.parts }
+    ensures parts { pass.new.parts ≡ pass.old.parts }
 {
     let key = table.begin(rt, pass)?;
     match take_both(rt, table, pass, key, first, second)? {
@@ -124,8 +124,8 @@ pub fn transaction<N: Name, A: Ledger, V: Ledger, B: Ledger, R: Wait>(
     first: u32,
     second: u32,
 ) -> (Ending, Pass<N, A, V, B>)
-    ensures third { result.1.aborts ≡ pass.aborts + aborts_of result.0 }
-    ensures others { result.1.parts ≡ pass.parts }
+    ensures aborts { result.1.aborts ≡ pass.aborts + aborts_of result.0 }
+    ensures parts { result.1.parts ≡ pass.parts }
 {
     let ending = match attempt(rt, table, &mut pass, first, second) {
         Ok(ending) => ending,

@@ -66,8 +66,8 @@ impl<S: Steps + Drop, G: Gate + Drop> Client<S, G> {
     /// A call that is refused ends it as `Refused`, after one try at `finish`; but a `begin` that is refused as `Full` is tried again, and
     /// a `transmit` or `detect` that is refused as `NotWaiting` says that the resource is its own by now. `O(steps + turns)` calls.
     pub fn run(&mut self) -> End
-        ensures third { (S.shares self.new).aborts ≡ (S.shares self.old).aborts + aborts_of result }
-        ensures others { (S.shares self.new).parts ≡ (S.shares self.old).parts }
+        ensures aborts { (S.shares self.new).aborts ≡ (S.shares self.old).aborts + aborts_of result }
+        ensures parts { (S.shares self.new).parts ≡ (S.shares self.old).parts }
     {
         let end = self.transaction();
         self.gate.leave();
@@ -76,8 +76,8 @@ impl<S: Steps + Drop, G: Gate + Drop> Client<S, G> {
 
     /// The transaction, from its begin to its end.
     fn transaction(&mut self) -> End
-        ensures third { (S.shares self.new).aborts ≡ (S.shares self.old).aborts + aborts_of result }
-        ensures others { (S.shares self.new).parts ≡ (S.shares self.old).parts }
+        ensures aborts { (S.shares self.new).aborts ≡ (S.shares self.old).aborts + aborts_of result }
+        ensures parts { (S.shares self.new).parts ≡ (S.shares self.old).parts }
     {
         let key = match self.begin() {
             Ok(key) => key,
@@ -93,8 +93,8 @@ impl<S: Steps + Drop, G: Gate + Drop> Client<S, G> {
     /// Tries to begin, until a process is free.
     fn begin(&mut self) -> Result<Key, End>
         ensures end { IfErr result (λ end. is_aborted end ≡ false) }
-        ensures third { (S.shares self.new).aborts ≡ (S.shares self.old).aborts }
-        ensures others { (S.shares self.new).parts ≡ (S.shares self.old).parts }
+        ensures aborts { (S.shares self.new).aborts ≡ (S.shares self.old).aborts }
+        ensures parts { (S.shares self.new).parts ≡ (S.shares self.old).parts }
     {
         for _ in 0..u64::MAX {
             if !self.spend() {
@@ -123,8 +123,8 @@ impl<S: Steps + Drop, G: Gate + Drop> Client<S, G> {
     /// All steps in order, up to a verdict.
     fn all_steps(&mut self, key: Key) -> Result<Next, End>
         ensures end { IfErr result (λ end. is_aborted end ≡ false) }
-        ensures third { (S.shares self.new).aborts ≡ (S.shares self.old).aborts }
-        ensures others { (S.shares self.new).parts ≡ (S.shares self.old).parts }
+        ensures aborts { (S.shares self.new).aborts ≡ (S.shares self.old).aborts }
+        ensures parts { (S.shares self.new).parts ≡ (S.shares self.old).parts }
     {
         for place in 0..self.work.len() {
             let Some(step) = self.work.get(place) else {
@@ -141,8 +141,8 @@ impl<S: Steps + Drop, G: Gate + Drop> Client<S, G> {
     /// One step.
     fn step(&mut self, key: Key, step: WorkStep) -> Result<Next, End>
         ensures end { IfErr result (λ end. is_aborted end ≡ false) }
-        ensures third { (S.shares self.new).aborts ≡ (S.shares self.old).aborts }
-        ensures others { (S.shares self.new).parts ≡ (S.shares self.old).parts }
+        ensures aborts { (S.shares self.new).aborts ≡ (S.shares self.old).aborts }
+        ensures parts { (S.shares self.new).parts ≡ (S.shares self.old).parts }
     {
         match step {
             WorkStep::Acquire(resource) => match self.steps.acquire(key, resource) {
@@ -161,8 +161,8 @@ impl<S: Steps + Drop, G: Gate + Drop> Client<S, G> {
     /// Rounds of waiting, until the resource is its own or a verdict stands.
     fn wait(&mut self, key: Key) -> Result<Next, End>
         ensures end { IfErr result (λ end. is_aborted end ≡ false) }
-        ensures third { (S.shares self.new).aborts ≡ (S.shares self.old).aborts }
-        ensures others { (S.shares self.new).parts ≡ (S.shares self.old).parts }
+        ensures aborts { (S.shares self.new).aborts ≡ (S.shares self.old).aborts }
+        ensures parts { (S.shares self.new).parts ≡ (S.shares self.old).parts }
     {
         for _ in 0..u64::MAX {
             if !self.spend() {
@@ -180,8 +180,8 @@ impl<S: Steps + Drop, G: Gate + Drop> Client<S, G> {
 
     /// One round of waiting. `None` where it waits on.
     fn round(&mut self, key: Key) -> Result<Option<Next>, Refusal>
-        ensures third { (S.shares self.new).aborts ≡ (S.shares self.old).aborts }
-        ensures others { (S.shares self.new).parts ≡ (S.shares self.old).parts }
+        ensures aborts { (S.shares self.new).aborts ≡ (S.shares self.old).aborts }
+        ensures parts { (S.shares self.new).parts ≡ (S.shares self.old).parts }
     {
         self.steps.transmit(key)?;
         match self.steps.detect(key)? {
@@ -211,8 +211,8 @@ impl<S: Steps + Drop, G: Gate + Drop> Client<S, G> {
     /// The end of a transaction that made all of its steps.
     fn finish(&mut self, key: Key) -> End
         ensures end { is_aborted result ≡ false }
-        ensures third { (S.shares self.new).aborts ≡ (S.shares self.old).aborts }
-        ensures others { (S.shares self.new).parts ≡ (S.shares self.old).parts }
+        ensures aborts { (S.shares self.new).aborts ≡ (S.shares self.old).aborts }
+        ensures parts { (S.shares self.new).parts ≡ (S.shares self.old).parts }
     {
         match self.steps.finish(key) {
             Ok(()) => End::Finished,
@@ -222,8 +222,8 @@ impl<S: Steps + Drop, G: Gate + Drop> Client<S, G> {
 
     /// The end of a transaction with a verdict.
     fn abort(&mut self, key: Key) -> End
-        ensures third { (S.shares self.new).aborts ≡ (S.shares self.old).aborts + aborts_of result }
-        ensures others { (S.shares self.new).parts ≡ (S.shares self.old).parts }
+        ensures aborts { (S.shares self.new).aborts ≡ (S.shares self.old).aborts + aborts_of result }
+        ensures parts { (S.shares self.new).parts ≡ (S.shares self.old).parts }
     {
         match self.steps.abort(key) {
             Ok(()) => End::Aborted,
@@ -234,8 +234,8 @@ impl<S: Steps + Drop, G: Gate + Drop> Client<S, G> {
     /// The end after a call that was refused: it tries once to finish, whatever that answers.
     fn give_way(&mut self, key: Key, refusal: Refusal) -> End
         ensures end { is_aborted result ≡ false }
-        ensures third { (S.shares self.new).aborts ≡ (S.shares self.old).aborts }
-        ensures others { (S.shares self.new).parts ≡ (S.shares self.old).parts }
+        ensures aborts { (S.shares self.new).aborts ≡ (S.shares self.old).aborts }
+        ensures parts { (S.shares self.new).parts ≡ (S.shares self.old).parts }
     {
         let _ = self.steps.finish(key);
         End::Refused(refusal.number())

@@ -56,8 +56,8 @@ impl<S: Steps + Drop, G: Gate + Drop> Transmitter<S, G> {
     /// A turn looks from its place on, at first process 0. With a hint it makes the one event that the hint suggests, and its next place is
     /// behind that process. Without one its next place is process 0, and it has made no other call of the table.
     pub fn run(&mut self)
-        ensures third { (S.shares self.new).aborts ≡ (S.shares self.old).aborts }
-        ensures others { (S.shares self.new).parts ≡ (S.shares self.old).parts }
+        ensures aborts { (S.shares self.new).aborts ≡ (S.shares self.old).aborts }
+        ensures parts { (S.shares self.new).parts ≡ (S.shares self.old).parts }
     {
         let mut place = 0;
         for _ in 0..self.turns {
@@ -84,8 +84,8 @@ impl<S: Steps + Drop, G: Gate + Drop> Transmitter<S, G> {
     /// Makes the event that a hint suggests, for whoever lives in its process. `false` where it changed nothing: there is no hint, nobody
     /// lives there, or the labels are others by now.
     fn follow(&mut self, hint: Option<Hint>) -> bool
-        ensures third { (S.shares self.new).aborts ≡ (S.shares self.old).aborts }
-        ensures others { (S.shares self.new).parts ≡ (S.shares self.old).parts }
+        ensures aborts { (S.shares self.new).aborts ≡ (S.shares self.old).aborts }
+        ensures parts { (S.shares self.new).parts ≡ (S.shares self.old).parts }
     {
         let Some(hint) = hint else {
             return false;

@@ -1,12 +1,13 @@
 //! The value behind the lock of a shared table.
-ghost use Rattle.std.specs.Prelude.{◌≡◌, ◌+◌, ◌≤◌, OnOk, OnErr, IfOk, Ok, vec_capacity};
+ghost use Rattle.std.specs.Prelude.{◌≡◌, ◌+◌, ◌≤◌, OnOk, IfOk, Ok, vec_capacity};
 ghost use Rattle.mm_arena.specs.declared.key.Key.{Key};
 ghost use Rattle.mm_board.specs.Views.{current_labels, label_at, new_seen, NoneFalls};
 ghost use Rattle.mm_label.specs.Label.{Label};
 ghost use Rattle.mm_rules.specs.Event.{Step, Begin, Acquire, Release, Finish, Transmit, Detect, Abort, GiveUp, Settle, state_of, owner_told, tenant_of};
-ghost use Rattle.mm_rules.specs.Laws.{HasSoundVerdicts, verdicts_made};
+ghost use Rattle.mm_rules.specs.Laws.{HasSoundVerdicts};
 ghost use Rattle.mm_shared.specs.Booked.{Booked};
 ghost use Rattle.mm_shared.specs.Published.{AppendsOnly, IsPublished, holders_of};
+ghost use Rattle.mm_shared.specs.Shares.{CountsEvent};
 
 use crate::close::Report;
 use crate::pass::Pass;
@@ -36,8 +37,8 @@ pub struct Inside<N: Name, A: Ledger, V: Ledger, B: Ledger> {
     ghost booked: { Booked table.totals accepted.total verdicts.total aborts.total },
 }
 
-/// Each event is the one call of its name on the table; a shared call makes it under the lock. Where it is accepted, it adds one to the
-/// pass's first share, its new verdicts to the second, and one to the third where it is an abort; where it is refused, nothing changes.
+/// Each event is the one call of its name on the table; a shared call makes it under the lock. Where it is accepted, the pass counts it,
+/// with the verdicts that it gives and the abort that it is (`CountsEvent`); where it is refused, nothing changes.
 ///
 /// Before an accepted event returns, it stores on the board what it changed of public labels and holders.
 impl<N: Name, A: Ledger, V: Ledger, B: Ledger> Inside<N, A, V, B> {
@@ -70,13 +71,9 @@ impl<N: Name, A: Ledger, V: Ledger, B: Ledger> Inside<N, A, V, B> {
     /// Refused as `CountsExhausted` or `Full`. Constant time.
     pub fn begin(&mut self, board: &Board<N>, pass: &mut Pass<N, A, V, B>) -> Result<Key, Refusal>
         ensures step { Step Begin self.old.table result self.new.table }
-        ensures first { OnOk result (pass.new.accepted ≡ pass.old.accepted + 1) }
-        ensures second { pass.new.verdicts ≡ pass.old.verdicts }
-        ensures third { pass.new.aborts ≡ pass.old.aborts }
-        ensures others { pass.new.parts ≡ pass.old.parts }
+        ensures counts { CountsEvent Begin result pass.old pass.new }
         ensures seen { pass.new.seen ≡ pass.old.seen }
         ensures appends { AppendsOnly self.old.publisher self.new.publisher self.new.table }
-        ensures refused { OnErr result (pass.new ≡ pass.old) }
     {
         self.table.keeps_laws();
         let key = self.table.begin()?;
@@ -96,16 +93,12 @@ impl<N: Name, A: Ledger, V: Ledger, B: Ledger> Inside<N, A, V, B> {
         resource: u32,
     ) -> Result<Acquired, Refusal>
         ensures step { Step (Acquire key resource) self.old.table result self.new.table }
-        ensures first { OnOk result (pass.new.accepted ≡ pass.old.accepted + 1) }
-        ensures second { pass.new.verdicts ≡ pass.old.verdicts }
-        ensures third { pass.new.aborts ≡ pass.old.aborts }
-        ensures others { pass.new.parts ≡ pass.old.parts }
+        ensures counts { CountsEvent (Acquire key resource) result pass.old pass.new }
         ensures seen { (holder : Key) (label : Label) → result ≡ Ok (Acquired.Waits holder label) → label_at pass.new.seen.labels key.process ≡ label }
         ensures shown { (holder : Key) (label : Label) → result ≡ Ok (Acquired.Waits holder label) → pass.new.seen ≡ new_seen (current_labels self.new.publisher) }
         ensures rises { NoneFalls pass.old.seen.labels pass.new.seen.labels }
         ensures appends { AppendsOnly self.old.publisher self.new.publisher self.new.table }
         ensures held { IfOk result (λ answer. self.new.publisher.holders_stored ≡ self.old.publisher.holders_stored + holders_of answer) }
-        ensures refused { OnErr result (pass.new ≡ pass.old) }
     {
         self.table.keeps_laws();
         self.publisher.fits(board);
@@ -132,13 +125,9 @@ impl<N: Name, A: Ledger, V: Ledger, B: Ledger> Inside<N, A, V, B> {
         resource: u32,
     ) -> Result<Released, Refusal>
         ensures step { Step (Release key resource) self.old.table result self.new.table }
-        ensures first { OnOk result (pass.new.accepted ≡ pass.old.accepted + 1) }
-        ensures second { pass.new.verdicts ≡ pass.old.verdicts }
-        ensures third { pass.new.aborts ≡ pass.old.aborts }
-        ensures others { pass.new.parts ≡ pass.old.parts }
+        ensures counts { CountsEvent (Release key resource) result pass.old pass.new }
         ensures seen { pass.new.seen ≡ pass.old.seen }
         ensures appends { AppendsOnly self.old.publisher self.new.publisher self.new.table }
-        ensures refused { OnErr result (pass.new ≡ pass.old) }
     {
         self.table.keeps_laws();
         let answer = self.table.release_waking(key, resource, &mut self.woken)?;
@@ -157,13 +146,9 @@ impl<N: Name, A: Ledger, V: Ledger, B: Ledger> Inside<N, A, V, B> {
         key: Key,
     ) -> Result<(), Refusal>
         ensures step { Step (Finish key) self.old.table result self.new.table }
-        ensures first { OnOk result (pass.new.accepted ≡ pass.old.accepted + 1) }
-        ensures second { pass.new.verdicts ≡ pass.old.verdicts }
-        ensures third { pass.new.aborts ≡ pass.old.aborts }
-        ensures others { pass.new.parts ≡ pass.old.parts }
+        ensures counts { CountsEvent (Finish key) result pass.old pass.new }
         ensures seen { pass.new.seen ≡ pass.old.seen }
         ensures appends { AppendsOnly self.old.publisher self.new.publisher self.new.table }
-        ensures refused { OnErr result (pass.new ≡ pass.old) }
     {
         self.table.keeps_laws();
         self.table.finish_waking(key, &mut self.woken)?;
@@ -183,15 +168,11 @@ impl<N: Name, A: Ledger, V: Ledger, B: Ledger> Inside<N, A, V, B> {
         key: Key,
     ) -> Result<Transmitted, Refusal>
         ensures step { Step (Transmit key) self.old.table result self.new.table }
-        ensures first { OnOk result (pass.new.accepted ≡ pass.old.accepted + 1) }
-        ensures second { pass.new.verdicts ≡ pass.old.verdicts }
-        ensures third { pass.new.aborts ≡ pass.old.aborts }
-        ensures others { pass.new.parts ≡ pass.old.parts }
+        ensures counts { CountsEvent (Transmit key) result pass.old pass.new }
         ensures seen { (label : Label) → result ≡ Ok (Transmitted.Raised label) → label_at pass.new.seen.labels key.process ≡ label }
         ensures shown { (label : Label) → result ≡ Ok (Transmitted.Raised label) → pass.new.seen ≡ new_seen (current_labels self.new.publisher) }
         ensures rises { NoneFalls pass.old.seen.labels pass.new.seen.labels }
         ensures appends { AppendsOnly self.old.publisher self.new.publisher self.new.table }
-        ensures refused { OnErr result (pass.new ≡ pass.old) }
     {
         self.table.keeps_laws();
         self.publisher.fits(board);
@@ -205,8 +186,8 @@ impl<N: Name, A: Ledger, V: Ledger, B: Ledger> Inside<N, A, V, B> {
         Ok(answer)
     }
 
-    /// `Table::detect`: gives the waiting transaction a verdict where its label has come round to its holder. A new verdict adds one to the
-    /// pass's second share; one that stands already adds nothing.
+    /// `Table::detect`: gives the waiting transaction a verdict where its label has come round to its holder. The pass counts a new verdict,
+    /// and not one that stands already.
     ///
     /// Refused as `CountsExhausted`, `Stale` or `NotWaiting`. Constant time.
     pub fn detect(
@@ -216,13 +197,9 @@ impl<N: Name, A: Ledger, V: Ledger, B: Ledger> Inside<N, A, V, B> {
         key: Key,
     ) -> Result<Detected, Refusal>
         ensures step { Step (Detect key) self.old.table result self.new.table }
-        ensures first { OnOk result (pass.new.accepted ≡ pass.old.accepted + 1) }
-        ensures second { IfOk result (λ answer. pass.new.verdicts ≡ pass.old.verdicts + verdicts_made (Detect key) answer) }
-        ensures third { pass.new.aborts ≡ pass.old.aborts }
-        ensures others { pass.new.parts ≡ pass.old.parts }
+        ensures counts { CountsEvent (Detect key) result pass.old pass.new }
         ensures seen { pass.new.seen ≡ pass.old.seen }
         ensures appends { AppendsOnly self.old.publisher self.new.publisher self.new.table }
-        ensures refused { OnErr result (pass.new ≡ pass.old) }
     {
         self.table.keeps_laws();
         let answer = self.table.detect(key)?;
@@ -236,7 +213,7 @@ impl<N: Name, A: Ledger, V: Ledger, B: Ledger> Inside<N, A, V, B> {
         Ok(answer)
     }
 
-    /// `Table::abort`: ends a transaction with a verdict, as `finish` ends an active one. It adds one to the pass's third share.
+    /// `Table::abort`: ends a transaction with a verdict, as `finish` ends an active one. The pass counts the abort.
     ///
     /// Refused as `CountsExhausted`, `Stale`, `NoVerdict` or `LabelsExhausted`. `O(its resources + their waiters)`.
     pub fn abort(
@@ -246,13 +223,9 @@ impl<N: Name, A: Ledger, V: Ledger, B: Ledger> Inside<N, A, V, B> {
         key: Key,
     ) -> Result<(), Refusal>
         ensures step { Step (Abort key) self.old.table result self.new.table }
-        ensures first { OnOk result (pass.new.accepted ≡ pass.old.accepted + 1) }
-        ensures second { pass.new.verdicts ≡ pass.old.verdicts }
-        ensures third { OnOk result (pass.new.aborts ≡ pass.old.aborts + 1) }
-        ensures others { pass.new.parts ≡ pass.old.parts }
+        ensures counts { CountsEvent (Abort key) result pass.old pass.new }
         ensures seen { pass.new.seen ≡ pass.old.seen }
         ensures appends { AppendsOnly self.old.publisher self.new.publisher self.new.table }
-        ensures refused { OnErr result (pass.new ≡ pass.old) }
     {
         self.table.keeps_laws();
         self.table.abort_waking(key, &mut self.woken)?;
@@ -273,14 +246,10 @@ impl<N: Name, A: Ledger, V: Ledger, B: Ledger> Inside<N, A, V, B> {
         key: Key,
     ) -> Result<(), Refusal>
         ensures step { Step (GiveUp key) self.old.table result self.new.table }
-        ensures first { OnOk result (pass.new.accepted ≡ pass.old.accepted + 1) }
-        ensures second { pass.new.verdicts ≡ pass.old.verdicts }
-        ensures third { pass.new.aborts ≡ pass.old.aborts }
-        ensures others { pass.new.parts ≡ pass.old.parts }
+        ensures counts { CountsEvent (GiveUp key) result pass.old pass.new }
         ensures seen { pass.new.seen ≡ pass.old.seen }
         ensures appends { AppendsOnly self.old.publisher self.new.publisher self.new.table }
         ensures held { OnOk result (self.new.publisher.holders_stored ≡ self.old.publisher.holders_stored + 1) }
-        ensures refused { OnErr result (pass.new ≡ pass.old) }
     {
         self.table.keeps_laws();
         self.publisher.fits(board);
@@ -290,8 +259,8 @@ impl<N: Name, A: Ledger, V: Ledger, B: Ledger> Inside<N, A, V, B> {
         Ok(())
     }
 
-    /// `Table::settle`: transmits and detects for all that wait, until neither has anything left to do. It adds the new verdicts to the
-    /// pass's second share.
+    /// `Table::settle`: transmits and detects for all that wait, until neither has anything left to do. The pass counts the new
+    /// verdicts.
     ///
     /// Refused as `CountsExhausted`. It costs what `Table::settle` costs.
     pub fn settle(
@@ -300,13 +269,9 @@ impl<N: Name, A: Ledger, V: Ledger, B: Ledger> Inside<N, A, V, B> {
         pass: &mut Pass<N, A, V, B>,
     ) -> Result<Settled, Refusal>
         ensures step { Step Settle self.old.table result self.new.table }
-        ensures first { OnOk result (pass.new.accepted ≡ pass.old.accepted + 1) }
-        ensures second { IfOk result (λ answer. pass.new.verdicts ≡ pass.old.verdicts + answer.verdicts) }
-        ensures third { pass.new.aborts ≡ pass.old.aborts }
-        ensures others { pass.new.parts ≡ pass.old.parts }
+        ensures counts { CountsEvent Settle result pass.old pass.new }
         ensures seen { pass.new.seen ≡ pass.old.seen }
         ensures appends { AppendsOnly self.old.publisher self.new.publisher self.new.table }
-        ensures refused { OnErr result (pass.new ≡ pass.old) }
     {
         self.table.keeps_laws();
         let answer = self.table.settle_waking(&mut self.woken)?;

@@ -1,11 +1,10 @@
 //! The table that threads share.
-ghost use Rattle.std.specs.Prelude.{◌≡◌, ◌+◌, OnOk, OnErr, IfOk, Ok};
+ghost use Rattle.std.specs.Prelude.{◌≡◌, Ok};
 ghost use Rattle.mm_arena.specs.declared.key.Key.{Key};
 ghost use Rattle.mm_board.specs.Views.{label_at, NoneFalls};
 ghost use Rattle.mm_label.specs.Label.{Label};
-ghost use Rattle.mm_rules.specs.Event.{Detect};
-ghost use Rattle.mm_rules.specs.Laws.{verdicts_made};
-ghost use Rattle.mm_shared.specs.Shares.{all_parts};
+ghost use Rattle.mm_rules.specs.Event.{Begin, Acquire, Release, Finish, Transmit, Detect, Abort, GiveUp, Settle};
+ghost use Rattle.mm_shared.specs.Shares.{all_parts, CountsEvent};
 
 use crate::inside::Inside;
 use crate::pass::Pass;
@@ -111,12 +110,8 @@ impl<N: Name, A: Ledger, V: Ledger, B: Ledger> SharedTable<N, A, V, B> {
     ///
     /// Refused as `CountsExhausted` or `Full`. Constant time.
     pub fn begin<R: Wait>(&self, rt: &R, pass: &mut Pass<N, A, V, B>) -> Result<Key, Refusal>
-        ensures first { OnOk result (pass.new.accepted ≡ pass.old.accepted + 1) }
-        ensures second { pass.new.verdicts ≡ pass.old.verdicts }
-        ensures third { pass.new.aborts ≡ pass.old.aborts }
-        ensures others { pass.new.parts ≡ pass.old.parts }
+        ensures counts { CountsEvent Begin result pass.old pass.new }
         ensures seen { pass.new.seen ≡ pass.old.seen }
-        ensures refused { OnErr result (pass.new ≡ pass.old) }
     {
         self.locked(rt).begin(&self.board, pass)
     }
@@ -134,13 +129,9 @@ impl<N: Name, A: Ledger, V: Ledger, B: Ledger> SharedTable<N, A, V, B> {
         key: Key,
         resource: u32,
     ) -> Result<Acquired, Refusal>
-        ensures first { OnOk result (pass.new.accepted ≡ pass.old.accepted + 1) }
-        ensures second { pass.new.verdicts ≡ pass.old.verdicts }
-        ensures third { pass.new.aborts ≡ pass.old.aborts }
-        ensures others { pass.new.parts ≡ pass.old.parts }
+        ensures counts { CountsEvent (Acquire key resource) result pass.old pass.new }
         ensures seen { (holder : Key) (label : Label) → result ≡ Ok (Acquired.Waits holder label) → label_at pass.new.seen.labels key.process ≡ label }
         ensures rises { NoneFalls pass.old.seen.labels pass.new.seen.labels }
-        ensures refused { OnErr result (pass.new ≡ pass.old) }
     {
         self.locked(rt).acquire(&self.board, pass, key, resource)
     }
@@ -155,12 +146,8 @@ impl<N: Name, A: Ledger, V: Ledger, B: Ledger> SharedTable<N, A, V, B> {
         key: Key,
         resource: u32,
     ) -> Result<Released, Refusal>
-        ensures first { OnOk result (pass.new.accepted ≡ pass.old.accepted + 1) }
-        ensures second { pass.new.verdicts ≡ pass.old.verdicts }
-        ensures third { pass.new.aborts ≡ pass.old.aborts }
-        ensures others { pass.new.parts ≡ pass.old.parts }
+        ensures counts { CountsEvent (Release key resource) result pass.old pass.new }
         ensures seen { pass.new.seen ≡ pass.old.seen }
-        ensures refused { OnErr result (pass.new ≡ pass.old) }
     {
         self.locked(rt).release(&self.board, pass, key, resource)
     }
@@ -174,12 +161,8 @@ impl<N: Name, A: Ledger, V: Ledger, B: Ledger> SharedTable<N, A, V, B> {
         pass: &mut Pass<N, A, V, B>,
         key: Key,
     ) -> Result<(), Refusal>
-        ensures first { OnOk result (pass.new.accepted ≡ pass.old.accepted + 1) }
-        ensures second { pass.new.verdicts ≡ pass.old.verdicts }
-        ensures third { pass.new.aborts ≡ pass.old.aborts }
-        ensures others { pass.new.parts ≡ pass.old.parts }
+        ensures counts { CountsEvent (Finish key) result pass.old pass.new }
         ensures seen { pass.new.seen ≡ pass.old.seen }
-        ensures refused { OnErr result (pass.new ≡ pass.old) }
     {
         self.locked(rt).finish(&self.board, pass, key)
     }
@@ -194,19 +177,15 @@ impl<N: Name, A: Ledger, V: Ledger, B: Ledger> SharedTable<N, A, V, B> {
         pass: &mut Pass<N, A, V, B>,
         key: Key,
     ) -> Result<Transmitted, Refusal>
-        ensures first { OnOk result (pass.new.accepted ≡ pass.old.accepted + 1) }
-        ensures second { pass.new.verdicts ≡ pass.old.verdicts }
-        ensures third { pass.new.aborts ≡ pass.old.aborts }
-        ensures others { pass.new.parts ≡ pass.old.parts }
+        ensures counts { CountsEvent (Transmit key) result pass.old pass.new }
         ensures seen { (label : Label) → result ≡ Ok (Transmitted.Raised label) → label_at pass.new.seen.labels key.process ≡ label }
         ensures rises { NoneFalls pass.old.seen.labels pass.new.seen.labels }
-        ensures refused { OnErr result (pass.new ≡ pass.old) }
     {
         self.locked(rt).transmit(&self.board, pass, key)
     }
 
-    /// `Table::detect`: gives the waiting transaction a verdict where its label has come round to its holder. A new verdict adds one to the
-    /// pass's second share; one that stands already adds nothing.
+    /// `Table::detect`: gives the waiting transaction a verdict where its label has come round to its holder. The pass counts a new verdict,
+    /// and not one that stands already.
     ///
     /// Refused as `CountsExhausted`, `Stale` or `NotWaiting`. Constant time.
     pub fn detect<R: Wait>(
@@ -215,17 +194,13 @@ impl<N: Name, A: Ledger, V: Ledger, B: Ledger> SharedTable<N, A, V, B> {
         pass: &mut Pass<N, A, V, B>,
         key: Key,
     ) -> Result<Detected, Refusal>
-        ensures first { OnOk result (pass.new.accepted ≡ pass.old.accepted + 1) }
-        ensures second { IfOk result (λ answer. pass.new.verdicts ≡ pass.old.verdicts + verdicts_made (Detect key) answer) }
-        ensures third { pass.new.aborts ≡ pass.old.aborts }
-        ensures others { pass.new.parts ≡ pass.old.parts }
+        ensures counts { CountsEvent (Detect key) result pass.old pass.new }
         ensures seen { pass.new.seen ≡ pass.old.seen }
-        ensures refused { OnErr result (pass.new ≡ pass.old) }
     {
         self.locked(rt).detect(&self.board, pass, key)
     }
 
-    /// `Table::abort`: ends a transaction with a verdict, as `finish` ends an active one. It adds one to the pass's third share.
+    /// `Table::abort`: ends a transaction with a verdict, as `finish` ends an active one. The pass counts the abort.
     ///
     /// Refused as `CountsExhausted`, `Stale`, `NoVerdict` or `LabelsExhausted`. `O(its resources + their waiters)`.
     pub fn abort<R: Wait>(
@@ -234,12 +209,8 @@ impl<N: Name, A: Ledger, V: Ledger, B: Ledger> SharedTable<N, A, V, B> {
         pass: &mut Pass<N, A, V, B>,
         key: Key,
     ) -> Result<(), Refusal>
-        ensures first { OnOk result (pass.new.accepted ≡ pass.old.accepted + 1) }
-        ensures second { pass.new.verdicts ≡ pass.old.verdicts }
-        ensures third { OnOk result (pass.new.aborts ≡ pass.old.aborts + 1) }
-        ensures others { pass.new.parts ≡ pass.old.parts }
+        ensures counts { CountsEvent (Abort key) result pass.old pass.new }
         ensures seen { pass.new.seen ≡ pass.old.seen }
-        ensures refused { OnErr result (pass.new ≡ pass.old) }
     {
         self.locked(rt).abort(&self.board, pass, key)
     }
@@ -254,27 +225,19 @@ impl<N: Name, A: Ledger, V: Ledger, B: Ledger> SharedTable<N, A, V, B> {
         pass: &mut Pass<N, A, V, B>,
         key: Key,
     ) -> Result<(), Refusal>
-        ensures first { OnOk result (pass.new.accepted ≡ pass.old.accepted + 1) }
-        ensures second { pass.new.verdicts ≡ pass.old.verdicts }
-        ensures third { pass.new.aborts ≡ pass.old.aborts }
-        ensures others { pass.new.parts ≡ pass.old.parts }
+        ensures counts { CountsEvent (GiveUp key) result pass.old pass.new }
         ensures seen { pass.new.seen ≡ pass.old.seen }
-        ensures refused { OnErr result (pass.new ≡ pass.old) }
     {
         self.locked(rt).give_up(&self.board, pass, key)
     }
 
-    /// `Table::settle`: transmits and detects for all that wait, until neither has anything left to do. It adds the new verdicts to the
-    /// pass's second share.
+    /// `Table::settle`: transmits and detects for all that wait, until neither has anything left to do. The pass counts the new
+    /// verdicts.
     ///
     /// Refused as `CountsExhausted`. It costs what `Table::settle` costs.
     pub fn settle<R: Wait>(&self, rt: &R, pass: &mut Pass<N, A, V, B>) -> Result<Settled, Refusal>
-        ensures first { OnOk result (pass.new.accepted ≡ pass.old.accepted + 1) }
-        ensures second { IfOk result (λ answer. pass.new.verdicts ≡ pass.old.verdicts + answer.verdicts) }
-        ensures third { pass.new.aborts ≡ pass.old.aborts }
-        ensures others { pass.new.parts ≡ pass.old.parts }
+        ensures counts { CountsEvent Settle result pass.old pass.new }
         ensures seen { pass.new.seen ≡ pass.old.seen }
-        ensures refused { OnErr result (pass.new ≡ pass.old) }
     {
         self.locked(rt).settle(&self.board, pass)
     }

@@ -108,7 +108,9 @@ fn report_of<N: Name, A: Ledger, V: Ledger, B: Ledger>(
     pass: Pass<N, A, V, B>,
 ) -> Report
     requires { pass.parts ≡ all_parts }
-    ensures { result.aborts ≡ pass.aborts }
+    ensures accepted { result.accepted ≡ pass.accepted }
+    ensures verdicts { result.verdicts ≡ pass.verdicts }
+    ensures aborts { result.aborts ≡ pass.aborts }
 {
     match table.close(pass) {
         Ok(report) => report,
