@@ -111,7 +111,7 @@ echo 0 > "$gate/takes"
 printf '#!/bin/sh\nexit 3\n' > "$gate/top/tests/gate/watch"
 gated ./run_tests
 same status 0 $?
-same "the last line" "9 passed, 0 failed" "$(tail -n 1 "$work/out")"
+same "the last line" "10 passed, 0 failed" "$(tail -n 1 "$work/out")"
 cp tests/gate/watch "$gate/top/tests/gate/watch"
 
 # watch_of RUN: the process that watches this run
