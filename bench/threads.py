@@ -10,8 +10,6 @@ PROVED = os.path.join(HERE, "..", "crates", "bench_shared", "out", "bench_shared
 CALLS = 18  # of a transaction: begin, 16 acquires, finish
 TRANSACTIONS = 200_000  # of all threads together
 STORM_TRANSACTIONS = 1_000  # of all clients of all storms together
-LONG_TRANSACTIONS = 400_000  # of all clients of a long storm together
-KINDS = ("scanning", "asking")  # of transmitters
 # Works at a board, with how many calls each repetition makes, and how often it is repeated in a turn.
 WORKS = {
     "grants": ("begin, acquire, release, finish", 4, 100_000),
@@ -25,7 +23,6 @@ WORKS = {
 SCANNED = 4_000_000  # processes looked at in a turn
 TURNS = 25
 BOARD_TURNS = 100  # of the works at a board, each of which takes some milliseconds
-LONG_TURNS = 9  # of long storms
 
 
 def numbers(*command):
@@ -90,30 +87,6 @@ def storms():
             line("by %d clients, %s of %d" % (clients, name, TURNS), clients, *map(pick, rates), "a second")
 
 
-def long_storm(command, clients):
-    """Of one run of a long storm: transactions a second, and for each transaction the calls that took the lock, those of them that
-    transmitters made, and the acquires that had to wait."""
-    count = LONG_TRANSACTIONS // clients
-    nanoseconds, finished, aborted, waits, of_clients, of_transmitters = numbers(*command, clients, count)
-    done = finished + aborted
-    if done != clients * count:
-        sys.exit("%s: %d transactions finished, %d were aborted" % (command, finished, aborted))
-    return done * 1e9 / nanoseconds, (of_clients + of_transmitters) / done, of_transmitters / done, waits / done
-
-
-def transmitters():
-    """For each number of clients, long storms beside transmitters of either kind."""
-    head("long storms: transactions a second", *KINDS)
-    commands = [[PROVED, "transmitters", kind] for kind in KINDS]
-    for clients in (1, 2, 4, 8):
-        runs = [list(zip(*taken)) for taken in in_turn(long_storm, commands, clients, LONG_TURNS)]
-        rates, *others = zip(*runs)
-        for name, pick in (("most", max), ("median", statistics.median)):
-            line("by %d clients, %s of %d" % (clients, name, LONG_TURNS), clients, *map(pick, rates), "a second")
-        for name, each in zip(("calls that took the lock", "of them by transmitters", "acquires that waited"), others):
-            line("  %s, median" % name, clients, *map(statistics.median, each), "a transaction")
-
-
 def work_time(command, name, processes):
     """Nanoseconds a call, or a process of a scan, of one run."""
     _, calls, count = WORKS[name]
@@ -140,4 +113,3 @@ def board():
 shared_table()
 board()
 storms()
-transmitters()

@@ -1,10 +1,16 @@
 """No call of an opened table, of a shared table, of a pass or of a board requests memory."""
+import json
+import re
+
 from memory.program import refused
 from memory.requests import TABLE, calls
 
 # Each of the four threads makes so many transactions of eighteen calls: more than a million together.
 ROUNDS = 13_900
-BOARD = ["grants", "blocks", "deadlocks", "hand-overs", "peeks", "peeks-beside", "scans"]
+# So many clients at once, and so many runs of them.
+CLIENTS = 64
+RUNS = 10
+BOARD = ["grants", "blocks", "deadlocks", "settles", "hand-overs", "peeks", "peeks-beside", "scans"]
 
 
 def script(cases, scratch, program):
@@ -37,16 +43,22 @@ def rounds(cases, scratch, times):
     cases.ends("four threads at a shared table", told, faults)
 
 
-def storm(cases, scratch, times, kind):
-    """Four clients and two transmitters of this kind, each on a thread, who wait, find deadlocks and abort."""
-    run = refused(scratch, [times, "transmitters", kind, "4", "20000"], threads=1)
-    # nanoseconds, finished, aborted, waits, calls of clients and calls of transmitters
-    numbers = [int(word) for word in run.output.split()] or [0] * 6
-    faults = []
-    if run.status != 0 or run.errors or numbers[1] + numbers[2] != 80_000 or run.counts.by_threads != 0 or run.counts.started != 6:
-        faults.append(f"{run.says()}, {run.counts}")
-    told = f"{numbers[4] + numbers[5]} calls, each request of a thread is refused: {run.counts.by_threads} were made"
-    cases.ends(f"a long storm, its transmitters {kind}", told, faults)
+def workers(cases, scratch, program):
+    """Clients and transmitters, each on a thread, who want two resources again and again and wait for them."""
+    steps = [["meet", CLIENTS]] + [[call, place % 2] for place in range(127) for call in ("acquire", "release")]
+    numbers = {"processes": CLIENTS, "resources": 2, "label_limit": 1_000_000_000, "generation_limit": 9}
+    given = {**numbers, "transmitters": 2, "turns": 1_000_000_000, "clients": [steps] * CLIENTS}
+    command = [program, "threads", "--verbose", scratch.keeps("crowd.json", json.dumps(given))]
+    ended = f"clients finished {CLIENTS} aborted 0 spent 0 refused 0"
+    accepted, faults = 0, []
+    for _ in range(RUNS):
+        run = refused(scratch, command, threads=1)
+        told = re.search(r"calls accepted (\d+)", run.errors)
+        accepted += int(told[1]) if told else 0
+        if not told or run.status != 0 or run.output.split("\n")[0] != ended or run.counts.by_threads != 0 or run.counts.started != CLIENTS + 2:
+            faults.append(f"{run.says()}, {run.counts}")
+    told = f"{accepted} accepted calls in {RUNS} runs, each request of a thread is refused"
+    cases.ends("clients and transmitters at a shared table", told, faults)
 
 
 def board(cases, scratch, times, work):
@@ -63,7 +75,6 @@ def board(cases, scratch, times, work):
 def all_calls(cases, scratch, program, times):
     script(cases, scratch, program)
     rounds(cases, scratch, times)
-    for kind in ["asking", "scanning"]:
-        storm(cases, scratch, times, kind)
+    workers(cases, scratch, program)
     for work in BOARD:
         board(cases, scratch, times, work)

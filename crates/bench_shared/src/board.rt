@@ -1,7 +1,7 @@
 //! Calls of a shared table that store on its board, and reads of the board.
 ghost use Rattle.std.specs.Prelude.{◌≡◌};
 
-use crate::calls::{block, blocks, crowd, deadlocks, grants, hand_overs};
+use crate::calls::{block, blocks, crowd, deadlocks, grants, hand_overs, settles};
 use crate::clock::{nanoseconds_since, now};
 use mm_shared::{Name, Pass, Prepared, SharedTable};
 use std::sync::Wait;
@@ -20,6 +20,8 @@ pub enum Work {
     Blocks,
     /// A deadlock of two, from both begins to the end: ten calls, of which two block and one transmits.
     Deadlocks,
+    /// The same deadlock, found by a settle: nine calls.
+    Settles,
     /// A release that sixteen wait for, and an acquire of who released: two calls.
     HandOvers,
     /// Reads of labels, one after another.
@@ -37,6 +39,7 @@ impl Work {
             "grants" => Some(Work::Grants),
             "blocks" => Some(Work::Blocks),
             "deadlocks" => Some(Work::Deadlocks),
+            "settles" => Some(Work::Settles),
             "hand-overs" => Some(Work::HandOvers),
             "peeks" => Some(Work::Peeks),
             "peeks-beside" => Some(Work::PeeksBeside),
@@ -161,6 +164,7 @@ fn time_of<
         Work::Grants => grants(rt, table, pass, count),
         Work::Blocks => blocks(rt, table, pass, count),
         Work::Deadlocks => deadlocks(rt, table, pass, count),
+        Work::Settles => settles(rt, table, pass, count),
         Work::HandOvers => {
             if let Ok(owner) = crowd(rt, table, pass) {
                 hand_overs(rt, table, pass, owner, count);

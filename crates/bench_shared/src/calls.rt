@@ -52,6 +52,23 @@ fn deadlock<N: Name, A: Ledger, V: Ledger, B: Ledger, R: Wait>(
     table.finish(rt, pass, first)
 }
 
+/// Two transactions that wait for each other, and a settle that finds them. The second one is aborted.
+fn settle<N: Name, A: Ledger, V: Ledger, B: Ledger, R: Wait>(
+    rt: &R,
+    table: &SharedTable<N, A, V, B>,
+    pass: &mut Pass<N, A, V, B>,
+) -> Result<(), Refusal> {
+    let first = table.begin(rt, pass)?;
+    let second = table.begin(rt, pass)?;
+    table.acquire(rt, pass, first, 0)?;
+    table.acquire(rt, pass, second, 1)?;
+    table.acquire(rt, pass, first, 1)?;
+    table.acquire(rt, pass, second, 0)?;
+    table.settle(rt, pass)?;
+    table.abort(rt, pass, second)?;
+    table.finish(rt, pass, first)
+}
+
 /// Hands the resource over, and waits for it again. Returns who has it then.
 fn hand_over<N: Name, A: Ledger, V: Ledger, B: Ledger, R: Wait>(
     rt: &R,
@@ -128,5 +145,16 @@ pub fn deadlocks<N: Name, A: Ledger, V: Ledger, B: Ledger, R: Wait>(
 ) {
     for _ in 0..count {
         let _ = deadlock(rt, table, pass);
+    }
+}
+
+pub fn settles<N: Name, A: Ledger, V: Ledger, B: Ledger, R: Wait>(
+    rt: &R,
+    table: &SharedTable<N, A, V, B>,
+    pass: &mut Pass<N, A, V, B>,
+    count: u32,
+) {
+    for _ in 0..count {
+        let _ = settle(rt, table, pass);
     }
 }

@@ -4,10 +4,6 @@
 //! `bench_shared storm CLIENTS COUNT`: the storms of seeds 1 to COUNT with so many clients, one after another. It prints how many
 //! nanoseconds that took, and how many clients finished and how many were aborted.
 //!
-//! `bench_shared transmitters KIND CLIENTS COUNT`: so many clients make COUNT transactions each, one after another, those of the storms of
-//! seeds 1 to COUNT, beside transmitters that are `scanning` or `asking`. It prints how many nanoseconds that took, how many transactions
-//! finished and how many were aborted, how many acquires had to wait, and how many calls of clients and of transmitters took the lock.
-//!
 //! `bench_shared board WORK PROCESSES COUNT`: one thread does this work COUNT times on a table of so many processes. It prints how many
 //! nanoseconds that took.
 //!
@@ -16,27 +12,18 @@
 //! - `rounds`: what one thread does.
 //! - `threads`: threads that are at work at once.
 //! - `storms`: storms, one after another.
-//! - `long_storm`: a storm that goes on, beside transmitters of either kind. `kinds`: the two kinds. `asking`: those that ask for every
-//!   tenant. `countdown`: their gate. `counted`: a table that counts how often it is called.
 #![tactic(auto)]
 
 ghost use Rattle.std.specs.Prelude.{◌≡◌};
 
-mod asking;
 mod board;
 mod calls;
 mod clock;
-mod countdown;
-mod counted;
-mod kinds;
-mod long_storm;
 mod rounds;
 mod storms;
 mod threads;
 
 use board::{Work, timed_work};
-use kinds::Kind;
-use long_storm::run_long_storm;
 use mm_shared::{Config, Prepared};
 use std::marker::Brand;
 use std::{env, io};
@@ -77,17 +64,6 @@ fn main(rt: HostRuntime) -> io::Result<()> {
             return Ok(());
         };
         return println!(rt; "{} {} {}", done.nanoseconds, done.finished, done.aborted);
-    }
-    if first.as_str() == "transmitters" {
-        let Some(kind) = words.next().and_then(|name| Kind::named(name.as_str())) else {
-            return Ok(());
-        };
-        let clients = number(words.next()).clamp(1, MOST_THREADS);
-        let count = number(words.next());
-        let Some(done) = run_long_storm(&rt, rt.alloc(), kind, clients, count) else {
-            return Ok(());
-        };
-        return println!(rt; "{done}");
     }
     if first.as_str() == "board" {
         let Some(work) = words.next().and_then(|name| Work::named(name.as_str())) else {
