@@ -1,6 +1,7 @@
 //! Examples of callers of a table and of a board, with their proofs.
 //!
 //! - `counts`: what becomes of a table whose counts come to their limit.
+//! - `settled`: asks for a lock, and handles each of the three answers.
 //! - `rest`: settles a table, and cites the law of what it is then.
 //! - `wake`: aborts a transaction, and lists whom to wake.
 //! - `watch`: opens a board, stores labels, and returns what two readers see.
@@ -8,6 +9,7 @@
 
 mod counts;
 mod rest;
+mod settled;
 mod wake;
 mod watch;
 
@@ -16,5 +18,6 @@ pub use counts::{
     settle_passes_limit,
 };
 pub use rest::settle_to_rest;
+pub use settled::{Next, lock_or_roll_back};
 pub use wake::abort_and_wake;
 pub use watch::{Watched, watch_labels};

@@ -1,6 +1,6 @@
 //! The owner of each resource, and the resources of each process: a list in which each resource is linked to the one before it and to
 //! the next.
-ghost use Rattle.std.specs.Prelude.{◌≡◌, ◌<◌, length, IfOk, IfSome, IsNone, None};
+ghost use Rattle.std.specs.Prelude.{◌≡◌, ◌≤◌, ◌<◌, length, vec_capacity, IfOk, IfSome, IsNone, None};
 ghost use Rattle.std.specs.Option.{ForSome};
 ghost use Rattle.mm_links.specs.Links.{with_before, with_next};
 ghost use Rattle.mm_links.specs.Chain.{first_with_next};
@@ -101,6 +101,23 @@ impl Owned {
         ensures matched { ListsMatchOwners self.now }
     {
         self.resources[resource as usize].links.next.get()
+    }
+
+    /// Lists the resources of a process, those that came last first, in place of what `resources` held, which has room for each
+    /// resource: no memory is taken. `O(its resources)`.
+    pub fn list(&self, process: u32, resources: &mut Vec<u32>)
+        requires in_range { process < length self.now.lists }
+        requires room { length self.now.owners ≤ vec_capacity resources.old }
+        ensures listed { resources.new.items ≡ list_at self.now process }
+        ensures room { vec_capacity resources.new ≡ vec_capacity resources.old }
+        ensures matched { ListsMatchOwners self.now }
+    {
+        resources.clear();
+        let mut next = self.first(process);
+        'list: while let Some(resource) = next {
+            resources.push_reserved(resource);
+            next = self.next(resource);
+        }
     }
 
     /// Makes the key the owner of a resource that has none, and puts the resource first in the list of the key's process, in constant

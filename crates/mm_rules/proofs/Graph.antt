@@ -23,3 +23,5 @@ pub mod RaiseRun
 pub mod RaiseBound
 pub mod Settle
 pub mod SettleEnds
+-- which cycles a change closes
+pub mod Closes

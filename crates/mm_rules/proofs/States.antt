@@ -7,6 +7,8 @@ pub mod IsSized
 -- a lawful state has a lawful graph, and what an event has to keep
 pub mod Laws
 pub mod Outcome
+-- changes that close no cycle of waits
+pub mod ClosesNone
 -- a table that was just opened
 pub mod Opening
 -- begin and acquire
@@ -14,6 +16,7 @@ pub mod Begin
 pub mod Relabels
 pub mod Grant
 pub mod Acquire
+pub mod AcquireWaits
 -- transmit and detect
 pub mod Transmit
 pub mod Detect
@@ -41,6 +44,7 @@ pub mod Settle
 -- settle as a loop: sweep after sweep, and the whole
 pub mod SweepLoop
 pub mod SettleStep
+pub mod SettleKeeps
 -- what the counts become, and the live key of a process
 pub mod Totals
 pub mod Counts
@@ -55,3 +59,8 @@ pub mod LawsAreNotEmpty
 -- keys
 pub mod SpentKeys
 pub mod Keys
+-- who is convicted, and where no settle is needed
+pub mod EventsCloseNone
+pub mod NoVictim
+pub mod Victims
+pub mod Rest

@@ -1,5 +1,7 @@
 //! Facts about all tables. Each function does nothing; its contract is the fact, over the definitions of `specs/`.
 ghost use Rattle.mm_rules.specs.Laws.{CountsAreExact, EventsKeepLaws, KeysAreFresh, KeysNeverReturn, LawsAreNotEmpty, OpeningIsLawful, PublicLabelsNeverFall, QuietHasNoCycle, RaisesAreBounded, ReachedIsLawful, SettleEnds, SettleGivesRest, StepsAreDetermined, VerdictsAreSound};
+ghost use Rattle.mm_rules.specs.Rest.{OpeningIsAtRest, RestStays};
+ghost use Rattle.mm_rules.specs.Victims.{CloserIsVictim, NewestCloserIsVictim, OnlyWaitsCloseCycles, OthersHaveNoVictim, VictimIsNewest};
 
 /// The state of a table that was just opened keeps all laws, whatever its configuration, as long as that is in range.
 pub fn opening_is_lawful()
@@ -71,4 +73,41 @@ pub fn settle_ends()
 /// along its waits.
 pub fn settle_gives_rest()
     ensures { SettleGivesRest }
+{}
+
+/// Who begins to wait while the table is at rest is convicted by the settle that follows exactly where it closed a cycle of waits, and
+/// nobody else is.
+pub fn closer_is_victim()
+    ensures { CloserIsVictim }
+{}
+
+/// More exactly: it is so where one verdict stands on each cycle of waits, and the label under which the transaction waits is greater
+/// than each private one along the waits from its holder.
+pub fn newest_closer_is_victim()
+    ensures { NewestCloserIsVictim }
+{}
+
+/// And it is not so where that label is not: the settle then convicts another one of the cycle.
+pub fn victim_is_newest()
+    ensures { VictimIsNewest }
+{}
+
+/// Where one verdict stands on each cycle of waits, it is so after each event by which nobody begins to wait.
+pub fn only_waits_close_cycles()
+    ensures { OnlyWaitsCloseCycles }
+{}
+
+/// A settle after such an event gives no verdict.
+pub fn others_have_no_victim()
+    ensures { OthersHaveNoVictim }
+{}
+
+/// A table that was just opened is at rest.
+pub fn opening_is_at_rest()
+    ensures { OpeningIsAtRest }
+{}
+
+/// A table stays at rest by each event after which whoever is waited for shows the label that it showed before.
+pub fn rest_stays()
+    ensures { RestStays }
 {}

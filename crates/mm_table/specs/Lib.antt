@@ -5,6 +5,8 @@ pub use Rattle.mm_rules.specs.TableState
 pub use Rattle.mm_rules.specs.Change
 pub use Rattle.mm_rules.specs.Event
 pub use Rattle.mm_rules.specs.Laws
+pub use Rattle.mm_rules.specs.Victims
+pub use Rattle.mm_rules.specs.Rest
 pub use Rattle.mm_settle.specs.Touched
 pub use Rattle.mm_settle.specs.Shown
 pub use Rattle.mm_rules.specs.declared.config

@@ -1,6 +1,7 @@
-ghost use Rattle.std.specs.Prelude.{◌≡◌, ◌≢◌, ◌≤◌, ◌<◌, ◌||◌, ℕ, false, length, replicate, IfOk, IfErr, IfSome, IfNone, None, vec_capacity};
+ghost use Rattle.std.specs.Prelude.{◌≡◌, ◌≢◌, ◌≤◌, ◌<◌, ◌↔◌, ◌||◌, ℕ, Some, false, length, replicate, IfOk, IfErr, IfSome, IfNone, None, vec_capacity};
+ghost use Rattle.mm_lists.specs.Members.{Among, NoRepeat};
 ghost use Rattle.mm_marks.specs.Marks.{has, members};
-ghost use Rattle.mm_rules.specs.TableState.{public_of, holder_of, wait_of};
+ghost use Rattle.mm_rules.specs.TableState.{owner_of, public_of, holder_of, wait_of};
 ghost use Rattle.mm_rules.specs.Event.{Opens, Step, Begin, Acquire, Release, Finish, Transmit, Detect, Abort, GiveUp, Settle, state_of, owner_told, tenant_of};
 ghost use Rattle.mm_rules.specs.Laws.{Laws, HasSoundVerdicts};
 ghost use Rattle.mm_settle.specs.Touched.{changed_processes};
@@ -266,6 +267,19 @@ impl Table {
         ensures { result ≡ owner_told self.now resource }
     {
         self.records.owner(resource)
+    }
+
+    /// Lists the resources that the key owns, in place of what `resources` held, each once, in no order that is promised; none where
+    /// the key is not live. `resources` has room for each resource, and no memory is taken.
+    ///
+    /// Changes nothing and is not counted. `O(its resources)`.
+    pub fn owned_by(&self, key: Key, resources: &mut Vec<u32>)
+        requires { self.now.config.resources ≤ vec_capacity resources.old }
+        ensures listed { (r : ℕ) → Among r resources.new.items ↔ (owner_of self.now r ≡ Some key) }
+        ensures once { NoRepeat resources.new.items }
+        ensures room { vec_capacity resources.new ≡ vec_capacity resources.old }
+    {
+        self.records.owned_by(key, resources);
     }
 
     /// The live key of the process; `None` where it has none, or is not one of the table's.

@@ -1,12 +1,15 @@
 -- A walk through a list, by `first` and `next`.
 use Rattle.std.specs.Prelude.{◌==◌, if◌then◌else◌}
-use Rattle.std.proofs.Common.{◌≡◌, ◌≢◌, ℕ, List, [], ◌∷◌, ◌++◌, Option, Some, None, refl, sym, ap, subst, ◌∙◌, inl, inr}
-use Rattle.std.proofs.lemmas.Bool.{eq-eqb, ne_eqb}
+use Rattle.std.proofs.Common.{◌≡◌, ◌≢◌, ◌<◌, ◌≤◌, ℕ, List, [], ◌∷◌, ◌++◌, length, Option, Some, None, option_map, refl, sym, ap, subst, ◌∙◌, inl, inr, arith}
+use Rattle.std.proofs.lemmas.Bool.{eq-eqb, ne_eqb, cases_eq, cases_lt}
+use Rattle.std.proofs.lemmas.List.{get_or_past}
+use Rattle.mm_arena.specs.declared.key.Key.{Key}
 use Rattle.mm_lists.specs.Members.{Among, NoRepeat}
 use Rattle.mm_lists.proofs.Lemmas.Among.{among_right}
+use Rattle.mm_lists.proofs.Lemmas.NoRepeat.{length-NoRepeat}
 use Rattle.mm_lists.proofs.Lemmas.Cut.{cut_at, AreApart, AreApart-cut}
 use Rattle.mm_links.proofs.Lemmas.Ends.{Among-head_or}
-use Rattle.mm_owned.specs.Owned.{Ownership, list_at, head, IsNext}
+use Rattle.mm_owned.specs.Owned.{Ownership, ListsMatchOwners, process_at, list_at, head, IsNext}
 use Rattle.mm_owned.proofs.Lemmas.Linked.{head_or-None}
 
 -- the part of a list from this one on
@@ -63,3 +66,29 @@ module _ (s : Ownership) (n r : ℕ) (next : Option ℕ) (among : Among r (list_
       ap (λ rs. rest_from rs next) cut.whole ∙ ap (rest_from (cut.earlier ++ r ∷ cut.later)) (is_next n cut.earlier cut.later cut.whole)
       ∙ rest_from-after cut.earlier r cut.later apart in
       here ∙ ap (λ rs. r ∷ rs) (sym after)
+
+-- who is in a list is one of the numbers
+pub among_in_range : (s : Ownership) (n r : ℕ) → ListsMatchOwners s → Among r (list_at s n) → r < length s.owners
+among_in_range s n r matched among = elim (cases_lt r (length s.owners)) [
+  | inl within ↦ within
+  | inr past ↦
+      let is : process_at s r ≡ Some n = (matched.listed n r).0 among in
+      let none : process_at s r ≡ None = ap (option_map (λ (k : Key). k.process)) (get_or_past s.owners r None past) in
+      let never : None ≡ Some n = sym none ∙ is in cc
+]
+
+-- no list is longer than the number of resources
+pub length-list : (s : Ownership) (n : ℕ) → ListsMatchOwners s → length (list_at s n) ≤ length s.owners
+length-list s n matched = length-NoRepeat (list_at s n) (length s.owners) (matched.once n) (λ r among. among_in_range s n r matched among)
+
+rest_from-among : (rs : List ℕ) (q : ℕ) → Among q rs → 0 < length (rest_from rs (Some q))
+rest_from-among [] q among = absurd among
+rest_from-among (r ∷ rs) q (inl same) = rw (eq-eqb r q (sym same)) (omega arith)
+rest_from-among (r ∷ rs) q (inr later) = elim (cases_eq r q) [
+  | inl same ↦ rw (eq-eqb r q same) (omega arith)
+  | inr apart ↦ rw (ne_eqb r q apart) (rest_from-among rs q later)
+]
+
+-- from one of its own on, a list has something
+pub rest_from-some : (rs : List ℕ) (next : Option ℕ) (q : ℕ) → next ≡ Some q → Among q rs → 0 < length (rest_from rs next)
+rest_from-some rs next q is among = rw is (rest_from-among rs q among)

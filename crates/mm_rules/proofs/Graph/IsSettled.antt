@@ -29,12 +29,12 @@ falls_between g settled n [] m k path found = absurd found
 falls_between g settled n (j ∷ places) m k path (inl e) = omega (arith, settled n j path.1, falls_to g settled j places m path.2, ap g.public e)
 falls_between g settled n (j ∷ places) m k path (inr found) = omega (arith, settled n j path.1, falls_between g settled j places m k path.2 found)
 
-start_waits : (g : Graph) (s : ℕ) (places : List ℕ) → Cycle g s places → IsWaiting g s
+pub start_waits : (g : Graph) (s : ℕ) (places : List ℕ) → Cycle g s places → IsWaiting g s
 start_waits g s [] cycle = absurd (omega (arith, cycle.moves))
 start_waits g s (j ∷ places) cycle = (j, cycle.closed.1)
 
 -- each place of a path to a waiting process waits
-all_wait : (g : Graph) (n : ℕ) (places : List ℕ) (m k : ℕ) → Path g n places m → IsWaiting g m → Among k places → IsWaiting g k
+pub all_wait : (g : Graph) (n : ℕ) (places : List ℕ) (m k : ℕ) → Path g n places m → IsWaiting g m → Among k places → IsWaiting g k
 all_wait g n [] m k path last found = absurd found
 all_wait g n (j ∷ places) m k path last (inl e) = rw e (begins_waiting g (λ _. ⊤) j places m path.2 last)
 all_wait g n (j ∷ places) m k path last (inr found) = all_wait g j places m k path.2 last found

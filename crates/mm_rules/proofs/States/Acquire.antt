@@ -30,7 +30,7 @@ or_none None = refl
 or_none (Some x) = refl
 
 -- k waits for r too, last of all
-abbrev queued : TableState → Key → ℕ → TableState
+abbrev pub queued : TableState → Key → ℕ → TableState
 queued s k r = record s { waits = s.waits ++ record { key = k; resource = r } ∷ [] }
 
 module _ (s : TableState) (k : Key) (r : ℕ) where
@@ -58,6 +58,9 @@ module _ (s : TableState) (k : Key) (r : ℕ) where
     labels : GetsLabel (queued s k r) (block (queued s k r) k.process h.process) k.process (label_against s k.process h.process)
     labels = blocked_labels (queued s k r) k.process h.process private_in public_in fits
 
+    pub own_label : public_of (block (queued s k r) k.process h.process) k.process ≡ label_against s k.process h.process
+    own_label = labels.public
+
     above : word_of (public_of s k.process) < word_of (label_against s k.process h.process)
     above = fresh_above (public_of s k.process) (public_of s h.process) k.process (public_within s laws k.process within)
 
@@ -73,7 +76,7 @@ module _ (s : TableState) (k : Key) (r : ℕ) where
           public = ap word_of same.public;
         }
 
-    queued_blocks : Blocks (graph_of s) k.process h.process (word_of (label_against s k.process h.process)) (graph_of (block (queued s k r) k.process h.process))
+    pub queued_blocks : Blocks (graph_of s) k.process h.process (word_of (label_against s k.process h.process)) (graph_of (block (queued s k r) k.process h.process))
     queued_blocks = record {
       was_active = no_holder s k.process active;
       within = (within, live_within s h laws.lawful.well_formed.sizes (laws.lawful.well_formed.owners r h owned));

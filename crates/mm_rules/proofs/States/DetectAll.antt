@@ -65,7 +65,7 @@ detect_keeps_verdict s n v verdict = elim (cases_Bool (can_detect s n)) [
   | inr no_detect ↦ rw (detect_still s n no_detect) verdict
 ]
 
-detects_keep_verdict : (s : TableState) (ks : List ℕ) (v : ℕ) → IsTrue (has_verdict s v) → IsTrue (has_verdict (fold detect s ks) v)
+pub detects_keep_verdict : (s : TableState) (ks : List ℕ) (v : ℕ) → IsTrue (has_verdict s v) → IsTrue (has_verdict (fold detect s ks) v)
 detects_keep_verdict s [] v verdict = verdict
 detects_keep_verdict s (k ∷ ks) v verdict = detects_keep_verdict (detect s k) ks v (detect_keeps_verdict s k v verdict)
 

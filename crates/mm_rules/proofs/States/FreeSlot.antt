@@ -14,6 +14,7 @@ use Rattle.mm_rules.proofs.States.IsSized.{same_lengths}
 use Rattle.mm_rules.proofs.States.LabelOrder.{label_le_same}
 use Rattle.mm_rules.proofs.States.Lookups.{waits_of_others}
 use Rattle.mm_rules.proofs.States.Outcome.{KeepsLaws}
+use Rattle.mm_rules.proofs.States.ClosesNone.{ClosesNone, same_holders_close_none}
 
 -- the process n is live no more, and generations and free processes are these
 abbrev pub freed : TableState → ℕ → List ℕ → List ℕ → TableState
@@ -99,3 +100,9 @@ module _ (s : TableState) (n : ℕ) (vacant : IsVacant s n) where
     | inl again ↦ rw again free_again_keeps
     | inr retired ↦ rw retired retired_keeps
   ]
+
+pub free_slot_closes_none : (s : TableState) (n : ℕ) → ClosesNone s (free_slot s n)
+free_slot_closes_none s n = elim (cases_Bool (nat_lt (slice_index s.generations n) s.config.generation_limit)) [
+  | inl again ↦ rw again (same_holders_close_none s (freed s n (slice_set s.generations n (slice_index s.generations n + 1)) (n ∷ s.free)) (λ m. refl) (λ v was. was))
+  | inr retired ↦ rw retired (same_holders_close_none s (freed s n s.generations s.free) (λ m. refl) (λ v was. was))
+]

@@ -7,18 +7,21 @@ use Rattle.mm_arena.specs.declared.key.Key.{Key}
 use Rattle.mm_lists.specs.Members.{Among}
 use Rattle.mm_lists.proofs.Lemmas.Among.{among_map_gives, list_all_at, list_all_from}
 use Rattle.mm_lists.proofs.Lemmas.Filter.{filter_filter, filter_gives}
+use Rattle.mm_rules.specs.Graph.{Graph}
 use Rattle.mm_rules.specs.TableState.{TableState, Wait, is_of, owner_of, wait_of, waiters_of, public_of}
 use Rattle.mm_rules.specs.Change.{activate, block_fits, give_to, give_to_fits, hand_over, hand_over_fits}
 use Rattle.mm_rules.proofs.States.Lookups.{WaitsHere, waits_here, waiter_waits, waiter_within}
 use Rattle.mm_rules.proofs.States.Outcome.{KeepsLaws}
-use Rattle.mm_rules.proofs.States.Grant.{owned_by, owner_now, owner_else, unwaited_keeps}
+use Rattle.mm_rules.proofs.States.ClosesNone.{ClosesNone, same_holders_close_none}
+use Rattle.mm_rules.proofs.States.Grant.{owned_by, owner_now, owner_else, unwaited_graph, unwaited_keeps}
 use Rattle.mm_rules.proofs.States.Activate.{waits_no_longer, waits_else}
 use Rattle.mm_rules.proofs.States.Block.{process_of, blocked_all, blocked_is, LabelsAfter, labels_after}
-use Rattle.mm_rules.proofs.States.HandOverLaws.{MayHandOver, given_to_first, owner_within, waiter_gives, waiter_is, waiter_here, waiters_once, given_to_first_keeps}
+use Rattle.mm_rules.proofs.States.HandOverLaws.{MayHandOver, given_to_first, owner_within, waiter_gives, waiter_is, waiter_here, waiters_once, given_to_first_keeps, given_closes_none}
 
 -- r's owner o handed it over, from s to new
 pub record HandedOver (s : TableState) (r o : ℕ) (new : TableState) : Type 0 where
   pub keeps : KeepsLaws s new
+  pub closes : ClosesNone s new
   pub config : new.config ≡ s.config
   pub generations : new.generations ≡ s.generations
   pub live : new.live ≡ s.live
@@ -37,6 +40,8 @@ module _ (s : TableState) (r : ℕ) (owner : Key) (may : MayHandOver s r owner) 
       record {
         keeps = unwaited_keeps s r None (λ n waits. let here : WaitsHere s n r = waits_here s n r waits in none here.wait here.among here.resource) none
             (λ k e. absurd (cc)) may.laws;
+        closes = same_holders_close_none s (owned_by s r None) (λ n. ap (λ (g : Graph). g.holder n) (unwaited_graph s r None (λ m waits. let here : WaitsHere s m r = waits_here s m r waits in none here.wait here.among here.resource)))
+            (λ v was. was);
         config = refl;
         generations = refl;
         live = refl;
@@ -73,6 +78,7 @@ module _ (s : TableState) (r : ℕ) (owner : Key) (may : MayHandOver s r owner) 
     to_first : (privates publics : List Label) → LabelsAfter s first.key.process others (given_to_first s r first privates publics) → HandedOver s r owner.process (given_to_first s r first privates publics)
     to_first privates publics labels = record {
       keeps = given_to_first_keeps s r owner may first others are privates publics fits labels;
+      closes = given_closes_none s r owner may first others are privates publics fits labels;
       config = refl;
       generations = refl;
       live = refl;

@@ -97,6 +97,7 @@ module _ (old s : TableState) (n r : ℕ) (way : IsUnderWay old s n) (among : Am
   with_r_first : Vacating old s n (r ∷ left)
   with_r_first = record {
     keeps = way.now.keeps;
+    closes = way.now.closes;
     live = way.now.live;
     generations = way.now.generations;
     active = way.now.active;

@@ -16,7 +16,9 @@ use Rattle.mm_rules.specs.Laws.{IsHeld, WellFormed, Laws}
 use Rattle.mm_rules.proofs.States.IsSized.{same_lengths}
 use Rattle.mm_rules.proofs.Graph.Change.{SameAt}
 use Rattle.mm_rules.proofs.Graph.HandOver.{HandsOver, KeepsAll, hand_over_keeps_all}
-use Rattle.mm_rules.proofs.States.LabelOrder.{word_process, word_process_is, fresh_above}
+use Rattle.mm_rules.proofs.Graph.Closes.{hand_over_waits, hand_over_keeps_inner}
+use Rattle.mm_rules.proofs.States.LabelOrder.{word_process, word_process_is, fresh_above, at_most_to}
+use Rattle.mm_rules.proofs.States.ClosesNone.{ClosesNone, closes_none_by}
 use Rattle.mm_rules.proofs.States.Lookups.{WaitsHere, waits_here, waiter_waits, waiter_within, waiter_live, no_holder, holder_is, waiting_is_some}
 use Rattle.mm_rules.proofs.States.Laws.{graph_lawful, graph_makers, laws_by, public_within}
 use Rattle.mm_rules.proofs.States.Outcome.{KeepsLaws}
@@ -201,3 +203,20 @@ module _ (s : TableState) (r : ℕ) (owner : Key) (may : MayHandOver s r owner) 
             kept.lawful may.laws.lawful.counted returned;
         rise = relabelled_rise s (given_to_first s r first privates publics) may.laws relabels;
       }
+
+      pub given_closes_none : ClosesNone s (given_to_first s r first privates publics)
+      given_closes_none =
+          let g = graph_of s in
+          let new = graph_of (given_to_first s r first privates publics) in
+          let rest = map process_of others in
+          let label : ℕ → ℕ = λ k. word_of (label_against s k first.key.process) in
+          closes_none_by s (given_to_first s r first privates publics)
+          (hand_over_keeps_inner word_process g owner.process first.key.process rest label new hands_over)
+          (λ v h waits was. was)
+          (λ n h waits same. elim (hand_over_waits word_process g owner.process first.key.process rest label new hands_over n h waits) [
+            | inl to_first ↦
+                let holder : public_of (given_to_first s r first privates publics) h ≡ public_of s first.key.process
+                = ap (public_of (given_to_first s r first privates publics)) to_first.1 ∙ (labels.others first.key.process not_an_other).public in
+                inr (rw (holder, (labels.waiters n to_first.0).1) (at_most_to (public_of s first.key.process) (label_against s n first.key.process) (inl (omega arith))))
+            | inr before ↦ inl before
+          ])

@@ -72,6 +72,13 @@ label_le_then a b c first second =
     let high : AtMost b c = at_most_from b c second in
     at_most_to a c (grind arith)
 
+-- two labels, each at most the other, are one
+pub label_le_both : (a b : Label) → IsTrue (label_le a b) → IsTrue (label_le b a) → a ≡ b
+label_le_both a b low high =
+    let first : AtMost a b = at_most_from a b low in
+    let second : AtMost b a = at_most_from b a high in
+    same_label a b (omega arith) (omega arith)
+
 pub label_le_lt : (a b : Label) → label_lt a b ≡ true → IsTrue (label_le a b)
 label_le_lt a b below = let up : Below a b = below_from a b below in at_most_to a b (grind arith)
 

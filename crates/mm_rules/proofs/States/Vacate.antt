@@ -13,14 +13,16 @@ use Rattle.mm_rules.specs.Event.{finished, finish_tests}
 use Rattle.mm_rules.specs.Laws.{Laws}
 use Rattle.mm_rules.proofs.States.Outcome.{KeepsLaws, keeps_same, keeps_then, outcome_keeps_laws}
 use Rattle.mm_rules.proofs.States.Lookups.{none_of_is_some}
+use Rattle.mm_rules.proofs.States.ClosesNone.{ClosesNone, closes_none_then, same_holders_close_none}
 use Rattle.mm_rules.proofs.States.HandOverLaws.{MayHandOver, owner_within}
 use Rattle.mm_rules.proofs.States.HandOver.{HandedOver, hand_over_keeps, others_fit}
 use Rattle.mm_rules.proofs.States.Release.{owns_gives, may_hand_over}
-use Rattle.mm_rules.proofs.States.FreeSlot.{IsVacant, free_slot_keeps}
+use Rattle.mm_rules.proofs.States.FreeSlot.{free_slot_keeps, free_slot_closes_none}
 
 -- n, which waits for nothing, owns these resources and no other, and may hand each of them over
 pub record Vacating (old s : TableState) (n : ℕ) (rs : List ℕ) : Type 0 where
   pub keeps : KeepsLaws old s
+  pub closes : ClosesNone old s
   pub live : s.live ≡ old.live
   pub generations : s.generations ≡ old.generations
   pub active : wait_of s n ≡ None
@@ -35,6 +37,7 @@ module _ (old s : TableState) (n r : ℕ) (rs : List ℕ) (once : NoRepeat (r �
   vacating_after_hand_over : (o : ℕ) → o ≡ n → HandedOver s r o (hand_over s r) → Vacating old (hand_over s r) n rs
   vacating_after_hand_over o e over = record {
     keeps = keeps_then old s (hand_over s r) now.keeps over.keeps;
+    closes = closes_none_then old s (hand_over s r) now.closes over.closes now.keeps over.keeps;
     live = over.live ∙ now.live;
     generations = over.generations ∙ now.generations;
     active = rw e at (over.still (rw e now.active));
@@ -59,6 +62,7 @@ vacating_all old s n (r ∷ rs) once now = vacating_all old (hand_over s r) n rs
 pub vacating_begins : (s : TableState) (n : ℕ) → Laws s → wait_of s n ≡ None → IsTrue (vacate_fits s n) → Vacating s s n (resources_of s n)
 vacating_begins s n laws active fits = record {
   keeps = keeps_same s laws;
+  closes = same_holders_close_none s s (λ n. refl) (λ v was. was);
   live = refl;
   generations = refl;
   active = active;
@@ -76,16 +80,24 @@ pub vacating_ends : (s : TableState) (n : ℕ) → Laws s → wait_of s n ≡ No
 vacating_ends s n laws active fits = vacating_all s s n (resources_of s n) (no_repeat_filter_range (owns s n) 0 s.config.resources) (vacating_begins s n laws active fits)
 
 module _ (s : TableState) (n : ℕ) (laws : Laws s) (live : slice_index_or s.live n false ≡ true) (active : wait_of s n ≡ None) (fits : IsTrue (vacate_fits s n)) where
+  all_handed : Vacating s (fold hand_over s (resources_of s n)) n []
+  all_handed = vacating_ends s n laws active fits
+
+  slot_keeps : KeepsLaws (fold hand_over s (resources_of s n)) (vacate s n)
+  slot_keeps = free_slot_keeps (fold hand_over s (resources_of s n)) n record {
+    laws = all_handed.keeps.laws;
+    live = rw all_handed.live live;
+    active = all_handed.active;
+    owns_none = λ r k owned mine. all_handed.only r k owned mine;
+  }
+
   pub vacate_keeps : KeepsLaws s (vacate s n)
-  vacate_keeps =
-      let done : Vacating s (fold hand_over s (resources_of s n)) n [] = vacating_ends s n laws active fits in
-      let vacant : IsVacant (fold hand_over s (resources_of s n)) n = record {
-        laws = done.keeps.laws;
-        live = rw done.live live;
-        active = done.active;
-        owns_none = λ r k owned mine. done.only r k owned mine;
-      } in
-      keeps_then s (fold hand_over s (resources_of s n)) (vacate s n) done.keeps (free_slot_keeps (fold hand_over s (resources_of s n)) n vacant)
+  vacate_keeps = keeps_then s (fold hand_over s (resources_of s n)) (vacate s n) all_handed.keeps slot_keeps
+
+  pub vacate_closes_none : ClosesNone s (vacate s n)
+  vacate_closes_none =
+      let t = fold hand_over s (resources_of s n) in
+      closes_none_then s t (vacate s n) all_handed.closes (free_slot_closes_none t n) all_handed.keeps slot_keeps
 
 pub live_process : (s : TableState) (k : Key) → IsTrue (is_live s k) → slice_index_or s.live k.process false ≡ true
 live_process s k live = (and_parts (slice_index_or s.live k.process false) (nat_eq (slice_index s.generations k.process) k.generation) live).0

@@ -1,6 +1,8 @@
 //! Reads, which change nothing: those that a caller makes, and those that events are made of.
-ghost use Rattle.std.specs.Prelude.{◌≡◌, ◌<◌, IsTrue, IfSome, IfNone, None, option_map};
-ghost use Rattle.mm_rules.specs.TableState.{wait_of, holder_of, is_live, has_verdict, public_of, is_waiting, owns};
+ghost use Rattle.std.specs.Prelude.{◌≡◌, ◌≤◌, ◌<◌, ◌↔◌, ℕ, IsTrue, IfSome, IfNone, None, Some, option_map, vec_capacity};
+ghost use Rattle.mm_lists.specs.Members.{Among, NoRepeat};
+ghost use Rattle.mm_rules.specs.TableState.{wait_of, holder_of, is_live, has_verdict, public_of, is_waiting, owner_of, owns};
+ghost use Rattle.mm_rules.specs.Laws.{Laws};
 ghost use Rattle.mm_rules.specs.Event.{state_of, owner_told, tenant_of};
 
 use super::Records;
@@ -45,6 +47,21 @@ impl Records {
         ensures idle { IfNone result (wait_of self.now process ≡ None) }
     {
         self.transactions.tenant(process)
+    }
+
+    /// Lists what the key owns, in place of what `resources` held: nothing where the key is not live. `O(its resources)`.
+    pub fn owned_by(&self, key: Key, resources: &mut Vec<u32>)
+        requires laws { Laws self.now }
+        requires room { self.now.config.resources ≤ vec_capacity resources.old }
+        ensures listed { (r : ℕ) → Among r resources.new.items ↔ (owner_of self.now r ≡ Some key) }
+        ensures once { NoRepeat resources.new.items }
+        ensures room { vec_capacity resources.new ≡ vec_capacity resources.old }
+    {
+        if !self.is_live(key) {
+            resources.clear();
+            return;
+        }
+        self.owned.list(key.process, resources);
     }
 
     /// The numbers that the table was opened with. Constant time.

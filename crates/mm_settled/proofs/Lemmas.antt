@@ -1,0 +1,16 @@
+-- hand-overs: who owns what afterwards, whose wait ended, and that verdicts stay
+pub mod HandsOn
+pub mod Accepted
+pub mod Ends
+-- what a call tells: grants, and the changed
+pub mod Grants
+pub mod Numbers
+pub mod Released
+pub mod Changed
+pub mod Loops
+pub mod Fits
+-- that the table is at rest again
+pub mod Quiet
+pub mod Refused
+pub mod Rest
+pub mod Lock

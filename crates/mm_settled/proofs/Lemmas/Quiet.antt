@@ -1,0 +1,144 @@
+-- Events that need no settle: a begin, a request that is granted, a wait that is given up, and a refused event. Nobody is granted anything.
+use Rattle.std.proofs.Common.{◌≡◌, ◌≢◌, ◌⊎◌, ◌<◌, ◌+◌, ℕ, [], ◌∷◌, length, drop, Option, Some, None, is_some, Result, Ok, true, false, slice_set, slice_index, inl, inr, refl, sym, ap, subst, ◌∙◌, arith, length-set, get_or-set_same, get_or-set_other}
+use Rattle.std.proofs.lemmas.Bool.{cases_eq, cases_lt, not-false}
+use Rattle.std.proofs.lemmas.List.{get_or_past}
+use Rattle.mm_arena.specs.declared.key.Key.{Key}
+use Rattle.mm_rules.specs.declared.refusal.Refusal.{Refusal}
+use Rattle.mm_rules.specs.declared.reply.Acquired.{Acquired}
+use Rattle.mm_rules.specs.declared.reply.Acquired.TheVariants.{Granted}
+use Rattle.mm_rules.specs.TableState.{TableState, key_of, is_live, is_waiting, owner_of, wait_of, public_of, has_verdict, graph_of}
+use Rattle.mm_rules.specs.Change.{activate}
+use Rattle.mm_rules.specs.Event.{Event, Begin, Acquire, GiveUp, Answer, Step, begin_tests, acquire_tests, acquire_answer, acquire_change, give_up_tests}
+use Rattle.mm_rules.specs.Laws.{Laws, AtRest}
+use Rattle.mm_rules.specs.Victims.{IsOnCycle}
+use Rattle.mm_rules.proofs.Graph.IsSettled.{start_waits}
+use Rattle.mm_rules.proofs.Graph.Walks.{active_waits_not}
+use Rattle.mm_rules.proofs.States.Activate.{waits_no_longer}
+use Rattle.mm_rules.proofs.States.Lookups.{none_of_is_some, no_holder, live_within, waits_here, held}
+use Rattle.mm_rules.proofs.States.Outcome.{counting}
+use Rattle.mm_rules.proofs.States.Rest.{rest_stays}
+use Rattle.mm_settle.specs.Touched.{IsUnchanged, changed_processes}
+use Rattle.mm_settle.proofs.Lemmas.Touched.{unchanged, activate_else, owner_else}
+use Rattle.mm_settled.specs.Grants.{grants}
+use Rattle.mm_settled.proofs.Lemmas.Accepted.{IsAccepted, accepted, either}
+use Rattle.mm_settled.proofs.Lemmas.Changed.{changed_nobody, changed_one}
+use Rattle.mm_settled.proofs.Lemmas.Grants.{same_owners_grant_none, owner_or_idle_grants_none}
+
+-- from s to t nobody is granted anything, and no verdict and no public label changes
+pub record IsQuiet (s t : TableState) : Type 0 where
+  pub granted : grants s t ≡ []
+  pub public : (n : ℕ) → public_of t n ≡ public_of s n
+  pub verdicts : (n : ℕ) → has_verdict t n ≡ has_verdict s n
+
+pub quiet_rests : (e : Event) (s t : TableState) (reply : Result (Answer e) Refusal) → Step e s reply t → Laws s → AtRest s → IsQuiet s t → AtRest t
+quiet_rests e s t reply step laws rest quiet = rest_stays e s t reply step laws rest (λ n h waits. quiet.public h)
+
+-- the count is no part of what is unchanged
+unchanged_counting : (s t : TableState) (n m : ℕ) → IsUnchanged s t n → IsUnchanged s (counting t m) n
+unchanged_counting s t n m same = record { private = same.private; public = same.public; wait = same.wait; holder = same.holder; verdict = same.verdict }
+
+pub same_is_quiet : (s t : TableState) → Laws s → t ≡ s → IsQuiet s t
+same_is_quiet s t laws is = record {
+  granted = same_owners_grant_none s t laws (ap (λ (u : TableState). u.owners) is);
+  public = λ n. ap (λ u. public_of u n) is;
+  verdicts = λ n. ap (λ u. has_verdict u n) is;
+}
+
+pub same_changes_nobody : (s t : TableState) → t ≡ s → changed_processes s t ≡ []
+same_changes_nobody s t is = ap (changed_processes s) is ∙ changed_nobody s s (unchanged s)
+
+nobody_changed : (s t : TableState) → Laws s → t.owners ≡ s.owners → ((n : ℕ) → IsUnchanged s t n) → IsQuiet s t × (changed_processes s t ≡ [])
+nobody_changed s t laws owners same = (
+  record { granted = same_owners_grant_none s t laws owners; public = λ n. (same n).public; verdicts = λ n. (same n).verdict },
+  changed_nobody s t same,
+)
+
+-- ---- begin
+
+pub begin_quiet : (s t : TableState) (reply : Result Key Refusal) → Laws s → Step Begin s reply t → IsQuiet s t × (changed_processes s t ≡ [])
+begin_quiet s t reply laws step =
+    let n = slice_index s.free 0 in
+    let begun = record s { free = drop 1 s.free; live = slice_set s.live n true } in
+    elim (either (begin_tests s) s (key_of s n) begun reply t step) [
+      | inl same ↦ (same_is_quiet s t laws same, same_changes_nobody s t same)
+      | inr is ↦ nobody_changed s t laws (ap (λ (u : TableState). u.owners) is) (λ m. subst (λ u. IsUnchanged s u m) (sym is) record { private = refl; public = refl; wait = refl; holder = refl; verdict = refl })
+    ]
+
+-- ---- a wait that is given up
+
+pub record GivesUp (s : TableState) (k : Key) (t : TableState) : Type 0 where
+  pub quiet : IsQuiet s t
+  pub changed : changed_processes s t ≡ k.process ∷ []
+
+pub give_up_quiet : (s t : TableState) (k : Key) → Laws s → Step (GiveUp k) s (Ok tt) t → GivesUp s k t
+give_up_quiet s t k laws step =
+    let n = k.process in
+    let done : IsAccepted (Unit {0}) (give_up_tests s k) tt (activate s n) tt t = accepted (give_up_tests s k) s tt (activate s n) tt t step in
+    let waits : is_waiting s n ≡ true = not-false (is_waiting s n) done.passed.1.1.0 in
+    let within : n < s.config.processes = live_within s k laws.lawful.well_formed.sizes (not-false (is_live s k) done.passed.1.0) in
+    let is = done.state in
+    record {
+      quiet = record {
+        granted = same_owners_grant_none s t laws (ap (λ (u : TableState). u.owners) is);
+        public = λ m. ap (λ u. public_of u m) is;
+        verdicts = λ m. ap (λ u. has_verdict u m) is;
+      };
+      changed = changed_one s t n within
+          (λ m apart. subst (λ u. IsUnchanged s u m) (sym is) (unchanged_counting s (activate s n) m ((activate s n).totals.accepted + 1) (activate_else s n m apart)))
+          (λ same. let never : true ≡ false = sym waits ∙ ap is_some (sym same.wait ∙ ap (λ u. wait_of u n) is ∙ waits_no_longer s n) in cc);
+    }
+
+-- ---- a request that is granted
+
+pub record GrantsNow (s : TableState) (k : Key) (t : TableState) : Type 0 where
+  pub quiet : IsQuiet s t
+  pub changed : changed_processes s t ≡ []
+  pub idle : wait_of t k.process ≡ None
+
+granted_by : (s t : TableState) (k : Key) (r : ℕ) (o : Option Key) → Laws s → owner_of s r ≡ o → wait_of s k.process ≡ None → acquire_answer s k o ≡ Granted
+    → (m : ℕ) → t ≡ counting (acquire_change s k r o) m → GrantsNow s k t
+granted_by s t k r (Some h) laws owned idle answer m is = absurd (cc)
+granted_by s t k r None laws owned idle answer m is =
+    let given = acquire_change s k r None in
+    let nobody_waits : (n : ℕ) → wait_of s n ≢ Some r = λ n waits.
+    let here = waits_here s n r waits in
+    let its = held s laws.lawful.well_formed here.wait here.among in
+    let never : None ≡ Some its.0 = sym owned ∙ ap (owner_of s) (sym here.resource) ∙ its.1 in
+    absurd (cc) in
+    let same : (n : ℕ) → IsUnchanged s t n = λ n. subst (λ u. IsUnchanged s u n) (sym is) (unchanged_counting s given n m (owner_else s r n (Some k) (nobody_waits n))) in
+    record {
+      quiet = record {
+        granted = owner_or_idle_grants_none s t laws (λ q j owned_now. by q j (sym (ap (λ u. owner_of u q) is) ∙ owned_now));
+        public = λ n. (same n).public;
+        verdicts = λ n. (same n).verdict;
+      };
+      changed = changed_nobody s t same;
+      idle = ap (λ u. wait_of u k.process) is ∙ idle;
+    }
+  where
+    by : (q : ℕ) (j : Key) → owner_of (acquire_change s k r None) q ≡ Some j → (owner_of s q ≡ Some j) ⊎ (wait_of s j.process ≡ None)
+    by q j now = elim (cases_eq q r) [
+      | inr apart ↦ inl (sym (get_or-set_other s.owners r q (Some k) None apart) ∙ now)
+      | inl e ↦ elim (cases_lt r (length s.owners)) [
+        | inl within ↦
+            let some : Some k ≡ Some j = sym (get_or-set_same s.owners r (Some k) None within) ∙ ap (owner_of (acquire_change s k r None)) (sym e) ∙ now in
+            let key : k ≡ j = cc in
+            inr (ap (λ (h : Key). wait_of s h.process) (sym key) ∙ idle)
+        | inr past ↦
+            let none : owner_of (acquire_change s k r None) r ≡ None
+            = get_or_past (slice_set s.owners r (Some k)) r None (omega (arith, past, length-set s.owners r (Some k))) in
+            let never : None ≡ Some j = sym none ∙ ap (owner_of (acquire_change s k r None)) (sym e) ∙ now in
+            absurd (cc)
+      ]
+    ]
+
+pub granted_quiet : (s t : TableState) (k : Key) (r : ℕ) → Laws s → Step (Acquire k r) s (Ok Granted) t → GrantsNow s k t
+granted_quiet s t k r laws step =
+    let change = acquire_change s k r (owner_of s r) in
+    let done : IsAccepted Acquired (acquire_tests s k r) (acquire_answer s k (owner_of s r)) change Granted t
+    = accepted (acquire_tests s k r) s (acquire_answer s k (owner_of s r)) change Granted t step in
+    granted_by s t k r (owner_of s r) laws refl (none_of_is_some (wait_of s k.process) done.passed.1.1.1.0) done.answer (change.totals.accepted + 1) done.state
+
+-- who does not wait is on no cycle
+pub idle_on_no_cycle : (s : TableState) (n : ℕ) → wait_of s n ≡ None → IsOnCycle s n → ⊥
+idle_on_no_cycle s n idle (cycle, is) = active_waits_not (graph_of s) n (no_holder s n idle) (start_waits (graph_of s) n cycle is)

@@ -1,0 +1,52 @@
+-- A refused call changes nothing, and tells of nobody.
+use Rattle.std.proofs.Common.{◌≡◌, ℕ, List, [], true, Some, None, Result, Ok, Err, MatchBool, sym, ap, subst, ◌∙◌}
+use Rattle.std.specs.Result.{IsErr, IsErrAnd}
+use Rattle.mm_arena.specs.declared.key.Key.{Key}
+use Rattle.mm_rules.specs.declared.refusal.Refusal.{Refusal}
+use Rattle.mm_rules.specs.declared.refusal.Refusal.TheVariants.{CountsExhausted}
+use Rattle.mm_rules.specs.declared.reply.Released.{Released}
+use Rattle.mm_rules.specs.TableState.{TableState, owner_of, wait_of, waiters_of}
+use Rattle.mm_rules.specs.Change.{hand_over, vacate, abort, activate}
+use Rattle.mm_rules.specs.Event.{Event, Acquire, Release, Finish, Abort, GiveUp, Step, acquire_tests, acquire_answer, acquire_change, release_tests, release_answer, finish_tests, abort_tests, give_up_tests}
+use Rattle.mm_rules.specs.Laws.{Laws}
+use Rattle.mm_settled.specs.declared.reply.Grant.{Grant}
+use Rattle.mm_settled.specs.Calls.{has_room, Refuses, Makes}
+use Rattle.mm_settled.specs.Grants.{grants, EndsWaits}
+use Rattle.mm_settled.proofs.Lemmas.Accepted.{refused}
+use Rattle.mm_settled.proofs.Lemmas.Quiet.{same_is_quiet}
+
+pub acquire_refused : (s t : TableState) (k : Key) (r : ℕ) (refusal : Refusal) → Step (Acquire k r) s (Err refusal) t → t ≡ s
+acquire_refused s t k r refusal step = refused (acquire_tests s k r) s (acquire_answer s k (owner_of s r)) (acquire_change s k r (owner_of s r)) refusal t step
+
+pub release_refused : (s t : TableState) (k : Key) (r : ℕ) (refusal : Refusal) → Step (Release k r) s (Err refusal) t → t ≡ s
+release_refused s t k r refusal step = refused (release_tests s k r) s (release_answer (waiters_of s r)) (hand_over s r) refusal t step
+
+pub finish_refused : (s t : TableState) (k : Key) (refusal : Refusal) → Step (Finish k) s (Err refusal) t → t ≡ s
+finish_refused s t k refusal step = refused (finish_tests s k) s tt (vacate s k.process) refusal t step
+
+pub abort_refused : (s t : TableState) (k : Key) (refusal : Refusal) → Step (Abort k) s (Err refusal) t → t ≡ s
+abort_refused s t k refusal step = refused (abort_tests s k) s tt (abort s k.process) refusal t step
+
+pub give_up_refused : (s t : TableState) (k : Key) (refusal : Refusal) → Step (GiveUp k) s (Err refusal) t → t ≡ s
+give_up_refused s t k refusal step = refused (give_up_tests s k) s tt (activate s k.process) refusal t step
+
+-- the table refused it, since there was room to count it
+pub refuses : (e : Event) (s t : TableState) (refusal : Refusal) → has_room s ≡ true → Step e s (Err refusal) t → t ≡ s → Refuses e s refusal t
+refuses e s t refusal room step same = (
+  same,
+  subst (λ b. MatchBool b (Step e s (Err refusal) s) (refusal ≡ CountsExhausted)) (sym room) (subst (λ u. Step e s (Err refusal) u) same step),
+)
+
+pub release_refuses : (s t : TableState) (k : Key) (r : ℕ) (reply : Result Released Refusal) (refusal : Refusal) → IsErr reply × IsErrAnd reply (λ x. x ≡ refusal)
+    → Refuses (Release k r) s refusal t → Makes (Release k r) s reply t
+release_refuses s t k r (Ok answer) refusal is why = absurd is.1
+release_refuses s t k r (Err x) refusal is why = rw is.1 why
+
+-- no wait ended
+pub ends_none : (s t : TableState) (n : ℕ) (granted : List Grant) → Laws s → t ≡ s → granted ≡ grants s t → EndsWaits s t n granted
+ends_none s t n granted laws same is =
+    let none : granted ≡ [] = is ∙ (same_is_quiet s t laws same).granted in
+    subst (EndsWaits s t n) (sym none) record {
+      each = λ g among. absurd among;
+      all = λ m r apart waited ended. (let never : None ≡ Some r = sym ended ∙ ap (λ u. wait_of u m) same ∙ waited in absurd (cc));
+    }

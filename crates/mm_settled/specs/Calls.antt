@@ -1,0 +1,76 @@
+-- What the calls of a settled table do.
+use Rattle.std.specs.Prelude.{ℕ, ◌≡◌, ◌≢◌, ◌⊎◌, ◌+◌, ◌^◌, ◌&&◌, Bool, true, false, [], Result, Ok, Err, IsTrue, MatchBool, nat_lt}
+use Rattle.mm_arena.specs.declared.key.Key.{Key}
+use Rattle.mm_label.specs.Label.{Label}
+use Rattle.mm_rules.specs.declared.config.Config.{Config}
+use Rattle.mm_rules.specs.declared.refusal.Refusal.{Refusal}
+use Rattle.mm_rules.specs.declared.refusal.Refusal.TheVariants.{CountsExhausted}
+use Rattle.mm_rules.specs.declared.reply.Acquired.TheVariants as acquired
+use Rattle.mm_rules.specs.declared.reply.Settled.{Settled}
+use Rattle.mm_rules.specs.TableState.{TableState, has_verdict}
+use Rattle.mm_rules.specs.Event.{Event, Acquire, Settle, Answer, Step, Opens}
+use Rattle.mm_rules.specs.Victims.{IsOnCycle}
+use Rattle.mm_settled.specs.SettledState.{SettledState}
+use Rattle.mm_settled.specs.declared.reply.Locked.{Locked}
+use Rattle.mm_settled.specs.declared.reply.Locked.TheVariants.{Granted, Waits, Deadlock}
+
+-- an event and a settle can be counted
+abbrev pub has_room : TableState → Bool
+has_room s = nat_lt (s.totals.accepted + 1) (2 ^ 62) && nat_lt s.totals.verdicts (2 ^ 62)
+
+-- a refused call changes nothing: there is no room to count it with a settle, or the table refuses the event
+abbrev pub Refuses : Event → TableState → Refusal → TableState → Type 0
+Refuses e old refusal new = (new ≡ old) × MatchBool (has_room old) (Step e old (Err refusal) old) (refusal ≡ CountsExhausted)
+
+-- nothing follows, or a settle does
+abbrev pub Rests : TableState → TableState → Type 0
+Rests mid new = (new ≡ mid) ⊎ ((answer : Settled) × Step Settle mid (Ok answer) new)
+
+-- the event is accepted, the table is then at rest or settled, and that gives no verdict
+pub record Made (e : Event) (old : TableState) (answer : Answer e) (new : TableState) : Type 0 where
+  pub room : IsTrue (has_room old)
+  pub mid : TableState
+  pub event : Step e old (Ok answer) mid
+  pub rests : Rests mid new
+  pub verdicts : (v : ℕ) → has_verdict new v ≡ has_verdict mid v
+
+-- a call that makes this event
+abbrev pub Makes : (e : Event) → TableState → Result (Answer e) Refusal → TableState → Type 0
+Makes e old (Ok answer) new = Made e old answer new
+Makes e old (Err refusal) new = Refuses e old refusal new
+
+-- nobody but n, the process of the caller, gets or loses a verdict
+abbrev pub OthersKeepVerdicts : TableState → TableState → ℕ → Type 0
+OthersKeepVerdicts old new n = (v : ℕ) → v ≢ n → has_verdict new v ≡ has_verdict old v
+
+-- ---- lock
+
+-- k waits for r, which h owns, and the table is settled
+pub record WaitsFrom (old : TableState) (k : Key) (r : ℕ) (h : Key) (new : TableState) : Type 0 where
+  pub room : IsTrue (has_room old)
+  pub label : Label
+  pub mid : TableState
+  pub answer : Settled
+  pub event : Step (Acquire k r) old (Ok (acquired.Waits h label)) mid
+  pub settle : Step Settle mid (Ok answer) new
+
+-- the request is granted; or k waits on no cycle, and has no verdict; or it waits on a cycle, and has one
+abbrev pub Locks : TableState → Key → ℕ → Result Locked Refusal → TableState → Type 0
+Locks old k r (Ok Granted) new = IsTrue (has_room old) × Step (Acquire k r) old (Ok acquired.Granted) new
+Locks old k r (Ok (Waits h)) new = WaitsFrom old k r h new × ¬ IsOnCycle new k.process × (has_verdict new k.process ≡ false)
+Locks old k r (Ok (Deadlock h)) new = WaitsFrom old k r h new × IsOnCycle new k.process × (has_verdict new k.process ≡ true)
+Locks old k r (Err refusal) new = Refuses (Acquire k r) old refusal new
+
+-- the answer is that there is a deadlock
+abbrev pub IsDeadlock : Result Locked Refusal → Bool
+IsDeadlock (Ok (Deadlock h)) = true
+IsDeadlock (Ok Granted) = false
+IsDeadlock (Ok (Waits h)) = false
+IsDeadlock (Err refusal) = false
+
+-- ---- open
+
+-- a settled table is opened as a table is, and tells of nobody
+abbrev pub OpensSettled : Config → Result SettledState Refusal → Type 0
+OpensSettled c (Ok s) = Opens c (Ok s.table) × (s.granted ≡ []) × (s.changed ≡ [])
+OpensSettled c (Err refusal) = Opens c (Err refusal)

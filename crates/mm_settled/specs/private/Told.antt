@@ -1,0 +1,18 @@
+-- What a call tells, in the fields of its lists.
+use Rattle.std.specs.Prelude.{◌≡◌, if◌then◌else◌, nat_eq}
+use Rattle.mm_arena.specs.declared.key.Key.{Key}
+use Rattle.mm_rules.specs.declared.reply.Settled.{Settled}
+use Rattle.mm_rules.specs.TableState.{TableState}
+use Rattle.mm_settle.specs.Touched.{changed_processes}
+use Rattle.mm_settled.specs.Grants.{grants}
+use Rattle.mm_settled.specs.declared.lists.Lists.{Lists}
+use Rattle.mm_settled.specs.declared.reply.Locked.{Locked}
+use Rattle.mm_settled.specs.declared.reply.Locked.TheVariants.{Waits, Deadlock}
+
+pub record TellsOf (old new : TableState) (lists : Lists) : Type 0 where
+  pub granted : lists.granted.items ≡ grants old new
+  pub changed : lists.changed.items ≡ changed_processes old new
+
+-- what one who waits for h is told after this settle
+abbrev pub told_by : Settled → Key → Locked
+told_by answer h = if nat_eq answer.verdicts 0 then Waits h else Deadlock h

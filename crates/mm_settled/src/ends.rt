@@ -1,0 +1,131 @@
+//! The calls by which resources are handed over: a release, and the end of a transaction.
+ghost use Rattle.std.specs.Prelude.{◌≡◌, IfOk, ℕ};
+ghost use Rattle.mm_rules.specs.Event.{Step, Release, Finish, Abort};
+ghost use Rattle.mm_rules.specs.Laws.{AtRest, Laws};
+ghost use Rattle.mm_settled.specs.Calls.{Makes, OthersKeepVerdicts};
+ghost use Rattle.mm_settled.specs.Grants.{EndsWaits};
+ghost use Rattle.mm_settled.specs.private.Lists.{Fits};
+ghost use Rattle.mm_settled.specs.private.Told.{TellsOf};
+
+use crate::lists::{Lists, list_given, list_owned};
+use crate::settle::{come_to_rest, has_room};
+use crate::{Grant, Key, Refusal, Released, Table};
+
+/// Hands the resource over, and settles the table where that leaves somebody to be told.
+pub fn release(
+    table: &mut Table,
+    lists: &mut Lists,
+    key: Key,
+    resource: u32,
+) -> Result<Released, Refusal>
+    requires rest { AtRest table.old }
+    requires fits { Fits table.old.config lists.old }
+    ensures makes { Makes (Release key resource) table.old result table.new }
+    ensures others { OthersKeepVerdicts table.old table.new key.process }
+    ensures told { TellsOf table.old table.new lists.new }
+    ensures ended { EndsWaits table.old table.new key.process lists.new.granted.items }
+    ensures rest { AtRest table.new }
+    ensures fits { Fits table.new.config lists.new }
+{
+    table.keeps_laws();
+    if !has_room(table) {
+        lists.clear();
+        return Err(Refusal::CountsExhausted);
+    }
+    let answer = release_listing(table, lists, key, resource)?;
+    come_to_rest(table, &mut lists.changed, &mut lists.processes);
+    Ok(answer)
+}
+
+/// Ends an active transaction, and settles the table where that leaves somebody to be told.
+pub fn finish(table: &mut Table, lists: &mut Lists, key: Key) -> Result<(), Refusal>
+    requires rest { AtRest table.old }
+    requires fits { Fits table.old.config lists.old }
+    ensures makes { Makes (Finish key) table.old result table.new }
+    ensures others { OthersKeepVerdicts table.old table.new key.process }
+    ensures told { TellsOf table.old table.new lists.new }
+    ensures ended { EndsWaits table.old table.new key.process lists.new.granted.items }
+    ensures rest { AtRest table.new }
+    ensures fits { Fits table.new.config lists.new }
+{
+    table.keeps_laws();
+    if !has_room(table) {
+        lists.clear();
+        return Err(Refusal::CountsExhausted);
+    }
+    finish_listing(table, lists, key)?;
+    come_to_rest(table, &mut lists.changed, &mut lists.processes);
+    Ok(())
+}
+
+/// Ends a transaction with a verdict, and settles the table where that leaves somebody to be told.
+pub fn abort(table: &mut Table, lists: &mut Lists, key: Key) -> Result<(), Refusal>
+    requires rest { AtRest table.old }
+    requires fits { Fits table.old.config lists.old }
+    ensures makes { Makes (Abort key) table.old result table.new }
+    ensures others { OthersKeepVerdicts table.old table.new key.process }
+    ensures told { TellsOf table.old table.new lists.new }
+    ensures ended { EndsWaits table.old table.new key.process lists.new.granted.items }
+    ensures rest { AtRest table.new }
+    ensures fits { Fits table.new.config lists.new }
+{
+    table.keeps_laws();
+    if !has_room(table) {
+        lists.clear();
+        return Err(Refusal::CountsExhausted);
+    }
+    abort_listing(table, lists, key)?;
+    come_to_rest(table, &mut lists.changed, &mut lists.processes);
+    Ok(())
+}
+
+/// `Table::release`, and whom it grants what and changes.
+fn release_listing(
+    table: &mut Table,
+    lists: &mut Lists,
+    key: Key,
+    resource: u32,
+) -> Result<Released, Refusal>
+    requires laws { Laws table.old }
+    requires fits { Fits table.old.config lists.old }
+    ensures step { Step (Release key resource) table.old result table.new }
+    ensures told { TellsOf table.old table.new lists.new }
+    ensures fits { Fits table.old.config lists.new }
+{
+    lists.granted.clear();
+    let answer = table.release_waking(key, resource, &mut lists.changed)?;
+    if let Released::To(key) = answer {
+        lists.granted.push_reserved(Grant { key, resource });
+    }
+    Ok(answer)
+}
+
+/// `Table::finish`, and whom it grants what and changes.
+fn finish_listing(table: &mut Table, lists: &mut Lists, key: Key) -> Result<(), Refusal>
+    requires laws { Laws table.old }
+    requires fits { Fits table.old.config lists.old }
+    ensures step { Step (Finish key) table.old result table.new }
+    ensures told { TellsOf table.old table.new lists.new }
+    ensures fits { Fits table.old.config lists.new }
+{
+    lists.granted.clear();
+    list_owned(table, key, &mut lists.resources, &mut lists.owned);
+    table.finish_waking(key, &mut lists.changed)?;
+    list_given(table, &lists.owned, &mut lists.granted);
+    Ok(())
+}
+
+/// `Table::abort`, and whom it grants what and changes.
+fn abort_listing(table: &mut Table, lists: &mut Lists, key: Key) -> Result<(), Refusal>
+    requires laws { Laws table.old }
+    requires fits { Fits table.old.config lists.old }
+    ensures step { Step (Abort key) table.old result table.new }
+    ensures told { TellsOf table.old table.new lists.new }
+    ensures fits { Fits table.old.config lists.new }
+{
+    lists.granted.clear();
+    list_owned(table, key, &mut lists.resources, &mut lists.owned);
+    table.abort_waking(key, &mut lists.changed)?;
+    list_given(table, &lists.owned, &mut lists.granted);
+    Ok(())
+}

@@ -1,0 +1,21 @@
+//! A table of exclusive locks that is at rest between its calls: each request for a lock is answered at once and for good, and whoever
+//! closes a cycle of waits is its victim.
+//!
+//! - `settled`: `SettledTable`, with one method for each call.
+//! - `reply`: what a request is told, and what a grant is.
+//! - `lock`, `give_up`, `ends`: the calls, over a table and the lists of what a call told.
+//! - `lists`: whom a call granted what, and whom it changed; how both are found.
+//! - `settle`: a settle that is not refused, and when one is needed.
+#![tactic(auto)]
+
+mod ends;
+mod give_up;
+mod lists;
+mod lock;
+mod reply;
+mod settle;
+mod settled;
+
+pub use mm_table::{Config, Key, Refusal, Released, Table};
+pub use reply::{Grant, Locked};
+pub use settled::SettledTable;

@@ -1,0 +1,61 @@
+//! A request for a lock.
+ghost use Rattle.std.specs.Prelude.{◌≡◌, ◌≤◌, ◌<◌, ◌∷◌, [], ℕ, false};
+ghost use Rattle.mm_rules.specs.Event.{Step, Settle, counts_exhausted};
+ghost use Rattle.mm_rules.specs.Laws.{AtRest};
+ghost use Rattle.mm_settled.specs.Calls.{Locks, OthersKeepVerdicts};
+ghost use Rattle.mm_settled.specs.private.Lists.{Fits, joined};
+ghost use Rattle.mm_settled.specs.private.Told.{TellsOf, told_by};
+
+use crate::lists::Lists;
+use crate::settle::{has_room, settle_listing};
+use crate::{Key, Locked, Refusal, Table};
+use mm_table::Acquired;
+
+/// Asks for the resource. Where the transaction waits, the table is settled.
+#[inline]
+pub fn lock(
+    table: &mut Table,
+    lists: &mut Lists,
+    key: Key,
+    resource: u32,
+) -> Result<Locked, Refusal>
+    requires rest { AtRest table.old }
+    requires fits { Fits table.old.config lists.old }
+    ensures locks { Locks table.old key resource result table.new }
+    ensures others { OthersKeepVerdicts table.old table.new key.process }
+    ensures told { TellsOf table.old table.new lists.new }
+    ensures rest { AtRest table.new }
+    ensures fits { Fits table.new.config lists.new }
+{
+    table.keeps_laws();
+    lists.clear();
+    if !has_room(table) {
+        return Err(Refusal::CountsExhausted);
+    }
+    match table.acquire(key, resource)? {
+        Acquired::Granted => Ok(Locked::Granted),
+        Acquired::Waits { holder, .. } => Ok(settle_waiter(table, lists, key, holder)),
+    }
+}
+
+/// Settles the table once the key waits for the holder, and says whether it has a verdict then.
+#[inline(never)]
+fn settle_waiter(table: &mut Table, lists: &mut Lists, key: Key, holder: Key) -> Locked
+    requires counts { counts_exhausted table.old ≡ false }
+    requires process { key.process < table.old.config.processes }
+    requires fits { Fits table.old.config lists.old }
+    requires none_granted { lists.old.granted.items ≡ [] }
+    requires none_changed { lists.old.changed.items ≡ [] }
+    ensures settled { (answer : _) × Step Settle table.old (Ok answer) table.new × (result ≡ told_by answer holder) }
+    ensures granted { lists.new.granted.items ≡ [] }
+    ensures changed { lists.new.changed.items ≡ joined (key.process ∷ []) table.old table.new }
+    ensures fits { Fits table.old.config lists.new }
+{
+    lists.changed.push_reserved(key.process);
+    let settled = settle_listing(table, &mut lists.changed, &mut lists.processes);
+    if settled.verdicts == 0 {
+        Locked::Waits { holder }
+    } else {
+        Locked::Deadlock { holder }
+    }
+}

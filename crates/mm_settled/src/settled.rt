@@ -1,0 +1,174 @@
+ghost use Rattle.std.specs.Prelude.{◌≡◌, ◌↔◌, ℕ, List, [], IsTrue, OnOk};
+ghost use Rattle.mm_rules.specs.Event.{Step, Begin, GiveUp, Release, Finish, Abort};
+ghost use Rattle.mm_rules.specs.TableState.{has_verdict};
+ghost use Rattle.mm_rules.specs.Laws.{Laws, AtRest};
+ghost use Rattle.mm_rules.specs.Victims.{IsOnCycle};
+ghost use Rattle.mm_settled.specs.Calls.{OpensSettled, Locks, IsDeadlock, Makes, OthersKeepVerdicts};
+ghost use Rattle.mm_settled.specs.Grants.{Tells, EndsWaits};
+
+use crate::ends::{abort, finish, release};
+use crate::give_up::give_up;
+use crate::lists::Lists;
+use crate::lock::lock;
+use crate::{Config, Grant, Key, Locked, Refusal, Released, Table};
+use std::alloc::Global;
+use std::marker::Model;
+
+/// A table of exclusive locks that is at rest between its calls: nothing is left to transmit or to detect, and one verdict stands on
+/// each cycle of waits.
+///
+/// A contract sees it as a `SettledState`: the table, and what the last call told, whom it granted what and whom it changed. After a
+/// call that is refused both lists are empty, and the table is as it was. No call but `open` takes memory.
+#[derive(Drop)]
+pub struct SettledTable {
+    table: Table,
+    lists: Lists,
+}
+
+impl Model for SettledTable {
+    ghost use Rattle.mm_settled.specs.SettledState.{SettledState};
+    ghost use Rattle.mm_settled.specs.private.Settled.{state_of, IsSettledTable};
+
+    ghost Value = { SettledState };
+
+    ghost view = { state_of };
+
+    ghost invariant = { IsSettledTable };
+}
+
+impl SettledTable {
+    /// A table of this configuration, in which no process is live and no resource has an owner.
+    ///
+    /// Refused as `BadConfig` exactly where a number is out of its range, and as `Memory` only where a request for memory was
+    /// refused. This is the one call that takes memory: what `Table::open` takes, for each process 16 bytes and a bit more, and for
+    /// each resource 4 bytes and a bit more.
+    pub fn open(alloc: Global, config: Config) -> Result<SettledTable, Refusal>
+        ensures { OpensSettled config result }
+    {
+        let table = Table::open(alloc, config)?;
+        let lists = Lists::open(alloc, config)?;
+        Ok(SettledTable { table, lists })
+    }
+
+    /// Starts a transaction in the first free process, and returns its key. It changes nobody else, and grants nobody anything.
+    ///
+    /// Refused as `CountsExhausted` or `Full`. Constant time.
+    #[inline]
+    pub fn begin(&mut self) -> Result<Key, Refusal>
+        ensures step { Step Begin self.old.table result self.new.table }
+        ensures others { (v : ℕ) → has_verdict self.new.table v ≡ has_verdict self.old.table v }
+        ensures told { Tells self.old.table self.new }
+    {
+        self.table.keeps_laws();
+        self.lists.clear();
+        self.table.begin()
+    }
+
+    /// Asks for a resource, and is told at once what comes of it.
+    ///
+    /// - `Granted`: nobody owned it, and the transaction does now.
+    /// - `Waits`: the transaction waits for the holder, last in the queue of the resource, and is on no cycle of waits. Nobody has a
+    ///   new verdict, and it gets none by any later call of others. It owns the resource once a call lists it in `granted`.
+    /// - `Deadlock`: the transaction waits for the holder, and closed a cycle of waits by that. It has the verdict of that cycle, and
+    ///   nobody else has a new one. It keeps what it owns and goes on by `abort` alone.
+    ///
+    /// Refused as `CountsExhausted` where an event and a settle can no longer be counted, and else as `Table::acquire` is: `Stale`,
+    /// `NoResource`, `Waiting`, `AlreadyOwns` or `LabelsExhausted`. Constant time where it is granted; a wait costs the settle that
+    /// follows, as `Table::settle` says: those that wait for the transaction, and those whose labels it raises.
+    #[inline]
+    pub fn lock(&mut self, key: Key, resource: u32) -> Result<Locked, Refusal>
+        ensures locks { Locks self.old.table key resource result self.new.table }
+        ensures deadlock { OnOk result (IsTrue (IsDeadlock result) ↔ IsOnCycle self.new.table key.process) }
+        ensures others { OthersKeepVerdicts self.old.table self.new.table key.process }
+        ensures told { Tells self.old.table self.new }
+    {
+        self.table.keeps_laws();
+        lock(&mut self.table, &mut self.lists, key, resource)
+    }
+
+    /// Hands the resource over: the longest waiter owns it from now on and is listed in `granted`, and each other waiter keeps its
+    /// place; with no waiter it is free. Where others wait on, the table is settled. Nobody gets a verdict.
+    ///
+    /// Refused as `CountsExhausted` where an event and a settle can no longer be counted, and else as `Table::release` is: `Stale`,
+    /// `NoResource`, `Waiting`, `NotOwner` or `LabelsExhausted`. `O(waiters of the resource)`, and the settle where one is made.
+    pub fn release(&mut self, key: Key, resource: u32) -> Result<Released, Refusal>
+        ensures makes { Makes (Release key resource) self.old.table result self.new.table }
+        ensures others { OthersKeepVerdicts self.old.table self.new.table key.process }
+        ensures told { Tells self.old.table self.new }
+        ensures ended { EndsWaits self.old.table self.new.table key.process self.new.granted }
+    {
+        release(&mut self.table, &mut self.lists, key, resource)
+    }
+
+    /// Ends an active transaction: hands over all that it owns, by rising number, each resource as `release` does, and frees its slot.
+    /// Nobody gets a verdict.
+    ///
+    /// Refused as `CountsExhausted` where an event and a settle can no longer be counted, and else as `Table::finish` is: `Stale`,
+    /// `Waiting` or `LabelsExhausted`. `O(its resources + their waiters)`, and the settle where one is made.
+    pub fn finish(&mut self, key: Key) -> Result<(), Refusal>
+        ensures makes { Makes (Finish key) self.old.table result self.new.table }
+        ensures others { OthersKeepVerdicts self.old.table self.new.table key.process }
+        ensures told { Tells self.old.table self.new }
+        ensures ended { EndsWaits self.old.table self.new.table key.process self.new.granted }
+    {
+        finish(&mut self.table, &mut self.lists, key)
+    }
+
+    /// Ends a transaction that was told of a deadlock: takes back its wait, and goes on as `finish`. Nobody gets a verdict.
+    ///
+    /// Refused as `CountsExhausted` where an event and a settle can no longer be counted, and else as `Table::abort` is: `Stale`,
+    /// `NoVerdict` or `LabelsExhausted`. `O(its resources + their waiters)`, and the settle where one is made.
+    pub fn abort(&mut self, key: Key) -> Result<(), Refusal>
+        ensures makes { Makes (Abort key) self.old.table result self.new.table }
+        ensures others { OthersKeepVerdicts self.old.table self.new.table key.process }
+        ensures told { Tells self.old.table self.new }
+        ensures ended { EndsWaits self.old.table self.new.table key.process self.new.granted }
+    {
+        abort(&mut self.table, &mut self.lists, key)
+    }
+
+    /// Takes back the wait of a transaction that has no verdict and whose two labels are equal: it is active from now on, and keeps what
+    /// it owns. Nobody is granted anything, and nobody gets a verdict.
+    ///
+    /// Refused as `Table::give_up` is: `CountsExhausted`, `Stale`, `NotWaiting`, `UnderVerdict` or `Carried`. Constant time.
+    pub fn give_up(&mut self, key: Key) -> Result<(), Refusal>
+        ensures step { Step (GiveUp key) self.old.table result self.new.table }
+        ensures others { (v : ℕ) → has_verdict self.new.table v ≡ has_verdict self.old.table v }
+        ensures told { Tells self.old.table self.new }
+    {
+        give_up(&mut self.table, &mut self.lists, key)
+    }
+
+    /// Whom the last call granted what, in the order of the hand-overs. Constant time.
+    pub fn granted(&self) -> &[Grant]
+        ensures { result.now ≡ self.now.granted }
+    {
+        &self.lists.granted
+    }
+
+    /// The processes that the last call changed, by rising number: those whose labels, wait, holder or verdict are other than before.
+    /// Constant time.
+    pub fn changed(&self) -> &[u32]
+        ensures { result.now ≡ self.now.changed }
+    {
+        &self.lists.changed
+    }
+
+    /// The table, to read it: what a transaction does (`state`), who owns a resource (`owner`) and what a key owns (`owned_by`), for
+    /// whom a process waits (`holder`), the live keys (`tenant`), the configuration and the counts. Constant time.
+    #[inline]
+    pub fn table(&self) -> &Table
+        ensures { result.now ≡ self.now.table }
+    {
+        &self.table
+    }
+
+    /// Does nothing. Its contract is that the table is at rest, whatever was called: nothing is left to transmit or to detect, and one
+    /// verdict stands on each cycle of waits. All laws of `Table` hold too; so each fact of `mm_table::laws` is one about it.
+    pub fn is_at_rest(&self)
+        ensures laws { Laws self.now.table }
+        ensures rest { AtRest self.now.table }
+    {
+        self.table.keeps_laws();
+    }
+}
