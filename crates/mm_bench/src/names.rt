@@ -110,18 +110,17 @@ pub extern "C" fn mm_bench_find_names(
     };
     let first = if is_known { 0 } else { names };
     let found = find(&table, names.wrapping_sub(1), length, first, count);
-    let expected = if is_known { found } else { count.wrapping_sub(found) };
+    let expected = if is_known {
+        found
+    } else {
+        count.wrapping_sub(found)
+    };
     u64::from(table.len()).wrapping_add(expected)
 }
 
 /// The same, and `count` names of the table are interned once more.
 #[unsafe(no_mangle)]
-pub extern "C" fn mm_bench_intern_names(
-    alloc: Global,
-    names: u32,
-    length: u32,
-    count: u64,
-) -> u64 {
+pub extern "C" fn mm_bench_intern_names(alloc: Global, names: u32, length: u32, count: u64) -> u64 {
     let length = (length as usize).min(MOST_BYTES);
     let Some(mut table) = filled(alloc, names, length) else {
         return 0;
@@ -132,12 +131,7 @@ pub extern "C" fn mm_bench_intern_names(
 
 /// The same, and `count` names of the table are forgotten and interned again.
 #[unsafe(no_mangle)]
-pub extern "C" fn mm_bench_renew_names(
-    alloc: Global,
-    names: u32,
-    length: u32,
-    count: u64,
-) -> u64 {
+pub extern "C" fn mm_bench_renew_names(alloc: Global, names: u32, length: u32, count: u64) -> u64 {
     let length = (length as usize).min(MOST_BYTES);
     let Some(mut table) = filled(alloc, names, length) else {
         return 0;

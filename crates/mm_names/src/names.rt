@@ -2,7 +2,7 @@
 ghost use Rattle.std.specs.Prelude.{◌≡◌, ◌≤◌, ◌<◌, ◌↔◌, ℕ, None, Some, Err, length, IfOk, OnErr, IsTrue, IsSome, MatchOption, option_copied};
 ghost use Rattle.std.specs.Bool.{OnTrue, OnFalse};
 ghost use Rattle.mm_owned.specs.Owned.{owner_at, given, freed};
-ghost use Rattle.mm_names.specs.Names.{nameless, name_of, named_count, with_name, entries, IsNamed, IsRefusedAsFull, Interns, IsLawful, IsNamesOut, IsNameBytesOut};
+ghost use Rattle.mm_names.specs.Names.{nameless, name_of, named_count, with_name, entries, IsNamed, IsFree, IsFull, IsRefusedAsFull, Interns, IsLawful, IsNamesOut, IsNameBytesOut};
 ghost use Rattle.mm_names.specs.private.Index.{AreAllFree};
 
 use crate::places::Places;
@@ -86,13 +86,21 @@ impl Names {
         if let Some(number) = find_at(&self.places, &self.index, spot, name) {
             return Ok(number);
         }
-        let Some(number) = self.index.first(self.spots.free().process) else {
+        let Some(number) = self.first_free() else {
             return Err(NamesError::Full);
         };
         move_to(&mut self.index, number, spot);
         self.places.put(number, name);
         self.count += 1;
         Ok(number)
+    }
+
+    /// A number without a name, in constant time. `None` exactly where each number has one.
+    #[inline]
+    fn first_free(&self) -> Option<u32>
+        ensures { MatchOption result (IsFull self.now) (λ n. IsFree self.now n) }
+    {
+        self.index.first(self.spots.free().process)
     }
 
     /// The name of a number, in constant time. `None` where it has none, or is not one of the numbers.

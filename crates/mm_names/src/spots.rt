@@ -1,9 +1,13 @@
 //! Where the number of a name stands, by the hash of the name.
-ghost use Rattle.std.specs.Prelude.{◌≡◌, ◌<◌, ◌≤◌};
+ghost use Rattle.std.specs.Prelude.{◌≡◌, ◌*◌, ◌<◌, ◌≤◌};
 ghost use Rattle.mm_names.specs.declared.config.TheConstants.NamesConfig.{MOST_NAMES};
+ghost use Rattle.mm_names.specs.declared.spots.TheConstants.{LISTS_A_NAME};
 
 use mm_arena::Key;
 use std::hash::{DefaultHasher, Hasher};
+
+/// How many lists there are for each name that there can be. With more of them fewer names share one.
+const LISTS_A_NAME: u32 = 2;
 
 /// The spots of names. A spot is a key: its process is one of the lists in which numbers stand, and its generation a part of the hash
 /// that tells names of one list apart.
@@ -13,21 +17,23 @@ pub(crate) struct Spots {
     hasher: DefaultHasher,
     lists: u32,
     ghost some_lists: { 1 ≤ lists },
-    ghost few_lists: { lists ≤ MOST_NAMES },
+    ghost few_lists: { lists ≤ LISTS_A_NAME * MOST_NAMES },
 }
 
 impl Spots {
     ghost use Rattle.mm_names.specs.private.Spots.{spot_of, free_spot};
 
-    /// Spots in this many lists, by SipHash-1-3 after the seed.
-    pub(crate) fn new(seed: u64, lists: u32) -> Spots
-        requires some_lists { 1 ≤ lists }
-        requires few_lists { lists ≤ MOST_NAMES }
-        ensures { result.lists ≡ lists }
+    /// Spots for this many names, by SipHash-1-3 after the seed.
+    pub(crate) fn new(seed: u64, names: u32) -> Spots
+        requires some_names { 1 ≤ names }
+        requires few_names { names ≤ MOST_NAMES }
     {
         let mut hasher = DefaultHasher::new();
         hasher.write_u64(seed);
-        Spots { hasher, lists }
+        Spots {
+            hasher,
+            lists: LISTS_A_NAME * names,
+        }
     }
 
     /// The spot of a name, in `O(length)`.

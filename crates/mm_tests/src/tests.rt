@@ -4,6 +4,7 @@ mod arena;
 mod label;
 mod links;
 mod marks;
+mod names;
 mod owned;
 mod queue;
 mod rows;

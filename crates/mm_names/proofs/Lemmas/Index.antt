@@ -1,5 +1,5 @@
 -- Which number stands in which list.
-use Rattle.std.proofs.Common.{◌≡◌, ◌≢◌, ℕ, zero, suc, ◌+◌, ◌-◌, ◌*◌, ◌/◌, ◌%◌, ◌^◌, ◌<◌, ◌≤◌, List, [], ◌∷◌, length, get_or, set, cond, Option, Some, None, option_map, is_some, IsSome, true, false, count_by, refl, sym, ap, subst, ◌∙◌, inl, inr, arith, length-set, lit<, replicate}
+use Rattle.std.proofs.Common.{◌≡◌, ◌≢◌, ℕ, zero, suc, ◌+◌, ◌-◌, ◌*◌, ◌/◌, ◌%◌, ◌^◌, ◌<◌, ◌≤◌, List, [], ◌∷◌, length, get_or, set, cond, Option, Some, None, option_map, is_some, IsSome, MatchOption, true, false, count_by, refl, sym, ap, subst, ◌∙◌, inl, inr, arith, length-set, lit<, replicate}
 use Rattle.std.proofs.lemmas.Bool.{cases_eq, cases_lt}
 use Rattle.std.proofs.lemmas.List.{get_or-set_same, get_or-set_other, get_or_past, length-map, length-replicate}
 use Rattle.std.proofs.lemmas.List.Sums.{sum_by-set}
@@ -62,8 +62,8 @@ module _ (t : NameTable) (index : Ownership) (spots : Spots) (count : ℕ) (inde
 
   module _ (matched : ListsMatchOwners index) where
     -- where the last list is empty, each number has a name
-    pub IsFull-none_free : head (list_at index spots.lists) ≡ None → IsFull t
-    IsFull-none_free none n below = named (name_of t n) refl where
+    none_free : head (list_at index spots.lists) ≡ None → IsFull t
+    none_free none n below = named (name_of t n) refl where
       nothing : (ns : List ℕ) → head ns ≡ None → Among n ns → ⊥
       nothing [] is among = among
       nothing (m ∷ ns) is among = cc
@@ -74,14 +74,21 @@ module _ (t : NameTable) (index : Ownership) (spots : Spots) (count : ℕ) (inde
           absurd (nothing (list_at index spots.lists) none
           ((matched.listed spots.lists n).1 (list_of n below ∙ ap (λ o. Some (spot_for spots o).process) is)))
 
-    -- the first of the last list is free
-    pub IsFree-first : (n : ℕ) → head (list_at index spots.lists) ≡ Some n → IsFree t n
-    IsFree-first n is =
+    -- and its first is free
+    free_at_head : (n : ℕ) → head (list_at index spots.lists) ≡ Some n → IsFree t n
+    free_at_head n is =
         let among = Among-head (list_at index spots.lists) n is in
         let below : n < length t.names = omega (arith, in_range index matched spots.lists n among, indexed.size) in (
           below,
           no_name spots (name_of t n) (same_Some _ _ (sym (list_of n below) ∙ (matched.listed spots.lists n).0 among)),
         )
+
+    pub first_free : (spot : Key) → spot ≡ free_spot spots → (first : Option ℕ) → first ≡ head (list_at index spot.process) → MatchOption first (IsFull t) (IsFree t)
+    first_free spot spot_is first first_is =
+        at first (ap (λ (k : Key). head (list_at index k.process)) (sym spot_is) ∙ sym first_is) where
+          at : (o : Option ℕ) → head (list_at index spots.lists) ≡ o → MatchOption o (IsFull t) (IsFree t)
+          at None is = none_free is
+          at (Some n) is = free_at_head n is
 
   -- a number that gets this name, or loses its own, and moves to its new spot
   module _ (n : ℕ) (below : n < length t.names) (name : Option (List ℕ)) (fresh : (m : ℕ) (x : List ℕ) → name ≡ Some x → name_of t m ≡ Some x → ⊥) where
