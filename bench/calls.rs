@@ -3,7 +3,7 @@
 //! The proved table is called through the static library of crates/bench_table. Each workload is a loop inside the library, beside
 //! the table, as those in Rust are loops beside their tables, so that both compilers can inline. Each number is the least of many
 //! short rounds, in which the tables take turns, less what the same loop costs that only opens and prepares its tables. Memory that
-//! was freed stays with the program, so that a round asks the kernel for no pages.
+//! was freed stays with the program, so that a round asks the kernel for no pages (`timing.rs`).
 
 mod lock_table;
 #[allow(dead_code)] // no workload makes all of its calls
@@ -12,26 +12,16 @@ mod plain;
 #[allow(dead_code, unused_imports)]
 #[path = "out/reference.rs"]
 mod reference;
+mod timing;
 mod workloads;
 
-use std::hint::black_box;
-use std::time::Instant;
+use timing::Workload;
 
 /// How many processes the tables have whose size is not what is timed.
 const PROCESSES: u32 = 4_096;
 const MOST_PROCESSES: u32 = 65_536;
 
-const MOST_ROUNDS: u32 = 400;
-const LEAST_ROUNDS: u32 = 5;
-/// No round is begun after this many seconds, but for the first few.
-const SECONDS: f64 = 1.5;
-
-/// Of the C library's `mallopt`: from how many free bytes on memory is given back, and from how many bytes on each part has its own pages.
-const TRIM_THRESHOLD: i32 = -1;
-const MMAP_THRESHOLD: i32 = -3;
-
 unsafe extern "C" {
-    safe fn mallopt(parameter: i32, value: i32) -> i32;
     safe fn mm_bench_nothing(number: u64) -> u64;
     safe fn mm_bench_openings(processes: u32, count: u64) -> u64;
     safe fn mm_bench_rounds(processes: u32, resources: u32, mask: u32, others: u32, count: u64) -> u64;
@@ -41,20 +31,6 @@ unsafe extern "C" {
     safe fn mm_bench_crosswise(count: u64) -> u64;
     safe fn mm_bench_rings(size: u32, is_rising: bool, settles: u32, is_closed: bool, count: u64) -> u64;
     safe fn mm_bench_chain(size: u32, settles: u32) -> u64;
-}
-
-/// A loop over one table; its argument says whether what is timed is done, or only what prepares it.
-type Run<'a> = &'a dyn Fn(bool) -> u64;
-
-/// A workload over each table.
-struct Workload<'a> {
-    name: &'a str,
-    size: u32,
-    /// What the time is divided by, and its name.
-    units: u64,
-    unit: &'a str,
-    /// The proved table first.
-    runs: &'a [Run<'a>],
 }
 
 /// A loop over each table in Rust, behind the one over the proved table.
@@ -67,40 +43,6 @@ macro_rules! runs {
             &|$is_whole| workloads::$work::<reference::Table>($($argument),*).unwrap(),
         ]
     };
-}
-
-/// How long one run takes, in nanoseconds.
-fn time(work: Run, is_whole: bool) -> f64 {
-    let start = Instant::now();
-    black_box(work(black_box(is_whole)));
-    start.elapsed().as_nanos() as f64
-}
-
-impl Workload<'_> {
-    /// Times each table, and prints one line: name, size, unit and what each table costs, with tabs between them.
-    fn measure(&self) {
-        let accepted = self.runs[0](true);
-        assert!(accepted > 0, "a call was refused at {}", self.name);
-        for run in self.runs {
-            assert_eq!(accepted, run(true), "the tables differ at {}", self.name);
-        }
-        let mut least = vec![[f64::INFINITY; 2]; self.runs.len()];
-        let start = Instant::now();
-        for round in 0..MOST_ROUNDS {
-            if round >= LEAST_ROUNDS && start.elapsed().as_secs_f64() > SECONDS {
-                break;
-            }
-            for (run, least) in self.runs.iter().zip(&mut least) {
-                least[0] = least[0].min(time(run, true));
-                least[1] = least[1].min(time(run, false));
-            }
-        }
-        print!("{}\t{}\t{}", self.name, self.size, self.unit);
-        for [whole, prepared] in least {
-            print!("\t{:.3}", (whole - prepared) / self.units as f64);
-        }
-        println!();
-    }
 }
 
 fn measure_openings(processes: u32) {
@@ -245,16 +187,12 @@ fn measure_idle_settles(size: u32) {
 /// What a call through the C boundary costs by itself, which no other line has.
 fn measure_nothing() {
     let count = 500_000;
-    let least = (0..MOST_ROUNDS)
-        .map(|_| {
-            time(&|_| (0..count).fold(0, |sum, _| mm_bench_nothing(sum)), true)
-        })
-        .fold(f64::INFINITY, f64::min);
+    let least = timing::least(&|_| (0..count).fold(0, |sum, _| mm_bench_nothing(sum)));
     println!("a call through C that does nothing\t0\tcall\t{:.3}", least / count as f64);
 }
 
 fn main() {
-    assert!(mallopt(TRIM_THRESHOLD, 1 << 30) == 1 && mallopt(MMAP_THRESHOLD, 1 << 30) == 1, "memory is given back");
+    timing::keep_memory();
     for processes in [PROCESSES, MOST_PROCESSES] {
         measure_openings(processes);
     }

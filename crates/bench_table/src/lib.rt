@@ -10,6 +10,7 @@ use mm_table::{Config, Refusal, Table};
 use std::alloc::Global;
 
 mod blocks;
+mod names;
 mod openings;
 mod queues;
 mod random;

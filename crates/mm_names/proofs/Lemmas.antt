@@ -1,0 +1,6 @@
+-- the names in their places, and what is read of them
+pub mod Places
+-- the places after a write
+pub mod Written
+-- which number stands in which list
+pub mod Index

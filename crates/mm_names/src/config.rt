@@ -1,0 +1,18 @@
+//! The numbers with which names are opened.
+
+/// The numbers with which a [`Names`](crate::Names) is opened. They never change.
+#[derive(Clone, Copy, Debug, PartialEq, Eq)]
+pub struct NamesConfig {
+    /// How many names there can be at once: 1 to 65,536.
+    pub names: u32,
+    /// How many bytes a name may have: 1 to 1,024. Memory is taken for so many bytes of each name.
+    pub name_bytes: u32,
+    /// Any number. Whoever chooses the names should not know it, so that they cannot choose names of one hash.
+    pub seed: u64,
+}
+
+impl NamesConfig {
+    pub const MOST_NAMES: u32 = 65_536;
+
+    pub const MOST_NAME_BYTES: u32 = 1_024;
+}

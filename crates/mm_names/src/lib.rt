@@ -1,0 +1,21 @@
+//! Names for the numbers of a table: each name has one number, and each number one name or none. All memory is taken at the opening.
+//!
+//! - `config`: `NamesConfig`, the numbers with which names are opened.
+//! - `error`: why they are not opened, and why a name gets no number.
+//! - `places`: where the bytes of each name stand.
+//! - `spots`: where the number of a name stands, by the hash of the name.
+//! - `names`: `Names`.
+//! - `iter`: the names, by rising number.
+#![tactic(auto)]
+
+mod config;
+mod error;
+mod iter;
+mod names;
+mod places;
+mod spots;
+
+pub use config::NamesConfig;
+pub use error::{NamesError, OpenError};
+pub use iter::Iter;
+pub use names::Names;

@@ -1,0 +1,242 @@
+//! The names.
+ghost use Rattle.std.specs.Prelude.{◌≡◌, ◌≤◌, ◌<◌, ◌↔◌, ℕ, None, Some, Err, length, IfOk, OnErr, IsTrue, IsSome, MatchOption, option_copied};
+ghost use Rattle.std.specs.Bool.{OnTrue, OnFalse};
+ghost use Rattle.mm_owned.specs.Owned.{owner_at, given, freed};
+ghost use Rattle.mm_names.specs.Names.{nameless, name_of, named_count, with_name, entries, IsNamed, IsFree, IsFull, IsRefusedAsFull, Interns, IsLawful, IsNamesOut, IsNameBytesOut};
+ghost use Rattle.mm_names.specs.private.Index.{AreAllFree};
+
+use crate::places::Places;
+use crate::spots::Spots;
+use crate::{Iter, NamesConfig, NamesError, OpenError};
+use mm_arena::Key;
+use mm_owned::Owned;
+use std::alloc::{AllocError, Global};
+use std::marker::Model;
+
+/// Names for numbers: a name has one number at most, and a number one name at most. No call but `open` takes memory.
+///
+/// A contract sees it as a `NameTable` (`specs/Names.antt`): by number its name, or none.
+#[derive(Drop)]
+pub struct Names {
+    places: Places,
+    /// The list in which each number stands: that of its name's hash, or the one of the numbers without a name.
+    index: Owned,
+    spots: Spots,
+    /// How many numbers have a name.
+    count: u32,
+}
+
+impl Model for Names {
+    ghost use Rattle.mm_names.specs.Names.{NameTable};
+    ghost use Rattle.mm_names.specs.private.Index.{AreIndexed};
+
+    ghost Value = { NameTable };
+
+    ghost view = { λ n. n.places };
+
+    ghost invariant = { λ n. AreIndexed n.places n.index n.spots n.count };
+}
+
+impl Names {
+    /// Names of this configuration: no number has a name yet. `O(names * name_bytes)`.
+    ///
+    /// Refused as `Names` or else as `NameBytes` exactly where that number of the configuration is out of its range, and as `Memory`
+    /// only where a request for memory was refused. This is the one call that takes memory: for the bytes of the names, for their
+    /// lengths, for the lists, and for the links of each number.
+    pub fn open(alloc: Global, config: NamesConfig) -> Result<Names, OpenError>
+        ensures opened { IfOk result (λ names. names ≡ nameless config.names config.name_bytes) }
+        ensures names { (result ≡ Err OpenError.Names) ↔ IsNamesOut config }
+        ensures name_bytes { (result ≡ Err OpenError.NameBytes) ↔ (¬ IsNamesOut config × IsNameBytesOut config) }
+    {
+        if !(1..=NamesConfig::MOST_NAMES).contains(&config.names) {
+            return Err(OpenError::Names);
+        }
+        if !(1..=NamesConfig::MOST_NAME_BYTES).contains(&config.name_bytes) {
+            return Err(OpenError::NameBytes);
+        }
+        Ok(no_names(alloc, config)?)
+    }
+
+    /// The number of a name; `None` exactly where no number has it. `O(length)`, and a look at each name of the same list.
+    pub fn find(&self, name: &[u8]) -> Option<u32>
+        ensures { MatchOption result (¬ IsNamed self.now name.now) (λ n. name_of self.now n ≡ Some name.now) }
+    {
+        find_at(&self.places, &self.index, self.spots.of(name), name)
+    }
+
+    /// The number of a name: the one that it has, and for a new name one that had none and has this name from now on. Which one is
+    /// left open. The names of all other numbers stay.
+    ///
+    /// Refused as `Empty` or `TooLong` exactly where the name has no bytes or more than there may be, and else as `Full` exactly where
+    /// the name is new and each number has one; then nothing changes. `O(length)`, and a look at each name of the same list.
+    pub fn intern(&mut self, name: &[u8]) -> Result<u32, NamesError>
+        ensures interned { IfOk result (λ n. Interns self.old name.now n self.new) }
+        ensures empty { (result ≡ Err NamesError.Empty) ↔ (length name.now ≡ 0) }
+        ensures too_long { (result ≡ Err NamesError.TooLong) ↔ (self.old.name_bytes < length name.now) }
+        ensures full { (result ≡ Err NamesError.Full) ↔ IsRefusedAsFull self.old name.now }
+        ensures refused { OnErr result (self.new ≡ self.old) }
+    {
+        if name.is_empty() {
+            return Err(NamesError::Empty);
+        }
+        if name.len() > self.places.name_bytes() as usize {
+            return Err(NamesError::TooLong);
+        }
+        let spot = self.spots.of(name);
+        if let Some(number) = find_at(&self.places, &self.index, spot, name) {
+            return Ok(number);
+        }
+        let Some(number) = self.first_free() else {
+            return Err(NamesError::Full);
+        };
+        move_to(&mut self.index, number, spot);
+        self.places.put(number, name);
+        self.count += 1;
+        Ok(number)
+    }
+
+    /// A number without a name, in constant time. `None` exactly where each number has one.
+    #[inline]
+    fn first_free(&self) -> Option<u32>
+        ensures { MatchOption result (IsFull self.now) (λ n. IsFree self.now n) }
+    {
+        self.index.first(self.spots.free().process)
+    }
+
+    /// The name of a number, in constant time. `None` where it has none, or is not one of the numbers.
+    pub fn name(&self, number: u32) -> Option<&[u8]>
+        ensures { option_copied result ≡ name_of self.now number }
+    {
+        if number >= self.capacity() {
+            return None;
+        }
+        self.places.get(number)
+    }
+
+    /// Takes its name from a number, and tells whether it had one. The names of all other numbers stay. Constant time.
+    pub fn forget(&mut self, number: u32) -> bool
+        ensures had { IsTrue result ↔ IsSome (name_of self.old number) }
+        ensures forgotten { OnTrue result (self.new ≡ with_name self.old number None) }
+        ensures unchanged { OnFalse result (self.new ≡ self.old) }
+    {
+        if self.name(number).is_none() {
+            return false;
+        }
+        move_to(&mut self.index, number, self.spots.free());
+        self.places.clear(number);
+        self.count -= 1;
+        true
+    }
+
+    /// How many names there are, in constant time.
+    #[inline]
+    pub fn len(&self) -> u32
+        ensures { result ≡ named_count self.now }
+    {
+        self.count
+    }
+
+    /// Whether there is no name, in constant time.
+    #[inline]
+    pub fn is_empty(&self) -> bool
+        ensures { IsTrue result ↔ (named_count self.now ≡ 0) }
+    {
+        self.count == 0
+    }
+
+    /// How many names there can be at once, in constant time. The numbers are those below it.
+    #[inline]
+    pub fn capacity(&self) -> u32
+        ensures { result ≡ length self.now.names }
+    {
+        self.places.numbers()
+    }
+
+    /// The names, each with its number, by rising number.
+    pub fn iter(&self) -> Iter<'_>
+        ensures { result ≡ entries self.now }
+    {
+        Iter {
+            names: self,
+            next: 0,
+        }
+    }
+
+    /// Does nothing. Its contract is what holds of any names that a caller can hold.
+    pub fn keeps_laws(&self)
+        ensures { IsLawful self.now }
+    {
+        self.places.keep_range();
+    }
+}
+
+/// Numbers without a name. The configuration is in range.
+fn no_names(alloc: Global, config: NamesConfig) -> Result<Names, AllocError>
+    requires some_names { 1 ≤ config.names }
+    requires few_names { config.names ≤ NamesConfig.MOST_NAMES }
+    requires some_bytes { 1 ≤ config.name_bytes }
+    requires few_bytes { config.name_bytes ≤ NamesConfig.MOST_NAME_BYTES }
+    ensures { IfOk result (λ names. names ≡ nameless config.names config.name_bytes) }
+{
+    let places = Places::new(alloc, config.names, config.name_bytes)?;
+    let spots = Spots::new(config.seed, config.names);
+    let index = all_free(alloc, spots, config.names)?;
+    Ok(Names {
+        places,
+        index,
+        spots,
+        count: 0,
+    })
+}
+
+/// This many numbers, all of them in the list of those without a name, by rising number.
+fn all_free(alloc: Global, spots: Spots, numbers: u32) -> Result<Owned, AllocError>
+    ensures { IfOk result (λ index. AreAllFree index spots numbers) }
+{
+    let free = spots.free();
+    let mut index = Owned::new(alloc, free.process + 1, numbers)?;
+    let mut left = numbers;
+    'free: while left > 0 {
+        left -= 1;
+        index.push(free, left);
+    }
+    Ok(index)
+}
+
+/// Moves a number from the list in which it stands to this spot, in constant time.
+fn move_to(index: &mut Owned, number: u32, spot: Key)
+    requires number { number < length index.old.owners }
+    requires spot { spot.process < length index.old.lists }
+    ensures { index.new ≡ given (freed index.old number) spot number }
+{
+    index.remove(number);
+    index.push(spot, number);
+}
+
+/// The number of a name that is nowhere but at this spot.
+fn find_at(places: &Places, index: &Owned, spot: Key, name: &[u8]) -> Option<u32>
+    requires in_range { spot.process < length index.now.lists }
+    requires numbers { length index.now.owners ≡ length places.now.names }
+    requires at_spot { (n : ℕ) → name_of places.now n ≡ Some name.now → owner_at index.now n ≡ Some spot }
+    ensures { MatchOption result (¬ IsNamed places.now name.now) (λ n. name_of places.now n ≡ Some name.now) }
+{
+    let mut next = index.first(spot.process);
+    'list: while let Some(number) = next {
+        if has_name(places, index, number, spot, name) {
+            return Some(number);
+        }
+        next = index.next(number);
+    }
+    None
+}
+
+/// Whether a number has this name, whose spot this is. Spots are compared first: most other names are not read.
+#[inline]
+fn has_name(places: &Places, index: &Owned, number: u32, spot: Key, name: &[u8]) -> bool
+    requires in_range { number < length index.now.owners }
+    requires numbers { length index.now.owners ≡ length places.now.names }
+    requires at_spot { name_of places.now number ≡ Some name.now → owner_at index.now number ≡ Some spot }
+    ensures { IsTrue result ↔ (name_of places.now number ≡ Some name.now) }
+{
+    index.owner(number) == Some(spot) && places.has(number, name)
+}

@@ -1,0 +1,119 @@
+//! Where the bytes of each name stand.
+ghost use Rattle.std.specs.Prelude.{◌≡◌, ◌≤◌, ◌<◌, ◌↔◌, None, Some, length, IsTrue, IfOk, option_copied};
+ghost use Rattle.mm_names.specs.Names.{nameless, name_of, with_name, IsInRange};
+
+use crate::NamesConfig;
+use std::alloc::{AllocError, Global};
+use std::marker::Model;
+
+/// By number: a name, or none. Each number has a place for as many bytes as a name may have, in one array of all bytes.
+#[derive(Debug, Drop)]
+pub(crate) struct Places {
+    bytes: Vec<u8>,
+    /// By number: the length of its name, which stands first in its place; `None` where it has no name.
+    lengths: Vec<Option<u16>>,
+    name_bytes: u32,
+}
+
+impl Model for Places {
+    ghost use Rattle.mm_names.specs.Names.{NameTable};
+    ghost use Rattle.mm_names.specs.private.Places.{seen, ArePlaced};
+
+    ghost Value = { NameTable };
+
+    ghost view = { λ p. seen p.name_bytes p.lengths.items p.bytes.items };
+
+    ghost invariant = { λ p. ArePlaced p.name_bytes p.lengths.items p.bytes.items };
+}
+
+impl Places {
+    /// This many numbers without a name, in `O(numbers * name_bytes)`. It takes memory twice, and no later call takes any.
+    ///
+    /// `Err` only where that memory is refused.
+    pub(crate) fn new(alloc: Global, numbers: u32, name_bytes: u32) -> Result<Places, AllocError>
+        requires some_numbers { 1 ≤ numbers }
+        requires few_numbers { numbers ≤ NamesConfig.MOST_NAMES }
+        requires some_bytes { 1 ≤ name_bytes }
+        requires few_bytes { name_bytes ≤ NamesConfig.MOST_NAME_BYTES }
+        ensures { IfOk result (λ places. places ≡ nameless numbers name_bytes) }
+    {
+        let mut lengths = Vec::with_capacity(alloc, numbers as usize)?;
+        'lengths: for _ in 0..numbers {
+            lengths.push_reserved(None);
+        }
+        let bytes = vec![in alloc; 0; numbers as usize * name_bytes as usize]?;
+        Ok(Places {
+            bytes,
+            lengths,
+            name_bytes,
+        })
+    }
+
+    /// How many numbers there are, in constant time.
+    #[inline]
+    pub(crate) fn numbers(&self) -> u32
+        ensures { result ≡ length self.now.names }
+    {
+        self.lengths.len() as u32
+    }
+
+    /// How many bytes a name may have, in constant time.
+    #[inline]
+    pub(crate) fn name_bytes(&self) -> u32
+        ensures { result ≡ self.now.name_bytes }
+    {
+        self.name_bytes
+    }
+
+    /// The name of a number, in constant time.
+    #[inline]
+    pub(crate) fn get(&self, number: u32) -> Option<&[u8]>
+        requires { number < length self.now.names }
+        ensures { option_copied result ≡ name_of self.now number }
+    {
+        let length = self.lengths[number as usize]?;
+        let start = number as usize * self.name_bytes as usize;
+        Some(&self.bytes[start..start + length as usize])
+    }
+
+    /// Whether a number has this name, in `O(length)`.
+    #[inline]
+    pub(crate) fn has(&self, number: u32, name: &[u8]) -> bool
+        requires { number < length self.now.names }
+        ensures { IsTrue result ↔ (name_of self.now number ≡ Some name.now) }
+    {
+        match self.get(number) {
+            None => false,
+            Some(other) => other == name,
+        }
+    }
+
+    /// Gives a number this name, in `O(length)`.
+    #[inline]
+    pub(crate) fn put(&mut self, number: u32, name: &[u8])
+        requires in_range { number < length self.old.names }
+        requires some { 1 ≤ length name.now }
+        requires short { length name.now ≤ self.old.name_bytes }
+        ensures { self.new ≡ with_name self.old number (Some name.now) }
+    {
+        let start = number as usize * self.name_bytes as usize;
+        self.bytes[start..start + name.len()].copy_from_slice(name);
+        self.lengths[number as usize] = Some(name.len() as u16);
+    }
+
+    /// Takes its name from a number, in constant time.
+    #[inline]
+    pub(crate) fn clear(&mut self, number: u32)
+        requires { number < length self.old.names }
+        ensures { self.new ≡ with_name self.old number None }
+    {
+        self.lengths[number as usize] = None;
+    }
+    /// Does nothing. Its contract is what holds of any places.
+    #[inline]
+    pub(crate) fn keep_range(&self)
+        ensures { IsInRange self.now }
+    {
+        let _ = &self.name_bytes;
+    }
+}

@@ -1,0 +1,64 @@
+//! Where the number of a name stands, by the hash of the name.
+ghost use Rattle.std.specs.Prelude.{◌≡◌, ◌*◌, ◌<◌, ◌≤◌};
+ghost use Rattle.mm_names.specs.declared.config.TheConstants.NamesConfig.{MOST_NAMES};
+ghost use Rattle.mm_names.specs.declared.spots.TheConstants.{LISTS_A_NAME};
+
+use mm_arena::Key;
+use std::hash::{DefaultHasher, Hasher};
+
+/// How many lists there are for each name that there can be. With more of them fewer names share one.
+const LISTS_A_NAME: u32 = 2;
+
+/// The spots of names. A spot is a key: its process is one of the lists in which numbers stand, and its generation a part of the hash
+/// that tells names of one list apart.
+#[derive(Clone, Copy)]
+pub(crate) struct Spots {
+    /// What comes of the seed. The hash of a name goes on from here.
+    hasher: DefaultHasher,
+    lists: u32,
+    ghost some_lists: { 1 ≤ lists },
+    ghost few_lists: { lists ≤ LISTS_A_NAME * MOST_NAMES },
+}
+
+impl Spots {
+    ghost use Rattle.mm_names.specs.private.Spots.{spot_of, free_spot};
+
+    /// Spots for this many names, by SipHash-1-3 after the seed.
+    pub(crate) fn new(seed: u64, names: u32) -> Spots
+        requires some_names { 1 ≤ names }
+        requires few_names { names ≤ MOST_NAMES }
+    {
+        let mut hasher = DefaultHasher::new();
+        hasher.write_u64(seed);
+        Spots {
+            hasher,
+            lists: LISTS_A_NAME * names,
+        }
+    }
+
+    /// The spot of a name, in `O(length)`.
+    #[inline]
+    pub(crate) fn of(&self, name: &[u8]) -> Key
+        ensures spot { result ≡ spot_of self.now name.now }
+        ensures in_range { result.process < self.now.lists }
+    {
+        let mut hasher = self.hasher;
+        hasher.write(name);
+        let hash = hasher.finish();
+        Key {
+            process: ((hash >> 32) * self.lists as u64 >> 32) as u32,
+            generation: (hash % (1 << 32)) as u32,
+        }
+    }
+
+    /// The spot of the numbers without a name, whose list no name has.
+    #[inline]
+    pub(crate) fn free(&self) -> Key
+        ensures { result ≡ free_spot self.now }
+    {
+        Key {
+            process: self.lists,
+            generation: 0,
+        }
+    }
+}

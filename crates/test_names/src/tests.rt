@@ -1,0 +1,256 @@
+//! `names`: the happy path of each call, refusals, and a million calls by chance against maps.
+ghost use Rattle.std.specs.Prelude.{◌≤◌};
+
+use mm_names::{Names, NamesConfig, NamesError, OpenError};
+use std::alloc::{AllocError, Global};
+use std::collections::{BTreeMap, HashMap};
+use std::process::Abort;
+use std::test::Fail;
+use test_support::same;
+
+const CONFIG: NamesConfig = NamesConfig {
+    names: 20,
+    name_bytes: 4,
+    seed: 7,
+};
+
+/// A call of a test, and what it is to answer.
+enum Call {
+    Intern(&'static [u8], Result<u32, NamesError>),
+    Find(&'static [u8], Option<u32>),
+    Name(u32, Option<&'static [u8]>),
+    Forget(u32, bool),
+    Len(u32),
+}
+
+/// Names of which one is the head of another, in a table for three.
+const CALLS: [Call; 22] = [
+    Call::Len(0),
+    Call::Intern(b"a", Ok(0)),
+    Call::Intern(b"ab", Ok(1)),
+    Call::Intern(b"a", Ok(0)),
+    Call::Find(b"ab", Some(1)),
+    Call::Find(b"b", None),
+    Call::Find(b"", None),
+    Call::Intern(b"", Err(NamesError::Empty)),
+    Call::Intern(b"abcd", Ok(2)),
+    Call::Intern(b"abcde", Err(NamesError::TooLong)),
+    Call::Intern(b"abc", Err(NamesError::Full)),
+    Call::Intern(b"ab", Ok(1)),
+    Call::Len(3),
+    Call::Name(1, Some(b"ab")),
+    Call::Forget(1, true),
+    Call::Forget(1, false),
+    Call::Name(1, None),
+    Call::Find(b"ab", None),
+    Call::Intern(b"abc", Ok(1)),
+    Call::Name(1, Some(b"abc")),
+    Call::Name(3, None),
+    Call::Forget(3, false),
+];
+
+fn make(rt: &impl Abort, names: &mut Names, call: &Call) {
+    match call {
+        Call::Intern(name, expected) => same(rt, names.intern(*name), *expected),
+        Call::Find(name, expected) => same(rt, names.find(*name), *expected),
+        Call::Name(number, expected) => same(rt, names.name(*number), *expected),
+        Call::Forget(number, expected) => same(rt, names.forget(*number), *expected),
+        Call::Len(expected) => same(rt, names.len(), *expected),
+    }
+}
+
+#[test]
+fn answers_each_call(rt: HostRuntime) -> Result<(), Fail> {
+    let mut names = Names::open(rt.alloc(), NamesConfig { names: 3, ..CONFIG })?;
+    for call in &CALLS {
+        make(&rt, &mut names, call);
+    }
+    same(&rt, names.capacity(), 3);
+    same(&rt, names.is_empty(), false);
+    Ok(())
+}
+
+/// Why there are no names of this configuration.
+fn refusal(alloc: Global, config: NamesConfig) -> Option<OpenError> {
+    Names::open(alloc, config).err()
+}
+
+#[test]
+fn opens_in_range(rt: HostRuntime) -> Result<(), Fail> {
+    let alloc = rt.alloc();
+    same(
+        &rt,
+        refusal(alloc, NamesConfig { names: 0, ..CONFIG }),
+        Some(OpenError::Names),
+    );
+    same(
+        &rt,
+        refusal(
+            alloc,
+            NamesConfig {
+                names: 65_537,
+                ..CONFIG
+            },
+        ),
+        Some(OpenError::Names),
+    );
+    same(
+        &rt,
+        refusal(
+            alloc,
+            NamesConfig {
+                name_bytes: 0,
+                ..CONFIG
+            },
+        ),
+        Some(OpenError::NameBytes),
+    );
+    same(
+        &rt,
+        refusal(
+            alloc,
+            NamesConfig {
+                name_bytes: 1_025,
+                ..CONFIG
+            },
+        ),
+        Some(OpenError::NameBytes),
+    );
+    let widest = NamesConfig {
+        names: 65_536,
+        name_bytes: 1_024,
+        seed: 0,
+    };
+    same(&rt, refusal(alloc, widest), None);
+    Ok(())
+}
+
+/// What the names are to be, by maps of std.
+#[derive(Drop)]
+struct Maps {
+    numbers: HashMap<Vec<u8>, u32>,
+    names: BTreeMap<u32, Vec<u8>>,
+}
+
+impl Maps {
+    fn add(&mut self, alloc: Global, name: &[u8], number: u32) -> Result<(), AllocError> {
+        self.numbers.insert(Vec::from_slice(alloc, name)?, number)?;
+        self.names.insert(number, Vec::from_slice(alloc, name)?)?;
+        Ok(())
+    }
+}
+
+/// A name is interned: one that the maps have has their number, another one a number that they lack, and is added to them.
+fn intern(
+    rt: &impl Abort,
+    alloc: Global,
+    names: &mut Names,
+    maps: &mut Maps,
+    name: &[u8],
+) -> Result<(), AllocError> {
+    let known = maps.numbers.get(name).copied();
+    match names.intern(name) {
+        Err(NamesError::Empty) => same(rt, name.len(), 0),
+        Err(NamesError::TooLong) => same(rt, name.len() > CONFIG.name_bytes as usize, true),
+        Err(NamesError::Full) => same(rt, (known, maps.names.len()), (None, CONFIG.names as usize)),
+        Ok(number) => match known {
+            Some(known) => same(rt, number, known),
+            None => {
+                same(
+                    rt,
+                    number < CONFIG.names && !maps.names.contains_key(&number),
+                    true,
+                );
+                maps.add(alloc, name, number)?;
+            }
+        },
+    }
+    Ok(())
+}
+
+/// A name is forgotten, which the maps then lack.
+fn forget(rt: &impl Abort, names: &mut Names, maps: &mut Maps, number: u32) {
+    let name = maps.names.remove(&number);
+    same(rt, names.forget(number), name.is_some());
+    if let Some(name) = name {
+        maps.numbers.remove(name.as_slice());
+    }
+}
+
+/// A name is looked up, and so is a number.
+fn look(rt: &impl Abort, names: &Names, maps: &Maps, name: &[u8], number: u32) {
+    same(rt, names.find(name), maps.numbers.get(name).copied());
+    same(
+        rt,
+        names.name(number),
+        maps.names.get(&number).map(|name| name.as_slice()),
+    );
+    same(rt, names.len() as usize, maps.names.len());
+}
+
+/// All names are those of the maps, in the order of numbers.
+fn look_at_all(rt: &impl Abort, names: &Names, maps: &Maps) {
+    let mut left = names.iter();
+    for (number, name) in &maps.names {
+        same(rt, left.next(), Some((*number, name.as_slice())));
+    }
+    same(rt, left.next(), None);
+}
+
+/// The next number of a sequence that looks like chance.
+fn next_number(number: u32) -> u32 {
+    let number = number ^ number << 13;
+    let number = number ^ number >> 17;
+    number ^ number << 5
+}
+
+/// A call by this number: of up to five bytes, each of them 0 or 255. There are more such names than there is room for.
+fn call_by_chance(
+    rt: &impl Abort,
+    alloc: Global,
+    names: &mut Names,
+    maps: &mut Maps,
+    chance: u32,
+) -> Result<(), AllocError> {
+    let mut bytes = [0u8; 5];
+    for (place, byte) in bytes.iter_mut().enumerate() {
+        *byte = if chance >> place & 1 == 0 { 0 } else { 255 };
+    }
+    let name = &bytes[..(chance >> 8) as usize % 6];
+    let number = (chance >> 16) % (CONFIG.names + 2);
+    match (chance >> 28) % 4 {
+        0 => forget(rt, names, maps, number),
+        1 => look(rt, names, maps, name, number),
+        _ => intern(rt, alloc, names, maps, name)?,
+    }
+    Ok(())
+}
+
+#[test]
+fn answers_as_maps_do(rt: HostRuntime) -> Result<(), Fail> {
+    let alloc = rt.alloc();
+    let mut names = Names::open(alloc, CONFIG)?;
+    let mut maps = Maps {
+        numbers: HashMap::new(alloc),
+        names: BTreeMap::new(alloc),
+    };
+    answer_as_maps(&rt, alloc, &mut names, &mut maps)?;
+    Ok(())
+}
+
+fn answer_as_maps(
+    rt: &impl Abort,
+    alloc: Global,
+    names: &mut Names,
+    maps: &mut Maps,
+) -> Result<(), AllocError> {
+    let mut chance = 1;
+    for call in 0..1_000_000 {
+        chance = next_number(chance);
+        call_by_chance(rt, alloc, names, maps, chance)?;
+        if call % 1_000 == 0 {
+            look_at_all(rt, names, maps);
+        }
+    }
+    Ok(())
+}
