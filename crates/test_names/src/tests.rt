@@ -1,12 +1,14 @@
 //! `names`: the happy path of each call, refusals, and a million calls by chance against maps.
 ghost use Rattle.std.specs.Prelude.{◌≤◌};
 
+mod same;
+
+use crate::tests::same::same;
 use mm_names::{Names, NamesConfig, NamesError, OpenError};
 use std::alloc::{AllocError, Global};
 use std::collections::{BTreeMap, HashMap};
 use std::process::Abort;
 use std::test::Fail;
-use test_support::same;
 
 const CONFIG: NamesConfig = NamesConfig {
     names: 20,

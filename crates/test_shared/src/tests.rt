@@ -2,5 +2,6 @@
 
 mod board;
 mod rows;
+mod same;
 mod shared;
 mod watch;

@@ -6,6 +6,7 @@ mod links;
 mod marks;
 mod owned;
 mod queue;
+mod same;
 mod shelf;
 mod table;
 mod wake;

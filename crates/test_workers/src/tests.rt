@@ -16,6 +16,7 @@ mod gates;
 mod lines;
 mod open_gate;
 mod recorder;
+mod same;
 mod script;
 mod scripted;
 mod storms;

@@ -1,10 +1,11 @@
 //! The worked scripts, answered as scripts.
 
+use crate::tests::same::same;
 use mm_script::run_script;
 use std::alloc::Global;
 use std::process::Abort;
 use std::test::Fail;
-use test_support::{ROWS, Row, same};
+use test_support::{ROWS, Row};
 
 /// Ends the test unless the script has its replies, and meets no fault.
 pub fn is_answered(rt: &impl Abort, alloc: Global, row: &Row) {

@@ -8,11 +8,11 @@ mod examples;
 mod malformed;
 mod storms;
 
+use crate::tests::same::same;
 use mm_workload::{Config, WorkStep, Workload};
 use std::alloc::Global;
 use std::process::Abort;
 use std::test::Fail;
-use test_support::same;
 
 /// Two clients that acquire two resources crosswise.
 const CROSSWISE: &str =

@@ -2,13 +2,14 @@ ghost use Rattle.std.specs.Prelude.{◌≡◌, ◌<◌, ◌≤◌, ◌^◌};
 ghost use Rattle.mm_label.specs.Label.{opening_label};
 ghost use Rattle.mm_board.specs.Views.{processes_of, current_label};
 
+use crate::tests::same::same;
 use mm_board::{Board, Name, Publisher, RawBoard, Reader, Waiter};
 use mm_label::{COUNTER_RANGE, Label};
 use std::marker::Brand;
 use std::process::Abort;
 use std::test::Fail;
 use std::thread::{Threads, join};
-use test_support::{label, same};
+use test_support::label;
 
 // The example of README.md.
 #[test]

@@ -3,6 +3,7 @@ ghost use Rattle.std.specs.Prelude.{◌≡◌};
 
 mod call;
 
+use crate::tests::same::same;
 use call::{Answer, Call, call_of, config_of};
 use mm_shared::{Config, Name, Pass, Prepared, Report, SharedTable};
 use mm_table::{Table, Totals};
@@ -12,7 +13,7 @@ use std::process::Abort;
 use std::sync::Wait;
 use std::sync::ledger::Ledger;
 use std::test::Fail;
-use test_support::{ROWS, Row, same};
+use test_support::{ROWS, Row};
 
 /// Ends the test unless each process has the same tenant in both tables.
 fn have_the_same_tenants<N: Name, A: Ledger, V: Ledger, B: Ledger, R: Wait + Abort>(

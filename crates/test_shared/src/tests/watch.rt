@@ -1,6 +1,7 @@
+use crate::tests::same::same;
 use example_calls::{Watched, watch_labels};
 use std::test::Fail;
-use test_support::{label, same};
+use test_support::label;
 
 // The example of README.md. What the first reader sees is no more than a label that stood there, so its contract leaves open which.
 #[test]

@@ -1,11 +1,11 @@
 ghost use Rattle.std.specs.Prelude.{◌≡◌, ◌≢◌, ◌+◌, Some, IfOk, OnOk};
 ghost use Rattle.mm_arena.specs.Slots.{lookup, live_count};
 
+use crate::tests::same::same;
 use mm_arena::{Arena, Key, MAX_CAPACITY, Memory};
 use std::alloc::{AllocError, Global};
 use std::process::Abort;
 use std::test::Fail;
-use test_support::same;
 
 // What a caller knows of two inserts.
 fn store_pair(arena: &mut Arena<u32>, a: u32, b: u32) -> Result<(Key, Key), u32>

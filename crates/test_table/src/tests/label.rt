@@ -1,9 +1,9 @@
 ghost use Rattle.std.specs.Prelude.{IsTrue, IfSome, ◌<◌, ◌≡◌};
 ghost use Rattle.mm_label.specs.Label.{counter_range, process_range, label_le, label_lt};
 
+use crate::tests::same::same;
 use mm_label::{Label, fresh};
 use std::test::Fail;
-use test_support::same;
 
 // What a caller knows of a comparison: the caller of README.md.
 fn greater(a: Label, b: Label) -> Label

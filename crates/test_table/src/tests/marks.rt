@@ -1,9 +1,9 @@
 ghost use Rattle.std.specs.Prelude.{◌≡◌, ◌≤◌, length, vec_capacity};
 
+use crate::tests::same::same;
 use mm_marks::Marks;
 use std::process::Abort;
 use std::test::Fail;
-use test_support::same;
 
 // The example of README.md.
 #[test]

@@ -2,11 +2,11 @@ ghost use Rattle.std.specs.Prelude.{◌≡◌, ◌<◌, ◌↔◌, length, IsTru
 ghost use Rattle.mm_lists.specs.Members.{Among};
 ghost use Rattle.mm_owned.specs.Owned.{list_at, unowned};
 
+use crate::tests::same::same;
 use mm_arena::Key;
 use mm_owned::Owned;
 use std::process::Abort;
 use std::test::Fail;
-use test_support::same;
 
 const EARLIER: Key = Key {
     process: 1,

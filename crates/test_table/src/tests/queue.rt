@@ -1,10 +1,10 @@
 ghost use Rattle.std.specs.Prelude.{◌≡◌, ◌<◌, length};
 
+use crate::tests::same::same;
 use mm_arena::Key;
 use mm_queue::Lists;
 use std::process::Abort;
 use std::test::Fail;
-use test_support::same;
 
 fn key(process: u32, generation: u32) -> Key
     ensures { result ≡ record { process = process; generation = generation } }

@@ -1,9 +1,9 @@
 pub mod steps;
 
+use crate::tests::same::same;
 use mm_table::{Acquired, Config, Detected, Key, Mode, Refusal, Settled, Table, Totals};
 use std::test::Fail;
 use steps::{Named, Step, answers};
-use test_support::same;
 
 /// The first transaction of each process.
 const FIRST: [Key; 4] = [P0, P1, P2, P3];

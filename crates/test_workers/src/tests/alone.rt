@@ -1,6 +1,7 @@
 //! One client on a table that nobody shares. Expected ends and totals are counted by hand, from the rules of docs/WORKLOADS.md.
 
 use crate::tests::open_gate::OpenGate;
+use crate::tests::same::same;
 use mm_shared::{Config, Key};
 use mm_table::{Table, Totals};
 use mm_workers::{Client, End};
@@ -9,7 +10,6 @@ use std::alloc::{AllocError, Global};
 use std::cell::Cell;
 use std::process::Abort;
 use std::test::Fail;
-use test_support::same;
 
 /// What a client is to do, and what comes of it.
 struct Case {

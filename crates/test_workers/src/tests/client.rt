@@ -4,6 +4,7 @@
 mod refused;
 mod waits;
 
+use crate::tests::same::same;
 use crate::tests::script::{Answer, Call, Script};
 use crate::tests::scripted::{ScriptedGate, ScriptedSteps};
 use mm_shared::Refusal;
@@ -12,7 +13,6 @@ use mm_workload::WorkStep;
 use std::alloc::{AllocError, Global};
 use std::process::Abort;
 use std::test::Fail;
-use test_support::same;
 
 /// A client's work and turns, the calls that it makes with their answers, and its end.
 pub struct Case {

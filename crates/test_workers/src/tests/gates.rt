@@ -1,12 +1,12 @@
 //! What workers ask of their gates, and what a run reports.
 
+use crate::tests::same::same;
 use mm_workers::{Gate, run_threads, shared_gates};
 use mm_workload::Workload;
 use std::sync::Arc;
 use std::sync::atomic::AtomicU32;
 use std::sync::atomic::Ordering::SeqCst;
 use std::test::Fail;
-use test_support::same;
 
 #[test]
 fn gates_are_over_once_all_clients_have_left(rt: HostRuntime) -> Result<(), Fail> {

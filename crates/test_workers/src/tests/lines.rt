@@ -1,8 +1,8 @@
 //! The two lines that say what came of a workload, with six different numbers.
 
+use crate::tests::same::same;
 use mm_workers::{End, Outcome, Report};
 use std::test::Fail;
-use test_support::same;
 
 const ENDS: [End; 10] = [
     End::Refused(7),

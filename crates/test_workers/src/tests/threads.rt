@@ -1,5 +1,6 @@
 //! Workloads by threads, each with one outcome whatever the threads do.
 
+use crate::tests::same::same;
 use crate::tests::watch::{ended, watched};
 use mm_shared::Refusal;
 use mm_workers::Counts;
@@ -9,7 +10,6 @@ use std::process::Abort;
 use std::sync::Wait;
 use std::test::Fail;
 use std::thread::Threads;
-use test_support::same;
 
 /// Two clients that meet with a resource each, and ask for the other's.
 const CROSSWISE: &str =

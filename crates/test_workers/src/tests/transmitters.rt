@@ -5,6 +5,7 @@ ghost use Rattle.std.specs.Prelude.{◌≡◌};
 use crate::tests::fake::Fake;
 use crate::tests::open_gate::OpenGate;
 use crate::tests::recorder::{Call, Recorder};
+use crate::tests::same::same;
 use mm_shared::{Config, Detected, Key, Name, Pass, Prepared, Refusal, SharedTable, Transmitted};
 use mm_table::{Table, Totals};
 use mm_workers::{Desk, Hint, HintKind, Report, Steps, Transmitter};
@@ -15,7 +16,7 @@ use std::process::Abort;
 use std::sync::Wait;
 use std::sync::ledger::Ledger;
 use std::test::Fail;
-use test_support::{label, same};
+use test_support::label;
 
 /// The configuration of the tables: four processes and four resources.
 const FOUR: Config = Config {

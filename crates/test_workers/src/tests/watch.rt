@@ -1,5 +1,6 @@
 //! A run of a workload, with a look at its gate.
 
+use crate::tests::same::same;
 use mm_shared::{Refusal, Report};
 use mm_workers::{Counts, End, Outcome, run_threads, shared_gates};
 use mm_workload::{WorkFault, Workload};
@@ -7,7 +8,6 @@ use std::alloc::Global;
 use std::process::Abort;
 use std::sync::Wait;
 use std::thread::Threads;
-use test_support::same;
 
 /// Runs a workload, and returns what came of it and what its gates have counted: a gate is made for one more worker, and looks.
 pub fn watched<R: Threads + Wait + Sync>(

@@ -1,11 +1,11 @@
 //! A reader and a writer that fail at a chosen call, what comes of a script of each, and a reader of newlines.
 
+use crate::tests::same::same;
 use mm_script::{ScriptFault, run_script};
 use std::alloc::Global;
 use std::io;
 use std::io::{ErrorKind, Read, Write};
 use std::process::Abort;
-use test_support::same;
 
 /// Gives its bytes in pieces, and fails once, after some calls.
 #[derive(Drop)]

@@ -1,8 +1,8 @@
 //! The files of examples/workloads, as they stand there.
 
+use crate::tests::same::same;
 use mm_workload::Workload;
 use std::test::Fail;
-use test_support::same;
 
 const CROSSWISE: &str = r#"{
   "processes": 2,

@@ -1,12 +1,12 @@
 //! Texts that are no workload, most of them made from one that is by one change, and where and why a person is told that they are
 //! malformed. No clause says which place is told.
 
+use crate::tests::same::same;
 use crate::tests::workload::{CROSSWISE, changed, with_clients, with_nested_arrays};
 use mm_workload::Workload;
 use std::alloc::Global;
 use std::process::Abort;
 use std::test::Fail;
-use test_support::same;
 
 /// The first client's second step.
 const SECOND_STEP: &str = r#"["meet",2]"#;

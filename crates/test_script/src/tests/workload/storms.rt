@@ -1,10 +1,10 @@
 //! Workloads from a seed.
 
+use crate::tests::same::same;
 use mm_workload::{Config, WorkFault, WorkStep, Workload, storm};
 use std::alloc::Global;
 use std::process::Abort;
 use std::test::Fail;
-use test_support::same;
 
 /// What the clients of storms acquire, by seed: as tests/storm_table computes it from the published algorithm of the generator.
 const ACQUIRED: [(u64, [&[u32]; 4]); 5] = [

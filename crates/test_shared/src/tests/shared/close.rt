@@ -1,6 +1,7 @@
 //! The end of a shared table, and the calls that take no lock.
 ghost use Rattle.std.specs.Prelude.{◌≡◌};
 
+use crate::tests::same::same;
 use crate::tests::shared::config;
 use mm_shared::{CloseRefused, Name, Pass, Prepared, Refusal, Report, SharedTable};
 use std::alloc::{AllocError, Global};
@@ -10,7 +11,6 @@ use std::process::Abort;
 use std::sync::Wait;
 use std::sync::ledger::Ledger;
 use std::test::Fail;
-use test_support::same;
 
 /// The report of a table that accepted so many calls, no verdict or abort among them.
 fn accepted(calls: u64) -> Report {

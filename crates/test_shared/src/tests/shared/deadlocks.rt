@@ -1,6 +1,7 @@
 //! Threads that make deadlocks and break them.
 ghost use Rattle.std.specs.Prelude.{◌≡◌};
 
+use crate::tests::same::same;
 use crate::tests::shared::config;
 use crate::tests::shared::worker::{NOTHING, Worker};
 use mm_shared::{Name, Pass, Prepared, Report, SharedTable};
@@ -11,7 +12,6 @@ use std::sync::Wait;
 use std::sync::ledger::Ledger;
 use std::test::Fail;
 use std::thread::{Threads, map_vec};
-use test_support::same;
 
 /// How many threads there are. Each two of them make deadlocks with each other.
 const THREADS: u32 = 8;

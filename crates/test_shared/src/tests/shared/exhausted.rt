@@ -7,6 +7,7 @@ ghost use Rattle.std.specs.Prelude.{◌≡◌};
 mod after;
 mod spender;
 
+use crate::tests::same::same;
 use after::After;
 use mm_shared::{Config, Name, Pass, Prepared, SharedTable};
 use spender::Spender;
@@ -18,7 +19,6 @@ use std::sync::atomic::AtomicBool;
 use std::sync::ledger::Ledger;
 use std::test::Fail;
 use std::thread::{Threads, map_vec};
-use test_support::same;
 
 /// How many threads there are.
 const THREADS: u32 = 8;

@@ -1,6 +1,7 @@
 //! A thread that reads all labels again and again, without the lock, while others make deadlocks and break them.
 ghost use Rattle.std.specs.Prelude.{◌≡◌};
 
+use crate::tests::same::same;
 use crate::tests::shared::config;
 use crate::tests::shared::worker::{NOTHING, Worker};
 use mm_label::Label;
@@ -15,7 +16,6 @@ use std::sync::ledger::Ledger;
 use std::test::Fail;
 use std::thread;
 use std::thread::{Threads, join, map_vec};
-use test_support::same;
 
 /// How many pairs of threads there are. The two of a pair make deadlocks with each other.
 const PAIRS: u32 = 3;

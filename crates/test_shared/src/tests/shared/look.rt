@@ -1,6 +1,7 @@
 //! What is read on the board of a shared table, without its lock.
 ghost use Rattle.std.specs.Prelude.{◌≡◌};
 
+use crate::tests::same::same;
 use crate::tests::shared::config;
 use mm_label::Label;
 use mm_shared::{
@@ -12,7 +13,7 @@ use std::process::Abort;
 use std::sync::Wait;
 use std::sync::ledger::Ledger;
 use std::test::Fail;
-use test_support::{label, same};
+use test_support::label;
 
 /// The label of a process on the board; `None` where it is not one of the table's. It has no handle, so it may not wait.
 fn peeked<N: Name, A: Ledger, V: Ledger, B: Ledger>(

@@ -1,6 +1,7 @@
 //! A key that a thread keeps after its transaction has ended.
 ghost use Rattle.std.specs.Prelude.{◌≡◌};
 
+use crate::tests::same::same;
 use crate::tests::shared::config;
 use mm_shared::{Key, Name, Pass, Prepared, Refusal, Report, SharedTable};
 use std::marker::Brand;
@@ -10,7 +11,6 @@ use std::sync::ledger::Ledger;
 use std::test::Fail;
 use std::thread;
 use std::thread::{Threads, join};
-use test_support::same;
 
 /// How many processes there are.
 const PROCESSES: u32 = 2;

@@ -1,6 +1,7 @@
 //! Threads that use up all slots of a table.
 ghost use Rattle.std.specs.Prelude.{◌≡◌};
 
+use crate::tests::same::same;
 use mm_shared::{Config, Name, Pass, Prepared, Refusal, Report, SharedTable};
 use std::alloc::{AllocError, Global};
 use std::marker::Brand;
@@ -10,7 +11,6 @@ use std::sync::ledger::Ledger;
 use std::test::Fail;
 use std::thread;
 use std::thread::{Threads, map_vec};
-use test_support::same;
 
 /// How many threads there are: more than processes, so one may find no free slot while the others use them.
 const THREADS: u32 = 8;

@@ -1,6 +1,7 @@
 //! Two threads, each with a pass.
 ghost use Rattle.std.specs.Prelude.{◌≡◌};
 
+use crate::tests::same::same;
 use mm_shared::{CloseRefused, Config, Name, Pass, Prepared, Report, SharedTable};
 use std::marker::Brand;
 use std::process::Abort;
@@ -8,7 +9,6 @@ use std::sync::Wait;
 use std::sync::ledger::Ledger;
 use std::test::Fail;
 use std::thread::{Threads, join};
-use test_support::same;
 
 /// Begins and finishes a transaction a thousand times.
 fn begin_and_finish<N: Name, A: Ledger, V: Ledger, B: Ledger, R: Wait>(

@@ -1,6 +1,7 @@
 //! Calls on a table, each with its answer.
 
 use super::{fill, make_ring, make_three_wait};
+use crate::tests::same::same;
 use example_calls::abort_and_wake;
 use mm_table::{
     Acquired, Config, Detected, Key, Label, Mode, Refusal, Settled, State, Table, Totals,
@@ -8,7 +9,6 @@ use mm_table::{
 };
 use std::alloc::{AllocError, Global};
 use std::process::Abort;
-use test_support::same;
 
 /// A label: its counter and its process.
 #[derive(Clone, Copy)]

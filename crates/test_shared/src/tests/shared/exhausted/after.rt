@@ -1,5 +1,6 @@
 //! What a table does once its labels are used up.
 
+use crate::tests::same::same;
 use crate::tests::shared::exhausted::RESOURCES;
 use crate::tests::shared::exhausted::spender::Spender;
 use crate::tests::shared::worker::NOTHING;
@@ -8,7 +9,6 @@ use std::alloc::{AllocError, Global};
 use std::process::Abort;
 use std::sync::Wait;
 use std::sync::ledger::Ledger;
-use test_support::same;
 
 /// What is to be seen of a process.
 type Process = (Option<Key>, Result<State, Refusal>);

@@ -1,5 +1,6 @@
 //! A thread that makes waits and deadlocks until the labels are used up.
 
+use crate::tests::same::same;
 use crate::tests::shared::exhausted::RESOURCES;
 use crate::tests::shared::worker::NOTHING;
 use mm_shared::{Acquired, Detected, Key, Mode, Name, Pass, Refusal, Report, SharedTable, State};
@@ -9,7 +10,6 @@ use std::sync::atomic::AtomicBool;
 use std::sync::atomic::Ordering::SeqCst;
 use std::sync::ledger::Ledger;
 use std::thread;
-use test_support::same;
 
 /// A thread's number, its pass, and how many of its calls were accepted, gave a verdict, were accepted aborts, or were refused.
 #[derive(Drop)]
