@@ -1,4 +1,4 @@
-"""Runs the program of bench/calls.rs several times, and prints what a call takes: of each line the median of the runs."""
+"""Runs the programs of bench/calls.rs and bench/names.rs several times, and prints what a call takes: of each line the median of the runs."""
 
 import os
 import statistics
@@ -6,12 +6,14 @@ import subprocess
 
 HERE = os.path.dirname(os.path.abspath(__file__))
 TURNS = 5
+# The lines of names have Rust's HashMap in the place of the plain table, and no reference.
+PROGRAMS = ("calls", "names")
 TABLES = ("proved", "plain", "reference")
 
 
-def lines():
+def lines(program):
     """The lines of one run: name, size and unit, and the cost of each table."""
-    run = subprocess.run([os.path.join(HERE, "out", "calls")], capture_output=True, text=True, check=True)
+    run = subprocess.run([os.path.join(HERE, "out", program)], capture_output=True, text=True, check=True)
     for line in run.stdout.splitlines():
         name, size, unit, *costs = line.split("\t")
         yield (name, int(size), unit), [float(cost) for cost in costs]
@@ -20,9 +22,10 @@ def lines():
 def main():
     """Prints a table."""
     taken = {}
-    for _ in range(TURNS):
-        for workload, costs in lines():
-            taken.setdefault(workload, []).append(costs)
+    for program in PROGRAMS:
+        for _ in range(TURNS):
+            for workload, costs in lines(program):
+                taken.setdefault(workload, []).append(costs)
     print("%-50s %6s %11s %11s %6s %11s %6s" % ("workload", "size", *TABLES[:2], "ratio", TABLES[2], "ratio"))
     for (name, size, unit), runs in taken.items():
         first, *others = map(statistics.median, zip(*runs))

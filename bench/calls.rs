@@ -187,7 +187,7 @@ fn measure_idle_settles(size: u32) {
 /// What a call through the C boundary costs by itself, which no other line has.
 fn measure_nothing() {
     let count = 500_000;
-    let least = timing::least(&|_| (0..count).fold(0, |sum, _| mm_bench_nothing(sum)));
+    let least = timing::least(&|| (0..count).fold(0, |sum, _| mm_bench_nothing(sum)));
     println!("a call through C that does nothing\t0\tcall\t{:.3}", least / count as f64);
 }
 

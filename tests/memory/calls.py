@@ -7,6 +7,7 @@ from memory.requests import all_in_turn
 CALLS = [
     ("open", "Table::open"),
     ("lists", "Table::open, and a list that is lent"),
+    ("names", "Names::open, and more names than there is room for"),
     ("prepare", "Prepared::new"),
     ("shared", "Prepared::new, and a shared table up to its close"),
     ("read", "Workload::read"),

@@ -1,18 +1,21 @@
 //! `test_memory CALL`: makes one call of the libraries that takes memory, and then calls that take none. It prints `ok`, or how it was refused.
-//! `tests/refuse_memory` runs it with each of its requests for memory refused. The calls: `none`, `open`, `lists`, `prepare`, `shared`,
-//! `read`, `storm`, `gates` and `run`. Without a word it prints nothing.
+//! `tests/refuse_memory` runs it with each of its requests for memory refused. The calls: `none`, `open`, `lists`, `names`, `prepare`,
+//! `shared`, `read`, `storm`, `gates` and `run`. Without a word it prints nothing.
 //!
 //! - `alone`: a table that nobody shares, and the lists that its callers lend.
+//! - `naming`: names.
 //! - `sharing`: a shared table, its passes and its board.
 //! - `working`: workloads, gates, and a run of all workers.
 #![tactic(auto)]
 
 mod alone;
+mod naming;
 mod sharing;
 mod working;
 
 use alone::{lists, opened};
 use mm_table::Refusal;
+use naming::named;
 use sharing::{prepared, shared};
 use std::alloc::Global;
 use std::sync::Wait;
@@ -24,6 +27,7 @@ fn answer<R: Threads + Wait + Sync>(rt: &R, alloc: Global, call: &str) -> Result
     match call {
         "open" => opened(alloc),
         "lists" => lists(alloc),
+        "names" => named(alloc),
         "prepare" => prepared(alloc),
         "shared" => shared(rt, alloc),
         "read" => read(alloc),
