@@ -2,7 +2,7 @@
 ghost use Rattle.std.specs.Prelude.{◌≡◌, map};
 ghost use Rattle.std.specs.Map.{lookup};
 ghost use Rattle.std.specs.Str.{bytes_eq};
-ghost use Rattle.mm_script.specs.Forms.{call_of};
+ghost use Rattle.mm_script.specs.Forms.{call_of, forms};
 ghost use Rattle.mm_script.specs.private.Forms.{ReadsConfig};
 ghost use Rattle.mm_script.specs.private.WordsLeft.{words_left};
 
@@ -61,6 +61,23 @@ const FORMS: [(&str, Form); 14] = [
     ("totals", Form::Alone(Call::Totals)),
 ];
 
+/// Returns the calls that a line can make, in the order of `docs/SCRIPTS.md`: each word, and what stands behind it, as in `("acquire", "K r")`.
+pub fn usages() -> [(&'static str, &'static str); 14]
+    ensures words { map (λ usage. usage.0.now) result ≡ map (λ form. form.0) forms }
+{
+    usages_of(&FORMS)
+}
+
+fn usages_of(forms: &[(&'static str, Form); 14]) -> [(&'static str, &'static str); 14]
+    ensures { map (λ usage. usage.0.now) result ≡ map (λ form. form.0.now) forms.now }
+{
+    let mut usages = [("", ""); 14];
+    for (i, &(word, form)) in forms.iter().enumerate() {
+        usages[i] = (word, form.arguments());
+    }
+    usages
+}
+
 /// The call that a word makes with these arguments.
 pub fn call_of(word: &[u8], arguments: &mut Words<'_>) -> Option<Call>
     ensures { result ≡ call_of word.now (words_left arguments.old) }
@@ -82,6 +99,17 @@ fn form_of(word: &[u8], forms: &[(&str, Form)]) -> Option<Form>
 
 impl Form {
     ghost use Rattle.mm_script.specs.private.Forms.{call_by, call_before};
+
+    /// What stands behind the word, as the pages write it.
+    fn arguments(self) -> &'static str {
+        match self {
+            Form::Table(_) => "P R L G",
+            Form::Alone(_) => "",
+            Form::Key(_) => "K",
+            Form::KeyAndResource(_) => "K r",
+            Form::Owner => "r",
+        }
+    }
 
     /// The call that is made with these arguments.
     fn call(self, arguments: &mut Words<'_>) -> Option<Call>

@@ -26,6 +26,7 @@ mod reply;
 mod words;
 
 use engine::Session;
+pub use forms::usages;
 use input::Input;
 use std::alloc::Global;
 use std::io::{Read, Write};
@@ -65,7 +66,10 @@ pub fn run_script<R: Read, W: Write>(
 {
     let mut input = Input::new();
     let mut session = Session::new(alloc);
-    answer_all(&mut input, &mut session, reader, writer)
+    let outcome = answer_all(&mut input, &mut session, reader, writer);
+    // The proof is short where the session, with its table, is dropped by a call.
+    drop(session);
+    outcome
 }
 
 /// Reads and answers a script from its first byte on.
