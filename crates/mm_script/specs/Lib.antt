@@ -1,4 +1,5 @@
 pub mod Cut
+pub mod Forms
 pub mod Line
 pub mod Lines
 pub mod Reply

@@ -1,4 +1,4 @@
-pub mod Calls
+pub mod Forms
 pub mod Input
 pub mod Prints
 pub mod Session

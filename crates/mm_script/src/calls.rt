@@ -1,6 +1,6 @@
 //! Calls of the table that stands, if one does.
 ghost use Rattle.std.specs.Prelude.{◌≡◌, None, Some};
-ghost use Rattle.mm_script.specs.Text.{OpensBy, Replies, RepliesWithNone, RepliesWithTable, most_processes};
+ghost use Rattle.mm_script.specs.Text.{OpensBy, Replies, RepliesWithNone, RepliesWithTable, most_processes, reply_to};
 
 use super::line::{Call, Header};
 use super::reply::Reply;
@@ -29,39 +29,34 @@ pub fn make(table: &mut Option<Table>, alloc: Global, call: Call) -> Reply
     }
 }
 
+/// Makes a call while a table stands.
 fn make_with_table(table: &mut Table, call: Call) -> Reply
     ensures { RepliesWithTable call table.old result (Some table.new) }
 {
+    match accepted(table, call) {
+        Ok(reply) => reply,
+        Err(refusal) => Reply::Refused(refusal),
+    }
+}
+
+/// Makes a call of a table, and returns the reply or the refusal.
+fn accepted(table: &mut Table, call: Call) -> Result<Reply, Refusal>
+    ensures { RepliesWithTable call table.old (reply_to (λ reply. reply) result) (Some table.new) }
+{
     match call {
-        Call::Table { .. } => Reply::TableStands,
-        Call::Begin => table.begin().map_or_else(Reply::Refused, Reply::Begun),
-        Call::Acquire { key, resource } => table
-            .acquire(key, resource)
-            .map_or_else(Reply::Refused, Reply::Acquired),
-        Call::Release { key, resource } => table
-            .release(key, resource)
-            .map_or_else(Reply::Refused, Reply::Released),
-        Call::Finish(key) => table
-            .finish(key)
-            .map_or_else(Reply::Refused, |()| Reply::Finished),
-        Call::Transmit(key) => table
-            .transmit(key)
-            .map_or_else(Reply::Refused, Reply::Transmitted),
-        Call::Detect(key) => table
-            .detect(key)
-            .map_or_else(Reply::Refused, Reply::Detected),
-        Call::Abort(key) => table
-            .abort(key)
-            .map_or_else(Reply::Refused, |()| Reply::Aborted),
-        Call::GiveUp(key) => table
-            .give_up(key)
-            .map_or_else(Reply::Refused, |()| Reply::Withdrawn),
-        Call::Settle => table.settle().map_or_else(Reply::Refused, Reply::Settled),
-        Call::State(key) => table.state(key).map_or_else(Reply::Refused, Reply::Read),
-        Call::Owner(resource) => table
-            .owner(resource)
-            .map_or_else(Reply::Refused, Reply::Owned),
-        Call::Totals => Reply::Counted(table.totals()),
+        Call::Table { .. } => Ok(Reply::TableStands),
+        Call::Begin => table.begin().map(Reply::Begun),
+        Call::Acquire { key, resource } => table.acquire(key, resource).map(Reply::Acquired),
+        Call::Release { key, resource } => table.release(key, resource).map(Reply::Released),
+        Call::Finish(key) => table.finish(key).map(|()| Reply::Finished),
+        Call::Transmit(key) => table.transmit(key).map(Reply::Transmitted),
+        Call::Detect(key) => table.detect(key).map(Reply::Detected),
+        Call::Abort(key) => table.abort(key).map(|()| Reply::Aborted),
+        Call::GiveUp(key) => table.give_up(key).map(|()| Reply::Withdrawn),
+        Call::Settle => table.settle().map(Reply::Settled),
+        Call::State(key) => table.state(key).map(Reply::Read),
+        Call::Owner(resource) => table.owner(resource).map(Reply::Owned),
+        Call::Totals => Ok(Reply::Counted(table.totals())),
     }
 }
 

@@ -1,6 +1,7 @@
 //! Scripts: lines that call a table, and the replies to them, from any reader to any writer. It has no threads.
 //!
-//! - `line`: what a line is, and the call that it makes. Below it, `words` cuts words and reads numbers and keys.
+//! - `line`: what a line is.
+//! - `forms`: the calls that a line can make: a word, and what stands behind it. Below it, `words` cuts words and reads numbers and keys.
 //! - `calls`: makes a call of the table that stands, if one does.
 //! - `reply`: replies, and how they are printed.
 //! - `input`: the bytes that are read and not yet answered.
@@ -17,6 +18,7 @@ ghost use Rattle.mm_script.specs.private.Input.{held, IsReady};
 mod calls;
 mod cut;
 mod engine;
+mod forms;
 mod input;
 mod line;
 mod output;
@@ -24,6 +26,7 @@ mod reply;
 mod words;
 
 use engine::Session;
+pub use forms::usages;
 use input::Input;
 use std::alloc::Global;
 use std::io::{Read, Write};
@@ -63,7 +66,10 @@ pub fn run_script<R: Read, W: Write>(
 {
     let mut input = Input::new();
     let mut session = Session::new(alloc);
-    answer_all(&mut input, &mut session, reader, writer)
+    let outcome = answer_all(&mut input, &mut session, reader, writer);
+    // The proof is short where the session, with its table, is dropped by a call.
+    drop(session);
+    outcome
 }
 
 /// Reads and answers a script from its first byte on.

@@ -13,7 +13,7 @@ use mm_table::{
 };
 
 /// The reply to a line.
-#[derive(Clone, Copy, Debug, PartialEq, Eq)]
+#[derive(Clone, Copy)]
 pub enum Reply {
     Malformed,
     NoTable,

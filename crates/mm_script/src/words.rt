@@ -13,12 +13,33 @@ pub struct Words<'a> {
 }
 
 impl<'a> Words<'a> {
-    ghost use Rattle.mm_script.specs.private.WordsLeft.{words_left};
+    ghost use Rattle.mm_script.specs.private.WordsLeft.{words_left, TakesFirst};
 
     pub fn new(line: &'a [u8]) -> Self
         ensures { words_left result ≡ words_of line.now }
     {
         Words { rest: line }
+    }
+
+    /// The number that the next word spells, if there is a word.
+    pub fn next_number64(&mut self) -> Option<u64>
+        ensures { TakesFirst (number_at_most u64.MAX) self.old result self.new }
+    {
+        number64(self.next()?)
+    }
+
+    /// The same, if it fits.
+    pub fn next_number32(&mut self) -> Option<u32>
+        ensures { TakesFirst (number_at_most u32.MAX) self.old result self.new }
+    {
+        number32(self.next()?)
+    }
+
+    /// The key that the next word spells, if there is a word.
+    pub fn next_key(&mut self) -> Option<Key>
+        ensures { TakesFirst key_of self.old result self.new }
+    {
+        key(self.next()?)
     }
 }
 
@@ -47,7 +68,7 @@ impl<'a> Iterator for Words<'a> {
 const MOST_DIGITS: usize = 20;
 
 /// The number that a word spells.
-pub fn number64(word: &[u8]) -> Option<u64>
+fn number64(word: &[u8]) -> Option<u64>
     ensures { result ≡ number_at_most u64.MAX word.now }
 {
     if word.is_empty() || word.len() > MOST_DIGITS {
@@ -66,14 +87,14 @@ pub fn number64(word: &[u8]) -> Option<u64>
 }
 
 /// The number that a word spells, if it fits.
-pub fn number32(word: &[u8]) -> Option<u32>
+fn number32(word: &[u8]) -> Option<u32>
     ensures { result ≡ number_at_most u32.MAX word.now }
 {
     u32::try_from(number64(word)?).ok()
 }
 
 /// The key that a word spells.
-pub fn key(word: &[u8]) -> Option<Key>
+fn key(word: &[u8]) -> Option<Key>
     ensures { result ≡ key_of word.now }
 {
     let (process, generation) = split_around(b'.', word);

@@ -1,0 +1,13 @@
+use Rattle.std.proofs.Common.{◌≡◌, ◌+◌, ◌≤◌, ◌<◌, length, take, refl, arith}
+use Rattle.std.proofs.lemmas.Grind.{common_steps}
+use Rattle.mm_script.specs.Script.{input_limit}
+use Rattle.mm_script.proofs.Lemmas.Input.{reads_piece}
+use Rattle.mm_script.proofs.input.Input.read.Goals as goal
+
+pub returns-in-Ok-clause-ok : goal.returns-in-Ok-clause-ok
+returns-in-Ok-clause-ok g c =
+    let n = c.in-Ok.count in
+    let few : c.args.self.now.taken + n ≤ input_limit + 1 = grind (arith, common_steps) in
+    let some : 0 < length c.read.new.buf = grind (arith, common_steps) in
+    let len : length (take n c.read.new.buf) ≡ n = grind (arith, common_steps) in
+    reads_piece _ _ _ _ (take n c.read.new.buf) n len c.in-Ok.ensures.bytes.0 (λ none. c.in-Ok.ensures.bytes.1 none some) (grind (arith, common_steps)) refl few

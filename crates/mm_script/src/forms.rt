@@ -1,0 +1,182 @@
+//! The calls that a line can make: a word, and what stands behind it.
+ghost use Rattle.std.specs.Prelude.{◌≡◌, map};
+ghost use Rattle.std.specs.Map.{lookup};
+ghost use Rattle.std.specs.Str.{bytes_eq};
+ghost use Rattle.mm_script.specs.Forms.{call_of, forms};
+ghost use Rattle.mm_script.specs.private.Forms.{ReadsConfig};
+ghost use Rattle.mm_script.specs.private.WordsLeft.{words_left};
+
+use super::line::{Call, Header};
+use super::words::Words;
+use mm_table::{Config, Key};
+
+/// What stands behind the word of a call, and the call that they make.
+#[derive(Clone, Copy)]
+pub enum Form {
+    /// `P R L G`: how many processes and resources a table has, its label limit and its generation limit.
+    Table(Header),
+    /// Nothing.
+    Alone(Call),
+    /// `K`: a key.
+    Key(KeyCall),
+    /// `K r`: a key and a resource.
+    KeyAndResource(ResourceCall),
+    /// `r`: a resource, whose owner is read.
+    Owner,
+}
+
+/// A call of a key.
+#[derive(Clone, Copy)]
+pub enum KeyCall {
+    Finish,
+    Transmit,
+    Detect,
+    Abort,
+    GiveUp,
+    State,
+}
+
+/// A call of a key and a resource.
+#[derive(Clone, Copy)]
+pub enum ResourceCall {
+    Acquire,
+    Release,
+}
+
+/// Each word that calls, with what stands behind it.
+const FORMS: [(&str, Form); 14] = [
+    ("table", Form::Table(Header::Table)),
+    ("table2", Form::Table(Header::Table2)),
+    ("begin", Form::Alone(Call::Begin)),
+    ("acquire", Form::KeyAndResource(ResourceCall::Acquire)),
+    ("release", Form::KeyAndResource(ResourceCall::Release)),
+    ("finish", Form::Key(KeyCall::Finish)),
+    ("transmit", Form::Key(KeyCall::Transmit)),
+    ("detect", Form::Key(KeyCall::Detect)),
+    ("abort", Form::Key(KeyCall::Abort)),
+    ("give_up", Form::Key(KeyCall::GiveUp)),
+    ("settle", Form::Alone(Call::Settle)),
+    ("state", Form::Key(KeyCall::State)),
+    ("owner", Form::Owner),
+    ("totals", Form::Alone(Call::Totals)),
+];
+
+/// Returns the calls that a line can make, in the order of `docs/SCRIPTS.md`: each word, and what stands behind it, as in `("acquire", "K r")`.
+pub fn usages() -> [(&'static str, &'static str); 14]
+    ensures words { map (λ usage. usage.0.now) result ≡ map (λ form. form.0) forms }
+{
+    usages_of(&FORMS)
+}
+
+fn usages_of(forms: &[(&'static str, Form); 14]) -> [(&'static str, &'static str); 14]
+    ensures { map (λ usage. usage.0.now) result ≡ map (λ form. form.0.now) forms.now }
+{
+    let mut usages = [("", ""); 14];
+    for (i, &(word, form)) in forms.iter().enumerate() {
+        usages[i] = (word, form.arguments());
+    }
+    usages
+}
+
+/// The call that a word makes with these arguments.
+pub fn call_of(word: &[u8], arguments: &mut Words<'_>) -> Option<Call>
+    ensures { result ≡ call_of word.now (words_left arguments.old) }
+{
+    form_of(word, &FORMS)?.call(arguments)
+}
+
+/// What stands behind a word, by the first of these forms that has it.
+fn form_of(word: &[u8], forms: &[(&str, Form)]) -> Option<Form>
+    ensures { result ≡ lookup (bytes_eq word.now) (map (λ form. (form.0.now, form.1)) forms.now) }
+{
+    for &(text, form) in forms {
+        if word == text.as_bytes() {
+            return Some(form);
+        }
+    }
+    None
+}
+
+impl Form {
+    ghost use Rattle.mm_script.specs.private.Forms.{call_by, call_before};
+
+    /// What stands behind the word, as the pages write it.
+    fn arguments(self) -> &'static str {
+        match self {
+            Form::Table(_) => "P R L G",
+            Form::Alone(_) => "",
+            Form::Key(_) => "K",
+            Form::KeyAndResource(_) => "K r",
+            Form::Owner => "r",
+        }
+    }
+
+    /// The call that is made with these arguments.
+    fn call(self, arguments: &mut Words<'_>) -> Option<Call>
+        ensures { result ≡ call_by self (words_left arguments.old) }
+    {
+        let call = self.read(arguments)?;
+        arguments.next().is_none().then_some(call)
+    }
+
+    /// The call that the arguments at the front make, where no others are left.
+    fn read(self, arguments: &mut Words<'_>) -> Option<Call>
+        ensures { call_by self (words_left arguments.old) ≡ call_before result (words_left arguments.new) }
+    {
+        match self {
+            Form::Table(header) => {
+                let config = next_config(arguments)?;
+                Some(Call::Table { header, config })
+            }
+            Form::Alone(call) => Some(call),
+            Form::Key(call) => Some(call.of(arguments.next_key()?)),
+            Form::KeyAndResource(call) => {
+                let key = arguments.next_key()?;
+                let resource = arguments.next_number32()?;
+                Some(call.of(key, resource))
+            }
+            Form::Owner => arguments.next_number32().map(Call::Owner),
+        }
+    }
+}
+
+fn next_config(arguments: &mut Words<'_>) -> Option<Config>
+    ensures { ReadsConfig (words_left arguments.old) result (words_left arguments.new) }
+{
+    Some(Config {
+        processes: arguments.next_number32()?,
+        resources: arguments.next_number32()?,
+        label_limit: arguments.next_number64()?,
+        generation_limit: arguments.next_number32()?,
+    })
+}
+
+impl KeyCall {
+    ghost use Rattle.mm_script.specs.private.Forms.{call_of_key};
+
+    fn of(self, key: Key) -> Call
+        ensures { result ≡ call_of_key self key }
+    {
+        match self {
+            KeyCall::Finish => Call::Finish(key),
+            KeyCall::Transmit => Call::Transmit(key),
+            KeyCall::Detect => Call::Detect(key),
+            KeyCall::Abort => Call::Abort(key),
+            KeyCall::GiveUp => Call::GiveUp(key),
+            KeyCall::State => Call::State(key),
+        }
+    }
+}
+
+impl ResourceCall {
+    ghost use Rattle.mm_script.specs.private.Forms.{call_of_key_and_resource};
+
+    fn of(self, key: Key, resource: u32) -> Call
+        ensures { result ≡ call_of_key_and_resource self key resource }
+    {
+        match self {
+            ResourceCall::Acquire => Call::Acquire { key, resource },
+            ResourceCall::Release => Call::Release { key, resource },
+        }
+    }
+}
