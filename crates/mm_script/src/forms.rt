@@ -61,7 +61,8 @@ const FORMS: [(&str, Form); 14] = [
     ("totals", Form::Alone(Call::Totals)),
 ];
 
-/// Returns the calls that a line can make, in the order of `docs/SCRIPTS.md`: each word, and what stands behind it, as in `("acquire", "K r")`.
+/// Returns the calls that a line can make, in the order of `docs/SCRIPTS.md`: each word, and what stands behind it, as in
+/// `("acquire", "K r")`. It takes no memory, and as many steps as there are calls.
 pub fn usages() -> [(&'static str, &'static str); 14]
     ensures words { map (λ usage. usage.0.now) result ≡ map (λ form. form.0) forms }
 {

@@ -5,10 +5,10 @@ mod ring;
 
 use crate::tests::rows::is_answered;
 use faults::{FailingReader, FailingWriter, Newlines, WhenFull, read_is_at_fault, write_ends};
-use mm_script::{ScriptFault, run_script};
+use mm_script::{ScriptFault, run_script, usages};
 use std::io::ErrorKind;
 use std::test::Fail;
-use test_support::Row;
+use test_support::{Row, same};
 
 /// A script whose one slot is retired, and its replies.
 const SCRIPT: &str = "table 1 1 9 2\nbegin\nfinish 0.1\nbegin\nfinish 0.2\nbegin\n";
@@ -151,5 +151,29 @@ fn faults_are_printed(rt: HostRuntime) -> Result<(), Fail> {
         let printed = format!(in rt.alloc(); "{fault}")?;
         assert_eq!(rt; printed.as_str(), text);
     }
+    Ok(())
+}
+
+/// The calls of the page on scripts, in its order.
+const CALLS: [(&str, &str); 14] = [
+    ("table", "P R L G"),
+    ("table2", "P R L G"),
+    ("begin", ""),
+    ("acquire", "K r"),
+    ("release", "K r"),
+    ("finish", "K"),
+    ("transmit", "K"),
+    ("detect", "K"),
+    ("abort", "K"),
+    ("give_up", "K"),
+    ("settle", ""),
+    ("state", "K"),
+    ("owner", "r"),
+    ("totals", ""),
+];
+
+#[test]
+fn usages_are_those_of_the_page(rt: HostRuntime) -> Result<(), Fail> {
+    same(&rt, usages().as_slice(), CALLS.as_slice());
     Ok(())
 }
