@@ -1,4 +1,4 @@
-use Rattle.std.proofs.Common.{◌≡◌, ◌<◌, Some, length, arith, ap, sym, subst, ◌∙◌, inl, inr, IsTrue, rules}
+use Rattle.std.proofs.Common.{length, arith, ap, sym, subst, ◌∙◌, inl, inr, IsTrue, rules}
 use Rattle.mm_lists.specs.Members.{Among}
 use Rattle.mm_owned.specs.Owned.{list_at}
 use Rattle.mm_owned.proofs.Lemmas.ListsMatchOwners.{in_range, in_its_list}

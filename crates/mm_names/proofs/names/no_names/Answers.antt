@@ -1,6 +1,3 @@
-use Rattle.std.proofs.Common.{◌≡◌, Some, None, ap, length, replicate, arith, sym, ◌∙◌}
-use Rattle.std.proofs.lemmas.List.{length-replicate}
-use Rattle.mm_names.specs.Names.{NameTable, name_of}
 use Rattle.mm_names.proofs.Lemmas.Index.{AreIndexed-nameless}
 use Rattle.mm_names.proofs.names.no_names.Goals as goal
 

@@ -1,5 +1,5 @@
-use Rattle.std.proofs.Common.{◌≡◌, ◌-◌, ℕ, List, Bor, Option, Some, None, option_copied, is_some, true, refl, ap, sym, ◌∙◌}
-use Rattle.mm_names.specs.Names.{NameTable, name_of}
+use Rattle.std.proofs.Common.{◌≡◌, ℕ, List, Bor, Option, Some, None, option_copied, is_some, true, refl, ap, sym, ◌∙◌}
+use Rattle.mm_names.specs.Names.{name_of}
 use Rattle.mm_names.proofs.Lemmas.Index.{AreIndexed-taken, some_in_range}
 use Rattle.mm_names.proofs.names.Names.forget.Goals as goal
 

@@ -1,4 +1,4 @@
-use Rattle.std.proofs.Common.{◌≡◌, length, is_some, arith, ap, sym, subst, inr, refl, rules}
+use Rattle.std.proofs.Common.{length, is_some, arith, ap, sym, subst, inr, refl, rules}
 use Rattle.std.proofs.lemmas.List.Sums.{count_by-le-length}
 use Rattle.mm_names.specs.Names.{NameTable, IsNamed, IsFree, Interns}
 use Rattle.mm_names.proofs.Lemmas.Index.{free_not_full, AreIndexed-given}

@@ -1,4 +1,4 @@
-use Rattle.std.proofs.Common.{◌≡◌, None, ap, arith, ◌∙◌, refl}
+use Rattle.std.proofs.Common.{None, ap, arith, ◌∙◌, refl}
 use Rattle.mm_names.specs.Names.{with_name}
 use Rattle.mm_names.proofs.Lemmas.Places.{as_many}
 use Rattle.mm_names.proofs.Lemmas.Written.{names_in-cleared, ArePlaced-set}

@@ -1,4 +1,4 @@
-use Rattle.std.proofs.Common.{◌≡◌, ◌<◌, ◌*◌, Some, None, ap, length, arith, sym, ◌∙◌, get_or, take, drop}
+use Rattle.std.proofs.Common.{◌≡◌, ◌*◌, Some, None, ap, length, arith, sym, ◌∙◌, get_or, take, drop}
 use Rattle.std.proofs.lemmas.List.{get_or_read}
 use Rattle.mm_names.proofs.Lemmas.Places.{as_many, has_place, name_at, name_in}
 use Rattle.mm_names.proofs.places.Places.get.Goals as goal

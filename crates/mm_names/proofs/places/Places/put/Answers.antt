@@ -1,8 +1,8 @@
-use Rattle.std.proofs.Common.{◌≡◌, ◌<◌, ◌≤◌, ◌+◌, ◌*◌, Some, ap, length, arith, sym, ◌∙◌, refl, set}
+use Rattle.std.proofs.Common.{◌≡◌, ◌*◌, Some, ap, length, arith, ◌∙◌, refl, set}
 use Rattle.mm_names.specs.Names.{with_name}
 use Rattle.mm_names.specs.private.Places.{names_in}
 use Rattle.mm_names.proofs.Lemmas.Places.{as_many, as_wide, has_place}
-use Rattle.mm_names.proofs.Lemmas.Written.{IsWritten, IsWritten-put_mid, names_in-written, ArePlaced-set}
+use Rattle.mm_names.proofs.Lemmas.Written.{IsWritten-put_mid, names_in-written, ArePlaced-set}
 use Rattle.mm_names.proofs.places.Places.put.Goals as goal
 
 pub slice_bounds-copy_from_slice-end : goal.slice_bounds-copy_from_slice-end
