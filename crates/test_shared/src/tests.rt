@@ -1,7 +1,6 @@
-//! `board` for mm_board, `shared` for mm_shared, `watch` for example_calls, and `rows` for the worked scripts on a shared table beside a table.
+//! `board` for mm_board, `shared` for mm_shared, and `rows` for the worked scripts on a shared table beside a table.
 
 mod board;
 mod rows;
 mod same;
 mod shared;
-mod watch;

@@ -1,4 +1,4 @@
-//! One module for each library, `shelf` for the shelves of mm_arena, and `wake` for example_calls.
+//! One module for each library, `shelf` for the shelves of mm_arena, and `wake` and `watch` for example_calls.
 
 mod arena;
 mod label;
@@ -10,3 +10,4 @@ mod same;
 mod shelf;
 mod table;
 mod wake;
+mod watch;
