@@ -1,7 +1,7 @@
 //! Calls of a shared table that store on its board, and reads of the board.
 ghost use Rattle.std.specs.Prelude.{◌≡◌};
 
-use crate::calls::{block, blocks, crowd, deadlocks, grants, hand_overs, settles};
+use crate::calls::{Round, block, crowd, hand_overs, rounds};
 use crate::clock::{nanoseconds_since, now};
 use mm_shared::{Name, Pass, Prepared, SharedTable};
 use std::sync::Wait;
@@ -14,19 +14,13 @@ use std::time::Clock;
 /// What is timed.
 #[derive(Clone, Copy, Debug, PartialEq, Eq)]
 pub enum Work {
-    /// Begin, an acquire that is granted, release, finish.
-    Grants,
-    /// Two transactions, one of which waits for the other: seven calls, of which one blocks.
-    Blocks,
-    /// A deadlock of two, from both begins to the end: ten calls, of which two block and one transmits.
-    Deadlocks,
-    /// The same deadlock, found by a settle: nine calls.
-    Settles,
+    /// One round after another.
+    Rounds(Round),
     /// A release that sixteen wait for, and an acquire of who released: two calls.
     HandOvers,
     /// Reads of labels, one after another.
     Peeks,
-    /// The same beside a thread that makes the calls of `Blocks`.
+    /// The same beside a thread that makes rounds of `Block`.
     PeeksBeside,
     /// Scans while nobody waits.
     Scans,
@@ -36,10 +30,10 @@ impl Work {
     /// The work of this name.
     pub fn named(name: &str) -> Option<Work> {
         match name {
-            "grants" => Some(Work::Grants),
-            "blocks" => Some(Work::Blocks),
-            "deadlocks" => Some(Work::Deadlocks),
-            "settles" => Some(Work::Settles),
+            "grants" => Some(Work::Rounds(Round::Grant)),
+            "blocks" => Some(Work::Rounds(Round::Block)),
+            "deadlocks" => Some(Work::Rounds(Round::Deadlock)),
+            "settles" => Some(Work::Rounds(Round::Settle)),
             "hand-overs" => Some(Work::HandOvers),
             "peeks" => Some(Work::Peeks),
             "peeks-beside" => Some(Work::PeeksBeside),
@@ -161,10 +155,7 @@ fn time_of<
     }
     let start = now(rt);
     match work {
-        Work::Grants => grants(rt, table, pass, count),
-        Work::Blocks => blocks(rt, table, pass, count),
-        Work::Deadlocks => deadlocks(rt, table, pass, count),
-        Work::Settles => settles(rt, table, pass, count),
+        Work::Rounds(round) => rounds(rt, table, pass, round, count),
         Work::HandOvers => {
             if let Ok(owner) = crowd(rt, table, pass) {
                 hand_overs(rt, table, pass, owner, count);

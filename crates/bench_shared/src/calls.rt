@@ -115,46 +115,45 @@ pub fn hand_overs<N: Name, A: Ledger, V: Ledger, B: Ledger, R: Wait>(
     }
 }
 
-pub fn grants<N: Name, A: Ledger, V: Ledger, B: Ledger, R: Wait>(
-    rt: &R,
-    table: &SharedTable<N, A, V, B>,
-    pass: &mut Pass<N, A, V, B>,
-    count: u32,
-) {
-    for _ in 0..count {
-        let _ = grant(rt, table, pass);
+/// Calls by which one thread begins transactions and ends them all.
+#[derive(Clone, Copy, Debug, PartialEq, Eq)]
+pub enum Round {
+    /// Begin, an acquire that is granted, release, finish.
+    Grant,
+    /// Two transactions, one of which waits for the other: seven calls, of which one blocks.
+    Block,
+    /// A deadlock of two, from both begins to the end: ten calls, of which two block and one transmits.
+    Deadlock,
+    /// The same deadlock, found by a settle: nine calls.
+    Settle,
+}
+
+impl Round {
+    /// Makes the calls.
+    fn make<N: Name, A: Ledger, V: Ledger, B: Ledger, R: Wait>(
+        self,
+        rt: &R,
+        table: &SharedTable<N, A, V, B>,
+        pass: &mut Pass<N, A, V, B>,
+    ) -> Result<(), Refusal> {
+        match self {
+            Round::Grant => grant(rt, table, pass),
+            Round::Block => block(rt, table, pass),
+            Round::Deadlock => deadlock(rt, table, pass),
+            Round::Settle => settle(rt, table, pass),
+        }
     }
 }
 
-pub fn blocks<N: Name, A: Ledger, V: Ledger, B: Ledger, R: Wait>(
+/// Makes a round so many times.
+pub fn rounds<N: Name, A: Ledger, V: Ledger, B: Ledger, R: Wait>(
     rt: &R,
     table: &SharedTable<N, A, V, B>,
     pass: &mut Pass<N, A, V, B>,
+    round: Round,
     count: u32,
 ) {
     for _ in 0..count {
-        let _ = block(rt, table, pass);
-    }
-}
-
-pub fn deadlocks<N: Name, A: Ledger, V: Ledger, B: Ledger, R: Wait>(
-    rt: &R,
-    table: &SharedTable<N, A, V, B>,
-    pass: &mut Pass<N, A, V, B>,
-    count: u32,
-) {
-    for _ in 0..count {
-        let _ = deadlock(rt, table, pass);
-    }
-}
-
-pub fn settles<N: Name, A: Ledger, V: Ledger, B: Ledger, R: Wait>(
-    rt: &R,
-    table: &SharedTable<N, A, V, B>,
-    pass: &mut Pass<N, A, V, B>,
-    count: u32,
-) {
-    for _ in 0..count {
-        let _ = settle(rt, table, pass);
+        let _ = round.make(rt, table, pass);
     }
 }
