@@ -54,12 +54,13 @@ pub record WaitsFrom (old : TableState) (k : Key) (r : ℕ) (h : Key) (new : Tab
   pub event : Step (Acquire k r) old (Ok (acquired.Waits h label)) mid
   pub settle : Step Settle mid (Ok answer) new
 
--- the request is granted; or k waits on no cycle, and has no verdict; or it waits on a cycle, and has one
+-- the request is granted; or k waits on no cycle, and has no verdict; or it waits on a cycle, and has one; or nothing changes, and the table refuses it, or
+-- has no room to count it with a settle
 abbrev pub Locks : TableState → Key → ℕ → Result Locked Refusal → TableState → Type 0
-Locks old k r (Ok Granted) new = IsTrue (has_room old) × Step (Acquire k r) old (Ok acquired.Granted) new
+Locks old k r (Ok Granted) new = Step (Acquire k r) old (Ok acquired.Granted) new
 Locks old k r (Ok (Waits h)) new = WaitsFrom old k r h new × ¬ IsOnCycle new k.process × (has_verdict new k.process ≡ false)
 Locks old k r (Ok (Deadlock h)) new = WaitsFrom old k r h new × IsOnCycle new k.process × (has_verdict new k.process ≡ true)
-Locks old k r (Err refusal) new = Refuses (Acquire k r) old refusal new
+Locks old k r (Err refusal) new = (new ≡ old) × (Step (Acquire k r) old (Err refusal) old ⊎ ((refusal ≡ CountsExhausted) × (has_room old ≡ false)))
 
 -- the answer is that there is a deadlock
 abbrev pub IsDeadlock : Result Locked Refusal → Bool

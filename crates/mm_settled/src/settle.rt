@@ -20,7 +20,8 @@ pub fn has_room(table: &Table) -> bool
     ensures { result ≡ has_room table.now }
 {
     let totals = table.totals();
-    totals.accepted < COUNT_LIMIT - 1 && totals.verdicts < COUNT_LIMIT
+    // Not `&&`: where both are read, one test serves for both.
+    (totals.accepted < COUNT_LIMIT - 1) & (totals.verdicts < COUNT_LIMIT)
 }
 
 /// Settles a table of which one more event can be counted, and lists whom that changes.

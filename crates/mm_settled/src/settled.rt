@@ -72,8 +72,8 @@ impl SettledTable {
     /// - `Deadlock`: the transaction waits for the holder, and closed a cycle of waits by that. It has the verdict of that cycle, and
     ///   nobody else has a new one. It keeps what it owns and goes on by `abort` alone.
     ///
-    /// Refused as `CountsExhausted` where an event and a settle can no longer be counted, and else as `Table::acquire` is: `Stale`,
-    /// `NoResource`, `Waiting`, `AlreadyOwns` or `LabelsExhausted`. Constant time where it is granted; a wait costs the settle that
+    /// Refused as `CountsExhausted` where somebody owns the resource and an event and a settle can no longer be counted, and else as
+    /// `Table::acquire` is: `CountsExhausted`, `Stale`, `NoResource`, `Waiting`, `AlreadyOwns` or `LabelsExhausted`. Constant time where it is granted; a wait costs the settle that
     /// follows, as `Table::settle` says: those that wait for the transaction, and those whose labels it raises.
     #[inline]
     pub fn lock(&mut self, key: Key, resource: u32) -> Result<Locked, Refusal>

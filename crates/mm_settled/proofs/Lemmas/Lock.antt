@@ -1,10 +1,12 @@
 -- A request that waits, and the settle that follows: whoever closed a cycle of waits has its verdict, and nobody else has a new one.
-use Rattle.std.proofs.Common.{◌≡◌, ◌≢◌, ◌<◌, ◌+◌, ◌++◌, ℕ, [], ◌∷◌, Option, Some, None, Result, Ok, Err, Bool, true, false, IsTrue, nat_eq, if◌then◌else◌, slice_index_or, inl, inr, refl, sym, ap, subst, ◌∙◌, arith}
+use Rattle.std.proofs.Common.{◌≡◌, ◌≢◌, ◌<◌, ◌+◌, ◌++◌, ℕ, [], ◌∷◌, Option, Some, None, Result, Ok, Err, Bool, true, false, IsTrue, nat_eq, nat_lt, if◌then◌else◌, slice_index_or, inl, inr, refl, sym, ap, subst, ◌∙◌, arith}
 use Rattle.std.specs.Prelude.{OnOk, ◌↔◌}
-use Rattle.std.proofs.lemmas.Bool.{cases_Bool, eqb-true, eqb-false, not-false}
+use Rattle.std.specs.Result.{IsErr, IsErrAnd}
+use Rattle.std.proofs.lemmas.Bool.{cases_Bool, eqb-true, eqb-false, not-false, lt-ltb, leb-false}
 use Rattle.mm_label.specs.Label.{Label}
 use Rattle.mm_arena.specs.declared.key.Key.{Key}
 use Rattle.mm_rules.specs.declared.refusal.Refusal.{Refusal}
+use Rattle.mm_rules.specs.declared.refusal.Refusal.TheVariants.{NoResource}
 use Rattle.mm_rules.specs.declared.reply.Acquired.{Acquired}
 use Rattle.mm_rules.specs.declared.reply.Acquired.TheVariants as acquired
 use Rattle.mm_rules.specs.declared.reply.Settled.{Settled}
@@ -29,7 +31,7 @@ use Rattle.mm_settled.specs.declared.reply.Locked.TheVariants.{Granted, Waits, D
 use Rattle.mm_settled.specs.Calls.{has_room, Locks, WaitsFrom, IsDeadlock}
 use Rattle.mm_settled.specs.Grants.{grants}
 use Rattle.mm_settled.specs.private.Lists.{joined}
-use Rattle.mm_settled.specs.private.Told.{told_by}
+use Rattle.mm_settled.specs.private.Told.{told_by, has_owner, is_owned}
 use Rattle.mm_settled.proofs.Lemmas.Accepted.{IsAccepted, accepted}
 use Rattle.mm_settled.proofs.Lemmas.Changed.{changed_one, joined_is, settle_does_not_change_back}
 use Rattle.mm_settled.proofs.Lemmas.Grants.{same_owners_grant_none}
@@ -77,11 +79,28 @@ begins_to_wait s t k h r l laws step =
 pub deadlock_iff : (old new : TableState) (k : Key) (r : ℕ) (reply : Result Locked Refusal) → Laws old → Locks old k r reply new → OnOk reply (IsTrue (IsDeadlock reply) ↔ IsOnCycle new k.process)
 deadlock_iff old new k r (Ok Granted) laws locks = (
   λ told. (let never : false ≡ true = told in absurd (cc)),
-  λ on. absurd (idle_on_no_cycle new k.process (granted_quiet old new k r laws locks.1).idle on),
+  λ on. absurd (idle_on_no_cycle new k.process (granted_quiet old new k r laws locks).idle on),
 )
 deadlock_iff old new k r (Ok (Waits h)) laws locks = (λ told. (let never : false ≡ true = told in absurd (cc)), λ on. absurd (locks.1 on))
 deadlock_iff old new k r (Ok (Deadlock h)) laws locks = (λ told. locks.1, λ on. refl)
 deadlock_iff old new k r (Err refusal) laws locks = tt
+
+-- a request that is accepted is granted, where nobody owns the resource
+free_by : (s : TableState) (k : Key) (r : ℕ) (answer : Acquired) (o : Option Key) → has_owner (Ok o) ≡ false → acquire_answer s k o ≡ answer → answer ≡ acquired.Granted
+free_by s k r answer None free is = sym is
+free_by s k r answer (Some h) free is = (let never : true ≡ false = free in absurd (cc))
+
+pub free_is_granted : (s t : TableState) (k : Key) (r : ℕ) (answer : Acquired) → is_owned s r ≡ false → Step (Acquire k r) s (Ok answer) t → answer ≡ acquired.Granted
+free_is_granted s t k r answer free step =
+    let done : IsAccepted Acquired (acquire_tests s k r) (acquire_answer s k (owner_of s r)) (acquire_change s k r (owner_of s r)) answer t
+    = accepted (acquire_tests s k r) s (acquire_answer s k (owner_of s r)) (acquire_change s k r (owner_of s r)) answer t step in
+    let within : nat_lt r s.config.resources ≡ true = lt-ltb r s.config.resources (leb-false s.config.resources r done.passed.1.1.0) in
+    free_by s k r answer (owner_of s r) (sym (ap (λ (b : Bool). has_owner (if b then Ok (owner_of s r) else Err NoResource)) within) ∙ free) done.answer
+
+pub lock_refuses : (s t : TableState) (k : Key) (r : ℕ) (reply : Result Locked Refusal) (refusal : Refusal) → IsErr reply × IsErrAnd reply (λ x. x ≡ refusal)
+    → Step (Acquire k r) s (Err refusal) t → t ≡ s → Locks s k r reply t
+lock_refuses s t k r (Ok answer) refusal is step same = absurd is.1
+lock_refuses s t k r (Err x) refusal is step same = rw is.1 (same, inl (subst (λ u. Step (Acquire k r) s (Err refusal) u) same step))
 
 module _ (old mid new : TableState) (k h : Key) (r : ℕ) (l : Label) (answer : Settled) (laws : Laws old) (rest : AtRest old)
     (asks : Step (Acquire k r) old (Ok (acquired.Waits h l)) mid) (settles : Step Settle mid (Ok answer) new) where

@@ -1,8 +1,10 @@
 -- What a call tells, in the fields of its lists.
-use Rattle.std.specs.Prelude.{◌≡◌, if◌then◌else◌, nat_eq}
+use Rattle.std.specs.Prelude.{◌≡◌, ℕ, Bool, true, false, Option, Some, None, Result, Ok, Err, if◌then◌else◌, nat_eq}
 use Rattle.mm_arena.specs.declared.key.Key.{Key}
+use Rattle.mm_rules.specs.declared.refusal.Refusal.{Refusal}
 use Rattle.mm_rules.specs.declared.reply.Settled.{Settled}
 use Rattle.mm_rules.specs.TableState.{TableState}
+use Rattle.mm_rules.specs.Event.{owner_told}
 use Rattle.mm_settle.specs.Touched.{changed_processes}
 use Rattle.mm_settled.specs.Grants.{grants}
 use Rattle.mm_settled.specs.declared.lists.Lists.{Lists}
@@ -16,3 +18,12 @@ pub record TellsOf (old new : TableState) (lists : Lists) : Type 0 where
 -- what one who waits for h is told after this settle
 abbrev pub told_by : Settled → Key → Locked
 told_by answer h = if nat_eq answer.verdicts 0 then Waits h else Deadlock h
+
+abbrev pub has_owner : Result (Option Key) Refusal → Bool
+has_owner (Ok (Some k)) = true
+has_owner (Ok None) = false
+has_owner (Err refusal) = false
+
+-- `owner` answers with an owner of r
+abbrev pub is_owned : TableState → ℕ → Bool
+is_owned s r = has_owner (owner_told s r)
