@@ -8,6 +8,7 @@ mod owned;
 mod queue;
 mod rows;
 mod same;
+mod settled;
 mod shelf;
 mod table;
 mod wake;
