@@ -4,11 +4,12 @@ mod faults;
 mod ring;
 
 use crate::tests::rows::is_answered;
+use crate::tests::same::same;
 use faults::{FailingReader, FailingWriter, Newlines, WhenFull, read_is_at_fault, write_ends};
 use mm_script::{ScriptFault, run_script, usages};
 use std::io::ErrorKind;
 use std::test::Fail;
-use test_support::{Row, same};
+use test_support::Row;
 
 /// A script whose one slot is retired, and its replies.
 const SCRIPT: &str = "table 1 1 9 2\nbegin\nfinish 0.1\nbegin\nfinish 0.2\nbegin\n";
