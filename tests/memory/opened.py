@@ -44,7 +44,8 @@ def rounds(cases, scratch, times):
 
 
 def workers(cases, scratch, program):
-    """Clients and transmitters, each on a thread, who want two resources again and again and wait for them."""
+    """Clients and two transmitters, each on a thread, who want two resources again and again and wait for them. One thread more says how
+    far the run is."""
     steps = [["meet", CLIENTS]] + [[call, place % 2] for place in range(127) for call in ("acquire", "release")]
     numbers = {"processes": CLIENTS, "resources": 2, "label_limit": 1_000_000_000, "generation_limit": 9}
     given = {**numbers, "transmitters": 2, "turns": 1_000_000_000, "clients": [steps] * CLIENTS}
@@ -55,7 +56,7 @@ def workers(cases, scratch, program):
         run = refused(scratch, command, threads=1)
         told = re.search(r"calls accepted (\d+)", run.errors)
         accepted += int(told[1]) if told else 0
-        if not told or run.status != 0 or run.output.split("\n")[0] != ended or run.counts.by_threads != 0 or run.counts.started != CLIENTS + 2:
+        if not told or run.status != 0 or run.output.split("\n")[0] != ended or run.counts.by_threads != 0 or run.counts.started != CLIENTS + 3:
             faults.append(f"{run.says()}, {run.counts}")
     told = f"{accepted} accepted calls in {RUNS} runs, each request of a thread is refused"
     cases.ends("clients and transmitters at a shared table", told, faults)
