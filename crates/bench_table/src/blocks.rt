@@ -31,8 +31,15 @@ fn extend(table: &mut Table, first: u32, waiting: u32, is_at_head: bool) -> Resu
 
 fn blocks(alloc: Global, room: u32, waiting: u32, is_at_head: bool) -> Result<u64, Refusal> {
     let mut table = owners(alloc, PROCESSES)?;
+    let accepted = chains(&mut table, room, waiting, is_at_head);
+    drop(table);
+    accepted
+}
+
+/// Makes all chains that there is room for. Answers how many events were accepted.
+fn chains(table: &mut Table, room: u32, waiting: u32, is_at_head: bool) -> Result<u64, Refusal> {
     for chain in 0..PROCESSES.checked_div(room).unwrap_or(0) {
-        extend(&mut table, chain.wrapping_mul(room), waiting, is_at_head)?;
+        extend(table, chain.wrapping_mul(room), waiting, is_at_head)?;
     }
     Ok(table.totals().accepted)
 }

@@ -1,6 +1,6 @@
 //! Calls on resources of a large table, one here and one there.
 use crate::{PROCESSES, open};
-use mm_table::{Config, Key, Refusal};
+use mm_table::{Config, Key, Refusal, Table};
 use std::alloc::Global;
 
 /// The next number of a sequence that looks like chance; 0 has no next.
@@ -20,12 +20,24 @@ fn owner_of(resource: u32) -> Key {
 
 fn random(alloc: Global, count: u64) -> Result<u64, Refusal> {
     let mut table = open(alloc, PROCESSES, Config::MOST_RESOURCES)?;
+    let accepted = own_all(&mut table).and_then(|()| change_hands(&mut table, count));
+    drop(table);
+    accepted
+}
+
+/// Begins `PROCESSES` transactions, which acquire all resources.
+fn own_all(table: &mut Table) -> Result<(), Refusal> {
     for _ in 0..PROCESSES {
         table.begin()?;
     }
     for resource in 0..Config::MOST_RESOURCES {
         table.acquire(owner_of(resource), resource)?;
     }
+    Ok(())
+}
+
+/// Releases a resource by chance and acquires it again, so many times. Answers how many events were accepted.
+fn change_hands(table: &mut Table, count: u64) -> Result<u64, Refusal> {
     let mut number = 1;
     for _ in 0..count {
         number = next_number(number);

@@ -25,20 +25,32 @@ fn wait(table: &mut Table, size: u32, is_rising: bool, from: u32, to: u32) -> Re
 /// `size` transactions, each of which owns the resource of its own number.
 pub fn owners(alloc: Global, size: u32) -> Result<Table, Refusal> {
     let mut table = open(alloc, size, size)?;
+    own_each(&mut table, size)?;
+    Ok(table)
+}
+
+/// Begins `size` transactions, each of which acquires the resource of its own number.
+fn own_each(table: &mut Table, size: u32) -> Result<(), Refusal> {
     for process in 0..size {
         let key = table.begin()?;
         table.acquire(key, process)?;
     }
-    Ok(table)
+    Ok(())
 }
 
 /// A row of `size` transactions. The waits come from the end on, so that no label is below its holder's.
 fn row(alloc: Global, size: u32, is_rising: bool) -> Result<Table, Refusal> {
     let mut table = owners(alloc, size)?;
-    for place in (1..size).rev() {
-        wait(&mut table, size, is_rising, place - 1, place)?;
-    }
+    wait_in_row(&mut table, size, is_rising)?;
     Ok(table)
+}
+
+/// Each transaction but the last comes to wait for its neighbour, from the end on.
+fn wait_in_row(table: &mut Table, size: u32, is_rising: bool) -> Result<(), Refusal> {
+    for place in (1..size).rev() {
+        wait(table, size, is_rising, place - 1, place)?;
+    }
+    Ok(())
 }
 
 /// A row that is settled so many times and then, where `is_closed`, closed to a ring and settled again. Counts the verdict too.
@@ -50,11 +62,24 @@ fn ring(
     is_closed: bool,
 ) -> Result<u64, Refusal> {
     let mut table = row(alloc, size, is_rising)?;
+    let counted = settle_ring(&mut table, size, is_rising, settles, is_closed);
+    drop(table);
+    counted
+}
+
+/// Settles a row so many times, closes it where `is_closed`, and settles it again.
+fn settle_ring(
+    table: &mut Table,
+    size: u32,
+    is_rising: bool,
+    settles: u32,
+    is_closed: bool,
+) -> Result<u64, Refusal> {
     for _ in 0..settles {
         table.settle()?;
     }
     if is_closed {
-        wait(&mut table, size, is_rising, size.wrapping_sub(1), 0)?;
+        wait(table, size, is_rising, size.wrapping_sub(1), 0)?;
         table.settle()?;
     }
     let totals = table.totals();
@@ -83,8 +108,15 @@ pub extern "C" fn mm_bench_rings(
 /// A row whose waits come from its head on, so that each label is below its holder's, settled so many times.
 fn chain(alloc: Global, size: u32, settles: u32) -> Result<u64, Refusal> {
     let mut table = owners(alloc, size)?;
+    let accepted = settle_chain(&mut table, size, settles);
+    drop(table);
+    accepted
+}
+
+/// Makes a row whose waits come from its head on, and settles it so many times. Answers how many events were accepted.
+fn settle_chain(table: &mut Table, size: u32, settles: u32) -> Result<u64, Refusal> {
     for place in 1..size {
-        wait(&mut table, size, true, place - 1, place)?;
+        wait(table, size, true, place - 1, place)?;
     }
     for _ in 0..settles {
         table.settle()?;

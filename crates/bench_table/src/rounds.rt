@@ -27,13 +27,27 @@ fn rounds(
     count: u64,
 ) -> Result<u64, Refusal> {
     let mut table = open(alloc, processes, resources)?;
+    let accepted = crowd(&mut table, others, resources.wrapping_sub(1)).and_then(|()| take_turns(
+        &mut table, mask, count,
+    ));
+    drop(table);
+    accepted
+}
+
+/// So many transactions hold and await a resource.
+fn crowd(table: &mut Table, others: u32, resource: u32) -> Result<(), Refusal> {
     for _ in 0..others {
         let key = table.begin()?;
-        table.acquire(key, resources.wrapping_sub(1))?;
+        table.acquire(key, resource)?;
     }
+    Ok(())
+}
+
+/// So many transactions take sixteen resources each. Answers how many events were accepted.
+fn take_turns(table: &mut Table, mask: u32, count: u64) -> Result<u64, Refusal> {
     let mut resource = 0;
     for _ in 0..count {
-        resource = take_sixteen(&mut table, resource, mask)?;
+        resource = take_sixteen(table, resource, mask)?;
     }
     Ok(table.totals().accepted)
 }
@@ -68,8 +82,15 @@ fn wait_crosswise(table: &mut Table) -> Result<(), Refusal> {
 
 fn crosswise(alloc: Global, count: u64) -> Result<u64, Refusal> {
     let mut table = open(alloc, 1_024, 1_024)?;
+    let accepted = deadlocks(&mut table, count);
+    drop(table);
+    accepted
+}
+
+/// So many deadlocks. Answers how many events were accepted.
+fn deadlocks(table: &mut Table, count: u64) -> Result<u64, Refusal> {
     for _ in 0..count {
-        wait_crosswise(&mut table)?;
+        wait_crosswise(table)?;
     }
     Ok(table.totals().accepted)
 }
