@@ -2,18 +2,21 @@
 //!
 //! - `step`: what a client does next.
 //! - `workload`: `Workload`, whose numbers are in their ranges.
+//! - `limits`: the greatest numbers of a workload.
 //! - `fault`: why there is no workload, and where it is malformed.
 //! - `reading`: a workload from the bytes of a JSON file.
 //! - `storms`: a workload from a seed.
 #![tactic(auto)]
 
 mod fault;
+mod limits;
 mod reading;
 mod step;
 mod storms;
 mod workload;
 
 pub use fault::{Place, StepFault, WorkFault};
+pub use limits::MOST_BYTES;
 pub use mm_table::Config;
 pub use step::WorkStep;
 pub use storms::storm;

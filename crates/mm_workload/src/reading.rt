@@ -11,14 +11,12 @@ ghost use Rattle.mm_workload.specs.declared.fault.WorkFault.TheVariants.{Memory}
 mod clients;
 
 use crate::fault::{Place, WorkFault};
+use crate::limits::{MOST_BYTES, MOST_TRANSMITTERS, MOST_TURNS};
 use crate::workload::Workload;
 use clients::clients;
 use mm_table::Config;
 use serde_json::{Error, Value};
 use std::alloc::Global;
-
-/// The greatest number of bytes that may say a workload.
-const MOST_BYTES: usize = 1_048_576;
 
 /// The workload that these bytes say.
 pub(crate) fn read(alloc: Global, bytes: &[u8]) -> Result<Workload, WorkFault>
@@ -52,8 +50,8 @@ fn work(alloc: Global, value: &Value) -> Result<Workload, WorkFault>
     ensures malformed { IfErr result (λ e. ¬ (e ≡ Memory) → (w : Work) → ¬ SaysWork (view value.now) w) }
 {
     let config = config(value)?;
-    let transmitters = number(value, "transmitters", 0, 64)?;
-    let turns = number(value, "turns", 1, 1_000_000_000)?;
+    let transmitters = number(value, "transmitters", 0, MOST_TRANSMITTERS)?;
+    let turns = number(value, "turns", 1, MOST_TURNS)?;
     let clients = clients(alloc, value)?;
     Ok(Workload::of(config, transmitters as u32, turns, clients))
 }

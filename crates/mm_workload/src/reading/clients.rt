@@ -7,13 +7,10 @@ ghost use Rattle.mm_workload.specs.Json.{clients_in, steps_of, step_of, step_by}
 ghost use Rattle.mm_workload.specs.declared.fault.WorkFault.TheVariants.{Memory};
 
 use crate::fault::{Place, StepFault, WorkFault};
+use crate::limits::{MOST_CLIENTS, MOST_STEPS};
 use crate::step::WorkStep;
 use serde_json::Value;
 use std::alloc::Global;
-
-const MOST_CLIENTS: usize = 64;
-
-const MOST_STEPS: usize = 256;
 
 /// The steps of each client.
 pub(crate) fn clients(alloc: Global, value: &Value) -> Result<Vec<Vec<WorkStep>>, WorkFault>
