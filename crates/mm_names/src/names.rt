@@ -152,6 +152,14 @@ impl Names {
         self.places.numbers()
     }
 
+    /// How many bytes a name may have, in constant time.
+    #[inline]
+    pub fn name_bytes(&self) -> u32
+        ensures { result ≡ self.now.name_bytes }
+    {
+        self.places.name_bytes()
+    }
+
     /// The names, each with its number, by rising number.
     pub fn iter(&self) -> Iter<'_>
         ensures { result ≡ entries self.now }

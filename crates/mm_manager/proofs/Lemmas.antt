@@ -1,0 +1,32 @@
+-- names and owners by number
+pub mod Numbers
+-- what a hand-over leaves of owners
+pub mod Owners
+-- what one event leaves of owners and waits
+pub mod HandsDown
+-- how many are granted something
+pub mod Granted
+-- one more transaction ends whose abort is due
+pub mod Ended
+-- the ends of those whose abort is due
+pub mod Due
+-- the loop over them
+pub mod Ends
+-- an event and the ends that come due by it
+pub mod Handed
+-- from numbers to names
+pub mod Names
+-- what a request does, by names
+pub mod Asked
+-- from the parts to what a contract sees
+pub mod Told
+-- a manager that was just opened
+pub mod Opening
+-- a wait that is taken back
+pub mod GivesUp
+-- what an abort does
+pub mod Aborted
+-- what a hand-over leaves of names
+pub mod Forgets
+-- what a request leaves of names and owners
+pub mod Requests

@@ -1,0 +1,80 @@
+-- An event that hands over, and the ends that come due by it.
+use Rattle.std.proofs.Common.{◌≡◌, ◌≢◌, ℕ, Bool, true, false, List, [], length, Some, is_some, inl, inr, sym, ap, subst, ◌∙◌, arith, slice_set, get_or-set_same}
+use Rattle.std.proofs.lemmas.Bool.{cases_lt}
+use Rattle.std.proofs.lemmas.List.{take_all, get_or_past}
+use Rattle.mm_arena.specs.declared.key.Key.{Key}
+use Rattle.mm_lists.specs.Members.{Among}
+use Rattle.mm_marks.specs.Marks.{has}
+use Rattle.mm_names.specs.Names.{NameTable}
+use Rattle.mm_rules.specs.TableState.{TableState, wait_of, is_waiting}
+use Rattle.mm_rules.specs.Event.{Event, Answer}
+use Rattle.mm_rules.specs.Laws.{Laws}
+use Rattle.mm_settled.specs.Calls.{Made}
+use Rattle.mm_settled.specs.Grants.{grants}
+use Rattle.mm_settled.specs.declared.reply.Grant.{Grant}
+use Rattle.mm_manager.specs.declared.lists.Lists.{Lists}
+use Rattle.mm_manager.specs.private.Due.{AreGranted, IsAmong, EndsDue}
+use Rattle.mm_manager.specs.private.Handed.{DueWait, LosesOr, Handed}
+use Rattle.mm_manager.specs.private.HandsDown.{HandsDown}
+use Rattle.mm_manager.specs.private.Numbers.{AreNumbered, KeepOwned}
+use Rattle.mm_manager.proofs.Lemmas.Numbers.{some_or_not}
+use Rattle.mm_manager.proofs.Lemmas.Granted.{grants_once, granted_more}
+use Rattle.mm_manager.proofs.Lemmas.Due.{keep_then, down_then, cleared_stays, was_marked}
+
+pub waits_something : (s : TableState) (p : ℕ) → is_waiting s p ≡ true → (q : ℕ) × (wait_of s p ≡ Some q)
+waits_something s p waiting = some_or_not (wait_of s p) (λ none. let never : true ≡ false = sym waiting ∙ ap is_some none in cc)
+
+pub is_waiting_for : (s : TableState) (p q : ℕ) → wait_of s p ≡ Some q → is_waiting s p ≡ true
+is_waiting_for s p q waits = ap is_some waits
+
+-- ---- a mark that is taken away
+
+pub unmarked : (s : TableState) (due : List Bool) (q : ℕ) → DueWait s due → DueWait s (slice_set due q false)
+unmarked s due q waits p marked = waits p (was_marked due q p marked)
+
+pub unmarked_here : (due : List Bool) (q : ℕ) → has (slice_set due q false) q ≡ false
+unmarked_here due q = elim (cases_lt q (length due)) [
+  | inl within ↦ get_or-set_same due q false false within
+  | inr past ↦ cleared_stays due q q (get_or_past due q false past)
+]
+
+-- ---- an event and the ends
+
+-- those that are granted something by the event alone
+pub event_granted : (s mid : TableState) (n : ℕ) (Loses : ℕ → Key → Type 0) → Laws s → HandsDown s n Loses (grants s mid) mid → AreGranted mid (grants s mid)
+event_granted s mid n Loses laws down =
+    granted_more s mid n Loses [] (grants s mid) laws record { once = tt; idle = λ g among. absurd among; within = λ g among. absurd among } down (grants_once s mid)
+
+module _ (e : Event) (s : TableState) (t : NameTable) (due : List Bool) (answer : Answer e) (n : ℕ) (Loses : ℕ → Key → Type 0) (mid : TableState) (t1 : NameTable)
+    (made : Made e s answer mid) (down : HandsDown s n Loses (grants s mid) mid) (names : KeepOwned t mid t1) (numbered : AreNumbered mid t1)
+    (waits : DueWait s due) (own : has due n ≡ false) (next : ℕ) (u : TableState) (named : NameTable) (m : Lists)
+    (ends : EndsDue mid t1 (grants s mid) due next u named m) (all : next ≡ length m.granted.items) where
+  all_down : HandsDown s n (LosesOr Loses m.aborted.items) m.granted.items u
+  all_down = rw ends.granted (down_then s mid u n Loses (IsAmong m.aborted.items) (LosesOr Loses m.aborted.items) (grants s mid) ends.later down (ends.down n) (λ q h lost. inl lost) (λ q h lost. inr lost))
+
+  granted_clear : (g : Grant) → Among g m.granted.items → has m.due.items g.key.process ≡ false
+  granted_clear g among = ends.done g (subst (Among g) (sym (take_all next m.granted.items (omega (arith, all)))) among)
+
+  due_wait : DueWait u m.due.items
+  due_wait p marked =
+      let before = waits_something s p (waits p (ends.fewer p marked)) in
+      let apart : p ≢ n = λ same. let never : true ≡ false = sym (ends.fewer p marked) ∙ ap (has due) same ∙ own in absurd (cc) in
+      elim (all_down.ended p before.0 apart before.1) [
+        | inl still ↦ is_waiting_for u p before.0 still
+        | inr g ↦ (let never : true ≡ false = sym marked ∙ ap (has m.due.items) (sym g.2) ∙ granted_clear g.0 g.1 in absurd (cc))
+      ]
+
+  pub handed_on : Handed e s t due answer n Loses u named m
+  handed_on = record {
+    laws = ends.laws;
+    mid = mid;
+    made = made;
+    later = ends.later;
+    granted = ends.granted;
+    ends = ends.ends;
+    down = all_down;
+    names = λ q. keep_then mid u t t1 named names ends.names numbered ends.numbered q;
+    parts = record { numbered = ends.numbered; fits = ends.fits; due = due_wait };
+    was_due = λ k among. (let was = ends.was_due k among in (was.0, was.2));
+    fewer = ends.fewer;
+  }

@@ -1,0 +1,70 @@
+-- What a release and the end of a transaction leave of owners and of the configuration.
+use Rattle.std.proofs.Common.{◌≡◌, ℕ, false, Some, None, Result, Ok, Err, IsTrue, inl, inr, ap, ◌∙◌, slice_index_or}
+use Rattle.std.proofs.lemmas.Bool.{cases_Bool, ne_eqb, not-false}
+use Rattle.mm_arena.specs.declared.key.Key.{Key}
+use Rattle.mm_rules.specs.declared.refusal.Refusal.{Refusal}
+use Rattle.mm_rules.specs.declared.reply.Released.{Released}
+use Rattle.mm_rules.specs.TableState.{TableState, is_live, owner_of, owns}
+use Rattle.mm_rules.specs.Change.{vacate, abort}
+use Rattle.mm_rules.specs.Event.{Release, Finish, Abort, finish_tests, abort_tests}
+use Rattle.mm_rules.specs.Laws.{Laws}
+use Rattle.mm_rules.proofs.States.SettleKeeps.{settle_keeps}
+use Rattle.mm_settled.specs.Calls.{Makes, Rests}
+use Rattle.mm_settled.proofs.Lemmas.Accepted.{accepted}
+use Rattle.mm_settled.proofs.Lemmas.Ends.{HandsOn, release_hands_on, finish_hands_on, abort_hands_on}
+use Rattle.mm_manager.proofs.Lemmas.Requests.{owner_is_key}
+
+-- nothing or a settle follows: owners, waits and configuration stay
+pub record RestsAlike (mid new : TableState) : Type 0 where
+  pub owners : new.owners ≡ mid.owners
+  pub waits : new.waits ≡ mid.waits
+  pub config : new.config ≡ mid.config
+
+pub rests_alike : (mid new : TableState) → Rests mid new → RestsAlike mid new
+rests_alike mid new (inl same) = record { owners = ap (λ (t : TableState). t.owners) same; waits = ap (λ (t : TableState). t.waits) same; config = ap (λ (t : TableState). t.config) same }
+rests_alike mid new (inr settle) = (let keeps = settle_keeps mid new (Ok settle.0) settle.1 in record { owners = keeps.owners; waits = keeps.waits; config = keeps.config })
+
+-- whatever the reply, the configuration stays, and so do the owners of what is not handed over
+pub record LeavesOwners (s : TableState) (IsHanded : ℕ → Type 0) (new : TableState) : Type 0 where
+  pub config : new.config ≡ s.config
+  pub others : (q : ℕ) → ¬ IsHanded q → owner_of new q ≡ owner_of s q
+
+leaves_same : (s new : TableState) (IsHanded : ℕ → Type 0) → new ≡ s → LeavesOwners s IsHanded new
+leaves_same s new IsHanded same = record { config = ap (λ (t : TableState). t.config) same; others = λ q not. ap (λ t. owner_of t q) same }
+
+pub release_leaves : (s new : TableState) (k : Key) (r : ℕ) (reply : Result Released Refusal) → Laws s → Makes (Release k r) s reply new → LeavesOwners s (λ q. q ≡ r) new
+release_leaves s new k r (Err e) laws makes = leaves_same s new (λ q. q ≡ r) makes.0
+release_leaves s new k r (Ok answer) laws made =
+    let on = release_hands_on s made.mid k r answer laws made.event in
+    let alike = rests_alike made.mid new made.rests in
+    record {
+      config = alike.config ∙ on.config;
+      others = λ q apart. ap (λ os. slice_index_or os q None) alike.owners ∙ on.others q (ne_eqb q r apart);
+    }
+
+-- what a live key does not own, its process does not own
+pub not_mine : (s : TableState) (k : Key) (q : ℕ) → Laws s → IsTrue (is_live s k) → ¬ (owner_of s q ≡ Some k) → owns s k.process q ≡ false
+not_mine s k q laws live other = elim (cases_Bool (owns s k.process q)) [
+  | inl mine ↦ absurd (other (owner_is_key s k q laws live mine))
+  | inr apart ↦ apart
+]
+
+ended_leaves : (s mid new : TableState) (k : Key) → Laws s → IsTrue (is_live s k) → HandsOn s k.process (owns s k.process) mid → Rests mid new → LeavesOwners s (λ q. owner_of s q ≡ Some k) new
+ended_leaves s mid new k laws live on rests =
+    let alike = rests_alike mid new rests in
+    record {
+      config = alike.config ∙ on.config;
+      others = λ q other. ap (λ os. slice_index_or os q None) alike.owners ∙ on.others q (not_mine s k q laws live other);
+    }
+
+pub finish_leaves : (s new : TableState) (k : Key) (reply : Result (Unit {0}) Refusal) → Laws s → Makes (Finish k) s reply new → LeavesOwners s (λ q. owner_of s q ≡ Some k) new
+finish_leaves s new k (Err e) laws makes = leaves_same s new (λ q. owner_of s q ≡ Some k) makes.0
+finish_leaves s new k (Ok answer) laws made =
+    let done = accepted (finish_tests s k) s tt (vacate s k.process) tt made.mid made.event in
+    ended_leaves s made.mid new k laws (not-false (is_live s k) done.passed.1.0) (finish_hands_on s made.mid k laws made.event) made.rests
+
+pub abort_leaves : (s new : TableState) (k : Key) (reply : Result (Unit {0}) Refusal) → Laws s → Makes (Abort k) s reply new → LeavesOwners s (λ q. owner_of s q ≡ Some k) new
+abort_leaves s new k (Err e) laws makes = leaves_same s new (λ q. owner_of s q ≡ Some k) makes.0
+abort_leaves s new k (Ok answer) laws made =
+    let done = accepted (abort_tests s k) s tt (abort s k.process) tt made.mid made.event in
+    ended_leaves s made.mid new k laws (not-false (is_live s k) done.passed.1.0) (abort_hands_on s made.mid k laws made.event) made.rests

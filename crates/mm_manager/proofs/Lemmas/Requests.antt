@@ -1,0 +1,164 @@
+-- What a request leaves of names and owners.
+use Rattle.std.proofs.Common.{◌≡◌, ◌<◌, ◌+◌, ◌++◌, ℕ, Bool, true, false, List, [], ◌∷◌, length, Option, Some, None, Result, Ok, Err, IsTrue, refl, sym, ap, ◌∙◌, inl, inr, slice_set, slice_index, slice_index_or, length-set, get_or-set_same, nat_eq}
+use Rattle.std.proofs.lemmas.Bool.{and_parts, eqb-true, not-false}
+use Rattle.std.proofs.lemmas.List.{set-set, set-get_or}
+use Rattle.mm_arena.specs.declared.key.Key.{Key}
+use Rattle.mm_label.specs.Label.{Label}
+use Rattle.mm_names.specs.Names.{NameTable, name_of, with_name, Interns}
+use Rattle.mm_names.proofs.Lemmas.Index.{named_in_range}
+use Rattle.mm_rules.specs.declared.refusal.Refusal.{Refusal}
+use Rattle.mm_rules.specs.declared.refusal.Refusal.TheVariants.{AlreadyOwns, CountsExhausted, Stale, NoResource, Waiting, LabelsExhausted}
+use Rattle.mm_rules.specs.declared.reply.Acquired.{Acquired}
+use Rattle.mm_rules.specs.declared.reply.Acquired.TheVariants as acquired
+use Rattle.mm_rules.specs.TableState.{TableState, is_live, owner_of, owns, wait_of}
+use Rattle.mm_rules.specs.Event.{Acquire, Step, acquire_tests, acquire_answer, acquire_change, allowed, decided}
+use Rattle.mm_rules.specs.Laws.{Laws}
+use Rattle.mm_rules.proofs.States.Lookups.{none_of_is_some}
+use Rattle.mm_rules.proofs.States.Outcome.{counting}
+use Rattle.mm_rules.proofs.States.Release.{owns_gives}
+use Rattle.mm_rules.proofs.States.SettleKeeps.{settle_keeps}
+use Rattle.mm_settled.specs.Calls.{Locks, WaitsFrom}
+use Rattle.mm_settled.specs.declared.reply.Locked.TheVariants as locked
+use Rattle.mm_settled.proofs.Lemmas.Accepted.{IsAccepted, accepted}
+use Rattle.mm_manager.specs.private.Numbers.{AreNumbered, forgotten}
+use Rattle.mm_manager.proofs.Lemmas.Numbers.{some_not_none, numbered_alike, numbered_set}
+
+-- ---- what the table does
+
+-- the number was free, and is k's
+pub record IsGranted (s : TableState) (k : Key) (n : ℕ) (u : TableState) : Type 0 where
+  pub free : owner_of s n ≡ None
+  pub owners : u.owners ≡ slice_set s.owners n (Some k)
+  pub waits : u.waits ≡ s.waits
+  pub config : u.config ≡ s.config
+
+-- k waits for the number, which h owns
+pub record IsQueued (s : TableState) (k : Key) (n : ℕ) (h : Key) (u : TableState) : Type 0 where
+  pub held : owner_of s n ≡ Some h
+  pub active : wait_of s k.process ≡ None
+  pub owners : u.owners ≡ s.owners
+  pub waits : u.waits ≡ s.waits ++ record { key = k; resource = n } ∷ []
+  pub config : u.config ≡ s.config
+
+granted_by : (s u : TableState) (k : Key) (n m : ℕ) (o : Option Key) → owner_of s n ≡ o → acquire_answer s k o ≡ acquired.Granted → u ≡ counting (acquire_change s k n o) m → IsGranted s k n u
+granted_by s u k n m None is answer after = record { free = is; owners = ap (λ (v : TableState). v.owners) after; waits = ap (λ (v : TableState). v.waits) after; config = ap (λ (v : TableState). v.config) after }
+granted_by s u k n m (Some h) is answer after = absurd (cc)
+
+queued_by : (s u : TableState) (k h : Key) (l : Label) (n m : ℕ) (o : Option Key) → wait_of s k.process ≡ None → owner_of s n ≡ o → acquire_answer s k o ≡ acquired.Waits h l → u ≡ counting (acquire_change s k n o) m → IsQueued s k n h u
+queued_by s u k h l n m None active is answer after = absurd (cc)
+queued_by s u k h l n m (Some g) active is answer after =
+    let same : g ≡ h = cc in
+    record { held = is ∙ ap Some same; active = active; owners = ap (λ (v : TableState). v.owners) after; waits = ap (λ (v : TableState). v.waits) after; config = ap (λ (v : TableState). v.config) after }
+
+done_by : (s u : TableState) (k : Key) (n : ℕ) (answer : Acquired) → Step (Acquire k n) s (Ok answer) u
+    → IsAccepted Acquired (acquire_tests s k n) (acquire_answer s k (owner_of s n)) (acquire_change s k n (owner_of s n)) answer u
+done_by s u k n answer step = accepted (acquire_tests s k n) s (acquire_answer s k (owner_of s n)) (acquire_change s k n (owner_of s n)) answer u step
+
+pub granted_is : (s u : TableState) (k : Key) (n : ℕ) → Locks s k n (Ok locked.Granted) u → IsGranted s k n u
+granted_is s u k n locks =
+    let done = done_by s u k n acquired.Granted locks in
+    granted_by s u k n ((acquire_change s k n (owner_of s n)).totals.accepted + 1) (owner_of s n) refl done.answer done.state
+
+pub queued_is : (s u : TableState) (k h : Key) (n : ℕ) → WaitsFrom s k n h u → IsQueued s k n h u
+queued_is s u k h n from =
+    let done = done_by s from.mid k n (acquired.Waits h from.label) from.event in
+    let queued = queued_by s from.mid k h from.label n ((acquire_change s k n (owner_of s n)).totals.accepted + 1) (owner_of s n) (none_of_is_some (wait_of s k.process) done.passed.1.1.1.0) refl done.answer done.state in
+    let settled = settle_keeps from.mid u (Ok from.answer) from.settle in
+    record { held = queued.held; active = queued.active; owners = settled.owners ∙ queued.owners; waits = settled.waits ∙ queued.waits; config = settled.config ∙ queued.config }
+
+-- ---- it owns the number already
+
+generation_is : (s : TableState) (k : Key) → IsTrue (is_live s k) → slice_index s.generations k.process ≡ k.generation
+generation_is s k live =
+    let parts = and_parts (slice_index_or s.live k.process false) (nat_eq (slice_index s.generations k.process) k.generation) live in
+    eqb-true (slice_index s.generations k.process) k.generation parts.1
+
+-- a process has one live key
+pub one_key : (s : TableState) (j k : Key) → IsTrue (is_live s j) → IsTrue (is_live s k) → j.process ≡ k.process → j ≡ k
+one_key s j k live_j live_k same =
+    let generation : j.generation ≡ k.generation = sym (generation_is s j live_j) ∙ ap (slice_index s.generations) same ∙ generation_is s k live_k in
+    ap (λ n. record { process = n; generation = j.generation }) same ∙ ap (λ g. record { process = k.process; generation = g }) generation
+
+-- what the process of a live key owns, the key owns
+pub owner_is_key : (s : TableState) (k : Key) (n : ℕ) → Laws s → IsTrue (is_live s k) → owns s k.process n ≡ true → owner_of s n ≡ Some k
+owner_is_key s k n laws live mine =
+    let owner = owns_gives s k.process n mine in
+    owner.1 ∙ ap Some (one_key s owner.0 k (laws.lawful.well_formed.owners n owner.0 owner.1) live owner.2)
+
+refused_by : {A : Type 0} (r : Result (Unit {0}) Refusal) (old new : TableState) (answer : A) (e : Refusal) → Err e ≡ (decided r old answer new).reply → r ≡ Err e
+refused_by (Ok passed) old new answer e is = absurd (cc)
+refused_by (Err refusal) old new answer e is = (let same : e ≡ refusal = cc in ap Err (sym same))
+
+-- what is refused as AlreadyOwns has passed the tests before that one
+owns_by_tests : (counts stale out waits mine full : Bool)
+    → allowed ((counts, CountsExhausted) ∷ (stale, Stale) ∷ (out, NoResource) ∷ (waits, Waiting) ∷ (mine, AlreadyOwns) ∷ (full, LabelsExhausted) ∷ []) ≡ Err AlreadyOwns
+    → (stale ≡ false) × (mine ≡ true)
+owns_by_tests true stale out waits mine full is = (let never : Err CountsExhausted ≡ Err AlreadyOwns = is in absurd (cc))
+owns_by_tests false true out waits mine full is = (let never : Err Stale ≡ Err AlreadyOwns = is in absurd (cc))
+owns_by_tests false false true waits mine full is = (let never : Err NoResource ≡ Err AlreadyOwns = is in absurd (cc))
+owns_by_tests false false false true mine full is = (let never : Err Waiting ≡ Err AlreadyOwns = is in absurd (cc))
+owns_by_tests false false false false true full is = (refl, refl)
+owns_by_tests false false false false false true is = (let never : Err LabelsExhausted ≡ Err AlreadyOwns = is in absurd (cc))
+owns_by_tests false false false false false false is = (let never : Ok tt ≡ Err AlreadyOwns = is in absurd (cc))
+
+held_by : (s : TableState) (k : Key) (n : ℕ) → Laws s → Step (Acquire k n) s (Err AlreadyOwns) s → owner_of s n ≡ Some k
+held_by s k n laws step =
+    let is = refused_by (allowed (acquire_tests s k n)) s (acquire_change s k n (owner_of s n)) (acquire_answer s k (owner_of s n)) AlreadyOwns step.0 in
+    let tests = owns_by_tests _ _ _ _ (owns s k.process n) _ is in
+    owner_is_key s k n laws (not-false (is_live s k) tests.0) tests.1
+
+pub held_is : (s u : TableState) (k : Key) (n : ℕ) → Laws s → Locks s k n (Err AlreadyOwns) u → owner_of s n ≡ Some k
+held_is s u k n laws refused = elim refused.1 [
+  | inl step ↦ held_by s k n laws step
+  | inr never ↦ absurd (let no : AlreadyOwns ≡ CountsExhausted = never.0 in cc)
+]
+
+-- ---- the names
+
+pub interned_name : (t u : NameTable) (name : List ℕ) (n : ℕ) → Interns t name n u → name_of u n ≡ Some name
+interned_name t u name n (inl known) = ap (λ v. name_of v n) known.1 ∙ known.0
+interned_name t u name n (inr fresh) = ap (λ v. name_of v n) fresh.2 ∙ get_or-set_same t.names n (Some name) None fresh.1.0
+
+-- there are as many names as before, and the number is one of them
+pub interned_in_range : (t u : NameTable) (name : List ℕ) (n : ℕ) → Interns t name n u → (length u.names ≡ length t.names) × (n < length t.names)
+interned_in_range t u name n (inl known) = (ap (λ v. length v.names) known.1, named_in_range t n name known.0)
+interned_in_range t u name n (inr fresh) = (ap (λ v. length v.names) fresh.2 ∙ length-set t.names n (Some name), fresh.1.0)
+
+module _ (s : TableState) (t : NameTable) (numbered : AreNumbered s t) (u : NameTable) (name : List ℕ) (n : ℕ) where
+  -- the name of a number that is owned was known
+  pub owned_is_known : (h : Key) → owner_of s n ≡ Some h → Interns t name n u → (name_of t n ≡ Some name) × (u ≡ t)
+  owned_is_known h held (inl known) = known
+  owned_is_known h held (inr fresh) = absurd (some_not_none (owner_of s n) h held ((numbered.named n).0 fresh.1.1))
+
+  -- the name of a number that is free is new
+  pub free_is_new : owner_of s n ≡ None → Interns t name n u → (n < length t.names) × (u ≡ with_name t n (Some name))
+  free_is_new free (inl known) = absurd (some_not_none (name_of t n) name known.0 ((numbered.named n).1 free))
+  free_is_new free (inr fresh) = (fresh.1.0, fresh.2)
+
+  forgotten_free : (v : NameTable) → owner_of s n ≡ None → forgotten s v n ≡ with_name v n None
+  forgotten_free v is = rw is refl
+
+  forgotten_owned : (v : NameTable) (o : Option Key) → owner_of s n ≡ o → (o ≡ None → ⊥) → forgotten s v n ≡ v
+  forgotten_owned v None is some = absurd (some refl)
+  forgotten_owned v (Some k) is some = rw is refl
+
+  named_back : name_of t n ≡ None → with_name (with_name t n (Some name)) n None ≡ t
+  named_back none =
+      ap (λ names. record { names = names; name_bytes = t.name_bytes })
+      (set-set t.names n (Some name) None ∙ ap (slice_set t.names n) (sym none) ∙ set-get_or t.names n None)
+
+  -- a name that was only interned is taken back
+  pub forgotten_interned : Interns t name n u → forgotten s u n ≡ t
+  forgotten_interned (inl known) =
+      forgotten_owned u (owner_of s n) refl (λ none. some_not_none (name_of t n) name known.0 ((numbered.named n).1 none)) ∙ known.1
+  forgotten_interned (inr fresh) =
+      forgotten_free u ((numbered.named n).0 fresh.1.1) ∙ ap (λ v. with_name v n None) fresh.2 ∙ named_back fresh.1.1
+
+  pub numbered_granted : Laws s → (k : Key) (v : TableState) → IsGranted s k n v → Interns t name n u → AreNumbered v u
+  numbered_granted laws k v granted interned =
+      let new = free_is_new granted.free interned in
+      rw new.1 (numbered_set s t numbered laws n new.0 (Some k) (Some name)
+      ((λ never. (let no : Some name ≡ None = never in absurd (cc))), (λ never. (let no : Some k ≡ None = never in absurd (cc)))) v granted.owners granted.config)
+
+  pub numbered_queued : (k h : Key) (v : TableState) → IsQueued s k n h v → Interns t name n u → AreNumbered v u
+  numbered_queued k h v queued interned = rw (owned_is_known h queued.held interned).1 (numbered_alike s t numbered v queued.owners queued.config)

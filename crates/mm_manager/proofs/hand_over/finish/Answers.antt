@@ -1,0 +1,41 @@
+use Rattle.std.proofs.Common.{◌≡◌, ◌↔◌, ℕ, Some, fold, ap, subst, ◌∙◌, arith}
+use Rattle.mm_lists.specs.Members.{Among}
+use Rattle.mm_rules.specs.TableState.{TableState, owner_of}
+use Rattle.mm_settled.proofs.Lemmas.Ends.{owner_in_range}
+use Rattle.mm_manager.specs.private.Numbers.{forgotten}
+use Rattle.mm_manager.proofs.Lemmas.Owners.{finish_leaves}
+use Rattle.mm_manager.proofs.Lemmas.Forgets.{NamesFollow, ended_names, finish_keeps_names}
+use Rattle.mm_manager.proofs.hand_over.finish.Goals as goal
+
+pub forget_each-requires : goal.forget_each-requires
+forget_each-requires c =
+    let s = c.args.table.now.table in
+    let leaves = finish_leaves s c.finish-answer.new.self.table c.args.key c.finish-answer.result c.is_at_rest.ensures.laws c.finish-answer.ensures.makes in
+    λ n among.
+    let mine : owner_of s n ≡ Some c.args.key = subst (λ (t : TableState). owner_of t n ≡ Some c.args.key) c.table.ensures ((c.owned_by.ensures.listed n).0 (subst (Among n) c.deref.ensures.value among)) in
+    omega (arith, owner_in_range s c.is_at_rest.ensures.laws n c.args.key mine, ap (λ (t : TableState). t.config.resources) c.table-2.ensures, ap (λ g. g.resources) leaves.config)
+
+follow : (c : goal.After-forget_each) → NamesFollow c.args.names.now c.finish-answer.new.self.table c.forget_each.new.names
+follow c =
+    let s = c.args.table.now.table in
+    let u = c.finish-answer.new.self.table in
+    let leaves = finish_leaves s u c.args.key c.finish-answer.result c.is_at_rest.ensures.laws c.finish-answer.ensures.makes in
+    let listed : (r : ℕ) → Among r c.owned_by.new.resources.items ↔ (owner_of s r ≡ Some c.args.key)
+    = subst (λ (t : TableState). (r : ℕ) → Among r c.owned_by.new.resources.items ↔ (owner_of t r ≡ Some c.args.key)) c.table.ensures c.owned_by.ensures.listed in
+    ended_names s u c.args.names.now c.forget_each.new.names c.args.key c.owned_by.new.resources.items c.requires.numbered listed leaves
+    (c.forget_each.ensures ∙ ap (λ (t : TableState). fold (forgotten t) c.args.names.now c.deref.result.now) c.table-2.ensures ∙ ap (fold (forgotten u) c.args.names.now) c.deref.ensures.value)
+
+pub returns-clause-names : goal.returns-clause-names
+returns-clause-names c = (follow c).kept
+
+pub returns-clause-numbered : goal.returns-clause-numbered
+returns-clause-numbered c = (follow c).numbered
+
+pub returns-clause-same : goal.returns-clause-same
+returns-clause-same c =
+    let s = c.args.table.now.table in
+    let u = c.finish-answer.new.self.table in
+    let listed : (r : ℕ) → Among r c.owned_by.new.resources.items ↔ (owner_of s r ≡ Some c.args.key)
+    = subst (λ (t : TableState). (r : ℕ) → Among r c.owned_by.new.resources.items ↔ (owner_of t r ≡ Some c.args.key)) c.table.ensures c.owned_by.ensures.listed in
+    finish_keeps_names s u c.args.names.now c.forget_each.new.names c.args.key c.owned_by.new.resources.items c.finish-answer.result listed c.finish-answer.ensures.makes
+    (c.forget_each.ensures ∙ ap (λ (t : TableState). fold (forgotten t) c.args.names.now c.deref.result.now) c.table-2.ensures ∙ ap (fold (forgotten u) c.args.names.now) c.deref.ensures.value)

@@ -1,0 +1,25 @@
+use Rattle.mm_manager.proofs.Lemmas.Asked.{RequestKeeps, asked_keeps, due_still}
+use Rattle.mm_manager.proofs.parts.lock.Goals as goal
+
+keeps : (c : goal.After-request) → RequestKeeps c.args.table.now.table c.request.new.table.table
+keeps c =
+    asked_keeps c.args.table.now.table c.request.new.table.table c.args.names.now c.request.new.names c.args.key c.args.name.now c.request.result c.is_at_rest.ensures.laws
+    (λ answer is. rw is at c.request.ensures.requested) (λ e is. rw is at c.request.ensures.table)
+
+pub returns-clause-laws : goal.returns-clause-laws
+returns-clause-laws c = (c.is_at_rest.ensures.laws, (keeps c).laws)
+
+pub returns-clause-parts : goal.returns-clause-parts
+returns-clause-parts c =
+    let was = c.requires.fits in
+    let cleared = c.clear.ensures in
+    record {
+      numbered = c.request.ensures.numbered;
+      fits = rw (keeps c).config record {
+        granted = rw cleared.room_to_grant was.granted;
+        aborted = rw cleared.room_to_abort was.aborted;
+        due = rw cleared.due was.due;
+        owned = rw cleared.owned was.owned;
+      };
+      due = rw cleared.due (due_still c.args.table.now.table c.request.new.table.table c.args.lists.now.due.items (keeps c) c.requires.due);
+    }

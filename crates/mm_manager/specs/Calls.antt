@@ -1,0 +1,149 @@
+-- What the calls do, in terms of names.
+use Rattle.std.specs.Prelude.{◌≡◌, ◌≢◌, ◌⊎◌, ◌↔◌, ℕ, true, List, [], ◌∷◌, ◌++◌, Some, Result, Ok, Err, false, slice_set}
+use Rattle.mm_arena.specs.declared.key.Key.{Key}
+use Rattle.mm_lists.specs.Members.{Among}
+use Rattle.mm_marks.specs.Marks.{has}
+use Rattle.mm_names.specs.Names.{NameTable, name_of, Interns}
+use Rattle.mm_rules.specs.declared.reply.Released.{Released}
+use Rattle.mm_rules.specs.TableState.{TableState, owner_of}
+use Rattle.mm_rules.specs.Victims.{IsOnCycle}
+use Rattle.mm_rules.specs.declared.refusal.Refusal as table
+use Rattle.mm_rules.specs.Event.{Event, Begin, Release, Finish, Answer, Step, Abort, GiveUp}
+use Rattle.mm_rules.specs.declared.refusal.Refusal.TheVariants.{Carried}
+use Rattle.mm_settled.specs.Calls.{Locks, Made}
+use Rattle.mm_settled.specs.Grants.{grants}
+use Rattle.mm_settled.specs.declared.reply.Grant.{Grant}
+use Rattle.mm_settled.specs.declared.reply.Locked.{Locked}
+use Rattle.mm_manager.specs.Permit.{refusal_of}
+use Rattle.mm_manager.specs.LockState.{LockState, Owns, Waits, IsUnowned, untold}
+use Rattle.mm_manager.specs.declared.refusal.Refusal.{Refusal}
+use Rattle.mm_manager.specs.declared.reply.Abort as abort
+use Rattle.mm_manager.specs.declared.reply.Cancel as cancel
+use Rattle.mm_manager.specs.declared.reply.Cancel.TheVariants as cancels
+use Rattle.mm_manager.specs.declared.reply.Abort.TheVariants as aborts
+use Rattle.mm_manager.specs.declared.reply.Lock.{Lock}
+use Rattle.mm_manager.specs.declared.reply.Lock.TheVariants as lock
+
+-- ---- begin
+
+-- a transaction starts, and nothing else changes; or it is refused as by the table
+abbrev pub Begins : LockState → Result Key Refusal → LockState → Type 0
+Begins old (Ok key) new = Step Begin old.table (Ok key) new.table × (new ≡ record (untold old) { table = new.table })
+Begins old (Err refusal) new = (new ≡ untold old) × ((why : table.Refusal) × Step Begin old.table (Err why) old.table × (refusal ≡ refusal_of why))
+
+-- ---- lock
+
+-- nobody owned the name and k does from now on; all else stays
+pub record Gets (old : LockState) (k : Key) (name : List ℕ) (new : LockState) : Type 0 where
+  pub free : IsUnowned old name
+  pub owns : Owns new k name
+  pub others : (h : Key) (other : List ℕ) → other ≢ name → Owns new h other ↔ Owns old h other
+  pub waits : (h : Key) (other : List ℕ) → Waits new h other ↔ Waits old h other
+
+-- h owns the name and k waits for it from now on; all else stays
+pub record Queues (old : LockState) (k : Key) (name : List ℕ) (h : Key) (new : LockState) : Type 0 where
+  pub holder : Owns old h name
+  pub waits : Waits new k name
+  pub owners : (g : Key) (other : List ℕ) → Owns new g other ↔ Owns old g other
+  pub others : (g : Key) (other : List ℕ) → g.process ≢ k.process → Waits new g other ↔ Waits old g other
+
+-- what a request for a name does, by its answer
+abbrev pub LocksName : LockState → Key → List ℕ → Result Lock Refusal → LockState → Type 0
+LocksName old k name (Ok lock.Granted) new = Gets old k name new
+LocksName old k name (Ok lock.Held) new = Owns old k name × (new ≡ untold old)
+LocksName old k name (Ok (lock.Waits h)) new = Queues old k name h new × ¬ IsOnCycle new.table k.process
+LocksName old k name (Ok (lock.Deadlock h)) new = Queues old k name h new × IsOnCycle new.table k.process
+LocksName old k name (Err refusal) new = new ≡ untold old
+
+-- by numbers: the name has a number, now or already, and the table at rest answers the request for that number so
+abbrev pub Asks : TableState → NameTable → Key → List ℕ → Locked → TableState → NameTable → Type 0
+Asks s t k name answer new named = (n : ℕ) × Interns t name n named × Locks s k n (Ok answer) new
+
+-- ---- hand-overs
+
+-- from s these transactions end, one after the other, and this is all that they hand over, in order
+abbrev pub EndsAll : TableState → List Key → List Grant → TableState → Type 0
+EndsAll s [] granted new = (new ≡ s) × (granted ≡ [])
+EndsAll s (k ∷ ks) granted new = (mid : TableState) × (later : List Grant) × Made (Finish k) s tt mid × (granted ≡ grants s mid ++ later) × EndsAll mid ks later new
+
+-- the event is made in the table at rest, then those end whose abort is due by that; the lists tell of both
+pub record HandsOver (e : Event) (old : LockState) (answer : Answer e) (new : LockState) : Type 0 where
+  pub mid : TableState
+  pub made : Made e old.table answer mid
+  pub later : List Grant
+  pub granted : new.granted ≡ grants old.table mid ++ later
+  pub ends : EndsAll mid new.aborted later new.table
+
+-- those that were aborted were granted what they waited for, and their abort was due
+abbrev pub AbortsDue : LockState → LockState → Type 0
+AbortsDue old new = (k : Key) → Among k new.aborted → (has old.due k.process ≡ true) × ((g : Grant) × Among g new.granted × (g.key ≡ k))
+
+-- h was granted the name
+abbrev pub IsGranted : LockState → LockState → Key → List ℕ → Type 0
+IsGranted old new h name = (g : Grant) × Among g new.granted × (g.key ≡ h) × (name_of old.names g.resource ≡ Some name)
+
+-- in a call of k, whoever loses a name loses it, `granted` are the waits that ended, all but that of k, and all else stays
+pub record Passes (old : LockState) (k : Key) (Loses : Key → List ℕ → Type 0) (new : LockState) : Type 0 where
+  pub keeps : (h : Key) (name : List ℕ) → Owns old h name → ¬ Loses h name → Owns new h name
+  pub gains : (h : Key) (name : List ℕ) → Owns new h name → Owns old h name ⊎ IsGranted old new h name
+  pub granted : (h : Key) (name : List ℕ) → IsGranted old new h name → Waits old h name × (¬ Loses h name → Owns new h name)
+  pub goes_on : (g : Grant) (name : List ℕ) → Among g new.granted → ¬ Waits new g.key name
+  pub waits : (h : Key) (name : List ℕ) → Waits new h name → Waits old h name
+  pub ended : (h : Key) (name : List ℕ) → h.process ≢ k.process → Waits old h name
+      → Waits new h name ⊎ ((g : Key) × (g.process ≡ h.process) × IsGranted old new g name)
+
+-- ---- unlock, commit
+
+-- whoever owns this name, or is aborted
+abbrev pub LosesName : List ℕ → List Key → Key → List ℕ → Type 0
+LosesName name aborted h other = (other ≡ name) ⊎ Among h aborted
+
+-- k, or whoever is aborted
+abbrev pub LosesAll : Key → List Key → Key → List ℕ → Type 0
+LosesAll k aborted h name = (h ≡ k) ⊎ Among h aborted
+
+-- k owned the name, by its number; it is handed over
+pub record Unlocks (old : LockState) (k : Key) (name : List ℕ) (new : LockState) : Type 0 where
+  pub number : ℕ
+  pub named : name_of old.names number ≡ Some name
+  pub owned : owner_of old.table number ≡ Some k
+  pub answer : Released
+  pub over : HandsOver (Release k number) old answer new
+  pub passes : Passes old k (LosesName name new.aborted) new
+  pub due : AbortsDue old new
+
+-- k ends by this event, and hands over all that it owned
+pub record EndsBy (e : Event) (old : LockState) (answer : Answer e) (k : Key) (new : LockState) : Type 0 where
+  pub over : HandsOver e old answer new
+  pub passes : Passes old k (LosesAll k new.aborted) new
+  pub due : AbortsDue old new
+
+-- ---- abort
+
+-- the wait of k is taken back, and its abort is due no longer; nothing else changes
+abbrev pub GivesUp : LockState → Key → LockState → Type 0
+GivesUp old k new = Step (GiveUp k) old.table (Ok tt) new.table × (new ≡ record (untold old) { table = new.table; due = slice_set old.due k.process false })
+
+-- k ended: it was active, or in a deadlock, or its wait was taken back first
+abbrev pub IsEnded : LockState → Key → LockState → Type 0
+IsEnded old k new = EndsBy (Finish k) old tt k new ⊎ EndsBy (Abort k) old tt k new ⊎ ((mid : LockState) × GivesUp old k mid × EndsBy (Finish k) mid tt k new)
+
+-- what an abort does, by its answer
+abbrev pub Aborts : LockState → Key → Result abort.Abort Refusal → LockState → Type 0
+Aborts old k (Ok aborts.Done) new = IsEnded old k new
+Aborts old k (Ok aborts.Later) new = Step (GiveUp k) old.table (Err Carried) old.table × (new ≡ record (untold old) { due = slice_set old.due k.process true })
+Aborts old k (Ok aborts.Withdrawn) new = GivesUp old k new
+Aborts old k (Err refusal) new = new ≡ untold old
+
+-- ---- cancel
+
+-- the wait of k is taken back, and nothing else changes
+abbrev pub TakesBack : LockState → Key → LockState → Type 0
+TakesBack old k new = Step (GiveUp k) old.table (Ok tt) new.table × (new ≡ record (untold old) { table = new.table })
+
+-- what a cancel does, by its answer: that of one whose abort is due is an abort
+abbrev pub Cancels : LockState → Key → Result cancel.Cancel Refusal → LockState → Type 0
+Cancels old k (Ok cancels.Withdrawn) new =
+    ((has old.due k.process ≡ false) × TakesBack old k new) ⊎ ((has old.due k.process ≡ true) × (Aborts old k (Ok aborts.Done) new ⊎ Aborts old k (Ok aborts.Withdrawn) new))
+Cancels old k (Ok cancels.Carried) new = Step (GiveUp k) old.table (Err Carried) old.table × (new ≡ untold old)
+Cancels old k (Err refusal) new = new ≡ untold old

@@ -1,0 +1,10 @@
+-- what a contract sees of a lock manager
+pub mod LockState
+-- the numbers of an opening
+pub mod Opening
+-- what a call is refused for before the table is asked
+pub mod Permit
+-- what the calls do
+pub mod Calls
+-- private: what private functions' contracts cite; no public clause cites these
+pub mod private

@@ -1,0 +1,40 @@
+-- What a contract sees of a lock manager, and who owns and who waits for which name. A name is a list of bytes.
+use Rattle.std.specs.Prelude.{◌≡◌, ◌≢◌, ◌↔◌, ℕ, Bool, true, List, [], Some, None}
+use Rattle.mm_arena.specs.declared.key.Key.{Key}
+use Rattle.mm_marks.specs.Marks.{has}
+use Rattle.mm_names.specs.Names.{NameTable, name_of, IsLawful as IsLawfulNames}
+use Rattle.mm_rules.specs.TableState.{TableState, owner_of, wait_of, is_waiting}
+use Rattle.mm_rules.specs.Laws.{Laws, AtRest}
+use Rattle.mm_settled.specs.declared.reply.Grant.{Grant}
+
+pub record LockState : Type 0 where
+  pub table : TableState  -- its resources are the numbers of names
+  pub names : NameTable
+  pub due : List Bool  -- by process: whether its transaction is aborted as soon as its wait ends
+  pub granted : List Grant  -- whom the last call granted what, in order
+  pub aborted : List Key  -- whose abort came due in the last call, in order
+
+-- k owns the name
+abbrev pub Owns : LockState → Key → List ℕ → Type 0
+Owns m k name = (n : ℕ) × (name_of m.names n ≡ Some name) × (owner_of m.table n ≡ Some k)
+
+-- the transaction in k's process waits for the name
+abbrev pub Waits : LockState → Key → List ℕ → Type 0
+Waits m k name = (n : ℕ) × (name_of m.names n ≡ Some name) × (wait_of m.table k.process ≡ Some n)
+
+-- nobody owns the name
+abbrev pub IsUnowned : LockState → List ℕ → Type 0
+IsUnowned m name = (k : Key) → ¬ Owns m k name
+
+-- the same, with nothing told
+abbrev pub untold : LockState → LockState
+untold m = record m { granted = []; aborted = [] }
+
+-- what holds of any manager that a caller can hold
+pub record IsLawful (m : LockState) : Type 0 where
+  pub laws : Laws m.table  -- those of the table
+  pub rest : AtRest m.table
+  pub names : IsLawfulNames m.names  -- no two numbers have one name
+  pub numbered : (n : ℕ) → (name_of m.names n ≡ None) ↔ (owner_of m.table n ≡ None)  -- a number has a name exactly while it has an owner
+  pub due : (n : ℕ) → has m.due n ≡ true → is_waiting m.table n ≡ true  -- each transaction whose abort is due waits
+  pub waited : (k : Key) (name : List ℕ) → Waits m k name → (h : Key) × Owns m h name × (h.process ≢ k.process)  -- who waits, waits for an owner

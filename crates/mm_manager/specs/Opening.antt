@@ -1,0 +1,33 @@
+-- The numbers of an opening.
+use Rattle.std.specs.Prelude.{◌≡◌, ◌⊎◌, ◌<◌, [], false, replicate}
+use Rattle.mm_names.specs.Names.{nameless}
+use Rattle.mm_rules.specs.declared.config.Config.{Config}
+use Rattle.mm_rules.specs.TableState.{opening}
+use Rattle.mm_manager.specs.LockState.{LockState}
+use Rattle.mm_manager.specs.declared.config.ManagerConfig.{ManagerConfig}
+
+-- the table has a resource for each name
+abbrev pub table_config : ManagerConfig → Config
+table_config c = record { processes = c.transactions; resources = c.names; label_limit = 17592186044415; generation_limit = 4294967295 }
+
+-- nobody is live, and nobody owns a name
+abbrev pub opening_state : ManagerConfig → LockState
+opening_state c = record {
+  table = opening (table_config c);
+  names = nameless c.names c.name_bytes;
+  due = replicate c.transactions false;
+  granted = [];
+  aborted = [];
+}
+
+-- there are to be no transactions, or too many
+abbrev pub IsTransactionsOut : ManagerConfig → Type 0
+IsTransactionsOut c = (c.transactions ≡ 0) ⊎ (65536 < c.transactions)
+
+-- there are to be no names, or too many
+abbrev pub IsNamesOut : ManagerConfig → Type 0
+IsNamesOut c = (c.names ≡ 0) ⊎ (65536 < c.names)
+
+-- a name is to have no bytes, or too many
+abbrev pub IsNameBytesOut : ManagerConfig → Type 0
+IsNameBytesOut c = (c.name_bytes ≡ 0) ⊎ (1024 < c.name_bytes)

@@ -1,0 +1,17 @@
+-- Names and owners by number.
+use Rattle.std.specs.Prelude.{◌≡◌, ◌↔◌, ℕ, None, length, is_some, if◌then◌else◌}
+use Rattle.mm_names.specs.Names.{NameTable, name_of, with_name}
+use Rattle.mm_rules.specs.TableState.{TableState, owner_of}
+
+-- there is a number for each resource, and one has a name exactly while it has an owner
+pub record AreNumbered (s : TableState) (t : NameTable) : Type 0 where
+  pub as_many : length t.names ≡ s.config.resources
+  pub named : (n : ℕ) → (name_of t n ≡ None) ↔ (owner_of s n ≡ None)
+
+-- the names without that of n, where nobody owns n
+abbrev pub forgotten : TableState → NameTable → ℕ → NameTable
+forgotten s t n = if is_some (owner_of s n) then t else with_name t n None
+
+-- a number that is owned keeps its name, and no other one has one
+abbrev pub KeepOwned : NameTable → TableState → NameTable → Type 0
+KeepOwned t new named = (n : ℕ) → name_of named n ≡ (if is_some (owner_of new n) then name_of t n else None)

@@ -1,0 +1,65 @@
+//! The numbers with which a manager is opened.
+use crate::OpenError;
+use mm_names::NamesConfig;
+use mm_settled::Config;
+
+/// The numbers with which a [`LockManager`](crate::LockManager) is opened. They never change.
+#[derive(Clone, Copy, Debug, PartialEq, Eq)]
+pub struct ManagerConfig {
+    /// How many transactions there can be at once: 1 to 65,536.
+    pub transactions: u32,
+    /// How many names can be owned at once: 1 to 65,536.
+    pub names: u32,
+    /// How many bytes a name may have: 1 to 1,024. Memory is taken for so many bytes of each name.
+    pub name_bytes: u32,
+    /// Any number. Whoever chooses the names should not know it, so that they cannot choose names of one hash.
+    pub seed: u64,
+}
+
+impl ManagerConfig {
+    ghost use Rattle.std.specs.Prelude.{◌≡◌, ◌↔◌, Err};
+    ghost use Rattle.mm_manager.specs.Opening.{table_config, IsTransactionsOut, IsNamesOut, IsNameBytesOut};
+
+    /// Whether each number is in its range.
+    pub(crate) fn check(&self) -> Result<(), OpenError>
+        ensures transactions { (result ≡ Err OpenError.Transactions) ↔ IsTransactionsOut self.now }
+        ensures names { (result ≡ Err OpenError.Names) ↔ (¬ IsTransactionsOut self.now × IsNamesOut self.now) }
+        ensures name_bytes { (result ≡ Err OpenError.NameBytes) ↔ (¬ IsTransactionsOut self.now × ¬ IsNamesOut self.now × IsNameBytesOut self.now) }
+        ensures memory { ¬ (result ≡ Err OpenError.Memory) }
+    {
+        if !(1..=Config::MOST_PROCESSES).contains(&self.transactions) {
+            return Err(OpenError::Transactions);
+        }
+        if !(1..=NamesConfig::MOST_NAMES).contains(&self.names) {
+            return Err(OpenError::Names);
+        }
+        if !(1..=NamesConfig::MOST_NAME_BYTES).contains(&self.name_bytes) {
+            return Err(OpenError::NameBytes);
+        }
+        Ok(())
+    }
+
+    /// The numbers of its table: a resource for each name. Labels and generations may be as great as a table allows.
+    pub(crate) fn of_table(&self) -> Config
+        ensures { result ≡ table_config self.now }
+    {
+        Config {
+            processes: self.transactions,
+            resources: self.names,
+            label_limit: Config::GREATEST_LABEL_LIMIT,
+            generation_limit: u32::MAX,
+        }
+    }
+
+    /// The numbers of its names.
+    pub(crate) fn of_names(&self) -> NamesConfig
+        ensures names { result.names ≡ self.now.names }
+        ensures name_bytes { result.name_bytes ≡ self.now.name_bytes }
+    {
+        NamesConfig {
+            names: self.names,
+            name_bytes: self.name_bytes,
+            seed: self.seed,
+        }
+    }
+}

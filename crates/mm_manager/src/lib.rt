@@ -1,0 +1,36 @@
+//! A lock manager: exclusive locks on names, for transactions. A request is answered at once and for good.
+//!
+//! - `config`, `refusal`, `reply`: the plain data of calls.
+//! - `permit`: what a call is refused for before the table is asked.
+//! - `numbers`: a number has a name exactly while it has an owner.
+//! - `hand_over`: the calls by which names are handed over.
+//! - `due`: the ends of those whose abort comes due in a call.
+//! - `lists`: what the last call told, and whose abort is due.
+//! - `open`: the parts of a manager that is opened.
+//! - `aborts`: the ends of transactions that wait.
+//! - `cancels`: the waits that are taken back.
+//! - `parts`: the calls over the parts of a manager.
+//! - `manager`: `LockManager`, with one method for each call.
+//! - `request`: a request for a name.
+#![tactic(auto)]
+
+mod aborts;
+mod cancels;
+mod config;
+mod due;
+mod hand_over;
+mod lists;
+mod manager;
+mod numbers;
+mod open;
+mod parts;
+mod permit;
+mod refusal;
+mod reply;
+mod request;
+
+pub use config::ManagerConfig;
+pub use manager::LockManager;
+pub use mm_settled::{Grant, Key};
+pub use refusal::{OpenError, Refusal};
+pub use reply::{Abort, Cancel, Lock};

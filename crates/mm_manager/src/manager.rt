@@ -1,0 +1,195 @@
+//! The lock manager.
+ghost use Rattle.std.specs.Prelude.{◌≡◌, ◌↔◌, ℕ, List, [], Some, Err, IfOk, OnOk, OnErr, IfErr, MatchResult, option_copied};
+ghost use Rattle.mm_arena.specs.declared.key.Key.{Key as KeyValue};
+ghost use Rattle.mm_names.specs.Names.{name_of};
+ghost use Rattle.mm_rules.specs.Event.{Finish};
+ghost use Rattle.mm_settled.specs.Calls.{OthersKeepVerdicts};
+ghost use Rattle.mm_manager.specs.LockState.{Owns, IsLawful, untold};
+ghost use Rattle.mm_manager.specs.Opening.{opening_state, IsTransactionsOut, IsNamesOut, IsNameBytesOut};
+ghost use Rattle.mm_manager.specs.Permit.{may_ask};
+ghost use Rattle.mm_manager.specs.Calls.{Begins, LocksName, Unlocks, EndsBy, Aborts, Cancels};
+
+use crate::aborts::abort_any;
+use crate::cancels::cancel_any;
+use crate::lists::Lists;
+use crate::numbers::owner_of;
+use crate::open::{open_names, open_table};
+use crate::{Abort, Cancel, Grant, Key, Lock, ManagerConfig, OpenError, Refusal, parts};
+use mm_names::Names;
+use mm_settled::SettledTable;
+use mm_table::Totals;
+use std::alloc::Global;
+use std::marker::Model;
+
+/// Exclusive locks on names, for transactions. A request is answered at once and for good.
+///
+/// A contract sees it as a `LockState` (`specs/LockState.antt`). A name has a number exactly while somebody owns it. Each call tells what
+/// it did for others, in `granted` and in `aborted`; a refused call changes nothing, and tells of nobody. No call but `open` takes memory.
+#[derive(Drop)]
+pub struct LockManager {
+    table: SettledTable,
+    names: Names,
+    lists: Lists,
+}
+
+impl Model for LockManager {
+    ghost use Rattle.mm_manager.specs.LockState.{LockState};
+    ghost use Rattle.mm_manager.specs.private.Manager.{state_of, IsManager};
+
+    ghost Value = { LockState };
+
+    ghost view = { state_of };
+
+    ghost invariant = { IsManager };
+}
+
+impl LockManager {
+    /// A manager of this configuration: no transaction is live, and nobody owns a name.
+    ///
+    /// Refused as `Transactions`, `Names` or `NameBytes` exactly where that number is out of its range and those before it are not, and
+    /// as `Memory` only where a request for memory was refused. This is the one call that takes memory: what `SettledTable::open` and
+    /// `Names::open` take, for each transaction 25 bytes, and for each name 4.
+    pub fn open(alloc: Global, config: ManagerConfig) -> Result<LockManager, OpenError>
+        ensures opened { IfOk result (λ manager. manager ≡ opening_state config) }
+        ensures transactions { (result ≡ Err OpenError.Transactions) ↔ IsTransactionsOut config }
+        ensures names { (result ≡ Err OpenError.Names) ↔ (¬ IsTransactionsOut config × IsNamesOut config) }
+        ensures name_bytes { (result ≡ Err OpenError.NameBytes) ↔ (¬ IsTransactionsOut config × ¬ IsNamesOut config × IsNameBytesOut config) }
+    {
+        config.check()?;
+        let lists = Lists::open(alloc, config)?;
+        let names = open_names(alloc, config)?;
+        let table = open_table(alloc, config)?;
+        Ok(LockManager {
+            table,
+            names,
+            lists,
+        })
+    }
+
+    /// Starts a transaction, and returns its key. Nothing else changes.
+    ///
+    /// Refused as `TransactionsFull`, or as `CountsFull`, which is tested first. Constant time.
+    pub fn begin(&mut self) -> Result<Key, Refusal>
+        ensures { Begins self.old result self.new }
+    {
+        parts::begin(&mut self.table, &self.names, &mut self.lists)
+    }
+
+    /// Asks for a name, and is told at once what comes of it.
+    ///
+    /// - `Granted`: nobody owned it, and the transaction does now.
+    /// - `Held`: the transaction owns it already, and nothing changes.
+    /// - `Waits`: the holder owns it, and the transaction waits for it, on no cycle of waits. It gets no verdict by any later call of
+    ///   others: it owns the name once a call lists it in `granted`.
+    /// - `Deadlock`: the same, but it closed a cycle of waits by that. It keeps what it owns, and `abort` is the one call that it may make.
+    ///
+    /// Nobody else's owners, waits or verdicts change. Refused as `NoTransaction`, `MustAbort`, `Waiting`, `NameEmpty`, `NameTooLong`,
+    /// `NamesFull`, `CountsFull` or `LabelsFull`, which are tested in this order. `O(length)` where it does not wait; a wait costs the settle
+    /// that follows.
+    pub fn lock(&mut self, key: Key, name: &[u8]) -> Result<Lock, Refusal>
+        ensures locks { LocksName self.old key name.now result self.new }
+        ensures others { OthersKeepVerdicts self.old.table self.new.table key.process }
+        ensures due { self.new.due ≡ self.old.due }
+        ensures granted { self.new.granted ≡ [] }
+        ensures aborted { self.new.aborted ≡ [] }
+        ensures asks { IfErr (may_ask self.old.table key) (λ refusal. result ≡ Err refusal) }
+    {
+        parts::lock(&mut self.table, &mut self.names, &mut self.lists, key, name)
+    }
+
+    /// Hands the name over: its longest waiter owns it from now on and is listed in `granted`; with no waiter it is free.
+    ///
+    /// Then those end that were granted something and whose abort is due, and those whose abort comes due by that, until none is left.
+    /// Refused as `NoTransaction`, `MustAbort`, `Waiting`, `NameEmpty`, `NameTooLong`, `NotOwner`, `CountsFull` or `LabelsFull`.
+    /// `O(length + waiters of the name)`, the settle that follows, and the ends.
+    pub fn unlock(&mut self, key: Key, name: &[u8]) -> Result<(), Refusal>
+        ensures unlocks { OnOk result (Unlocks self.old key name.now self.new) }
+        ensures refused { OnErr result (self.new ≡ untold self.old) }
+        ensures asks { IfErr (may_ask self.old.table key) (λ refusal. result ≡ Err refusal) }
+    {
+        parts::unlock(&mut self.table, &mut self.names, &mut self.lists, key, name)
+    }
+
+    /// Ends a transaction that does not wait: hands over all names that it owns, each as `unlock` does.
+    ///
+    /// Then those end whose abort is due by that, as after `unlock`. Refused as `NoTransaction`, `MustAbort`, `Waiting`, `CountsFull` or
+    /// `LabelsFull`. `O(its names + their waiters)`, the settle that follows, and the ends.
+    pub fn commit(&mut self, key: Key) -> Result<(), Refusal>
+        ensures ends { OnOk result (EndsBy (Finish key) self.old tt key self.new) }
+        ensures refused { OnErr result (self.new ≡ untold self.old) }
+        ensures asks { IfErr (may_ask self.old.table key) (λ refusal. result ≡ Err refusal) }
+    {
+        parts::commit(&mut self.table, &mut self.names, &mut self.lists, key)
+    }
+
+    /// Ends any live transaction: what it waited for is withdrawn, and all that it owns is handed over, as by `commit`.
+    ///
+    /// - `Done`: it ended, and so did those whose abort is due by that, as after `unlock`.
+    /// - `Later`: it waits, and carries another's label, which may stand on no other path. Its abort is due: it ends in the call that ends
+    ///   its wait, and that call lists it in `aborted`. Nothing else changes.
+    /// - `Withdrawn`: its wait is taken back, but the table refuses its end, since a label or a count is at its limit. Nothing else changes.
+    ///
+    /// Refused as `NoTransaction`, `CountsFull` or `LabelsFull`. It costs what `commit` costs.
+    pub fn abort(&mut self, key: Key) -> Result<Abort, Refusal>
+        ensures { Aborts self.old key result self.new }
+    {
+        abort_any(&mut self.table, &mut self.names, &mut self.lists, key)
+    }
+
+    /// Takes back the wait of a transaction, which is active from now on and keeps what it owns.
+    ///
+    /// - `Withdrawn`: so it is; where its abort was due, that is done now, as by `abort`.
+    /// - `Carried`: it carries another's label and waits on; nothing changes.
+    ///
+    /// Refused as `NoTransaction`, `MustAbort`, `NotWaiting` or `CountsFull`. Constant time where no abort is due.
+    pub fn cancel(&mut self, key: Key) -> Result<Cancel, Refusal>
+        ensures { Cancels self.old key result self.new }
+    {
+        cancel_any(&mut self.table, &mut self.names, &mut self.lists, key)
+    }
+
+    /// Whom the last call granted what, in order. `Grant::resource` is the number of the name. Constant time.
+    pub fn granted(&self) -> &[Grant]
+        ensures { result.now ≡ self.now.granted }
+    {
+        &self.lists.granted
+    }
+
+    /// Whose abort came due in the last call, in order. Constant time.
+    pub fn aborted(&self) -> &[Key]
+        ensures { result.now ≡ self.now.aborted }
+    {
+        &self.lists.aborted
+    }
+
+    /// The owner of a name; `None` where nobody owns it. `O(length)`.
+    pub fn owner(&self, name: &[u8]) -> Option<Key>
+        ensures { (k : KeyValue) → (result ≡ Some k) ↔ Owns self.now k name.now }
+    {
+        self.names.keeps_laws();
+        let number = self.names.find(name)?;
+        owner_of(self.table.table(), number)
+    }
+
+    /// The name of a number; `None` where it has none. Constant time.
+    pub fn name(&self, number: u32) -> Option<&[u8]>
+        ensures { option_copied result ≡ name_of self.now.names number }
+    {
+        self.names.name(number)
+    }
+
+    /// What was counted since the opening: events of the table, deadlocks, and aborts of those that were in one. Constant time.
+    pub fn totals(&self) -> Totals
+        ensures { result ≡ self.now.table.totals }
+    {
+        self.table.table().totals()
+    }
+
+    /// Does nothing. Its contract is what holds of any manager that a caller can hold, whatever was called.
+    pub fn keeps_laws(&self)
+        ensures { IsLawful self.now }
+    {
+        self.table.is_at_rest();
+        self.names.keeps_laws();
+    }
+}

@@ -1,0 +1,182 @@
+//! The calls over the parts of a manager.
+ghost use Rattle.std.specs.Prelude.{◌≡◌, ℕ, [], Some, Ok, Err, false, length, IfOk, IfErr, OnOk, OnErr, IsSome};
+ghost use Rattle.mm_arena.specs.declared.key.Key.{Key as KeyValue};
+ghost use Rattle.mm_lists.specs.Members.{Among};
+ghost use Rattle.mm_marks.specs.Marks.{has};
+ghost use Rattle.mm_names.specs.Names.{name_of};
+ghost use Rattle.mm_rules.specs.declared.reply.Released.{Released as ReleasedValue};
+ghost use Rattle.mm_rules.specs.TableState.{owner_of};
+ghost use Rattle.mm_rules.specs.declared.refusal.Refusal.{Refusal as TableRefusal};
+ghost use Rattle.mm_rules.specs.Event.{Begin, Release, Finish, Step};
+ghost use Rattle.mm_rules.specs.Laws.{Laws};
+ghost use Rattle.mm_settled.specs.Calls.{OthersKeepVerdicts};
+ghost use Rattle.mm_manager.specs.Permit.{may_ask, may_name, refusal_of};
+ghost use Rattle.mm_manager.specs.private.Requests.{Requests};
+ghost use Rattle.mm_settled.specs.declared.reply.Grant.{Grant as GrantValue};
+ghost use Rattle.mm_manager.specs.private.Due.{AreGranted, EndsDue};
+ghost use Rattle.mm_manager.specs.private.Handed.{AreParts, Handed, IsUntouched};
+ghost use Rattle.mm_manager.specs.private.HandsDown.{IsEnding, IsReleased};
+ghost use Rattle.mm_manager.specs.private.Lists.{Fits};
+ghost use Rattle.mm_manager.specs.private.Numbers.{AreNumbered};
+
+use crate::due::end_due;
+use crate::hand_over::{finish, release};
+use crate::lists::{Lists, add_grants};
+use crate::permit::{may_ask, may_name};
+use crate::request::request;
+use crate::{Key, Lock, Refusal};
+use mm_names::Names;
+use mm_settled::SettledTable;
+
+/// Tells of what the table granted, and ends those whose abort is due by that.
+pub fn pass_on(table: &mut SettledTable, names: &mut Names, lists: &mut Lists)
+    requires numbered { AreNumbered table.old.table names.old }
+    requires fits { Fits table.old.table.config lists.old }
+    requires none_granted { lists.old.granted.items ≡ [] }
+    requires none_aborted { lists.old.aborted.items ≡ [] }
+    requires granted { AreGranted table.old.table table.old.granted }
+    requires owns { (g : GrantValue) → Among g table.old.granted → owner_of table.old.table g.resource ≡ Some g.key }
+    ensures { EndsDue table.old.table names.old table.old.granted lists.old.due.items (length lists.new.granted.items) table.new.table names.new lists.new }
+{
+    add_grants(&mut lists.granted, table.granted());
+    end_due(table, names, lists);
+}
+
+/// Hands over a number that has a name.
+pub fn release_number(
+    table: &mut SettledTable,
+    names: &mut Names,
+    lists: &mut Lists,
+    key: Key,
+    number: u32,
+) -> Result<(), Refusal>
+    requires parts { AreParts table.old.table names.old lists.old }
+    requires none_granted { lists.old.granted.items ≡ [] }
+    requires none_aborted { lists.old.aborted.items ≡ [] }
+    requires named { IsSome (name_of names.old number) }
+    requires idle { has lists.old.due.items key.process ≡ false }
+    ensures handed { OnOk result ((answer : ReleasedValue) × Handed (Release key number) table.old.table names.old lists.old.due.items answer key.process (IsReleased number) table.new.table names.new lists.new) }
+    ensures untouched { OnErr result (IsUntouched table.old.table names.old lists.old table.new.table names.new lists.new) }
+    ensures parts { AreParts table.new.table names.new lists.new }
+{
+    table.is_at_rest();
+    match release(table, names, key, number) {
+        Ok(_) => {
+            pass_on(table, names, lists);
+            Ok(())
+        }
+        Err(refusal) => Err(Refusal::of_table(refusal)),
+    }
+}
+
+/// Ends an active transaction.
+pub fn end(
+    table: &mut SettledTable,
+    names: &mut Names,
+    lists: &mut Lists,
+    key: Key,
+) -> Result<(), Refusal>
+    requires parts { AreParts table.old.table names.old lists.old }
+    requires none_granted { lists.old.granted.items ≡ [] }
+    requires none_aborted { lists.old.aborted.items ≡ [] }
+    requires idle { has lists.old.due.items key.process ≡ false }
+    ensures handed { OnOk result (Handed (Finish key) table.old.table names.old lists.old.due.items tt key.process (IsEnding key) table.new.table names.new lists.new) }
+    ensures untouched { OnErr result (IsUntouched table.old.table names.old lists.old table.new.table names.new lists.new) }
+    ensures parts { AreParts table.new.table names.new lists.new }
+{
+    table.is_at_rest();
+    match finish(table, names, &mut lists.owned, key) {
+        Ok(()) => {
+            pass_on(table, names, lists);
+            Ok(())
+        }
+        Err(refusal) => Err(Refusal::of_table(refusal)),
+    }
+}
+
+/// Starts a transaction.
+pub fn begin(table: &mut SettledTable, names: &Names, lists: &mut Lists) -> Result<Key, Refusal>
+    requires { AreParts table.old.table names.now lists.old }
+    ensures begun { IfOk result (λ key. Step Begin table.old.table (Ok key) table.new.table) }
+    ensures same { OnErr result (table.new.table ≡ table.old.table) }
+    ensures refused { IfErr result (λ refusal. (why : TableRefusal) × Step Begin table.old.table (Err why) table.old.table × (refusal ≡ refusal_of why)) }
+    ensures parts { AreParts table.new.table names.now lists.new }
+    ensures granted { lists.new.granted.items ≡ [] }
+    ensures aborted { lists.new.aborted.items ≡ [] }
+    ensures due { lists.new.due ≡ lists.old.due }
+{
+    lists.clear();
+    match table.begin() {
+        Ok(key) => Ok(key),
+        Err(refusal) => Err(Refusal::of_table(refusal)),
+    }
+}
+
+/// Asks for a name.
+pub fn lock(
+    table: &mut SettledTable,
+    names: &mut Names,
+    lists: &mut Lists,
+    key: Key,
+    name: &[u8],
+) -> Result<Lock, Refusal>
+    requires { AreParts table.old.table names.old lists.old }
+    ensures requested { IfOk result (λ answer. Requests table.old.table names.old key name.now answer table.new.table names.new) }
+    ensures table { OnErr result (table.new.table ≡ table.old.table) }
+    ensures names { OnErr result (names.new ≡ names.old) }
+    ensures others { OthersKeepVerdicts table.old.table table.new.table key.process }
+    ensures asks { IfErr (may_ask table.old.table key) (λ refusal. result ≡ Err refusal) }
+    ensures laws { Laws table.old.table × Laws table.new.table }
+    ensures parts { AreParts table.new.table names.new lists.new }
+    ensures granted { lists.new.granted.items ≡ [] }
+    ensures aborted { lists.new.aborted.items ≡ [] }
+    ensures due { lists.new.due ≡ lists.old.due }
+{
+    lists.clear();
+    table.is_at_rest();
+    may_ask(table.table(), key)?;
+    request(table, names, key, name)
+}
+
+/// Hands over a name.
+pub fn unlock(
+    table: &mut SettledTable,
+    names: &mut Names,
+    lists: &mut Lists,
+    key: Key,
+    name: &[u8],
+) -> Result<(), Refusal>
+    requires { AreParts table.old.table names.old lists.old }
+    ensures handed { OnOk result ((n : ℕ) × (name_of names.old n ≡ Some name.now) × ((answer : ReleasedValue) × Handed (Release key n) table.old.table names.old lists.old.due.items answer key.process (IsReleased n) table.new.table names.new lists.new)) }
+    ensures untouched { OnErr result (IsUntouched table.old.table names.old lists.old table.new.table names.new lists.new) }
+    ensures asks { IfErr (may_ask table.old.table key) (λ refusal. result ≡ Err refusal) }
+    ensures laws { Laws table.old.table }
+    ensures parts { AreParts table.new.table names.new lists.new }
+{
+    lists.clear();
+    table.is_at_rest();
+    may_ask(table.table(), key)?;
+    may_name(names, name)?;
+    let Some(number) = names.find(name) else {
+        return Err(Refusal::NotOwner);
+    };
+    release_number(table, names, lists, key, number)
+}
+
+/// Ends a transaction that does not wait.
+pub fn commit(
+    table: &mut SettledTable,
+    names: &mut Names,
+    lists: &mut Lists,
+    key: Key,
+) -> Result<(), Refusal>
+    requires { AreParts table.old.table names.old lists.old }
+    ensures handed { OnOk result (Handed (Finish key) table.old.table names.old lists.old.due.items tt key.process (IsEnding key) table.new.table names.new lists.new) }
+    ensures untouched { OnErr result (IsUntouched table.old.table names.old lists.old table.new.table names.new lists.new) }
+    ensures asks { IfErr (may_ask table.old.table key) (λ refusal. result ≡ Err refusal) }
+    ensures parts { AreParts table.new.table names.new lists.new }
+{
+    lists.clear();
+    may_ask(table.table(), key)?;
+    end(table, names, lists, key)
+}

@@ -1,0 +1,77 @@
+//! Why a manager is not opened, and why a call is refused.
+use std::alloc::AllocError;
+use thiserror::Error;
+
+/// Why there is no manager: a number of the configuration is out of its range, or there is no memory.
+#[derive(Clone, Copy, Debug, PartialEq, Eq, Error)]
+pub enum OpenError {
+    /// The field `transactions` of the configuration.
+    #[error("transactions is not from 1 to 65536")]
+    Transactions,
+    /// The field `names`, where the one before is in its range.
+    #[error("names is not from 1 to 65536")]
+    Names,
+    /// The field `name_bytes`, where those before are in their ranges.
+    #[error("name_bytes is not from 1 to 1024")]
+    NameBytes,
+    #[error("a request for memory was refused")]
+    Memory,
+}
+
+/// Why a call was refused. A refused call changes nothing.
+#[derive(Clone, Copy, Debug, PartialEq, Eq, Error)]
+pub enum Refusal {
+    #[error("the key is of no live transaction")]
+    NoTransaction,
+    #[error("the transaction is in a deadlock and is to be aborted")]
+    MustAbort,
+    #[error("the transaction waits")]
+    Waiting,
+    #[error("the name has no bytes")]
+    NameEmpty,
+    #[error("the name has more bytes than the manager was opened for")]
+    NameTooLong,
+    #[error("the transaction does not own the name")]
+    NotOwner,
+    #[error("the transaction does not wait")]
+    NotWaiting,
+    #[error("there are as many transactions as there can be")]
+    TransactionsFull,
+    #[error("as many names are owned as there can be")]
+    NamesFull,
+    #[error("a label would pass its limit")]
+    LabelsFull,
+    #[error("the count of events is at its limit")]
+    CountsFull,
+}
+
+impl Refusal {
+    ghost use Rattle.std.specs.Prelude.{◌≡◌};
+    ghost use Rattle.mm_manager.specs.Permit.{refusal_of};
+
+    /// What a refusal of the table means.
+    pub(crate) fn of_table(refusal: mm_settled::Refusal) -> Refusal
+        ensures { result ≡ refusal_of refusal }
+    {
+        match refusal {
+            mm_settled::Refusal::Stale => Refusal::NoTransaction,
+            mm_settled::Refusal::Waiting => Refusal::Waiting,
+            mm_settled::Refusal::NotOwner => Refusal::NotOwner,
+            mm_settled::Refusal::NotWaiting => Refusal::NotWaiting,
+            mm_settled::Refusal::Full => Refusal::TransactionsFull,
+            mm_settled::Refusal::LabelsExhausted => Refusal::LabelsFull,
+            _ => Refusal::CountsFull,
+        }
+    }
+}
+
+impl From<AllocError> for OpenError {
+    ghost use Rattle.std.specs.Prelude.{◌≡◌};
+    ghost use Rattle.mm_manager.specs.declared.refusal.OpenError.TheVariants.{Memory};
+
+    ghost from_gives = { λ _ e. e ≡ Memory };
+
+    fn from(_: AllocError) -> OpenError {
+        OpenError::Memory
+    }
+}

@@ -1,0 +1,35 @@
+//! What calls answer.
+use mm_settled::Key;
+
+/// What a request for a lock is told.
+#[derive(Clone, Copy, Debug, PartialEq, Eq)]
+pub enum Lock {
+    /// Nobody owned the name, and the transaction owns it now.
+    Granted,
+    /// The transaction owns the name already.
+    Held,
+    /// The transaction waits for the holder, on no cycle of waits. It is never a victim later: it is granted the name, or its wait is taken back.
+    Waits { holder: Key },
+    /// The transaction waits for the holder and so closed a cycle of waits. It keeps what it owns until its abort, the one call that it may make.
+    Deadlock { holder: Key },
+}
+
+/// What an abort is told.
+#[derive(Clone, Copy, Debug, PartialEq, Eq)]
+pub enum Abort {
+    /// The transaction ended.
+    Done,
+    /// The transaction waits and carries another's label. It is aborted in the call that ends its wait.
+    Later,
+    /// The wait of the transaction is taken back, but the table refuses to end it, since a label or a count is at its limit. It is active, and keeps what it owns.
+    Withdrawn,
+}
+
+/// What a cancel is told.
+#[derive(Clone, Copy, Debug, PartialEq, Eq)]
+pub enum Cancel {
+    /// The wait is taken back: the transaction is active, and keeps what it owns. Where its abort was due, it ended.
+    Withdrawn,
+    /// The transaction carries another's label, and waits on.
+    Carried,
+}
