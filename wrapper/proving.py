@@ -1,7 +1,7 @@
 """Proves and builds the program, and keeps it in crates/mm_detect/out/ with what it was made from.
 
-The crates of the program are copied to a folder of their own, and `rt ci` proves them there, side by side along the graph of crates. It
-keeps what it proves beside the toolchain, where ./run_tests finds it too; so nothing is proved twice."""
+The crates of the program are copied to a folder of their own, and `rt ci` proves them there, side by side along the graph of crates.
+Some versions of the toolchain keep what they prove; ./run_tests finds it then, and the other way round."""
 import os
 import shutil
 import signal
@@ -49,7 +49,7 @@ def prove(top):
     try:
         proved_and_kept(top)
     except Signalled as got:
-        raise Stopped(128 + got.number, "the build was ended by a signal; each crate that was proved stays so") from None
+        raise Stopped(128 + got.number, "the build was ended by a signal") from None
     finally:
         for number, handler in zip(numbers, before):
             signal.signal(number, handler)
