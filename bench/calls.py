@@ -1,4 +1,4 @@
-"""Runs the programs of bench/calls.rs and bench/names.rs several times, and prints what a call takes: of each line the median of the runs."""
+"""Runs the programs of bench/calls.rs, bench/names.rs and bench/settled.rs several times, and prints what a call takes: of each line the median of the runs."""
 
 import os
 import statistics
@@ -6,8 +6,8 @@ import subprocess
 
 HERE = os.path.dirname(os.path.abspath(__file__))
 TURNS = 5
-# The lines of names have Rust's HashMap in the place of the plain table, and no reference.
-PROGRAMS = ("calls", "names")
+# The lines of names have Rust's HashMap in the place of the plain table, those of settled the proved table, and neither a reference.
+PROGRAMS = ("calls", "names", "settled")
 TABLES = ("proved", "plain", "reference")
 
 

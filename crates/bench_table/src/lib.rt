@@ -16,6 +16,7 @@ mod queues;
 mod random;
 mod rings;
 mod rounds;
+mod settled;
 
 /// How many processes the tables have whose size is not what is timed.
 const PROCESSES: u32 = 4_096;

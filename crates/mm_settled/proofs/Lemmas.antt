@@ -7,6 +7,7 @@ pub mod Grants
 pub mod Numbers
 pub mod Released
 pub mod Changed
+pub mod Told
 pub mod Loops
 pub mod Fits
 -- that the table is at rest again

@@ -1,9 +1,9 @@
 //! A request for a lock.
-ghost use Rattle.std.specs.Prelude.{◌≡◌, ◌≤◌, ◌<◌, ◌∷◌, [], ℕ, false};
+ghost use Rattle.std.specs.Prelude.{◌≡◌, ◌≤◌, ◌<◌, ◌∷◌, ◌&&◌, [], ℕ, false, not};
 ghost use Rattle.mm_rules.specs.Event.{Step, Settle, counts_exhausted};
 ghost use Rattle.mm_rules.specs.Laws.{AtRest};
-ghost use Rattle.mm_settled.specs.Calls.{Locks, OthersKeepVerdicts};
-ghost use Rattle.mm_settled.specs.private.Lists.{Fits, joined};
+ghost use Rattle.mm_settled.specs.Calls.{has_room, Locks, OthersKeepVerdicts};
+ghost use Rattle.mm_settled.specs.private.Lists.{Fits, GrantsAreChanges, joined};
 ghost use Rattle.mm_settled.specs.private.Told.{TellsOf, told_by, is_owned};
 
 use crate::lists::Lists;
@@ -11,7 +11,7 @@ use crate::settle::{has_room, settle_listing};
 use crate::{Key, Locked, Refusal, Table};
 use mm_table::Acquired;
 
-/// Asks for the resource. A free one is granted without a look at anything else, so that the code of a grant is short.
+/// Asks for the resource. Where the transaction waits, the table is settled.
 #[inline]
 pub fn lock(
     table: &mut Table,
@@ -21,39 +21,7 @@ pub fn lock(
 ) -> Result<Locked, Refusal>
     requires rest { AtRest table.old }
     requires fits { Fits table.old.config lists.old }
-    ensures locks { Locks table.old key resource result table.new }
-    ensures others { OthersKeepVerdicts table.old table.new key.process }
-    ensures told { TellsOf table.old table.new lists.new }
-    ensures rest { AtRest table.new }
-    ensures fits { Fits table.new.config lists.new }
-{
-    table.keeps_laws();
-    if is_owned(table, resource) {
-        return lock_owned(table, lists, key, resource);
-    }
-    lists.clear();
-    table.acquire(key, resource)?;
-    Ok(Locked::Granted)
-}
-
-/// Whether the resource has an owner.
-#[inline]
-fn is_owned(table: &Table, resource: u32) -> bool
-    ensures { result ≡ is_owned table.now resource }
-{
-    matches!(table.owner(resource), Ok(Some(_)))
-}
-
-/// `lock`, where there is first a look whether a settle can be counted. Where the transaction waits, the table is settled.
-#[inline(never)]
-fn lock_owned(
-    table: &mut Table,
-    lists: &mut Lists,
-    key: Key,
-    resource: u32,
-) -> Result<Locked, Refusal>
-    requires rest { AtRest table.old }
-    requires fits { Fits table.old.config lists.old }
+    requires grants { GrantsAreChanges lists.old }
     ensures locks { Locks table.old key resource result table.new }
     ensures others { OthersKeepVerdicts table.old table.new key.process }
     ensures told { TellsOf table.old table.new lists.new }
@@ -62,13 +30,29 @@ fn lock_owned(
 {
     table.keeps_laws();
     lists.clear();
-    if !has_room(table) {
+    if lacks_room(table, resource) {
         return Err(Refusal::CountsExhausted);
     }
     match table.acquire(key, resource)? {
         Acquired::Granted => Ok(Locked::Granted),
         Acquired::Waits { holder, .. } => Ok(settle_waiter(table, lists, key, holder)),
     }
+}
+
+/// Whether somebody owns the resource, and a wait for it and the settle after it can no longer be counted.
+#[inline]
+fn lacks_room(table: &Table, resource: u32) -> bool
+    ensures { result ≡ (not (has_room table.now) && is_owned table.now resource) }
+{
+    !has_room(table) && is_owned(table, resource)
+}
+
+/// Whether the resource has an owner.
+#[inline(never)]
+fn is_owned(table: &Table, resource: u32) -> bool
+    ensures { result ≡ is_owned table.now resource }
+{
+    matches!(table.owner(resource), Ok(Some(_)))
 }
 
 /// Settles the table once the key waits for the holder, and says whether it has a verdict then.

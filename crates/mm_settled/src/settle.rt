@@ -20,8 +20,11 @@ pub fn has_room(table: &Table) -> bool
     ensures { result ≡ has_room table.now }
 {
     let totals = table.totals();
-    // Not `&&`: where both are read, one test serves for both.
-    (totals.accepted < COUNT_LIMIT - 1) & (totals.verdicts < COUNT_LIMIT)
+    // The test that the table makes, which so serves for both.
+    if (totals.accepted >= COUNT_LIMIT) | (totals.verdicts >= COUNT_LIMIT) {
+        return false;
+    }
+    totals.accepted != COUNT_LIMIT - 1
 }
 
 /// Settles a table of which one more event can be counted, and lists whom that changes.

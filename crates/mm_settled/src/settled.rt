@@ -83,7 +83,9 @@ impl SettledTable {
         ensures told { Tells self.old.table self.new }
     {
         self.table.keeps_laws();
-        lock(&mut self.table, &mut self.lists, key, resource)
+        let answer = lock(&mut self.table, &mut self.lists, key, resource);
+        self.table.keeps_laws();
+        answer
     }
 
     /// Hands the resource over: the longest waiter owns it from now on and is listed in `granted`, and each other waiter keeps its
@@ -97,7 +99,10 @@ impl SettledTable {
         ensures told { Tells self.old.table self.new }
         ensures ended { EndsWaits self.old.table self.new.table key.process self.new.granted }
     {
-        release(&mut self.table, &mut self.lists, key, resource)
+        self.table.keeps_laws();
+        let answer = release(&mut self.table, &mut self.lists, key, resource);
+        self.table.keeps_laws();
+        answer
     }
 
     /// Ends an active transaction: hands over all that it owns, by rising number, each resource as `release` does, and frees its slot.
@@ -111,7 +116,10 @@ impl SettledTable {
         ensures told { Tells self.old.table self.new }
         ensures ended { EndsWaits self.old.table self.new.table key.process self.new.granted }
     {
-        finish(&mut self.table, &mut self.lists, key)
+        self.table.keeps_laws();
+        let answer = finish(&mut self.table, &mut self.lists, key);
+        self.table.keeps_laws();
+        answer
     }
 
     /// Ends a transaction that was told of a deadlock: takes back its wait, and goes on as `finish`. Nobody gets a verdict.
@@ -124,7 +132,10 @@ impl SettledTable {
         ensures told { Tells self.old.table self.new }
         ensures ended { EndsWaits self.old.table self.new.table key.process self.new.granted }
     {
-        abort(&mut self.table, &mut self.lists, key)
+        self.table.keeps_laws();
+        let answer = abort(&mut self.table, &mut self.lists, key);
+        self.table.keeps_laws();
+        answer
     }
 
     /// Takes back the wait of a transaction that has no verdict and whose two labels are equal: it is active from now on, and keeps what
@@ -136,7 +147,10 @@ impl SettledTable {
         ensures others { (v : ℕ) → has_verdict self.new.table v ≡ has_verdict self.old.table v }
         ensures told { Tells self.old.table self.new }
     {
-        give_up(&mut self.table, &mut self.lists, key)
+        self.table.keeps_laws();
+        let answer = give_up(&mut self.table, &mut self.lists, key);
+        self.table.keeps_laws();
+        answer
     }
 
     /// Whom the last call granted what, in the order of the hand-overs. Constant time.

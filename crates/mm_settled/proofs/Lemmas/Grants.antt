@@ -22,12 +22,12 @@ use Rattle.mm_settled.proofs.Lemmas.Ends.{HandsOn, owner_in_range}
 waits_true : (s : TableState) (n r : ℕ) → wait_of s n ≡ Some r → waits_for s n r ≡ true
 waits_true s n r waits = ap (λ o. option_map_or (nat_eq r) o false) waits ∙ eq-eqb r r refl
 
-waits_by : (r : ℕ) (o : Option ℕ) → option_map_or (nat_eq r) o false ≡ true → o ≡ Some r
+pub waits_by : (r : ℕ) (o : Option ℕ) → option_map_or (nat_eq r) o false ≡ true → o ≡ Some r
 waits_by r None holds = absurd (cc)
 waits_by r (Some q) holds = ap Some (sym (eqb-true r q holds))
 
 -- nobody waits for what it owns
-owner_waits_not : (s : TableState) → Laws s → (r : ℕ) (k : Key) → owner_of s r ≡ Some k → waits_for s k.process r ≡ false
+pub owner_waits_not : (s : TableState) → Laws s → (r : ℕ) (k : Key) → owner_of s r ≡ Some k → waits_for s k.process r ≡ false
 owner_waits_not s laws r k owned = elim (cases_Bool (waits_for s k.process r)) [
   | inr fails ↦ fails
   | inl holds ↦

@@ -1,5 +1,5 @@
 -- A request that waits, and the settle that follows: whoever closed a cycle of waits has its verdict, and nobody else has a new one.
-use Rattle.std.proofs.Common.{◌≡◌, ◌≢◌, ◌<◌, ◌+◌, ◌++◌, ℕ, [], ◌∷◌, Option, Some, None, Result, Ok, Err, Bool, true, false, IsTrue, nat_eq, nat_lt, if◌then◌else◌, slice_index_or, inl, inr, refl, sym, ap, subst, ◌∙◌, arith}
+use Rattle.std.proofs.Common.{◌≡◌, ◌≢◌, ◌<◌, ◌+◌, ◌++◌, ℕ, [], ◌∷◌, Option, Some, None, Result, Ok, Err, Bool, true, false, not, ◌&&◌, IsTrue, nat_eq, nat_lt, if◌then◌else◌, slice_index_or, inl, inr, refl, sym, ap, subst, ◌∙◌, arith}
 use Rattle.std.specs.Prelude.{OnOk, ◌↔◌}
 use Rattle.std.specs.Result.{IsErr, IsErrAnd}
 use Rattle.std.proofs.lemmas.Bool.{cases_Bool, eqb-true, eqb-false, not-false, lt-ltb, leb-false}
@@ -96,6 +96,26 @@ free_is_granted s t k r answer free step =
     = accepted (acquire_tests s k r) s (acquire_answer s k (owner_of s r)) (acquire_change s k r (owner_of s r)) answer t step in
     let within : nat_lt r s.config.resources ≡ true = lt-ltb r s.config.resources (leb-false s.config.resources r done.passed.1.1.0) in
     free_by s k r answer (owner_of s r) (sym (ap (λ (b : Bool). has_owner (if b then Ok (owner_of s r) else Err NoResource)) within) ∙ free) done.answer
+
+-- whoever waits asked for what somebody owns, so an event and a settle could be counted
+pub waits_with_room : (s t : TableState) (k h : Key) (r : ℕ) (l : Label) → (not (has_room s) && is_owned s r) ≡ false → Step (Acquire k r) s (Ok (acquired.Waits h l)) t → has_room s ≡ true
+waits_with_room s t k h r l room step = elim (cases_Bool (has_room s)) [
+  | inl has ↦ has
+  | inr full ↦ elim (cases_Bool (is_owned s r)) [
+    | inl owned ↦
+        let lacks : (not (has_room s) && is_owned s r) ≡ true = ap (λ b. not b && is_owned s r) full ∙ owned in
+        let never : true ≡ false = sym lacks ∙ room in
+        absurd (cc)
+    | inr free ↦
+        let granted : acquired.Waits h l ≡ acquired.Granted = free_is_granted s t k r (acquired.Waits h l) free step in
+        absurd (cc)
+  ]
+]
+
+-- where one of two tests is that there is no room, there is none
+pub lacks_room_both : (room owned : Bool) → (not room && owned) ≡ true → room ≡ false
+lacks_room_both true owned lacks = absurd (cc)
+lacks_room_both false owned lacks = refl
 
 pub lock_refuses : (s t : TableState) (k : Key) (r : ℕ) (reply : Result Locked Refusal) (refusal : Refusal) → IsErr reply × IsErrAnd reply (λ x. x ≡ refusal)
     → Step (Acquire k r) s (Err refusal) t → t ≡ s → Locks s k r reply t

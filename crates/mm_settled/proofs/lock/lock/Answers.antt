@@ -1,14 +1,30 @@
-use Rattle.std.proofs.Common.{◌≡◌, Ok, Err, vec_capacity, sym, ap, subst, ◌∙◌}
-use Rattle.mm_rules.specs.declared.reply.Acquired.{Acquired}
-use Rattle.mm_rules.specs.declared.reply.Acquired.TheVariants.{Granted}
+use Rattle.std.proofs.Common.{◌≡◌, Ok, Err, true, vec_capacity, inr, refl, sym, ap, subst, ◌∙◌}
+use Rattle.mm_rules.specs.declared.config.Config.{Config}
+use Rattle.mm_rules.specs.declared.reply.Acquired.TheVariants.{Granted, Waits}
 use Rattle.mm_rules.specs.TableState.{TableState}
 use Rattle.mm_rules.specs.Event.{Acquire, Step}
 use Rattle.mm_rules.specs.Laws.{AtRest}
+use Rattle.mm_rules.proofs.States.Config.{event_config}
+use Rattle.mm_settled.specs.Calls.{has_room, Locks}
+use Rattle.mm_settled.specs.private.Lists.{Fits}
 use Rattle.mm_settled.proofs.Lemmas.Fits.{fits_again}
-use Rattle.mm_settled.proofs.Lemmas.Lock.{free_is_granted, lock_refuses}
-use Rattle.mm_settled.proofs.Lemmas.Quiet.{granted_quiet, quiet_rests, same_is_quiet, same_changes_nobody}
+use Rattle.mm_settled.proofs.Lemmas.Lock.{waiter_rests, waiter_config, waiter_alone, waiter_locks, waiter_changed, waiter_grants, waits_with_room, lacks_room_both, lock_refuses}
+use Rattle.mm_settled.proofs.Lemmas.Quiet.{GrantsNow, granted_quiet, quiet_rests, same_is_quiet, same_changes_nobody}
 use Rattle.mm_settled.proofs.Lemmas.Refused.{acquire_refused}
 use Rattle.mm_settled.proofs.lock.lock.Goals as goal
+
+-- ---- there is no room to count it with a settle
+
+pub returns-then-lacks_room-clause-locks : goal.returns-then-lacks_room-clause-locks
+returns-then-lacks_room-clause-locks c = (refl, inr (refl, lacks_room_both _ _ (sym c.lacks_room.ensures ∙ c.if-lacks_room.true)))
+
+pub returns-then-lacks_room-clause-told : goal.returns-then-lacks_room-clause-told
+returns-then-lacks_room-clause-told c =
+    let s = c.args.table.now in
+    record {
+      granted = c.clear.ensures.granted ∙ sym (same_is_quiet s s c.keeps_laws.ensures (λ i. s)).granted;
+      changed = c.clear.ensures.changed ∙ sym (same_changes_nobody s s (λ i. s));
+    }
 
 -- ---- the table refuses
 
@@ -42,25 +58,63 @@ returns-in_err-acquire-clause-fits c =
 
 -- ---- it is granted
 
-granted : (c : goal.In_ok-acquire) → Step (Acquire c.args.key c.args.resource) c.args.table.now (Ok Granted) c.acquire.new.self
-granted c =
+grants : (c : goal.In-Granted) → GrantsNow c.args.table.now c.args.key c.acquire.new.self
+grants c =
+    let is : Step (Acquire c.args.key c.args.resource) c.args.table.now (Ok Granted) c.acquire.new.self = rw (c.in_ok-acquire.was, c.in-Granted.is) at c.acquire.ensures in
+    granted_quiet c.args.table.now c.acquire.new.self c.args.key c.args.resource c.keeps_laws.ensures is
+
+pub returns-in-Granted-clause-told : goal.returns-in-Granted-clause-told
+returns-in-Granted-clause-told c = record { granted = c.clear.ensures.granted ∙ sym (grants c).quiet.granted; changed = c.clear.ensures.changed ∙ sym (grants c).changed }
+
+pub returns-in-Granted-clause-rest : goal.returns-in-Granted-clause-rest
+returns-in-Granted-clause-rest c =
+    quiet_rests (Acquire c.args.key c.args.resource) c.args.table.now c.acquire.new.self c.acquire.result c.acquire.ensures c.keeps_laws.ensures c.requires.rest (grants c).quiet
+
+-- ---- it waits
+
+asks : (c : goal.After-settle_waiter) → Step (Acquire c.args.key c.args.resource) c.args.table.now (Ok (Waits c.in-Waits.holder c.in-Waits.label)) c.acquire.new.self
+asks c = rw (c.in_ok-acquire.was, c.in-Waits.is) at c.acquire.ensures
+
+room : (c : goal.After-settle_waiter) → has_room c.args.table.now ≡ true
+room c =
+    waits_with_room c.args.table.now c.acquire.new.self c.args.key c.in-Waits.holder c.args.resource c.in-Waits.label (sym c.lacks_room.ensures ∙ c.if-lacks_room.false) (asks c)
+
+pub returns-in-Waits-clause-locks : goal.returns-in-Waits-clause-locks
+returns-in-Waits-clause-locks c =
     let s = c.args.table.now in
-    let is : Step (Acquire c.args.key c.args.resource) s (Ok c.in_ok-acquire.field-0) c.acquire.new.self = rw c.in_ok-acquire.was at c.acquire.ensures in
-    let free = free_is_granted s c.acquire.new.self c.args.key c.args.resource c.in_ok-acquire.field-0 (sym c.is_owned.ensures ∙ c.if-is_owned.false) is in
-    subst (λ (answer : Acquired). Step (Acquire c.args.key c.args.resource) s (Ok answer) c.acquire.new.self) free is
+    let settled = c.settle_waiter.ensures.settled in
+    subst (λ told. Locks s c.args.key c.args.resource (Ok told) c.settle_waiter.new.table) (sym settled.2)
+    (waiter_locks s c.acquire.new.self c.settle_waiter.new.table c.args.key c.in-Waits.holder c.args.resource c.in-Waits.label settled.0 c.keeps_laws.ensures c.requires.rest (asks c) settled.1 (room c))
 
-pub returns-clause-locks : goal.returns-clause-locks
-returns-clause-locks c = granted c
+pub returns-in-Waits-clause-others : goal.returns-in-Waits-clause-others
+returns-in-Waits-clause-others c =
+    let settled = c.settle_waiter.ensures.settled in
+    waiter_alone c.args.table.now c.acquire.new.self c.settle_waiter.new.table c.args.key c.in-Waits.holder c.args.resource c.in-Waits.label settled.0 c.keeps_laws.ensures c.requires.rest (asks c) settled.1
 
-pub returns-clause-others : goal.returns-clause-others
-returns-clause-others c = λ v apart. (granted_quiet c.args.table.now c.acquire.new.self c.args.key c.args.resource c.keeps_laws.ensures (granted c)).quiet.verdicts v
+pub returns-in-Waits-clause-told : goal.returns-in-Waits-clause-told
+returns-in-Waits-clause-told c =
+    let settled = c.settle_waiter.ensures.settled in
+    let s = c.args.table.now in
+    let mid = c.acquire.new.self in
+    let new = c.settle_waiter.new.table in
+    record {
+      granted = c.settle_waiter.ensures.granted
+          ∙ sym (waiter_grants s mid new c.args.key c.in-Waits.holder c.args.resource c.in-Waits.label settled.0 c.keeps_laws.ensures c.requires.rest (asks c) settled.1);
+      changed = c.settle_waiter.ensures.changed
+          ∙ waiter_changed s mid new c.args.key c.in-Waits.holder c.args.resource c.in-Waits.label settled.0 c.keeps_laws.ensures c.requires.rest (asks c) settled.1;
+    }
 
-pub returns-clause-told : goal.returns-clause-told
-returns-clause-told c =
-    let now = granted_quiet c.args.table.now c.acquire.new.self c.args.key c.args.resource c.keeps_laws.ensures (granted c) in
-    record { granted = c.clear.ensures.granted ∙ sym now.quiet.granted; changed = c.clear.ensures.changed ∙ sym now.changed }
+pub returns-in-Waits-clause-rest : goal.returns-in-Waits-clause-rest
+returns-in-Waits-clause-rest c =
+    let settled = c.settle_waiter.ensures.settled in
+    waiter_rests c.args.table.now c.acquire.new.self c.settle_waiter.new.table c.args.key c.in-Waits.holder c.args.resource c.in-Waits.label settled.0 c.keeps_laws.ensures c.requires.rest (asks c) settled.1
 
-pub returns-clause-rest : goal.returns-clause-rest
-returns-clause-rest c =
-    quiet_rests (Acquire c.args.key c.args.resource) c.args.table.now c.acquire.new.self c.acquire.result c.acquire.ensures c.keeps_laws.ensures c.requires.rest
-    (granted_quiet c.args.table.now c.acquire.new.self c.args.key c.args.resource c.keeps_laws.ensures (granted c)).quiet
+pub returns-in-Waits-clause-fits : goal.returns-in-Waits-clause-fits
+returns-in-Waits-clause-fits c =
+    let settled = c.settle_waiter.ensures.settled in
+    let s = c.args.table.now in
+    let mid = c.acquire.new.self in
+    let new = c.settle_waiter.new.table in
+    let now : new.config ≡ s.config = waiter_config s mid new c.args.key c.in-Waits.holder c.args.resource c.in-Waits.label settled.0 c.keeps_laws.ensures c.requires.rest (asks c) settled.1 in
+    let was : mid.config ≡ s.config = event_config (Acquire c.args.key c.args.resource) s mid (Ok (Waits c.in-Waits.holder c.in-Waits.label)) (asks c) in
+    subst (λ (f : Config). Fits f c.settle_waiter.new.lists) (was ∙ sym now) c.settle_waiter.ensures.fits

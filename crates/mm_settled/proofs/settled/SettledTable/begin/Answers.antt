@@ -23,6 +23,7 @@ invariant_of-self c =
         resources = cleared.resources ∙ was.resources;
         processes = cleared.processes ∙ was.processes;
       };
+      grants = λ none. cleared.granted;
     }
 
 pub returns-clause-told : goal.returns-clause-told
