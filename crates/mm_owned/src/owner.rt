@@ -1,14 +1,15 @@
 //! The owner of a resource, or none, in eight bytes.
 ghost use Rattle.std.specs.Prelude.{◌≡◌, ◌<◌, None, Some};
-ghost use Rattle.mm_owned.specs.private.Owner.{no_process};
+ghost use Rattle.mm_links.specs.Link.{none_number};
 
 use mm_arena::Key;
+use mm_links::Link;
 use std::marker::Model;
 
-/// A key, or none, in eight bytes. The process `u32::MAX` stands for none.
+/// A key, or none, in eight bytes: a link to the process of the key, and its generation.
 #[derive(Debug, Drop)]
 pub struct Owner {
-    process: u32,
+    process: Link,
     generation: u32,
 }
 
@@ -17,40 +18,40 @@ const _: () = prove!(size_of::<Owner>() == 8);
 impl Model for Owner {
     ghost use Rattle.std.specs.Prelude.{Option};
     ghost use Rattle.mm_arena.specs.declared.key.Key.{Key};
-    ghost use Rattle.mm_owned.specs.private.Owner.{meant};
+    ghost use Rattle.mm_owned.specs.private.Owner.{kept_key};
 
     ghost Value = { Option Key };
 
-    ghost view = { λ o. meant o.process o.generation };
+    ghost view = { λ o. kept_key o.process o.generation };
 }
 
 impl Owner {
     /// No owner.
     pub const NONE: Owner = Owner {
-        process: u32::MAX,
+        process: Link::NONE,
         generation: 0,
     };
 
     /// This key, whose process is below `u32::MAX`, in constant time.
+    #[inline]
     pub fn of(key: Key) -> Owner
-        requires { key.process < no_process }
+        requires { key.process < none_number }
         ensures { result ≡ Some key }
     {
         Owner {
-            process: key.process,
+            process: Link::to(key.process),
             generation: key.generation,
         }
     }
 
     /// The key, in constant time.
+    #[inline]
     pub fn get(&self) -> Option<Key>
         ensures { result ≡ self.now }
     {
-        if self.process == u32::MAX {
-            return None;
-        }
+        let process = self.process.get()?;
         Some(Key {
-            process: self.process,
+            process,
             generation: self.generation,
         })
     }

@@ -4,6 +4,7 @@
 //! Each of these files has the event with its tests and the changes that it is made of. The others serve these:
 //!
 //! - `call`: what every event tests first, and how an accepted one is counted.
+//! - `changes`, `labelling`: the changes that several events are made of, and those of labels.
 //! - `hand_over`: how a resource goes to the longest waiter.
 //! - `sweep`, `waiters`: the sweeps of a settle, and who is looked at next after a raise.
 use crate::{Config, Totals};
@@ -16,10 +17,12 @@ mod abort;
 mod acquire;
 mod begin;
 mod call;
+mod changes;
 mod detect;
 mod finish;
 mod give_up;
 mod hand_over;
+mod labelling;
 mod open;
 mod read;
 mod release;

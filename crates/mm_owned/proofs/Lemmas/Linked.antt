@@ -13,7 +13,6 @@ use Rattle.mm_links.specs.Chain.{head_or, walk, IsChain}
 use Rattle.mm_links.proofs.Lemmas.Ends.{Among-head_or}
 use Rattle.mm_links.proofs.Lemmas.Chain.{IsChain-kept, IsChain-cut, walk-IsChain}
 use Rattle.mm_owned.specs.Owned.{Ownership, owner_at, list_at, head, unowned, IsNext}
-use Rattle.mm_owned.specs.private.Owner.{no_process}
 use Rattle.mm_owned.specs.private.Linked.{AreLinked}
 use Rattle.mm_owned.proofs.Lemmas.ListsMatchOwners.{in_range, one_list, list_at-unowned, unowned_matches}
 
@@ -87,7 +86,7 @@ no_heads : (n : ℕ) → replicate n None ≡ heads_of (replicate n [])
 no_heads zero = refl
 no_heads (suc n) = ap (λ firsts. None ∷ firsts) (no_heads n)
 
-pub AreLinked-unowned : (processes resources : ℕ) (firsts : List (Option ℕ)) (links : List Links) → firsts ≡ replicate processes None → links ≡ replicate resources unlinked → resources ≤ none_number → processes ≤ no_process
+pub AreLinked-unowned : (processes resources : ℕ) (firsts : List (Option ℕ)) (links : List Links) → firsts ≡ replicate processes None → links ≡ replicate resources unlinked → resources ≤ none_number → processes ≤ none_number
     → AreLinked (unowned processes resources) firsts links
 AreLinked-unowned processes resources firsts links firsts_are links_are few few_processes =
     let many : length (replicate resources unlinked) ≡ resources = length-replicate resources unlinked in

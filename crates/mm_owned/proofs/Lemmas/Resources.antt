@@ -11,7 +11,6 @@ use Rattle.mm_links.specs.Link.{none_number}
 use Rattle.mm_links.specs.Links.{unlinked, before_of, next_of, with_before, with_next, put_first, taken_out}
 use Rattle.mm_owned.specs.declared.owned.Resource.{Resource}
 use Rattle.mm_owned.specs.Owned.{Ownership, unowned}
-use Rattle.mm_owned.specs.private.Owner.{no_process}
 use Rattle.mm_owned.specs.private.Linked.{links_of, owners_of, seen, AreLinked, AreConsistent}
 use Rattle.mm_owned.proofs.Lemmas.Linked.{lists_seen, AreLinked-unowned}
 
@@ -116,7 +115,7 @@ none_owned : (n : ℕ) → owners_of (replicate n no_owner) ≡ replicate n None
 none_owned zero = refl
 none_owned (suc n) = cc (none_owned n)
 
-pub shown_unowned : (processes resources : ℕ) (firsts : List (Option ℕ)) (rs : List Resource) → firsts ≡ replicate processes None → rs ≡ replicate resources no_owner → resources ≤ none_number → processes ≤ no_process
+pub shown_unowned : (processes resources : ℕ) (firsts : List (Option ℕ)) (rs : List Resource) → firsts ≡ replicate processes None → rs ≡ replicate resources no_owner → resources ≤ none_number → processes ≤ none_number
     → IsShown (unowned processes resources) firsts rs
 shown_unowned processes resources firsts rs firsts_are are few few_processes =
     shown_linked (unowned processes resources) firsts rs

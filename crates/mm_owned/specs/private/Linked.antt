@@ -7,7 +7,6 @@ use Rattle.mm_links.specs.Links.{next_of}
 use Rattle.mm_links.specs.Chain.{head_or, walk, IsChain}
 use Rattle.mm_owned.specs.declared.owned.Resource.{Resource}
 use Rattle.mm_owned.specs.Owned.{Ownership, ListsMatchOwners, owner_at, list_at}
-use Rattle.mm_owned.specs.private.Owner.{no_process}
 
 -- the links of each resource
 abbrev pub links_of : List Resource → List Links
@@ -31,7 +30,7 @@ pub record AreLinked (s : Ownership) (firsts : List (Option ℕ)) (links : List 
   pub loose : (r : ℕ) → owner_at s r ≡ None → next_of links r ≡ None
   pub size : length links ≡ length s.owners
   pub few_resources : length links ≤ none_number
-  pub few_processes : length firsts ≤ no_process
+  pub few_processes : length firsts ≤ none_number
   pub matched : ListsMatchOwners s
 
 -- the fields keep what a contract sees of them

@@ -1,16 +1,16 @@
 //! A resource is granted, or its owner is waited for with a new label.
-ghost use Rattle.std.specs.Prelude.{◌≡◌, ◌<◌, ◌≤◌, ◌+◌, ◌^◌, ◌∷◌, ◌++◌, [], IsTrue, None, Some, length, slice_set, MatchOption, SomeIff, true, false};
-ghost use Rattle.mm_rules.specs.TableState.{wait_of, owner_of, public_of, is_live};
+ghost use Rattle.std.specs.Prelude.{◌≡◌, ◌<◌, ◌+◌, ◌^◌, ◌∷◌, ◌++◌, [], IsTrue, None, length, MatchOption, true, false};
+ghost use Rattle.mm_rules.specs.TableState.{wait_of, is_live};
 ghost use Rattle.mm_rules.specs.Change.{block_fits, label_against};
 ghost use Rattle.mm_rules.specs.Event.{Gives, acquired};
 ghost use Rattle.mm_rules.specs.Laws.{Laws};
 ghost use Rattle.mm_settle.specs.Touched.{Touches};
 ghost use Rattle.mm_settle.specs.private.Added.{Adds};
-ghost use Rattle.mm_table.specs.private.LabelLimit.{label_under, labelled, waiting, AllLabelsFit};
+ghost use Rattle.mm_table.specs.private.LabelLimit.{waiting};
 
 use super::Records;
 use crate::{Acquired, Key, Refusal};
-use mm_label::{Label, fresh};
+use mm_label::Label;
 use mm_marks::Marks;
 
 impl Records {
@@ -65,16 +65,6 @@ impl Records {
         Some(label)
     }
 
-    /// Makes the key the owner of a free resource.
-    pub(super) fn grant(&mut self, key: Key, resource: u32)
-        requires resource { resource < self.old.config.resources }
-        requires key { key.process < self.old.config.processes }
-        requires free { owner_of self.old resource ≡ None }
-        ensures { self.new ≡ record self.old { owners = slice_set self.old.owners resource (Some key) } }
-    {
-        self.owned.push(key, resource);
-    }
-
     /// Counts an accepted event by which a live transaction that did not wait waits for a resource, last in its queue. The count is
     /// the number of its arrival.
     fn count_wait(&mut self, key: Key, resource: u32)
@@ -90,58 +80,5 @@ impl Records {
         self.totals.accepted += 1;
         self.transactions
             .start_waiting(key, resource, self.totals.accepted);
-    }
-
-    /// Whether the limit allows each label that one block can make. Where it does not, some may still fit.
-    pub(super) fn all_labels_fit(&self) -> bool
-        ensures { IsTrue result → AllLabelsFit self.now }
-    {
-        self.greatest < self.config.label_limit
-    }
-
-    /// The public label of a process.
-    pub fn public(&self, process: u32) -> Label
-        requires { process < self.now.config.processes }
-        ensures { result ≡ public_of self.now process }
-    {
-        self.labels[process as usize].public
-    }
-
-    /// The label that `process` gets by waiting for `holder`; `None` past the label limit.
-    pub(super) fn label_against(&self, process: u32, holder: u32) -> Option<Label>
-        requires process { process < self.now.config.processes }
-        requires holder { holder < self.now.config.processes }
-        ensures { SomeIff result (IsTrue (block_fits self.now process holder)) (label_against self.now process holder) }
-    {
-        fresh(
-            self.public(process),
-            self.public(holder),
-            process,
-            self.config.label_limit,
-        )
-    }
-
-    /// Gives `process` both its new labels, by which it waits for one that shows this label.
-    pub(super) fn block_under(&mut self, process: u32, shown: Label)
-        requires process { process < self.old.config.processes }
-        requires fits { (label_under self.old process shown).counter ≤ self.old.config.label_limit }
-        ensures { self.new ≡ labelled self.old process (label_under self.old process shown) }
-    {
-        let own = self.public(process);
-        let label = fresh(own, shown, process, self.config.label_limit).unwrap();
-        self.relabel(process, label);
-    }
-
-    /// Both labels of a process are this one from now on.
-    fn relabel(&mut self, process: u32, label: Label)
-        requires { process < self.old.config.processes }
-        ensures { self.new ≡ labelled self.old process label }
-    {
-        if label.counter() > self.greatest {
-            self.greatest = label.counter();
-        }
-        let blocked = &mut self.labels[process as usize];
-        blocked.private = label;
-        blocked.public = label;
     }
 }

@@ -93,6 +93,7 @@ impl Records {
             self.hand_over(resource, touched);
             next = match following {
                 Some(_) => following,
+                // Nothing is left. A hand-over promises nothing of the order of the list, so this is read again.
                 None => self.owned.first(process),
             };
         }

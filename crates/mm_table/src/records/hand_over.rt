@@ -1,8 +1,8 @@
 //! A resource goes from its owner to the longest waiter.
 ghost use Rattle.std.specs.Prelude.{◌≡◌, ◌≢◌, ◌<◌, [], IsTrue, None, length, slice_set};
 ghost use Rattle.std.specs.List.{list_all};
-ghost use Rattle.mm_rules.specs.TableState.{waiters_of, is_live, is_waiting};
-ghost use Rattle.mm_rules.specs.Change.{activate, block_fits, hand_over, hand_over_fits};
+ghost use Rattle.mm_rules.specs.TableState.{waiters_of};
+ghost use Rattle.mm_rules.specs.Change.{block_fits, hand_over, hand_over_fits};
 ghost use Rattle.mm_rules.specs.Event.{release_answer};
 ghost use Rattle.mm_rules.specs.private.Stages.{blocked_on, NoneIs};
 ghost use Rattle.mm_settle.specs.private.Added.{AddsAll};
@@ -102,14 +102,5 @@ impl Records {
         ensures { self.new ≡ record self.old { owners = slice_set self.old.owners resource None } }
     {
         self.owned.remove(resource);
-    }
-
-    /// Takes away the wait of a live transaction that waits.
-    pub(super) fn end_wait(&mut self, key: Key)
-        requires live { IsTrue (is_live self.old key) }
-        requires waiting { IsTrue (is_waiting self.old key.process) }
-        ensures { self.new ≡ activate self.old key.process }
-    {
-        self.transactions.stop_waiting(key);
     }
 }

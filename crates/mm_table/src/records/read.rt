@@ -120,6 +120,15 @@ impl Records {
         Some(holder.process)
     }
 
+    /// The holder of a process; `None` where it does not wait, or is not one of the table's.
+    pub fn holder_at(&self, process: u32) -> Option<u32>
+        ensures holder { result ≡ holder_of self.now process }
+        ensures in_range { IfSome result (λ holder. (holder < self.now.config.processes) × (process < self.now.config.processes)) }
+    {
+        let key = self.tenant(process)?;
+        self.holder(key)
+    }
+
     /// The public label of the holder of a live transaction; `None` where it does not wait.
     pub(super) fn holder_label(&self, key: Key) -> Option<Label>
         requires { IsTrue (is_live self.now key) }

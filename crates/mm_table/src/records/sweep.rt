@@ -1,6 +1,5 @@
 //! Sweeps of transmits, which look at those alone that may transmit.
-ghost use Rattle.std.specs.Prelude.{◌≡◌, ◌<◌, IfSome, IfNone, None, length};
-ghost use Rattle.mm_rules.specs.TableState.{holder_of};
+ghost use Rattle.std.specs.Prelude.{◌≡◌, ◌<◌, length};
 ghost use Rattle.mm_rules.specs.Change.{can_transmit, transmit};
 ghost use Rattle.mm_rules.specs.Laws.{Laws};
 ghost use Rattle.mm_rules.specs.private.Stages.{IsSwept};
@@ -12,31 +11,6 @@ use super::Records;
 use mm_marks::Marks;
 
 impl Records {
-    /// The holder of a process; `None` where it does not wait, or is not one of the table's.
-    pub fn holder_at(&self, process: u32) -> Option<u32>
-        ensures holder { result ≡ holder_of self.now process }
-        ensures in_range { IfSome result (λ holder. (holder < self.now.config.processes) × (process < self.now.config.processes)) }
-    {
-        let key = self.tenant(process)?;
-        self.holder(key)
-    }
-
-    /// The process takes over its holder's public label where it has a holder and that is greater. Returns whether it did.
-    fn transmit_at(&mut self, process: u32) -> bool
-        ensures raised { result ≡ can_transmit self.old process }
-        ensures state { self.new ≡ transmit self.old process }
-    {
-        let Some(holder) = self.holder_at(process) else {
-            return false;
-        };
-        let shown = self.labels[holder as usize].public;
-        let raised = self.labels[process as usize].public < shown;
-        if raised {
-            self.show(process, shown);
-        }
-        raised
-    }
-
     /// One turn of a sweep: where the process transmits, it is touched and those that wait for it are pending; else it is left to
     /// check. Returns whether it did.
     fn turn(

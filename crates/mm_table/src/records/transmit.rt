@@ -1,11 +1,10 @@
 //! A waiting transaction takes over its holder's greater label.
-ghost use Rattle.std.specs.Prelude.{◌≡◌, ◌<◌, IsTrue, length, slice_set};
+ghost use Rattle.std.specs.Prelude.{◌≡◌, ◌<◌, IsTrue, length};
 ghost use Rattle.mm_rules.specs.TableState.{is_live};
-ghost use Rattle.mm_rules.specs.Change.{greater_label};
+ghost use Rattle.mm_rules.specs.Change.{greater_label, can_transmit, transmit};
 ghost use Rattle.mm_rules.specs.Event.{Gives, transmitted};
 ghost use Rattle.mm_rules.specs.Laws.{Laws};
 ghost use Rattle.mm_settle.specs.Touched.{Touches};
-ghost use Rattle.mm_table.specs.private.LabelLimit.{IsShown};
 
 use super::Records;
 use crate::{Key, Refusal, Transmitted};
@@ -22,9 +21,8 @@ impl Records {
         ensures touched { Touches self.old self.new touched.old touched.new }
     {
         self.may_call_waiting(key)?;
-        let answer = match self.greater_label(key) {
+        let answer = match self.raise(key) {
             Some(label) => {
-                self.show(key.process, label);
                 touched.add(key.process);
                 Transmitted::Raised(label)
             }
@@ -32,6 +30,29 @@ impl Records {
         };
         self.count();
         Ok(answer)
+    }
+
+    /// The process takes over its holder's public label where it has a holder and that is greater. Returns whether it did.
+    pub(super) fn transmit_at(&mut self, process: u32) -> bool
+        ensures raised { result ≡ can_transmit self.old process }
+        ensures state { self.new ≡ transmit self.old process }
+    {
+        let Some(key) = self.tenant(process) else {
+            return false;
+        };
+        self.raise(key).is_some()
+    }
+
+    /// A live transaction takes over its holder's public label where that is greater. Returns the label that it takes over.
+    fn raise(&mut self, key: Key) -> Option<Label>
+        requires live { IsTrue (is_live self.old key) }
+        requires process { key.process < self.old.config.processes }
+        ensures label { result ≡ greater_label self.old key.process }
+        ensures state { self.new ≡ transmit self.old key.process }
+    {
+        let label = self.greater_label(key)?;
+        self.show(key.process, label);
+        Some(label)
     }
 
     /// The public label of the holder of a live transaction, where it is greater than its own.
@@ -42,14 +63,5 @@ impl Records {
         let shown = self.holder_label(key)?;
         let own = self.labels[key.process as usize].public;
         (own < shown).then_some(shown)
-    }
-
-    /// Makes this label, which some process shows, the public label of `process`.
-    pub(super) fn show(&mut self, process: u32, label: Label)
-        requires process { process < self.old.config.processes }
-        requires shown { IsShown self.old label }
-        ensures { self.new ≡ record self.old { public = slice_set self.old.public process label } }
-    {
-        self.labels[process as usize].public = label;
     }
 }

@@ -1,4 +1,4 @@
-use Rattle.std.proofs.Common.{◌≡◌, ◌<◌, ◌++◌, ◌∷◌, [], length, arith, ap, sym, ◌∙◌, append_assoc, length-append}
+use Rattle.std.proofs.Common.{◌<◌, ◌++◌, ◌∷◌, [], length, arith, ap, sym, ◌∙◌, append_assoc, length-append}
 use Rattle.mm_owned.specs.Owned.{list_at}
 use Rattle.mm_owned.proofs.Lemmas.Walk.{rest_from, rest_from-head, Among-head, Among-next, rest_from-next, rest_from-some, among_in_range, length-list}
 use Rattle.mm_owned.proofs.owned.Owned.list.Goals as goal

@@ -1,13 +1,12 @@
 use Rattle.std.proofs.Common.{◌≤◌, None, replicate, arith, ap, ◌∙◌}
 use Rattle.mm_links.specs.Link.{none_number}
-use Rattle.mm_owned.specs.private.Owner.{no_process}
 use Rattle.mm_owned.proofs.Lemmas.Resources.{no_owner, shown_unowned}
 use Rattle.mm_owned.proofs.owned.Owned.new.Goals as goal
 
 pub invariant_of-result : goal.invariant_of-result
 invariant_of-result c =
     let few : c.args.resources ≤ none_number = omega arith in
-    let few_processes : c.args.processes ≤ no_process = omega arith in
+    let few_processes : c.args.processes ≤ none_number = omega arith in
     let firsts = c.firsts.invariant.0 ∙ ap (λ n. replicate n None) (omega arith) in
     let kept = c.kept.invariant.0 ∙ ap (λ n. replicate n no_owner) (omega arith) in
     (shown_unowned c.args.processes c.args.resources _ _ firsts kept few few_processes).kept
@@ -15,7 +14,7 @@ invariant_of-result c =
 pub returns : goal.returns
 returns c =
     let few : c.args.resources ≤ none_number = omega arith in
-    let few_processes : c.args.processes ≤ no_process = omega arith in
+    let few_processes : c.args.processes ≤ none_number = omega arith in
     let firsts = c.firsts.invariant.0 ∙ ap (λ n. replicate n None) (omega arith) in
     let kept = c.kept.invariant.0 ∙ ap (λ n. replicate n no_owner) (omega arith) in
     (shown_unowned c.args.processes c.args.resources _ _ firsts kept few few_processes).is

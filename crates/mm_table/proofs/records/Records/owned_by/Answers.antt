@@ -1,10 +1,10 @@
-use Rattle.std.proofs.Common.{◌≡◌, ℕ, true, false, Some, IsTrue, nat_eq, refl, sym, ap, subst, ◌∙◌}
+use Rattle.std.proofs.Common.{◌≡◌, true, false, Some, IsTrue, nat_eq, refl, sym, ap, subst, ◌∙◌}
 use Rattle.std.proofs.lemmas.Bool.{and_parts, eq-eqb, eqb-true}
 use Rattle.std.specs.Option.{option_map_or}
 use Rattle.std.specs.Prelude.{slice_index, slice_index_or}
 use Rattle.mm_arena.specs.declared.key.Key.{Key}
 use Rattle.mm_lists.specs.Members.{Among, NoRepeat}
-use Rattle.mm_rules.specs.TableState.{TableState, is_live, owner_of, owns}
+use Rattle.mm_rules.specs.TableState.{TableState, is_live, owns}
 use Rattle.mm_rules.proofs.States.Release.{owns_gives}
 use Rattle.mm_table.proofs.Fields.Ownership.{listed}
 use Rattle.mm_table.proofs.records.Records.owned_by.Goals as goal

@@ -1,7 +1,7 @@
-use Rattle.std.proofs.Common.{◌≡◌, Some, is_some, ap, sym, subst, ◌∙◌, arith}
+use Rattle.std.proofs.Common.{◌≡◌, is_some, ap, sym, subst, ◌∙◌, arith}
 use Rattle.std.specs.Option.{option_map_or}
 use Rattle.mm_rules.specs.TableState.{TableState}
-use Rattle.mm_rules.specs.Change.{greater_label, transmit}
+use Rattle.mm_rules.specs.Change.{transmit}
 use Rattle.mm_rules.proofs.States.Transmit.{shown}
 use Rattle.mm_settle.specs.Touched.{Touches}
 use Rattle.mm_settle.proofs.Lemmas.Added.{adds_set}
@@ -15,16 +15,16 @@ returns-clause-touched c =
     let s = c.args.self.now in
     let n = c.args.key.process in
     let old = c.args.touched.now in
-    let new = c.match-greater_label.touched in
-    let done : Touches s c.match-greater_label.self old new =
-    elim c.match-greater_label.branch [
+    let new = c.match-raise.touched in
+    let done : Touches s (transmit s n) old new =
+    elim c.match-raise.branch [
       | in-Some w ↦
-          let greater : greater_label s n ≡ Some w.in-Some.label = sym c.greater_label.ensures ∙ w.in-Some.is in
-          let state : transmit s n ≡ c.match-greater_label.self = ap (λ o. option_map_or (shown s n) o s) greater ∙ sym (w.self-is ∙ w.show.ensures) in
-          subst (λ (t : TableState). Touches s t old new) state
-          (touches_transmit s n old new c.requires.laws (ap is_some greater) (adds_set old new n (omega (arith, c.in_ok-may_call_waiting.ensures.in_range, c.requires.sized)) (w.touched-is ∙ w.add.ensures)))
+          touches_transmit s n old new c.requires.laws (ap is_some (sym c.raise.ensures.label ∙ w.in-Some.is))
+          (adds_set old new n (omega (arith, c.in_ok-may_call_waiting.ensures.in_range, c.requires.sized)) (w.touched-is ∙ w.add.ensures))
       | in-None w ↦
-          subst (λ (t : TableState). Touches s t old new) (sym w.self-is)
+          let still : transmit s n ≡ s = ap (λ o. option_map_or (shown s n) o s) (sym c.raise.ensures.label ∙ w.in-None.is) in
+          subst (λ (t : TableState). Touches s t old new) (sym still)
           (subst (Touches s s old) (sym w.touched-is) (touches_nobody s s old (unchanged s)))
     ] in
-    subst (λ (t : TableState). Touches s t old new) (sym c.count.ensures) (touches_counted s c.match-greater_label.self old new _ done)
+    subst (λ (t : TableState). Touches s t old new) (sym c.count.ensures)
+    (touches_counted s c.raise.new.self old new _ (subst (λ (t : TableState). Touches s t old new) (sym c.raise.ensures.state) done))

@@ -1,0 +1,28 @@
+//! The changes that several events are made of: a grant, and the end of a wait.
+ghost use Rattle.std.specs.Prelude.{◌≡◌, ◌<◌, IsTrue, None, Some, slice_set};
+ghost use Rattle.mm_rules.specs.TableState.{is_live, is_waiting, owner_of};
+ghost use Rattle.mm_rules.specs.Change.{activate};
+
+use super::Records;
+use crate::Key;
+
+impl Records {
+    /// Makes the key the owner of a free resource.
+    pub(super) fn grant(&mut self, key: Key, resource: u32)
+        requires resource { resource < self.old.config.resources }
+        requires key { key.process < self.old.config.processes }
+        requires free { owner_of self.old resource ≡ None }
+        ensures { self.new ≡ record self.old { owners = slice_set self.old.owners resource (Some key) } }
+    {
+        self.owned.push(key, resource);
+    }
+
+    /// Takes away the wait of a live transaction that waits.
+    pub(super) fn end_wait(&mut self, key: Key)
+        requires live { IsTrue (is_live self.old key) }
+        requires waiting { IsTrue (is_waiting self.old key.process) }
+        ensures { self.new ≡ activate self.old key.process }
+    {
+        self.transactions.stop_waiting(key);
+    }
+}
