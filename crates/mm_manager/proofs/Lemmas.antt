@@ -30,3 +30,9 @@ pub mod Aborted
 pub mod Forgets
 -- what a request leaves of names and owners
 pub mod Requests
+-- what is known of a transaction that may make a call
+pub mod May
+-- what a refusal is of a call that may be made
+pub mod Limits
+-- who waits, and for what
+pub mod Reads

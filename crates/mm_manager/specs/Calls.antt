@@ -1,5 +1,5 @@
 -- What the calls do, in terms of names.
-use Rattle.std.specs.Prelude.{◌≡◌, ◌≢◌, ◌⊎◌, ◌↔◌, ℕ, true, List, [], ◌∷◌, ◌++◌, Some, Result, Ok, Err, false, slice_set}
+use Rattle.std.specs.Prelude.{◌≡◌, ◌≢◌, ◌⊎◌, ◌↔◌, ℕ, true, false, List, [], ◌∷◌, ◌++◌, Some, Result, Ok, Err, slice_set}
 use Rattle.mm_arena.specs.declared.key.Key.{Key}
 use Rattle.mm_lists.specs.Members.{Among}
 use Rattle.mm_marks.specs.Marks.{has}
@@ -10,12 +10,14 @@ use Rattle.mm_rules.specs.Victims.{IsOnCycle}
 use Rattle.mm_rules.specs.declared.refusal.Refusal as table
 use Rattle.mm_rules.specs.Event.{Event, Begin, Release, Finish, Answer, Step, Abort, GiveUp}
 use Rattle.mm_rules.specs.declared.refusal.Refusal.TheVariants.{Carried}
-use Rattle.mm_settled.specs.Calls.{Locks, Made}
+use Rattle.mm_settled.specs.Calls.{Locks, Made, OthersKeepVerdicts}
 use Rattle.mm_settled.specs.Grants.{grants}
 use Rattle.mm_settled.specs.declared.reply.Grant.{Grant}
 use Rattle.mm_settled.specs.declared.reply.Locked.{Locked}
+use Rattle.mm_settled.specs.declared.reply.Locked.TheVariants as locked
 use Rattle.mm_manager.specs.Permit.{refusal_of}
-use Rattle.mm_manager.specs.LockState.{LockState, Owns, Waits, IsUnowned, untold}
+use Rattle.mm_manager.specs.LockState.{LockState, Owns, Waits, IsUnowned, KeepOwned, untold}
+use Rattle.mm_manager.specs.Refused.{RefusedBy, NameRefused, UnlockRefused, CommitRefused, AbortRefused, CancelRefused}
 use Rattle.mm_manager.specs.declared.refusal.Refusal.{Refusal}
 use Rattle.mm_manager.specs.declared.reply.Abort as abort
 use Rattle.mm_manager.specs.declared.reply.Cancel as cancel
@@ -23,6 +25,8 @@ use Rattle.mm_manager.specs.declared.reply.Cancel.TheVariants as cancels
 use Rattle.mm_manager.specs.declared.reply.Abort.TheVariants as aborts
 use Rattle.mm_manager.specs.declared.reply.Lock.{Lock}
 use Rattle.mm_manager.specs.declared.reply.Lock.TheVariants as lock
+use Rattle.mm_manager.specs.declared.reply.TryLock.{TryLock}
+use Rattle.mm_manager.specs.declared.reply.TryLock.TheVariants as tried
 
 -- ---- begin
 
@@ -53,11 +57,25 @@ LocksName old k name (Ok lock.Granted) new = Gets old k name new
 LocksName old k name (Ok lock.Held) new = Owns old k name × (new ≡ untold old)
 LocksName old k name (Ok (lock.Waits h)) new = Queues old k name h new × ¬ IsOnCycle new.table k.process
 LocksName old k name (Ok (lock.Deadlock h)) new = Queues old k name h new × IsOnCycle new.table k.process
-LocksName old k name (Err refusal) new = new ≡ untold old
+LocksName old k name (Err refusal) new = (new ≡ untold old) × NameRefused old k name refusal
+
+-- what a try does, by its answer: it never waits
+abbrev pub TriesName : LockState → Key → List ℕ → Result TryLock Refusal → LockState → Type 0
+TriesName old k name (Ok tried.Granted) new = Gets old k name new
+TriesName old k name (Ok tried.Held) new = Owns old k name × (new ≡ untold old)
+TriesName old k name (Ok (tried.Busy h)) new = Owns old h name × (h ≢ k) × (new ≡ untold old)
+TriesName old k name (Err refusal) new = (new ≡ untold old) × NameRefused old k name refusal
 
 -- by numbers: the name has a number, now or already, and the table at rest answers the request for that number so
 abbrev pub Asks : TableState → NameTable → Key → List ℕ → Locked → TableState → NameTable → Type 0
 Asks s t k name answer new named = (n : ℕ) × Interns t name n named × Locks s k n (Ok answer) new
+
+-- so a request is answered: with its name's number from now on, or as one that owns it already
+abbrev pub Requests : TableState → NameTable → Key → List ℕ → Lock → TableState → NameTable → Type 0
+Requests s t k name lock.Granted new named = Asks s t k name locked.Granted new named
+Requests s t k name (lock.Waits h) new named = Asks s t k name (locked.Waits h) new named
+Requests s t k name (lock.Deadlock h) new named = Asks s t k name (locked.Deadlock h) new named
+Requests s t k name lock.Held new named = ((n : ℕ) × (name_of t n ≡ Some name) × (owner_of s n ≡ Some k)) × (new ≡ s) × (named ≡ t)
 
 -- ---- hand-overs
 
@@ -66,23 +84,37 @@ abbrev pub EndsAll : TableState → List Key → List Grant → TableState → T
 EndsAll s [] granted new = (new ≡ s) × (granted ≡ [])
 EndsAll s (k ∷ ks) granted new = (mid : TableState) × (later : List Grant) × Made (Finish k) s tt mid × (granted ≡ grants s mid ++ later) × EndsAll mid ks later new
 
--- the event is made in the table at rest, then those end whose abort is due by that; the lists tell of both
+-- the event is made in the table at rest, then those end whose abort is due by that; the lists tell of both, and a number keeps its name exactly while it is owned
 pub record HandsOver (e : Event) (old : LockState) (answer : Answer e) (new : LockState) : Type 0 where
   pub mid : TableState
   pub made : Made e old.table answer mid
   pub later : List Grant
   pub granted : new.granted ≡ grants old.table mid ++ later
   pub ends : EndsAll mid new.aborted later new.table
+  pub names : KeepOwned old.names new.table new.names
 
--- those that were aborted were granted what they waited for, and their abort was due
-abbrev pub AbortsDue : LockState → LockState → Type 0
-AbortsDue old new = (k : Key) → Among k new.aborted → (has old.due k.process ≡ true) × ((g : Grant) × Among g new.granted × (g.key ≡ k))
+-- after the first of these ends, the table refuses the end of k, since a label or a count is at its limit
+pub record EndIsRefused (s : TableState) (ended : List Key) (k : Key) : Type 0 where
+  pub before : List Key
+  pub after : List Key
+  pub parts : ended ≡ before ++ after
+  pub granted : List Grant
+  pub state : TableState
+  pub ends : EndsAll s before granted state
+  pub refusal : Refusal
+  pub refused : RefusedBy (Finish k) state refusal
+
+-- from mid on, whose abort was due and who was granted something is aborted, or the table refuses its end; no other one is, and all other marks stay
+pub record AbortsDue (old : LockState) (mid : TableState) (new : LockState) : Type 0 where
+  pub were_due : (k : Key) → Among k new.aborted → (has old.due k.process ≡ true) × ((g : Grant) × Among g new.granted × (g.key ≡ k))
+  pub all : (g : Grant) → Among g new.granted → has old.due g.key.process ≡ true → Among g.key new.aborted ⊎ EndIsRefused mid new.aborted g.key
+  pub stay : (p : ℕ) → (has new.due p ≡ true) ↔ ((has old.due p ≡ true) × ((g : Grant) → Among g new.granted → g.key.process ≢ p))
 
 -- h was granted the name
 abbrev pub IsGranted : LockState → LockState → Key → List ℕ → Type 0
 IsGranted old new h name = (g : Grant) × Among g new.granted × (g.key ≡ h) × (name_of old.names g.resource ≡ Some name)
 
--- in a call of k, whoever loses a name loses it, `granted` are the waits that ended, all but that of k, and all else stays
+-- in a call of k, whoever loses a name loses it, `granted` are the waits that ended, all but that of k, nobody else gets or loses a verdict, and all else stays
 pub record Passes (old : LockState) (k : Key) (Loses : Key → List ℕ → Type 0) (new : LockState) : Type 0 where
   pub keeps : (h : Key) (name : List ℕ) → Owns old h name → ¬ Loses h name → Owns new h name
   pub gains : (h : Key) (name : List ℕ) → Owns new h name → Owns old h name ⊎ IsGranted old new h name
@@ -91,6 +123,7 @@ pub record Passes (old : LockState) (k : Key) (Loses : Key → List ℕ → Type
   pub waits : (h : Key) (name : List ℕ) → Waits new h name → Waits old h name
   pub ended : (h : Key) (name : List ℕ) → h.process ≢ k.process → Waits old h name
       → Waits new h name ⊎ ((g : Key) × (g.process ≡ h.process) × IsGranted old new g name)
+  pub verdicts : OthersKeepVerdicts old.table new.table k.process
 
 -- ---- unlock, commit
 
@@ -110,13 +143,23 @@ pub record Unlocks (old : LockState) (k : Key) (name : List ℕ) (new : LockStat
   pub answer : Released
   pub over : HandsOver (Release k number) old answer new
   pub passes : Passes old k (LosesName name new.aborted) new
-  pub due : AbortsDue old new
+  pub due : AbortsDue old over.mid new
 
 -- k ends by this event, and hands over all that it owned
 pub record EndsBy (e : Event) (old : LockState) (answer : Answer e) (k : Key) (new : LockState) : Type 0 where
   pub over : HandsOver e old answer new
   pub passes : Passes old k (LosesAll k new.aborted) new
-  pub due : AbortsDue old new
+  pub due : AbortsDue old over.mid new
+
+-- what an unlock does, by its answer
+abbrev pub UnlocksName : LockState → Key → List ℕ → Result (Unit {0}) Refusal → LockState → Type 0
+UnlocksName old k name (Ok done) new = Unlocks old k name new
+UnlocksName old k name (Err refusal) new = (new ≡ untold old) × UnlockRefused old k name refusal
+
+-- what a commit does, by its answer
+abbrev pub Commits : LockState → Key → Result (Unit {0}) Refusal → LockState → Type 0
+Commits old k (Ok done) new = EndsBy (Finish k) old tt k new
+Commits old k (Err refusal) new = (new ≡ untold old) × CommitRefused old k refusal
 
 -- ---- abort
 
@@ -132,8 +175,8 @@ IsEnded old k new = EndsBy (Finish k) old tt k new ⊎ EndsBy (Abort k) old tt k
 abbrev pub Aborts : LockState → Key → Result abort.Abort Refusal → LockState → Type 0
 Aborts old k (Ok aborts.Done) new = IsEnded old k new
 Aborts old k (Ok aborts.Later) new = Step (GiveUp k) old.table (Err Carried) old.table × (new ≡ record (untold old) { due = slice_set old.due k.process true })
-Aborts old k (Ok aborts.Withdrawn) new = GivesUp old k new
-Aborts old k (Err refusal) new = new ≡ untold old
+Aborts old k (Ok aborts.Withdrawn) new = GivesUp old k new × ((refusal : Refusal) × RefusedBy (Finish k) new.table refusal)
+Aborts old k (Err refusal) new = (new ≡ untold old) × AbortRefused old k refusal
 
 -- ---- cancel
 
@@ -146,4 +189,4 @@ abbrev pub Cancels : LockState → Key → Result cancel.Cancel Refusal → Lock
 Cancels old k (Ok cancels.Withdrawn) new =
     ((has old.due k.process ≡ false) × TakesBack old k new) ⊎ ((has old.due k.process ≡ true) × (Aborts old k (Ok aborts.Done) new ⊎ Aborts old k (Ok aborts.Withdrawn) new))
 Cancels old k (Ok cancels.Carried) new = Step (GiveUp k) old.table (Err Carried) old.table × (new ≡ untold old)
-Cancels old k (Err refusal) new = new ≡ untold old
+Cancels old k (Err refusal) new = (new ≡ untold old) × CancelRefused old k refusal

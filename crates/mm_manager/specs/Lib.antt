@@ -4,7 +4,11 @@ pub mod LockState
 pub mod Opening
 -- what a call is refused for before the table is asked
 pub mod Permit
+-- what each refusal means
+pub mod Refused
 -- what the calls do
 pub mod Calls
+-- what the reads answer
+pub mod Reads
 -- private: what private functions' contracts cite; no public clause cites these
 pub mod private

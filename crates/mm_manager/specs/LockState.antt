@@ -1,9 +1,9 @@
 -- What a contract sees of a lock manager, and who owns and who waits for which name. A name is a list of bytes.
-use Rattle.std.specs.Prelude.{◌≡◌, ◌≢◌, ◌↔◌, ℕ, Bool, true, List, [], Some, None}
+use Rattle.std.specs.Prelude.{◌≡◌, ◌≢◌, ◌↔◌, ℕ, Bool, true, false, List, [], Some, None, is_some, if◌then◌else◌}
 use Rattle.mm_arena.specs.declared.key.Key.{Key}
 use Rattle.mm_marks.specs.Marks.{has}
 use Rattle.mm_names.specs.Names.{NameTable, name_of, IsLawful as IsLawfulNames}
-use Rattle.mm_rules.specs.TableState.{TableState, owner_of, wait_of, is_waiting}
+use Rattle.mm_rules.specs.TableState.{TableState, owner_of, wait_of, is_waiting, has_verdict}
 use Rattle.mm_rules.specs.Laws.{Laws, AtRest}
 use Rattle.mm_settled.specs.declared.reply.Grant.{Grant}
 
@@ -30,11 +30,15 @@ IsUnowned m name = (k : Key) → ¬ Owns m k name
 abbrev pub untold : LockState → LockState
 untold m = record m { granted = []; aborted = [] }
 
+-- a number that is owned keeps its name, and no other one has one
+abbrev pub KeepOwned : NameTable → TableState → NameTable → Type 0
+KeepOwned old table new = (n : ℕ) → name_of new n ≡ (if is_some (owner_of table n) then name_of old n else None)
+
 -- what holds of any manager that a caller can hold
 pub record IsLawful (m : LockState) : Type 0 where
   pub laws : Laws m.table  -- those of the table
   pub rest : AtRest m.table
   pub names : IsLawfulNames m.names  -- no two numbers have one name
   pub numbered : (n : ℕ) → (name_of m.names n ≡ None) ↔ (owner_of m.table n ≡ None)  -- a number has a name exactly while it has an owner
-  pub due : (n : ℕ) → has m.due n ≡ true → is_waiting m.table n ≡ true  -- each transaction whose abort is due waits
+  pub due : (n : ℕ) → has m.due n ≡ true → (is_waiting m.table n ≡ true) × (has_verdict m.table n ≡ false)  -- each transaction whose abort is due waits, in no deadlock
   pub waited : (k : Key) (name : List ℕ) → Waits m k name → (h : Key) × Owns m h name × (h.process ≢ k.process)  -- who waits, waits for an owner

@@ -21,6 +21,24 @@ may_ask s k = if is_live s k then may_ask_in (wait_of s k.process) (has_verdict 
 abbrev pub may_name : ℕ → List ℕ → Result (Unit {0}) Refusal
 may_name name_bytes name = if nat_eq (length name) 0 then Err NameEmpty else if nat_lt name_bytes (length name) then Err NameTooLong else Ok tt
 
+-- the first of two that refuses
+abbrev pub first_refusal : Result (Unit {0}) Refusal → Result (Unit {0}) Refusal → Result (Unit {0}) Refusal
+first_refusal (Ok passed) second = second
+first_refusal (Err refusal) second = Err refusal
+
+-- the transaction may ask, and these bytes can be a name
+abbrev pub may_ask_for : TableState → ℕ → Key → List ℕ → Result (Unit {0}) Refusal
+may_ask_for s name_bytes k name = first_refusal (may_ask s k) (may_name name_bytes name)
+
+abbrev pub may_cancel_in : Option ℕ → Bool → Result (Unit {0}) Refusal
+may_cancel_in None verdict = Err NotWaiting
+may_cancel_in (Some n) true = Err MustAbort
+may_cancel_in (Some n) false = Ok tt
+
+-- the key is live, and its transaction waits, in no deadlock
+abbrev pub may_cancel : TableState → Key → Result (Unit {0}) Refusal
+may_cancel s k = if is_live s k then may_cancel_in (wait_of s k.process) (has_verdict s k.process) else Err NoTransaction
+
 -- what a refusal of the table means: those that are left are that of its counts, and some that a manager never meets
 abbrev pub refusal_of : table.Refusal → Refusal
 refusal_of tables.Stale = NoTransaction

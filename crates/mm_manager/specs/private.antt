@@ -2,7 +2,7 @@
 
 -- names and owners by number
 pub mod Numbers
--- a request by number
+-- a try by number
 pub mod Requests
 -- room for what a call tells
 pub mod Lists
@@ -16,3 +16,5 @@ pub mod HandsDown
 pub mod Manager
 -- an abort of a transaction that waits
 pub mod Aborts
+-- what is read
+pub mod Reads

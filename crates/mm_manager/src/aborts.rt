@@ -1,8 +1,10 @@
 //! The ends of transactions that wait.
-ghost use Rattle.std.specs.Prelude.{◌≡◌, ◌<◌, true, false, [], OnOk, OnErr, slice_set};
-ghost use Rattle.mm_rules.specs.TableState.{is_waiting};
+ghost use Rattle.std.specs.Prelude.{◌≡◌, true, [], Ok, IfErr, OnOk, OnErr};
+ghost use Rattle.mm_rules.specs.TableState.{is_live, has_verdict};
 ghost use Rattle.mm_rules.specs.Event.{Abort};
-ghost use Rattle.mm_manager.specs.private.Aborts.{AbortsWaiting, seen, done_by};
+ghost use Rattle.mm_manager.specs.Permit.{may_cancel};
+ghost use Rattle.mm_manager.specs.Refused.{RefusedBy};
+ghost use Rattle.mm_manager.specs.private.Aborts.{AbortsWaiting, GaveUp, seen, done_by, stayed};
 ghost use Rattle.mm_manager.specs.Calls.{Aborts};
 ghost use Rattle.mm_manager.specs.private.Handed.{AreParts, Handed, IsUntouched};
 ghost use Rattle.mm_manager.specs.private.HandsDown.{IsEnding};
@@ -11,12 +13,12 @@ use crate::hand_over::abort;
 use crate::lists::Lists;
 use crate::parts::{end, pass_on};
 use crate::reply::Abort as Aborted;
-use crate::{Key, Refusal};
+use crate::{Cancel, Key, Refusal};
 use mm_names::Names;
 use mm_settled::SettledTable;
 use mm_table::Mode;
 
-/// Ends a transaction that is in a deadlock. Its abort is due no longer.
+/// Ends a transaction that is in a deadlock.
 pub fn end_convicted(
     table: &mut SettledTable,
     names: &mut Names,
@@ -26,15 +28,16 @@ pub fn end_convicted(
     requires parts { AreParts table.old.table names.old lists.old }
     requires none_granted { lists.old.granted.items ≡ [] }
     requires none_aborted { lists.old.aborted.items ≡ [] }
-    requires within { key.process < table.old.table.config.processes }
-    ensures handed { OnOk result (Handed (Abort key) table.old.table names.old (slice_set lists.old.due.items key.process false) tt key.process (IsEnding key) table.new.table names.new lists.new) }
+    requires live { is_live table.old.table key ≡ true }
+    requires verdict { has_verdict table.old.table key.process ≡ true }
+    ensures handed { OnOk result (Handed (Abort key) table.old.table names.old lists.old.due.items tt key.process (IsEnding key) table.new.table names.new lists.new) }
     ensures untouched { OnErr result (IsUntouched table.old.table names.old lists.old table.new.table names.new lists.new) }
+    ensures refused { IfErr result (RefusedBy (Abort key) table.old.table) }
     ensures parts { AreParts table.new.table names.new lists.new }
 {
     table.is_at_rest();
     match abort(table, names, &mut lists.owned, key) {
         Ok(()) => {
-            lists.due[key.process as usize] = false;
             pass_on(table, names, lists);
             Ok(())
         }
@@ -52,25 +55,46 @@ pub fn abort_waiting(
     requires parts { AreParts table.old.table names.old lists.old }
     requires none_granted { lists.old.granted.items ≡ [] }
     requires none_aborted { lists.old.aborted.items ≡ [] }
-    requires waits { is_waiting table.old.table key.process ≡ true }
-    requires within { key.process < table.old.table.config.processes }
+    requires may { may_cancel table.old.table key ≡ Ok tt }
     ensures aborts { AbortsWaiting table.old.table names.old lists.old key result table.new.table names.new lists.new }
     ensures parts { AreParts table.new.table names.new lists.new }
 {
     table.is_at_rest();
-    match table.give_up(key) {
-        Ok(()) => {
+    match give_up(table, key) {
+        Ok(Cancel::Withdrawn) => {
             lists.due[key.process as usize] = false;
             match end(table, names, lists, key) {
                 Ok(()) => Ok(Aborted::Done),
                 Err(_) => Ok(Aborted::Withdrawn),
             }
         }
-        Err(mm_settled::Refusal::Carried) => {
+        Ok(Cancel::Carried) => {
             lists.due[key.process as usize] = true;
             Ok(Aborted::Later)
         }
-        Err(refusal) => Err(Refusal::of_table(refusal)),
+        Err(refusal) => Err(refusal),
+    }
+}
+
+/// Takes back the wait of a transaction that waits in no deadlock, unless it carries another's label.
+pub fn give_up(table: &mut SettledTable, key: Key) -> Result<Cancel, Refusal>
+    requires { may_cancel table.old.table key ≡ Ok tt }
+    ensures { GaveUp table.old.table key result table.new.table }
+{
+    table.is_at_rest();
+    match table.give_up(key) {
+        Ok(()) => Ok(Cancel::Withdrawn),
+        Err(refusal) => stays(refusal),
+    }
+}
+
+/// What the answer is where the table refuses to take back a wait.
+fn stays(refusal: mm_settled::Refusal) -> Result<Cancel, Refusal>
+    ensures { result ≡ stayed refusal }
+{
+    match refusal {
+        mm_settled::Refusal::Carried => Ok(Cancel::Carried),
+        refusal => Err(Refusal::of_table(refusal)),
     }
 }
 

@@ -1,17 +1,17 @@
 //! The waits that are taken back.
-ghost use Rattle.std.specs.Prelude.{◌≡◌, false, []};
+ghost use Rattle.std.specs.Prelude.{◌≡◌, Ok, false, []};
 ghost use Rattle.mm_marks.specs.Marks.{has};
 ghost use Rattle.mm_manager.specs.Calls.{Cancels};
-ghost use Rattle.mm_manager.specs.private.Aborts.{CancelsWaiting, cancel_of, seen};
+ghost use Rattle.mm_manager.specs.Permit.{may_cancel};
+ghost use Rattle.mm_manager.specs.private.Aborts.{GaveUp, cancel_of, seen};
 ghost use Rattle.mm_manager.specs.private.Handed.{AreParts};
 
-use crate::aborts::abort_waiting;
+use crate::aborts::{abort_waiting, give_up};
 use crate::lists::Lists;
-use crate::reply::{Abort, Cancel};
-use crate::{Key, Refusal};
+use crate::permit::may_cancel;
+use crate::{Abort, Cancel, Key, Refusal};
 use mm_names::Names;
 use mm_settled::SettledTable;
-use mm_table::Mode;
 
 /// Takes back the wait of a transaction. One whose abort is due ends then.
 pub fn cancel_any(
@@ -26,14 +26,7 @@ pub fn cancel_any(
 {
     lists.clear();
     table.is_at_rest();
-    let Ok(state) = table.table().state(key) else {
-        return Err(Refusal::NoTransaction);
-    };
-    match state.mode {
-        Mode::Active => return Err(Refusal::NotWaiting),
-        Mode::Convicted(_) => return Err(Refusal::MustAbort),
-        Mode::Waiting(_) => {}
-    }
+    may_cancel(table.table(), key)?;
     if lists.due[key.process as usize] {
         return of_abort(abort_waiting(table, names, lists, key));
     }
@@ -43,23 +36,17 @@ pub fn cancel_any(
 /// Takes back the wait of a transaction whose abort is not due.
 fn cancel_waiting(
     table: &mut SettledTable,
-    names: &mut Names,
-    lists: &mut Lists,
+    names: &Names,
+    lists: &Lists,
     key: Key,
 ) -> Result<Cancel, Refusal>
-    requires parts { AreParts table.old.table names.old lists.old }
-    requires none_granted { lists.old.granted.items ≡ [] }
-    requires none_aborted { lists.old.aborted.items ≡ [] }
-    requires not_due { has lists.old.due.items key.process ≡ false }
-    ensures cancels { CancelsWaiting table.old.table names.old lists.old key result table.new.table names.new lists.new }
-    ensures parts { AreParts table.new.table names.new lists.new }
+    requires parts { AreParts table.old.table names.now lists.now }
+    requires may { may_cancel table.old.table key ≡ Ok tt }
+    requires not_due { has lists.now.due.items key.process ≡ false }
+    ensures gave_up { GaveUp table.old.table key result table.new.table }
+    ensures parts { AreParts table.new.table names.now lists.now }
 {
-    table.is_at_rest();
-    match table.give_up(key) {
-        Ok(()) => Ok(Cancel::Withdrawn),
-        Err(mm_settled::Refusal::Carried) => Ok(Cancel::Carried),
-        Err(refusal) => Err(Refusal::of_table(refusal)),
-    }
+    give_up(table, key)
 }
 
 /// What a cancel answers whose abort had this answer.

@@ -1,5 +1,7 @@
 //! The ends of those whose abort comes due in a call.
-ghost use Rattle.std.specs.Prelude.{◌≡◌, ◌<◌, length};
+ghost use Rattle.std.specs.Prelude.{◌≡◌, ◌<◌, None, true, length};
+ghost use Rattle.mm_marks.specs.Marks.{has};
+ghost use Rattle.mm_rules.specs.TableState.{is_live, wait_of};
 ghost use Rattle.mm_manager.specs.private.Due.{AreGranted, IsReady, EndsDue, EndsIfDue, EndsOne};
 ghost use Rattle.mm_manager.specs.private.Lists.{Fits};
 ghost use Rattle.mm_manager.specs.private.Numbers.{AreNumbered};
@@ -31,6 +33,8 @@ fn end_if_due(table: &mut SettledTable, names: &mut Names, lists: &mut Lists, ke
     requires granted { AreGranted table.old.table lists.old.granted.items }
     requires room { length lists.old.aborted.items < table.old.table.config.processes }
     requires within { key.process < table.old.table.config.processes }
+    requires idle { wait_of table.old.table key.process ≡ None }
+    requires live { has lists.old.due.items key.process ≡ true → is_live table.old.table key ≡ true }
     ensures { EndsIfDue table.old.table names.old lists.old key table.new.table names.new lists.new }
 {
     if !lists.due[key.process as usize] {
@@ -46,6 +50,8 @@ fn end_one(table: &mut SettledTable, names: &mut Names, lists: &mut Lists, key: 
     requires granted { AreGranted table.old.table lists.old.granted.items }
     requires room { length lists.old.aborted.items < table.old.table.config.processes }
     requires within { key.process < table.old.table.config.processes }
+    requires idle { wait_of table.old.table key.process ≡ None }
+    requires live { is_live table.old.table key ≡ true }
     ensures { EndsOne table.old.table names.old lists.old key table.new.table names.new lists.new }
 {
     table.is_at_rest();

@@ -4,7 +4,8 @@ ghost use Rattle.mm_names.specs.Names.{name_of};
 ghost use Rattle.mm_rules.specs.Event.{Release, Finish, Abort};
 ghost use Rattle.mm_settled.specs.Calls.{Makes, OthersKeepVerdicts};
 ghost use Rattle.mm_settled.specs.Grants.{Tells, EndsWaits};
-ghost use Rattle.mm_manager.specs.private.Numbers.{AreNumbered, KeepOwned};
+ghost use Rattle.mm_manager.specs.private.Numbers.{AreNumbered};
+ghost use Rattle.mm_manager.specs.LockState.{KeepOwned};
 
 use crate::Key;
 use crate::numbers::{forget_each, forget_unowned};

@@ -12,6 +12,7 @@
 //! - `parts`: the calls over the parts of a manager.
 //! - `manager`: `LockManager`, with one method for each call.
 //! - `request`: a request for a name.
+//! - `reads`: what can be read of a manager.
 #![tactic(auto)]
 
 mod aborts;
@@ -25,6 +26,7 @@ mod numbers;
 mod open;
 mod parts;
 mod permit;
+mod reads;
 mod refusal;
 mod reply;
 mod request;
@@ -32,5 +34,6 @@ mod request;
 pub use config::ManagerConfig;
 pub use manager::LockManager;
 pub use mm_settled::{Grant, Key};
+pub use mm_table::Totals;
 pub use refusal::{OpenError, Refusal};
-pub use reply::{Abort, Cancel, Lock};
+pub use reply::{Abort, Cancel, Lock, Status, TryLock, Wait};

@@ -1,23 +1,25 @@
 //! The lock manager.
-ghost use Rattle.std.specs.Prelude.{◌≡◌, ◌↔◌, ℕ, List, [], Some, Err, IfOk, OnOk, OnErr, IfErr, MatchResult, option_copied};
+ghost use Rattle.std.specs.Prelude.{◌≡◌, ◌↔◌, ◌≤◌, ℕ, List, [], Some, Err, IfOk, option_copied, vec_capacity};
 ghost use Rattle.mm_arena.specs.declared.key.Key.{Key as KeyValue};
+ghost use Rattle.mm_lists.specs.Members.{Among, NoRepeat};
 ghost use Rattle.mm_names.specs.Names.{name_of};
-ghost use Rattle.mm_rules.specs.Event.{Finish};
 ghost use Rattle.mm_settled.specs.Calls.{OthersKeepVerdicts};
-ghost use Rattle.mm_manager.specs.LockState.{Owns, IsLawful, untold};
+ghost use Rattle.mm_manager.specs.LockState.{Owns, IsLawful};
 ghost use Rattle.mm_manager.specs.Opening.{opening_state, IsTransactionsOut, IsNamesOut, IsNameBytesOut};
-ghost use Rattle.mm_manager.specs.Permit.{may_ask};
-ghost use Rattle.mm_manager.specs.Calls.{Begins, LocksName, Unlocks, EndsBy, Aborts, Cancels};
+ghost use Rattle.mm_manager.specs.Calls.{Begins, LocksName, TriesName, Requests, UnlocksName, Commits, Aborts, Cancels};
+ghost use Rattle.mm_manager.specs.Reads.{HasStatus, waits_of};
 
 use crate::aborts::abort_any;
 use crate::cancels::cancel_any;
 use crate::lists::Lists;
 use crate::numbers::owner_of;
 use crate::open::{open_names, open_table};
-use crate::{Abort, Cancel, Grant, Key, Lock, ManagerConfig, OpenError, Refusal, parts};
+use crate::{
+    Abort, Cancel, Grant, Key, Lock, ManagerConfig, OpenError, Refusal, Status, Totals, TryLock,
+    Wait, parts, reads,
+};
 use mm_names::Names;
 use mm_settled::SettledTable;
-use mm_table::Totals;
 use std::alloc::Global;
 use std::marker::Model;
 
@@ -88,13 +90,31 @@ impl LockManager {
     /// that follows.
     pub fn lock(&mut self, key: Key, name: &[u8]) -> Result<Lock, Refusal>
         ensures locks { LocksName self.old key name.now result self.new }
+        ensures step { IfOk result (λ answer. Requests self.old.table self.old.names key name.now answer self.new.table self.new.names) }
         ensures others { OthersKeepVerdicts self.old.table self.new.table key.process }
         ensures due { self.new.due ≡ self.old.due }
         ensures granted { self.new.granted ≡ [] }
         ensures aborted { self.new.aborted ≡ [] }
-        ensures asks { IfErr (may_ask self.old.table key) (λ refusal. result ≡ Err refusal) }
     {
         parts::lock(&mut self.table, &mut self.names, &mut self.lists, key, name)
+    }
+
+    /// Asks for a name, and gets it where nobody owns it. It never waits.
+    ///
+    /// - `Granted`: nobody owned it, and the transaction does now.
+    /// - `Held`: the transaction owns it already, and nothing changes.
+    /// - `Busy`: the holder owns it, and nothing changes.
+    ///
+    /// Refused as `NoTransaction`, `MustAbort`, `Waiting`, `NameEmpty`, `NameTooLong`, `NamesFull` or `CountsFull`, which are tested in this
+    /// order. `O(length)`.
+    pub fn try_lock(&mut self, key: Key, name: &[u8]) -> Result<TryLock, Refusal>
+        ensures tries { TriesName self.old key name.now result self.new }
+        ensures others { OthersKeepVerdicts self.old.table self.new.table key.process }
+        ensures due { self.new.due ≡ self.old.due }
+        ensures granted { self.new.granted ≡ [] }
+        ensures aborted { self.new.aborted ≡ [] }
+    {
+        parts::try_lock(&mut self.table, &mut self.names, &mut self.lists, key, name)
     }
 
     /// Hands the name over: its longest waiter owns it from now on and is listed in `granted`; with no waiter it is free.
@@ -103,9 +123,7 @@ impl LockManager {
     /// Refused as `NoTransaction`, `MustAbort`, `Waiting`, `NameEmpty`, `NameTooLong`, `NotOwner`, `CountsFull` or `LabelsFull`.
     /// `O(length + waiters of the name)`, the settle that follows, and the ends.
     pub fn unlock(&mut self, key: Key, name: &[u8]) -> Result<(), Refusal>
-        ensures unlocks { OnOk result (Unlocks self.old key name.now self.new) }
-        ensures refused { OnErr result (self.new ≡ untold self.old) }
-        ensures asks { IfErr (may_ask self.old.table key) (λ refusal. result ≡ Err refusal) }
+        ensures { UnlocksName self.old key name.now result self.new }
     {
         parts::unlock(&mut self.table, &mut self.names, &mut self.lists, key, name)
     }
@@ -115,9 +133,7 @@ impl LockManager {
     /// Then those end whose abort is due by that, as after `unlock`. Refused as `NoTransaction`, `MustAbort`, `Waiting`, `CountsFull` or
     /// `LabelsFull`. `O(its names + their waiters)`, the settle that follows, and the ends.
     pub fn commit(&mut self, key: Key) -> Result<(), Refusal>
-        ensures ends { OnOk result (EndsBy (Finish key) self.old tt key self.new) }
-        ensures refused { OnErr result (self.new ≡ untold self.old) }
-        ensures asks { IfErr (may_ask self.old.table key) (λ refusal. result ≡ Err refusal) }
+        ensures { Commits self.old key result self.new }
     {
         parts::commit(&mut self.table, &mut self.names, &mut self.lists, key)
     }
@@ -169,6 +185,36 @@ impl LockManager {
         self.names.keeps_laws();
         let number = self.names.find(name)?;
         owner_of(self.table.table(), number)
+    }
+
+    /// What a transaction does: nothing that it waits for, or for which name and whose, and whether it is in a deadlock or its abort is due.
+    ///
+    /// Refused as `NoTransaction`. Constant time.
+    pub fn status(&self, key: Key) -> Result<Status, Refusal>
+        ensures { HasStatus self.now key result }
+    {
+        reads::status(self.table.table(), &self.lists.due, key)
+    }
+
+    /// Lists the numbers of the names that the transaction owns, in place of what `numbers` held, each once, in no order that is promised;
+    /// none where the key is not live. `numbers` has room for each number, and no memory is taken. `O(its names)`.
+    pub fn holds(&self, key: Key, numbers: &mut Vec<u32>)
+        requires { self.now.table.config.resources ≤ vec_capacity numbers.old }
+        ensures holds { (name : List ℕ) → Owns self.now key name ↔ ((n : ℕ) × Among n numbers.new.items × (name_of self.now.names n ≡ Some name)) }
+        ensures once { NoRepeat numbers.new.items }
+        ensures room { vec_capacity numbers.new ≡ vec_capacity numbers.old }
+    {
+        self.table.table().owned_by(key, numbers);
+    }
+
+    /// Lists the wait-for graph, in place of what `waits` held: each who waits, for which number, and whose that is, by rising process.
+    /// `waits` has room for each transaction, and no memory is taken. `O(transactions)`.
+    pub fn graph(&self, waits: &mut Vec<Wait>)
+        requires { self.now.table.config.processes ≤ vec_capacity waits.old }
+        ensures waits { waits.new.items ≡ waits_of self.now.table }
+        ensures room { vec_capacity waits.new ≡ vec_capacity waits.old }
+    {
+        reads::list_waits(self.table.table(), waits);
     }
 
     /// The name of a number; `None` where it has none. Constant time.

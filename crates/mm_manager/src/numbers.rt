@@ -1,24 +1,61 @@
 //! A number has a name exactly while it has an owner.
-ghost use Rattle.std.specs.Prelude.{◌≡◌, ◌<◌, ℕ, length, fold};
-ghost use Rattle.mm_lists.specs.Members.{Among};
+ghost use Rattle.std.specs.Prelude.{◌≡◌, ◌⊎◌, Ok, Err, Some, fold, IfOk, IfErr, OnOk, OnErr};
+ghost use Rattle.mm_names.specs.Names.{name_of, Interns, IsRefusedAsFull};
 ghost use Rattle.mm_rules.specs.TableState.{owner_of};
-ghost use Rattle.mm_manager.specs.private.Numbers.{forgotten};
+ghost use Rattle.mm_manager.specs.LockState.{Owns};
+ghost use Rattle.mm_manager.specs.Permit.{may_name, may_ask_for};
+ghost use Rattle.mm_manager.specs.private.Numbers.{forgotten, bare};
 
-use crate::Key;
-use mm_names::Names;
+use crate::permit::{may_ask, may_name};
+use crate::{Key, Refusal};
+use mm_names::{Names, NamesError};
 use mm_settled::Table;
 
 /// The owner of a number; `None` where it has none, or is not one of the numbers.
 pub fn owner_of(table: &Table, number: u32) -> Option<Key>
-    requires { number < table.now.config.resources }
     ensures { result ≡ owner_of table.now number }
 {
+    table.keeps_laws();
     table.owner(number).ok()?
+}
+
+/// The number of a name, which it has already, or gets.
+pub fn number_of(names: &mut Names, name: &[u8]) -> Result<u32, Refusal>
+    ensures interned { IfOk result (λ n. Interns names.old name.now n names.new) }
+    ensures allowed { OnOk result (may_name names.old.name_bytes name.now ≡ Ok tt) }
+    ensures refused { IfErr result (λ refusal. (may_name names.old.name_bytes name.now ≡ Err refusal) ⊎ ((may_name names.old.name_bytes name.now ≡ Ok tt) × (refusal ≡ Refusal.NamesFull) × IsRefusedAsFull names.old name.now)) }
+    ensures same { OnErr result (names.new ≡ names.old) }
+{
+    match names.intern(name) {
+        Ok(number) => Ok(number),
+        Err(NamesError::Empty) => Err(Refusal::NameEmpty),
+        Err(NamesError::TooLong) => Err(Refusal::NameTooLong),
+        Err(NamesError::Full) => Err(Refusal::NamesFull),
+    }
+}
+
+/// The number of a name that the transaction owns.
+pub fn owned_number(table: &Table, names: &Names, key: Key, name: &[u8]) -> Result<u32, Refusal>
+    ensures named { IfOk result (λ n. name_of names.now n ≡ Some name.now) }
+    ensures owned { IfOk result (λ n. owner_of table.now n ≡ Some key) }
+    ensures allowed { OnOk result (may_ask_for table.now names.now.name_bytes key name.now ≡ Ok tt) }
+    ensures refused { IfErr result (λ refusal. (may_ask_for table.now names.now.name_bytes key name.now ≡ Err refusal)
+        ⊎ ((may_ask_for table.now names.now.name_bytes key name.now ≡ Ok tt) × (refusal ≡ Refusal.NotOwner) × ¬ Owns (bare table.now names.now) key name.now)) }
+{
+    may_ask(table, key)?;
+    may_name(names, name)?;
+    let Some(number) = names.find(name) else {
+        return Err(Refusal::NotOwner);
+    };
+    names.keeps_laws();
+    if owner_of(table, number) != Some(key) {
+        return Err(Refusal::NotOwner);
+    }
+    Ok(number)
 }
 
 /// Takes its name from a number that nobody owns.
 pub fn forget_unowned(table: &Table, names: &mut Names, number: u32)
-    requires { number < table.now.config.resources }
     ensures { names.new ≡ forgotten table.now names.old number }
 {
     if owner_of(table, number).is_none() {
@@ -28,7 +65,6 @@ pub fn forget_unowned(table: &Table, names: &mut Names, number: u32)
 
 /// Takes their names from those of these numbers that nobody owns.
 pub fn forget_each(table: &Table, names: &mut Names, numbers: &[u32])
-    requires { (n : ℕ) → Among n numbers.now → n < table.now.config.resources }
     ensures { names.new ≡ fold (forgotten table.now) names.old numbers.now }
 {
     for number in numbers {

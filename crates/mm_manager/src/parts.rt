@@ -1,30 +1,32 @@
 //! The calls over the parts of a manager.
-ghost use Rattle.std.specs.Prelude.{◌≡◌, ℕ, [], Some, Ok, Err, false, length, IfOk, IfErr, OnOk, OnErr, IsSome};
+ghost use Rattle.std.specs.Prelude.{◌≡◌, ℕ, [], Some, None, Ok, Err, true, length, IfOk, IfErr, OnOk, OnErr, IsSome};
 ghost use Rattle.mm_arena.specs.declared.key.Key.{Key as KeyValue};
 ghost use Rattle.mm_lists.specs.Members.{Among};
-ghost use Rattle.mm_marks.specs.Marks.{has};
 ghost use Rattle.mm_names.specs.Names.{name_of};
 ghost use Rattle.mm_rules.specs.declared.reply.Released.{Released as ReleasedValue};
-ghost use Rattle.mm_rules.specs.TableState.{owner_of};
+ghost use Rattle.mm_rules.specs.TableState.{is_live, owner_of, wait_of};
 ghost use Rattle.mm_rules.specs.declared.refusal.Refusal.{Refusal as TableRefusal};
 ghost use Rattle.mm_rules.specs.Event.{Begin, Release, Finish, Step};
 ghost use Rattle.mm_rules.specs.Laws.{Laws};
 ghost use Rattle.mm_settled.specs.Calls.{OthersKeepVerdicts};
-ghost use Rattle.mm_manager.specs.Permit.{may_ask, may_name, refusal_of};
-ghost use Rattle.mm_manager.specs.private.Requests.{Requests};
+ghost use Rattle.mm_manager.specs.Calls.{Requests};
+ghost use Rattle.mm_manager.specs.Permit.{refusal_of};
+ghost use Rattle.mm_manager.specs.Refused.{RefusedBy, NameRefused, UnlockRefused, CommitRefused};
+ghost use Rattle.mm_manager.specs.private.Requests.{Tries};
 ghost use Rattle.mm_settled.specs.declared.reply.Grant.{Grant as GrantValue};
 ghost use Rattle.mm_manager.specs.private.Due.{AreGranted, EndsDue};
 ghost use Rattle.mm_manager.specs.private.Handed.{AreParts, Handed, IsUntouched};
 ghost use Rattle.mm_manager.specs.private.HandsDown.{IsEnding, IsReleased};
 ghost use Rattle.mm_manager.specs.private.Lists.{Fits};
-ghost use Rattle.mm_manager.specs.private.Numbers.{AreNumbered};
+ghost use Rattle.mm_manager.specs.private.Numbers.{AreNumbered, bare};
 
 use crate::due::end_due;
 use crate::hand_over::{finish, release};
 use crate::lists::{Lists, add_grants};
-use crate::permit::{may_ask, may_name};
-use crate::request::request;
-use crate::{Key, Lock, Refusal};
+use crate::numbers::owned_number;
+use crate::permit::may_ask;
+use crate::request::{request, try_request};
+use crate::{Key, Lock, Refusal, TryLock};
 use mm_names::Names;
 use mm_settled::SettledTable;
 
@@ -54,9 +56,11 @@ pub fn release_number(
     requires none_granted { lists.old.granted.items ≡ [] }
     requires none_aborted { lists.old.aborted.items ≡ [] }
     requires named { IsSome (name_of names.old number) }
-    requires idle { has lists.old.due.items key.process ≡ false }
+    requires owned { owner_of table.old.table number ≡ Some key }
+    requires active { wait_of table.old.table key.process ≡ None }
     ensures handed { OnOk result ((answer : ReleasedValue) × Handed (Release key number) table.old.table names.old lists.old.due.items answer key.process (IsReleased number) table.new.table names.new lists.new) }
     ensures untouched { OnErr result (IsUntouched table.old.table names.old lists.old table.new.table names.new lists.new) }
+    ensures refused { IfErr result (RefusedBy (Release key number) table.old.table) }
     ensures parts { AreParts table.new.table names.new lists.new }
 {
     table.is_at_rest();
@@ -79,9 +83,11 @@ pub fn end(
     requires parts { AreParts table.old.table names.old lists.old }
     requires none_granted { lists.old.granted.items ≡ [] }
     requires none_aborted { lists.old.aborted.items ≡ [] }
-    requires idle { has lists.old.due.items key.process ≡ false }
+    requires live { is_live table.old.table key ≡ true }
+    requires active { wait_of table.old.table key.process ≡ None }
     ensures handed { OnOk result (Handed (Finish key) table.old.table names.old lists.old.due.items tt key.process (IsEnding key) table.new.table names.new lists.new) }
     ensures untouched { OnErr result (IsUntouched table.old.table names.old lists.old table.new.table names.new lists.new) }
+    ensures refused { IfErr result (RefusedBy (Finish key) table.old.table) }
     ensures parts { AreParts table.new.table names.new lists.new }
 {
     table.is_at_rest();
@@ -122,10 +128,10 @@ pub fn lock(
 ) -> Result<Lock, Refusal>
     requires { AreParts table.old.table names.old lists.old }
     ensures requested { IfOk result (λ answer. Requests table.old.table names.old key name.now answer table.new.table names.new) }
+    ensures refused { IfErr result (λ refusal. NameRefused (bare table.old.table names.old) key name.now refusal) }
     ensures table { OnErr result (table.new.table ≡ table.old.table) }
     ensures names { OnErr result (names.new ≡ names.old) }
     ensures others { OthersKeepVerdicts table.old.table table.new.table key.process }
-    ensures asks { IfErr (may_ask table.old.table key) (λ refusal. result ≡ Err refusal) }
     ensures laws { Laws table.old.table × Laws table.new.table }
     ensures parts { AreParts table.new.table names.new lists.new }
     ensures granted { lists.new.granted.items ≡ [] }
@@ -138,6 +144,32 @@ pub fn lock(
     request(table, names, key, name)
 }
 
+/// Asks for a name that nobody owns.
+pub fn try_lock(
+    table: &mut SettledTable,
+    names: &mut Names,
+    lists: &mut Lists,
+    key: Key,
+    name: &[u8],
+) -> Result<TryLock, Refusal>
+    requires { AreParts table.old.table names.old lists.old }
+    ensures tried { IfOk result (λ answer. Tries table.old.table names.old key name.now answer table.new.table names.new) }
+    ensures refused { IfErr result (λ refusal. NameRefused (bare table.old.table names.old) key name.now refusal) }
+    ensures table { OnErr result (table.new.table ≡ table.old.table) }
+    ensures names { OnErr result (names.new ≡ names.old) }
+    ensures others { OthersKeepVerdicts table.old.table table.new.table key.process }
+    ensures laws { Laws table.old.table }
+    ensures parts { AreParts table.new.table names.new lists.new }
+    ensures granted { lists.new.granted.items ≡ [] }
+    ensures aborted { lists.new.aborted.items ≡ [] }
+    ensures due { lists.new.due ≡ lists.old.due }
+{
+    lists.clear();
+    table.is_at_rest();
+    may_ask(table.table(), key)?;
+    try_request(table, names, key, name)
+}
+
 /// Hands over a name.
 pub fn unlock(
     table: &mut SettledTable,
@@ -147,19 +179,13 @@ pub fn unlock(
     name: &[u8],
 ) -> Result<(), Refusal>
     requires { AreParts table.old.table names.old lists.old }
-    ensures handed { OnOk result ((n : ℕ) × (name_of names.old n ≡ Some name.now) × ((answer : ReleasedValue) × Handed (Release key n) table.old.table names.old lists.old.due.items answer key.process (IsReleased n) table.new.table names.new lists.new)) }
+    ensures handed { OnOk result ((n : ℕ) × (name_of names.old n ≡ Some name.now) × (owner_of table.old.table n ≡ Some key) × ((answer : ReleasedValue) × Handed (Release key n) table.old.table names.old lists.old.due.items answer key.process (IsReleased n) table.new.table names.new lists.new)) }
     ensures untouched { OnErr result (IsUntouched table.old.table names.old lists.old table.new.table names.new lists.new) }
-    ensures asks { IfErr (may_ask table.old.table key) (λ refusal. result ≡ Err refusal) }
-    ensures laws { Laws table.old.table }
+    ensures refused { IfErr result (λ refusal. UnlockRefused (bare table.old.table names.old) key name.now refusal) }
     ensures parts { AreParts table.new.table names.new lists.new }
 {
     lists.clear();
-    table.is_at_rest();
-    may_ask(table.table(), key)?;
-    may_name(names, name)?;
-    let Some(number) = names.find(name) else {
-        return Err(Refusal::NotOwner);
-    };
+    let number = owned_number(table.table(), names, key, name)?;
     release_number(table, names, lists, key, number)
 }
 
@@ -173,7 +199,7 @@ pub fn commit(
     requires { AreParts table.old.table names.old lists.old }
     ensures handed { OnOk result (Handed (Finish key) table.old.table names.old lists.old.due.items tt key.process (IsEnding key) table.new.table names.new lists.new) }
     ensures untouched { OnErr result (IsUntouched table.old.table names.old lists.old table.new.table names.new lists.new) }
-    ensures asks { IfErr (may_ask table.old.table key) (λ refusal. result ≡ Err refusal) }
+    ensures refused { IfErr result (λ refusal. CommitRefused (bare table.old.table names.old) key refusal) }
     ensures parts { AreParts table.new.table names.new lists.new }
 {
     lists.clear();

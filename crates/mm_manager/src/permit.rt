@@ -1,6 +1,6 @@
 //! What a call is refused for before the table is asked.
 ghost use Rattle.std.specs.Prelude.{◌≡◌};
-ghost use Rattle.mm_manager.specs.Permit.{may_ask, may_name};
+ghost use Rattle.mm_manager.specs.Permit.{may_ask, may_cancel, may_name};
 
 use crate::{Key, Refusal};
 use mm_names::Names;
@@ -17,6 +17,20 @@ pub fn may_ask(table: &Table, key: Key) -> Result<(), Refusal>
     match state.mode {
         Mode::Active => Ok(()),
         Mode::Waiting(_) => Err(Refusal::Waiting),
+        Mode::Convicted(_) => Err(Refusal::MustAbort),
+    }
+}
+
+/// Whether a transaction may take back its wait: its key is live, and it waits in no deadlock.
+pub fn may_cancel(table: &Table, key: Key) -> Result<(), Refusal>
+    ensures { result ≡ may_cancel table.now key }
+{
+    let Ok(state) = table.state(key) else {
+        return Err(Refusal::NoTransaction);
+    };
+    match state.mode {
+        Mode::Active => Err(Refusal::NotWaiting),
+        Mode::Waiting(_) => Ok(()),
         Mode::Convicted(_) => Err(Refusal::MustAbort),
     }
 }

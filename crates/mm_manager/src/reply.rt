@@ -14,6 +14,17 @@ pub enum Lock {
     Deadlock { holder: Key },
 }
 
+/// What a try for a lock is told. It never waits.
+#[derive(Clone, Copy, Debug, PartialEq, Eq)]
+pub enum TryLock {
+    /// Nobody owned the name, and the transaction owns it now.
+    Granted,
+    /// The transaction owns the name already.
+    Held,
+    /// Another transaction, the holder, owns the name.
+    Busy { holder: Key },
+}
+
 /// What an abort is told.
 #[derive(Clone, Copy, Debug, PartialEq, Eq)]
 pub enum Abort {
@@ -32,4 +43,34 @@ pub enum Cancel {
     Withdrawn,
     /// The transaction carries another's label, and waits on.
     Carried,
+}
+
+/// What a transaction does.
+#[derive(Clone, Copy, Debug, PartialEq, Eq)]
+pub enum Status {
+    /// It waits for nothing.
+    Active,
+    /// It waits for the name of this number, which the holder owns, and is in no deadlock.
+    Waiting {
+        number: u32,
+        holder: Key,
+        /// Its abort is due: it is aborted in the call that ends its wait.
+        aborting: bool,
+    },
+    /// It asked for the name of this number, which the holder owns, and was told of a deadlock.
+    Deadlock {
+        number: u32,
+        holder: Key,
+    },
+}
+
+/// An arrow of the wait-for graph.
+#[derive(Clone, Copy, Debug, PartialEq, Eq)]
+pub struct Wait {
+    /// Who waits.
+    pub key: Key,
+    /// The number of the name that it waits for.
+    pub number: u32,
+    /// Who owns that name.
+    pub holder: Key,
 }

@@ -12,16 +12,18 @@ use Rattle.mm_rules.specs.Laws.{Laws}
 use Rattle.mm_rules.proofs.States.EventsKeepLaws.{event_keeps}
 use Rattle.mm_rules.proofs.States.Lookups.{waiter_waits}
 use Rattle.mm_settle.proofs.Lemmas.Acquired.{queue_else}
-use Rattle.mm_settled.specs.Calls.{Locks, WaitsFrom}
+use Rattle.mm_settled.specs.Calls.{Locks, WaitsFrom, OthersKeepVerdicts}
 use Rattle.mm_settled.specs.declared.reply.Locked.TheVariants as locked
 use Rattle.mm_manager.specs.LockState.{LockState}
-use Rattle.mm_manager.specs.Calls.{Gets, Queues}
+use Rattle.mm_manager.specs.Calls.{Gets, Queues, Requests}
 use Rattle.mm_manager.specs.declared.refusal.Refusal.{Refusal}
 use Rattle.mm_manager.specs.declared.reply.Lock.{Lock}
 use Rattle.mm_manager.specs.declared.reply.Lock.TheVariants as lock
 use Rattle.mm_manager.specs.private.Handed.{DueWait}
 use Rattle.mm_manager.specs.private.Numbers.{AreNumbered}
-use Rattle.mm_manager.specs.private.Requests.{Requests}
+use Rattle.mm_manager.specs.private.Requests.{Tries}
+use Rattle.mm_manager.specs.declared.reply.TryLock.{TryLock}
+use Rattle.mm_manager.specs.declared.reply.TryLock.TheVariants as tried
 use Rattle.mm_manager.proofs.Lemmas.Handed.{waits_something, is_waiting_for}
 use Rattle.mm_manager.proofs.Lemmas.Names.{waited_is_owned}
 use Rattle.mm_manager.proofs.Lemmas.Numbers.{some_not_none}
@@ -72,8 +74,23 @@ pub asked_keeps : (s u : TableState) (t named : NameTable) (k : Key) (name : Lis
 asked_keeps s u t named k name (Ok answer) laws made refused = request_keeps s u t named k name answer laws (made answer refl)
 asked_keeps s u t named k name (Err e) laws made refused = same_keeps s u laws (refused e refl)
 
-pub due_still : (s u : TableState) (due : List Bool) → RequestKeeps s u → DueWait s due → DueWait u due
-due_still s u due keeps waits p marked = (let before = waits_something s p (waits p marked) in is_waiting_for u p before.0 (keeps.still p before.0 before.1))
+tried_keeps : (s u : TableState) (t named : NameTable) (k : Key) (name : List ℕ) (answer : TryLock) → Laws s → Tries s t k name answer u named → RequestKeeps s u
+tried_keeps s u t named k name tried.Granted laws asks = granted_keeps s u k asks.0 laws asks.2
+tried_keeps s u t named k name tried.Held laws found = same_keeps s u laws found.1
+tried_keeps s u t named k name (tried.Busy h) laws found = same_keeps s u laws found.1.1
+
+pub try_keeps : (s u : TableState) (t named : NameTable) (k : Key) (name : List ℕ) (reply : Result TryLock Refusal) → Laws s
+    → ((answer : TryLock) → reply ≡ Ok answer → Tries s t k name answer u named) → ((e : Refusal) → reply ≡ Err e → u ≡ s) → RequestKeeps s u
+try_keeps s u t named k name (Ok answer) laws made refused = tried_keeps s u t named k name answer laws (made answer refl)
+try_keeps s u t named k name (Err e) laws made refused = same_keeps s u laws (refused e refl)
+
+-- the marks stay, since whoever asks has none
+pub due_still : (s u : TableState) (due : List Bool) (k : Key) → RequestKeeps s u → OthersKeepVerdicts s u k.process → wait_of s k.process ≡ None → DueWait s due → DueWait u due
+due_still s u due k keeps others idle waits p marked =
+    let was = waits p marked in
+    let before = waits_something s p was.0 in
+    let apart : p ≢ k.process = λ same. some_not_none (wait_of s p) before.0 before.1 (ap (wait_of s) same ∙ idle) in
+    (is_waiting_for u p before.0 (keeps.still p before.0 before.1), others p apart ∙ was.1)
 
 -- ---- by names
 

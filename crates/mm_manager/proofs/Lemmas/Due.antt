@@ -1,20 +1,23 @@
 -- The ends of those whose abort is due, one after the other.
-use Rattle.std.proofs.Common.{◌≡◌, ◌⊎◌, ◌<◌, ℕ, zero, suc, Bool, true, false, List, [], ◌∷◌, ◌++◌, length, take, Option, Some, None, is_some, if◌then◌else◌, inl, inr, refl, sym, ap, subst, ◌∙◌, arith, length-set, append_assoc, append-nil, slice_set, slice_index_or, get_or-set_same, get_or-set_other}
+use Rattle.std.proofs.Common.{◌≡◌, ◌≢◌, ◌⊎◌, ◌<◌, ℕ, zero, suc, Bool, true, false, List, [], ◌∷◌, ◌++◌, length, map, take, Option, Some, None, is_some, if◌then◌else◌, inl, inr, refl, sym, ap, subst, ◌∙◌, arith, length-set, append_assoc, append-nil, slice_set, slice_index_or, get_or-set_same, get_or-set_other}
 use Rattle.std.proofs.lemmas.Bool.{cases_Bool, cases_eq, cases_lt}
 use Rattle.std.proofs.lemmas.List.{get_or_past}
 use Rattle.mm_arena.specs.declared.key.Key.{Key}
-use Rattle.mm_lists.specs.Members.{Among}
-use Rattle.mm_lists.proofs.Lemmas.Among.{among_append, among_left, among_right}
+use Rattle.mm_lists.specs.Members.{Among, NoRepeat}
+use Rattle.mm_lists.proofs.Lemmas.Among.{among_append, among_left, among_right, among_map}
 use Rattle.mm_marks.specs.Marks.{has}
 use Rattle.mm_names.specs.Names.{NameTable, name_of}
-use Rattle.mm_rules.specs.TableState.{TableState, owner_of, wait_of}
+use Rattle.mm_rules.specs.TableState.{TableState, owner_of, wait_of, has_verdict}
 use Rattle.mm_rules.specs.Event.{Finish}
+use Rattle.mm_rules.specs.Laws.{Laws}
 use Rattle.mm_settled.specs.Calls.{Made}
 use Rattle.mm_settled.specs.Grants.{grants}
 use Rattle.mm_settled.specs.declared.reply.Grant.{Grant}
 use Rattle.mm_manager.specs.Calls.{EndsAll}
+use Rattle.mm_manager.specs.private.Due.{process_of}
 use Rattle.mm_manager.specs.private.HandsDown.{HandsDown}
-use Rattle.mm_manager.specs.private.Numbers.{AreNumbered, KeepOwned}
+use Rattle.mm_manager.specs.private.Numbers.{AreNumbered}
+use Rattle.mm_manager.specs.LockState.{KeepOwned}
 use Rattle.mm_manager.proofs.Lemmas.Numbers.{some_not_none}
 use Rattle.mm_manager.proofs.Lemmas.Granted.{idle_still}
 
@@ -31,6 +34,43 @@ among_take (y ∷ xs) zero x g is (inl same) = inr (same ∙ is)
 among_take (y ∷ xs) zero x g is (inr later) = absurd later
 among_take (y ∷ xs) (suc i) x g is (inl same) = inl (inl same)
 among_take (y ∷ xs) (suc i) x g is (inr later) = elim (among_take xs i x g is later) [ inl before ↦ inl (inr before) | inr here ↦ inr here ]
+
+-- what is among the first is among the first and one more
+pub among_further : {X : Type 0} (xs : List X) (i : ℕ) (x : X) → Among x (take i xs) → Among x (take (suc i) xs)
+among_further [] zero x among = among
+among_further [] (suc i) x among = among
+among_further (y ∷ xs) zero x among = absurd among
+among_further (y ∷ xs) (suc i) x (inl same) = inl same
+among_further (y ∷ xs) (suc i) x (inr later) = inr (among_further xs i x later)
+
+-- and so is the next one
+pub among_next : {X : Type 0} (xs : List X) (i : ℕ) (x : X) → i < length xs → slice_index_or xs i x ≡ x → Among x (take (suc i) xs)
+among_next [] i x within is = absurd (omega (arith, within))
+among_next (y ∷ xs) zero x within is = inl (sym is)
+among_next (y ∷ xs) (suc i) x within is = inr (among_next xs i x (omega (arith, within)) is)
+
+-- nobody is among the first none
+pub none_taken : {X : Type 0} (xs : List X) (x : X) → Among x (take zero xs) → ⊥
+none_taken [] x among = among
+none_taken (y ∷ xs) x among = among
+
+pub among_of_taken : {X : Type 0} (xs : List X) (i : ℕ) (x : X) → Among x (take i xs) → Among x xs
+among_of_taken [] i x among = taken_none i among
+  where
+    taken_none : (i : ℕ) → Among x (take i []) → Among x []
+    taken_none zero among = among
+    taken_none (suc i) among = among
+among_of_taken (y ∷ xs) zero x among = absurd among
+among_of_taken (y ∷ xs) (suc i) x (inl same) = inl same
+among_of_taken (y ∷ xs) (suc i) x (inr later) = inr (among_of_taken xs i x later)
+
+-- where each has a process of its own, none of the first has that of the next one
+pub taken_apart : (gs : List Grant) (i : ℕ) (g : Grant) → i < length gs → slice_index_or gs i g ≡ g → NoRepeat (map process_of gs) → (x : Grant) → Among x (take i gs) → x.key.process ≢ g.key.process
+taken_apart [] i g within is once x among same = absurd (omega (arith, within))
+taken_apart (y ∷ gs) zero g within is once x among same = absurd among
+taken_apart (y ∷ gs) (suc i) g within is once x (inl here) same =
+    once.0 (subst (λ p. Among p (map process_of gs)) (sym (sym (ap process_of here) ∙ same)) (among_map process_of gs g (among_index gs i g (omega (arith, within)) is)))
+taken_apart (y ∷ gs) (suc i) g within is once x (inr later) same = taken_apart gs i g (omega (arith, within)) is once.1 x later same
 
 pub cleared_stays : (ds : List Bool) (q p : ℕ) → has ds p ≡ false → has (slice_set ds q false) p ≡ false
 cleared_stays ds q p none = elim (cases_eq p q) [
@@ -83,6 +123,7 @@ down_same s n Loses = record {
   waited = λ g among. absurd among;
   goes_on = λ g among. absurd among;
   owns = λ g among. absurd among;
+  verdicts = λ v apart. refl;
 }
 
 module _ (s u v : TableState) (n : ℕ) (First Second Both : ℕ → Key → Type 0) (before after : List Grant) (first : HandsDown s n First before u) (second : HandsDown u n Second after v)
@@ -118,11 +159,19 @@ module _ (s u v : TableState) (n : ℕ) (First Second Both : ℕ → Key → Typ
       | inl early ↦ second.keeps g.resource g.key (first.owns g early (λ lost. kept (one g.resource g.key lost))) (λ lost. kept (other g.resource g.key lost))
       | inr now ↦ second.owns g now (λ lost. kept (other g.resource g.key lost))
     ];
+    verdicts = λ w apart. second.verdicts w apart ∙ first.verdicts w apart;
   }
 
+-- whoever does not wait has no verdict
+pub idle_is_free : (s : TableState) → Laws s → (v : ℕ) → wait_of s v ≡ None → has_verdict s v ≡ false
+idle_is_free s laws v idle = elim (cases_Bool (has_verdict s v)) [
+  | inr free ↦ free
+  | inl convicted ↦ (let never : true ≡ false = sym (laws.lawful.well_formed.verdicts v convicted) ∙ ap is_some idle in absurd (cc))
+]
+
 -- whoever does not wait has no wait that could end
-pub down_of_idle : (s u : TableState) (k n : ℕ) (Loses : ℕ → Key → Type 0) (granted : List Grant) → wait_of s k ≡ None → HandsDown s k Loses granted u → HandsDown s n Loses granted u
-down_of_idle s u k n Loses granted idle down = record {
+pub down_of_idle : (s u : TableState) (k n : ℕ) (Loses : ℕ → Key → Type 0) (granted : List Grant) → Laws s → Laws u → wait_of s k ≡ None → HandsDown s k Loses granted u → HandsDown s n Loses granted u
+down_of_idle s u k n Loses granted laws after idle down = record {
   config = down.config;
   keeps = down.keeps;
   gains = down.gains;
@@ -134,6 +183,11 @@ down_of_idle s u k n Loses granted idle down = record {
   waited = down.waited;
   goes_on = down.goes_on;
   owns = down.owns;
+  verdicts = λ v apart. elim (cases_eq v k) [
+    | inl same ↦
+        ap (has_verdict u) same ∙ idle_is_free u after k (idle_still s u k Loses granted down k idle) ∙ sym (ap (has_verdict s) same ∙ idle_is_free s laws k idle)
+    | inr other ↦ down.verdicts v other
+  ];
 }
 
 -- ---- one more end

@@ -1,25 +1,27 @@
 -- The loop over those that were granted something: how it starts, and what each turn leaves.
-use Rattle.std.proofs.Common.{◌≡◌, ◌≤◌, ◌<◌, ◌+◌, ℕ, zero, Bool, true, false, List, [], ◌∷◌, ◌++◌, length, take, None, MatchBool, inl, inr, refl, sym, ap, subst, ◌∙◌, arith, length-append, append_assoc, append-nil, slice_index_or, get_or-set_same, add-one}
+use Rattle.std.proofs.Common.{◌≡◌, ◌≢◌, ◌⊎◌, ◌≤◌, ◌<◌, ◌+◌, ℕ, Bool, true, false, List, [], ◌∷◌, ◌++◌, length, take, None, MatchBool, inl, inr, refl, sym, ap, subst, ◌∙◌, arith, length-append, append_assoc, append-nil, slice_index_or, get_or-set_same, get_or-set_other, add-one}
 use Rattle.std.proofs.lemmas.List.{take-append-le}
 use Rattle.mm_arena.specs.declared.key.Key.{Key}
 use Rattle.mm_lists.specs.Members.{Among}
 use Rattle.mm_lists.proofs.Lemmas.Among.{among_append, among_left, among_right}
 use Rattle.mm_marks.specs.Marks.{has}
 use Rattle.mm_names.specs.Names.{NameTable}
-use Rattle.mm_rules.specs.TableState.{TableState, wait_of}
+use Rattle.mm_rules.specs.TableState.{TableState, is_live, wait_of}
 use Rattle.mm_rules.specs.Event.{Finish}
 use Rattle.mm_rules.specs.Laws.{Laws}
 use Rattle.mm_settled.specs.Calls.{Made}
 use Rattle.mm_settled.specs.Grants.{grants, EndsWaits}
 use Rattle.mm_settled.specs.declared.reply.Grant.{Grant}
-use Rattle.mm_manager.specs.Calls.{EndsAll}
+use Rattle.mm_manager.specs.Calls.{EndsAll, EndIsRefused}
+use Rattle.mm_manager.specs.Refused.{RefusedBy}
 use Rattle.mm_manager.specs.declared.lists.Lists.{Lists}
+use Rattle.mm_manager.specs.declared.refusal.Refusal.{Refusal}
 use Rattle.mm_manager.specs.private.Due.{IsAmong, IsReady, EndsDue, EndsIfDue, EndsOne, Ended}
 use Rattle.mm_manager.specs.private.HandsDown.{HandsDown, IsEnding}
-use Rattle.mm_manager.specs.private.Numbers.{KeepOwned}
+use Rattle.mm_manager.specs.LockState.{KeepOwned}
 use Rattle.mm_manager.proofs.Lemmas.HandsDown.{finish_hands_down, made_laws}
 use Rattle.mm_manager.proofs.Lemmas.Granted.{grants_once, granted_more}
-use Rattle.mm_manager.proofs.Lemmas.Due.{among_take, cleared_stays, was_marked, keep_same, keep_then, down_same, down_then, down_of_idle, ends_then, among_last}
+use Rattle.mm_manager.proofs.Lemmas.Due.{among_take, among_further, among_next, none_taken, taken_apart, cleared_stays, was_marked, keep_same, keep_then, down_same, down_then, down_of_idle, ends_then, among_last}
 
 pub ends_start : (s : TableState) (t : NameTable) (l : Lists) → Laws s → IsReady s t l → EndsDue s t l.granted.items l.due.items 0 s t l
 ends_start s t l laws ready =
@@ -38,11 +40,50 @@ ends_start s t l laws ready =
       few = omega (arith, ap length ready.none);
       was_due = λ k among. absurd (none k among);
       fewer = λ p marked. marked;
-      done = λ g among. absurd (elim l.granted.items as (λ gs. Among g (take zero gs) → ⊥) [ [] ↦ λ never. never | x ∷ xs ↦ λ never. never ] among);
+      done = λ g among. absurd (none_taken l.granted.items g among);
+      stay = λ p marked apart. marked;
+      all = λ g among. absurd (none_taken l.granted.items g among);
     }
 
--- the next one's abort is not due
-module _ (s : TableState) (t : NameTable) (first : List Grant) (marks : List Bool) (next : ℕ) (u : TableState) (named : NameTable) (m : Lists) (so_far : EndsDue s t first marks next u named m) (g : Grant) (here : slice_index_or m.granted.items next g ≡ g) where
+-- whose abort is due still is live
+pub due_lives : (s : TableState) (t : NameTable) (first : List Grant) (marks : List Bool) (next : ℕ) (u : TableState) (named : NameTable) (m : Lists) → EndsDue s t first marks next u named m
+    → (g : Grant) → Among g m.granted.items → has m.due.items g.key.process ≡ true → is_live u g.key ≡ true
+due_lives s t first marks next u named m so_far g among due =
+    let owned = so_far.owns g among (λ ended. let never : true ≡ false = sym due ∙ (so_far.was_due g.key ended).1 in absurd (cc)) in
+    so_far.laws.lawful.well_formed.owners g.resource g.key owned
+
+-- who was aborted is so still, and so is who could not be
+module _ (s : TableState) (keys more : List Key) (k : Key) where
+  pub told_still : Among k keys ⊎ EndIsRefused s keys k → Among k (keys ++ more) ⊎ EndIsRefused s (keys ++ more) k
+  told_still (inl among) = inl (among_left keys more k among)
+  told_still (inr refused) = inr record {
+    before = refused.before;
+    after = refused.after ++ more;
+    parts = ap (λ ks. ks ++ more) refused.parts ∙ append_assoc refused.before refused.after more;
+    granted = refused.granted;
+    state = refused.state;
+    ends = refused.ends;
+    refusal = refused.refusal;
+    refused = refused.refused;
+  }
+
+module _ (s : TableState) (t : NameTable) (first : List Grant) (marks : List Bool) (next : ℕ) (u : TableState) (named : NameTable) (m : Lists) (so_far : EndsDue s t first marks next u named m) (g : Grant) (here : slice_index_or m.granted.items next g ≡ g)
+    (inside : next < length m.granted.items) where
+  -- those so far, and the next one
+  by_place : (x : Grant) → Among x (take (next + 1) m.granted.items) → Among x (take next m.granted.items) ⊎ (x ≡ g)
+  by_place x among = among_take m.granted.items next g x here (subst (λ i. Among x (take i m.granted.items)) (add-one next) among)
+
+  before_is : (x : Grant) → Among x (take next m.granted.items) → Among x (take (next + 1) m.granted.items)
+  before_is x among = subst (λ i. Among x (take i m.granted.items)) (sym (add-one next)) (among_further m.granted.items next x among)
+
+  next_is : Among g (take (next + 1) m.granted.items)
+  next_is = subst (λ i. Among g (take i m.granted.items)) (sym (add-one next)) (among_next m.granted.items next g inside here)
+
+  -- where its abort was due, it is due still
+  due_still : has marks g.key.process ≡ true → has m.due.items g.key.process ≡ true
+  due_still marked = so_far.stay g.key.process marked (λ x among. taken_apart m.granted.items next g inside here so_far.are_granted.once x among)
+
+  -- the next one's abort is not due
   pub ends_skip : has m.due.items g.key.process ≡ false → EndsDue s t first marks (next + 1) u named m
   ends_skip idle = record {
     laws = so_far.laws;
@@ -58,14 +99,19 @@ module _ (s : TableState) (t : NameTable) (first : List Grant) (marks : List Boo
     few = omega (arith, so_far.few);
     was_due = so_far.was_due;
     fewer = so_far.fewer;
-    done = λ x among. elim (among_take m.granted.items next g x here (subst (λ i. Among x (take i m.granted.items)) (add-one next) among)) [
+    done = λ x among. elim (by_place x among) [
       | inl before ↦ so_far.done x before
       | inr same ↦ ap (λ (y : Grant). has m.due.items y.key.process) same ∙ idle
+    ];
+    stay = λ p marked apart. so_far.stay p marked (λ x among. apart x (before_is x among));
+    all = λ x among marked. elim (by_place x among) [
+      | inl before ↦ so_far.all x before marked
+      | inr same ↦ (let never : true ≡ false = sym (due_still (ap (λ (y : Grant). has marks y.key.process) (sym same) ∙ marked)) ∙ idle in absurd (cc))
     ];
   }
 
   -- it is due: it ends, or the table refuses that
-  module _ (v : TableState) (after : NameTable) (o : Lists) (inside : next < length m.granted.items) (is_among : Among g m.granted.items) (due : has m.due.items g.key.process ≡ true)
+  module _ (v : TableState) (after : NameTable) (o : Lists) (is_among : Among g m.granted.items) (due : has m.due.items g.key.process ≡ true)
       (one : EndsOne u named m g.key v after o) where
     within : g.key.process < length m.due.items
     within = omega (arith, so_far.are_granted.within g is_among, so_far.fits.due)
@@ -76,23 +122,46 @@ module _ (s : TableState) (t : NameTable) (first : List Grant) (marks : List Boo
     still_clear : (p : ℕ) → has m.due.items p ≡ false → has o.due.items p ≡ false
     still_clear p none = ap (λ ds. has ds p) one.due ∙ cleared_stays m.due.items g.key.process p none
 
+    still_marked : (p : ℕ) → p ≢ g.key.process → has m.due.items p ≡ true → has o.due.items p ≡ true
+    still_marked p apart marked = ap (λ ds. has ds p) one.due ∙ get_or-set_other m.due.items g.key.process p false false apart ∙ marked
+
     marked_before : (p : ℕ) → has o.due.items p ≡ true → has m.due.items p ≡ true
     marked_before p marked = was_marked m.due.items g.key.process p (sym (ap (λ ds. has ds p) one.due) ∙ marked)
 
     kept : KeepOwned t v after
     kept n = keep_then u v t named after so_far.names one.names so_far.numbered one.numbered n
 
-    done_by : (more : List Grant) → o.granted.items ≡ m.granted.items ++ more → (x : Grant) → Among x (take (next + 1) o.granted.items) → has o.due.items x.key.process ≡ false
-    done_by more are x among =
-        let same : take (next + 1) o.granted.items ≡ take (next + 1) m.granted.items
-        = ap (take (next + 1)) are ∙ take-append-le (next + 1) m.granted.items more (omega (arith, inside)) in
-        elim (among_take m.granted.items next g x here (subst (λ i. Among x (take i m.granted.items)) (add-one next) (subst (Among x) same among))) [
-          | inl before ↦ still_clear x.key.process (so_far.done x before)
-          | inr same_grant ↦ ap (λ (y : Grant). has o.due.items y.key.process) same_grant ∙ now_clear
-        ]
+    -- the grants grow at their end
+    module _ (more : List Grant) (are : o.granted.items ≡ m.granted.items ++ more) where
+      same_taken : take (next + 1) o.granted.items ≡ take (next + 1) m.granted.items
+      same_taken = ap (take (next + 1)) are ∙ take-append-le (next + 1) m.granted.items more (omega (arith, inside))
 
-    ends_refused : v ≡ u → o.granted.items ≡ m.granted.items → o.aborted.items ≡ m.aborted.items → EndsDue s t first marks (next + 1) v after o
-    ends_refused same granted aborted = record {
+      by_place_now : (x : Grant) → Among x (take (next + 1) o.granted.items) → Among x (take next m.granted.items) ⊎ (x ≡ g)
+      by_place_now x among = by_place x (subst (Among x) same_taken among)
+
+      done_by : (x : Grant) → Among x (take (next + 1) o.granted.items) → has o.due.items x.key.process ≡ false
+      done_by x among = elim (by_place_now x among) [
+        | inl before ↦ still_clear x.key.process (so_far.done x before)
+        | inr same ↦ ap (λ (y : Grant). has o.due.items y.key.process) same ∙ now_clear
+      ]
+
+      stay_by : (p : ℕ) → has marks p ≡ true → ((x : Grant) → Among x (take (next + 1) o.granted.items) → x.key.process ≢ p) → has o.due.items p ≡ true
+      stay_by p marked apart =
+          still_marked p (λ same. apart g (subst (Among g) (sym same_taken) next_is) (sym same))
+          (so_far.stay p marked (λ x among. apart x (subst (Among x) (sym same_taken) (before_is x among))))
+
+      all_by : (keys : List Key) → o.aborted.items ≡ m.aborted.items ++ keys → Among g.key (m.aborted.items ++ keys) ⊎ EndIsRefused s (m.aborted.items ++ keys) g.key
+          → (x : Grant) → Among x (take (next + 1) o.granted.items) → has marks x.key.process ≡ true → Among x.key o.aborted.items ⊎ EndIsRefused s o.aborted.items x.key
+      all_by keys aborted told x among marked =
+          let Told : List Key → Key → Type 0 = λ ks k. Among k ks ⊎ EndIsRefused s ks k in
+          subst (λ ks. Told ks x.key) (sym aborted)
+          (elim (by_place_now x among) [
+            | inl before ↦ told_still s m.aborted.items keys x.key (so_far.all x before marked)
+            | inr same ↦ subst (λ (y : Grant). Told (m.aborted.items ++ keys) y.key) (sym same) told
+          ])
+
+    ends_refused : v ≡ u → o.granted.items ≡ m.granted.items → o.aborted.items ≡ m.aborted.items → ((refusal : Refusal) × RefusedBy (Finish g.key) u refusal) → EndsDue s t first marks (next + 1) v after o
+    ends_refused same granted aborted refused = record {
       laws = rw same so_far.laws;
       later = so_far.later;
       granted = granted ∙ so_far.granted;
@@ -109,19 +178,31 @@ module _ (s : TableState) (t : NameTable) (first : List Grant) (marks : List Boo
           (was.0, still_clear k.process was.1, (was.2.0, subst (Among was.2.0) (sym granted) was.2.1, was.2.2));
       fewer = λ p marked. so_far.fewer p (marked_before p marked);
       done = done_by [] (granted ∙ sym (append-nil m.granted.items));
+      stay = stay_by [] (granted ∙ sym (append-nil m.granted.items));
+      all = all_by [] (granted ∙ sym (append-nil m.granted.items)) [] (aborted ∙ sym (append-nil m.aborted.items)) (inr record {
+        before = m.aborted.items;
+        after = [];
+        parts = refl;
+        granted = so_far.later;
+        state = u;
+        ends = so_far.ends;
+        refusal = refused.0;
+        refused = refused.1;
+      });
     }
 
     ends_made : Made (Finish g.key) u tt v → EndsWaits u v g.key.process (grants u v) → o.granted.items ≡ m.granted.items ++ grants u v → o.aborted.items ≡ m.aborted.items ++ g.key ∷ [] → EndsDue s t first marks (next + 1) v after o
     ends_made made ends granted aborted =
         let down : HandsDown u g.key.process (IsEnding g.key) (grants u v) v = finish_hands_down u v g.key (grants u v) so_far.laws ends refl made in
         let idle : wait_of u g.key.process ≡ None = so_far.are_granted.idle g is_among in
+        let laws = made_laws (Finish g.key) u v tt so_far.laws made in
         record {
-          laws = made_laws (Finish g.key) u v tt so_far.laws made;
+          laws = laws;
           later = so_far.later ++ grants u v;
           granted = granted ∙ ap (λ gs. gs ++ grants u v) so_far.granted ∙ append_assoc first so_far.later (grants u v);
           ends = rw aborted (ends_then m.aborted.items s u v g.key so_far.later so_far.ends made);
           down = λ n. rw aborted (down_then s u v n (IsAmong m.aborted.items) (IsEnding g.key) (IsAmong (m.aborted.items ++ g.key ∷ [])) so_far.later (grants u v) (so_far.down n)
-              (down_of_idle u v g.key.process n (IsEnding g.key) (grants u v) idle down)
+              (down_of_idle u v g.key.process n (IsEnding g.key) (grants u v) so_far.laws laws idle down)
               (λ q h lost. among_left m.aborted.items (g.key ∷ []) h lost) (λ q h lost. among_right m.aborted.items (g.key ∷ []) h (inl lost)));
           names = kept;
           numbered = one.numbered;
@@ -145,12 +226,14 @@ module _ (s : TableState) (t : NameTable) (first : List Grant) (marks : List Boo
           ];
           fewer = λ p marked. so_far.fewer p (marked_before p marked);
           done = done_by (grants u v) granted;
+          stay = stay_by (grants u v) granted;
+          all = all_by (grants u v) granted (g.key ∷ []) aborted (inl (among_right m.aborted.items (g.key ∷ []) g.key (inl refl)));
         }
 
     pub ends_one_more : EndsDue s t first marks (next + 1) v after o
     ends_one_more = elim one.ended [
       | inl made ↦ ends_made made.0 made.1 made.2 made.3
-      | inr refused ↦ ends_refused refused.0 refused.1 refused.2
+      | inr refused ↦ ends_refused refused.0 refused.1 refused.2 refused.3
     ]
 
 -- one turn of the loop
@@ -161,14 +244,14 @@ pub record IsTurned (s : TableState) (t : NameTable) (first : List Grant) (marks
 module _ (s : TableState) (t : NameTable) (first : List Grant) (marks : List Bool) (next : ℕ) (u : TableState) (named : NameTable) (m : Lists) (so_far : EndsDue s t first marks next u named m) (g : Grant) (here : slice_index_or m.granted.items next g ≡ g)
     (inside : next < length m.granted.items) (is_among : Among g m.granted.items) (v : TableState) (after : NameTable) (o : Lists) where
   turn_by : (b : Bool) → has m.due.items g.key.process ≡ b → MatchBool b (EndsOne u named m g.key v after o) ((v ≡ u) × (after ≡ named) × (o ≡ m)) → IsTurned s t first marks (next + 1) v after o
-  turn_by true due one = (let more = ends_one_more s t first marks next u named m so_far g here v after o inside is_among due one in
+  turn_by true due one = (let more = ends_one_more s t first marks next u named m so_far g here inside v after o is_among due one in
       record { so_far = more; within = grown one.ended })
     where
       grown : Ended u m g.key v o → next + 1 ≤ length o.granted.items
       grown (inl made) = omega (arith, inside, ap length made.2, length-append m.granted.items (grants u v))
       grown (inr refused) = omega (arith, inside, ap length refused.1)
   turn_by false idle same =
-      let skipped = ends_skip s t first marks next u named m so_far g here idle in
+      let skipped = ends_skip s t first marks next u named m so_far g here inside idle in
       let Turned : TableState → NameTable → Lists → Type 0 = λ w n x. IsTurned s t first marks (next + 1) w n x in
       subst (λ x. Turned v after x) (sym same.2) (subst (λ n. Turned v n m) (sym same.1) (subst (λ w. Turned w named m) (sym same.0)
       record { so_far = skipped; within = omega (arith, inside) }))

@@ -11,7 +11,8 @@ use Rattle.mm_rules.specs.declared.reply.Released.{Released}
 use Rattle.mm_rules.specs.TableState.{TableState, owner_of}
 use Rattle.mm_rules.specs.Event.{Release, Finish, Abort}
 use Rattle.mm_settled.specs.Calls.{Makes}
-use Rattle.mm_manager.specs.private.Numbers.{AreNumbered, forgotten, KeepOwned}
+use Rattle.mm_manager.specs.private.Numbers.{AreNumbered, forgotten}
+use Rattle.mm_manager.specs.LockState.{KeepOwned}
 use Rattle.mm_manager.proofs.Lemmas.Numbers.{some_not_none}
 use Rattle.mm_manager.proofs.Lemmas.Owners.{LeavesOwners}
 

@@ -1,12 +1,12 @@
 -- An event that hands over, and the ends that come due by it.
-use Rattle.std.proofs.Common.{◌≡◌, ◌≢◌, ℕ, Bool, true, false, List, [], length, Some, is_some, inl, inr, sym, ap, subst, ◌∙◌, arith, slice_set, get_or-set_same}
-use Rattle.std.proofs.lemmas.Bool.{cases_lt}
+use Rattle.std.proofs.Common.{◌≡◌, ◌≢◌, ◌↔◌, ℕ, Bool, true, false, List, [], length, take, None, Some, is_some, inl, inr, sym, ap, subst, ◌∙◌, arith, slice_set, get_or-set_same}
+use Rattle.std.proofs.lemmas.Bool.{cases_Bool, cases_lt}
 use Rattle.std.proofs.lemmas.List.{take_all, get_or_past}
 use Rattle.mm_arena.specs.declared.key.Key.{Key}
 use Rattle.mm_lists.specs.Members.{Among}
 use Rattle.mm_marks.specs.Marks.{has}
 use Rattle.mm_names.specs.Names.{NameTable}
-use Rattle.mm_rules.specs.TableState.{TableState, wait_of, is_waiting}
+use Rattle.mm_rules.specs.TableState.{TableState, wait_of, is_waiting, has_verdict}
 use Rattle.mm_rules.specs.Event.{Event, Answer}
 use Rattle.mm_rules.specs.Laws.{Laws}
 use Rattle.mm_settled.specs.Calls.{Made}
@@ -16,16 +16,30 @@ use Rattle.mm_manager.specs.declared.lists.Lists.{Lists}
 use Rattle.mm_manager.specs.private.Due.{AreGranted, IsAmong, EndsDue}
 use Rattle.mm_manager.specs.private.Handed.{DueWait, LosesOr, Handed}
 use Rattle.mm_manager.specs.private.HandsDown.{HandsDown}
-use Rattle.mm_manager.specs.private.Numbers.{AreNumbered, KeepOwned}
+use Rattle.mm_manager.specs.private.Numbers.{AreNumbered}
+use Rattle.mm_manager.specs.LockState.{KeepOwned}
 use Rattle.mm_manager.proofs.Lemmas.Numbers.{some_or_not}
 use Rattle.mm_manager.proofs.Lemmas.Granted.{grants_once, granted_more}
-use Rattle.mm_manager.proofs.Lemmas.Due.{keep_then, down_then, cleared_stays, was_marked}
+use Rattle.mm_manager.proofs.Lemmas.Due.{among_of_taken, keep_then, down_then, cleared_stays, was_marked}
 
 pub waits_something : (s : TableState) (p : ℕ) → is_waiting s p ≡ true → (q : ℕ) × (wait_of s p ≡ Some q)
 waits_something s p waiting = some_or_not (wait_of s p) (λ none. let never : true ≡ false = sym waiting ∙ ap is_some none in cc)
 
 pub is_waiting_for : (s : TableState) (p q : ℕ) → wait_of s p ≡ Some q → is_waiting s p ≡ true
 is_waiting_for s p q waits = ap is_some waits
+
+-- who does not wait, or is in a deadlock, has no abort due
+pub active_not_due : (s : TableState) (due : List Bool) (n : ℕ) → DueWait s due → wait_of s n ≡ None → has due n ≡ false
+active_not_due s due n waits idle = elim (cases_Bool (has due n)) [
+  | inr none ↦ none
+  | inl marked ↦ (let never : true ≡ false = sym (waits n marked).0 ∙ ap is_some idle in absurd (cc))
+]
+
+pub convicted_not_due : (s : TableState) (due : List Bool) (n : ℕ) → DueWait s due → has_verdict s n ≡ true → has due n ≡ false
+convicted_not_due s due n waits convicted = elim (cases_Bool (has due n)) [
+  | inr none ↦ none
+  | inl marked ↦ (let never : true ≡ false = sym convicted ∙ (waits n marked).1 in absurd (cc))
+]
 
 -- ---- a mark that is taken away
 
@@ -57,12 +71,22 @@ module _ (e : Event) (s : TableState) (t : NameTable) (due : List Bool) (answer 
 
   due_wait : DueWait u m.due.items
   due_wait p marked =
-      let before = waits_something s p (waits p (ends.fewer p marked)) in
+      let was = waits p (ends.fewer p marked) in
+      let before = waits_something s p was.0 in
       let apart : p ≢ n = λ same. let never : true ≡ false = sym (ends.fewer p marked) ∙ ap (has due) same ∙ own in absurd (cc) in
       elim (all_down.ended p before.0 apart before.1) [
-        | inl still ↦ is_waiting_for u p before.0 still
+        | inl still ↦ (is_waiting_for u p before.0 still, all_down.verdicts p apart ∙ was.1)
         | inr g ↦ (let never : true ≡ false = sym marked ∙ ap (has m.due.items) (sym g.2) ∙ granted_clear g.0 g.1 in absurd (cc))
       ]
+
+  among_all : (g : Grant) → Among g m.granted.items → Among g (take next m.granted.items)
+  among_all g among = subst (Among g) (sym (take_all next m.granted.items (omega (arith, all)))) among
+
+  stays : (p : ℕ) → (has m.due.items p ≡ true) ↔ ((has due p ≡ true) × ((g : Grant) → Among g m.granted.items → g.key.process ≢ p))
+  stays p = (
+    λ marked. (ends.fewer p marked, λ g among same. (let never : true ≡ false = sym marked ∙ ap (has m.due.items) (sym same) ∙ granted_clear g among in absurd (cc))),
+    λ was. ends.stay p was.0 (λ g among. was.1 g (among_of_taken m.granted.items next g among)),
+  )
 
   pub handed_on : Handed e s t due answer n Loses u named m
   handed_on = record {
@@ -76,5 +100,6 @@ module _ (e : Event) (s : TableState) (t : NameTable) (due : List Bool) (answer 
     names = λ q. keep_then mid u t t1 named names ends.names numbered ends.numbered q;
     parts = record { numbered = ends.numbered; fits = ends.fits; due = due_wait };
     was_due = λ k among. (let was = ends.was_due k among in (was.0, was.2));
-    fewer = ends.fewer;
+    all = λ g among marked. ends.all g (among_all g among) marked;
+    stay = stays;
   }

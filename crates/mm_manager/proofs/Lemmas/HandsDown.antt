@@ -7,7 +7,7 @@ use Rattle.mm_arena.specs.declared.key.Key.{Key}
 use Rattle.mm_lists.specs.Members.{Among}
 use Rattle.mm_lists.proofs.Lemmas.Range.{among_range}
 use Rattle.mm_rules.specs.declared.reply.Released.{Released}
-use Rattle.mm_rules.specs.TableState.{TableState, is_live, owner_of, owns, wait_of, waited_for}
+use Rattle.mm_rules.specs.TableState.{TableState, is_live, has_verdict, owner_of, owns, wait_of, waited_for}
 use Rattle.mm_rules.specs.Change.{vacate, abort}
 use Rattle.mm_rules.specs.Event.{Event, Answer, Release, Finish, Abort, Settle, finish_tests, abort_tests}
 use Rattle.mm_rules.specs.Laws.{Laws}
@@ -42,7 +42,7 @@ grant_listed s u q h waited owned within =
 
 -- an event by which the numbers that pass p are handed over, and nothing or a settle after it
 module _ (s mid u : TableState) (n : ℕ) (p : ℕ → Bool) (Loses : ℕ → Key → Type 0) (granted : List Grant) (laws : Laws u) (on : HandsOn s n p mid) (rests : Rests mid u)
-    (ends : EndsWaits s u n granted) (are : granted ≡ grants s u) (lost : (q : ℕ) (h : Key) → owner_of s q ≡ Some h → ¬ Loses q h → p q ≡ false) where
+    (ends : EndsWaits s u n granted) (are : granted ≡ grants s u) (same : (v : ℕ) → has_verdict u v ≡ has_verdict mid v) (lost : (q : ℕ) (h : Key) → owner_of s q ≡ Some h → ¬ Loses q h → p q ≡ false) where
   alike : RestsAlike mid u
   alike = rests_alike mid u rests
 
@@ -84,6 +84,7 @@ module _ (s mid u : TableState) (n : ℕ) (p : ℕ → Bool) (Loses : ℕ → Ke
     waited = λ g among. (ends.each g among).waited;
     goes_on = λ g among. (ends.each g among).goes_on;
     owns = λ g among kept. (ends.each g among).owns;
+    verdicts = λ v apart. same v ∙ on.verdicts v apart;
   }
 
 other_key : (s : TableState) (k : Key) → Laws s → IsTrue (is_live s k) → (q : ℕ) (h : Key) → owner_of s q ≡ Some h → ¬ (h ≡ k) → owns s k.process q ≡ false
@@ -92,17 +93,17 @@ other_key s k laws live q h owned apart = not_mine s k q laws live (λ mine. apa
 module _ (s u : TableState) (k : Key) (granted : List Grant) (laws : Laws s) (ends : EndsWaits s u k.process granted) (are : granted ≡ grants s u) where
   pub release_hands_down : (r : ℕ) (answer : Released) → Made (Release k r) s answer u → HandsDown s k.process (IsReleased r) granted u
   release_hands_down r answer made =
-      hands_down s made.mid u k.process (λ q. nat_eq q r) (IsReleased r) granted (made_laws (Release k r) s u answer laws made) (release_hands_on s made.mid k r answer laws made.event) made.rests ends are
+      hands_down s made.mid u k.process (λ q. nat_eq q r) (IsReleased r) granted (made_laws (Release k r) s u answer laws made) (release_hands_on s made.mid k r answer laws made.event) made.rests ends are made.verdicts
       (λ q h owned apart. ne_eqb q r apart)
 
   pub finish_hands_down : Made (Finish k) s tt u → HandsDown s k.process (IsEnding k) granted u
   finish_hands_down made =
       let done = accepted (finish_tests s k) s tt (vacate s k.process) tt made.mid made.event in
-      hands_down s made.mid u k.process (owns s k.process) (IsEnding k) granted (made_laws (Finish k) s u tt laws made) (finish_hands_on s made.mid k laws made.event) made.rests ends are
+      hands_down s made.mid u k.process (owns s k.process) (IsEnding k) granted (made_laws (Finish k) s u tt laws made) (finish_hands_on s made.mid k laws made.event) made.rests ends are made.verdicts
       (other_key s k laws (not-false (is_live s k) done.passed.1.0))
 
   pub abort_hands_down : Made (Abort k) s tt u → HandsDown s k.process (IsEnding k) granted u
   abort_hands_down made =
       let done = accepted (abort_tests s k) s tt (abort s k.process) tt made.mid made.event in
-      hands_down s made.mid u k.process (owns s k.process) (IsEnding k) granted (made_laws (Abort k) s u tt laws made) (abort_hands_on s made.mid k laws made.event) made.rests ends are
+      hands_down s made.mid u k.process (owns s k.process) (IsEnding k) granted (made_laws (Abort k) s u tt laws made) (abort_hands_on s made.mid k laws made.event) made.rests ends are made.verdicts
       (other_key s k laws (not-false (is_live s k) done.passed.1.0))

@@ -8,7 +8,7 @@ use Rattle.mm_rules.proofs.States.Lookups.{waits_here, held}
 use Rattle.mm_manager.specs.LockState.{LockState}
 use Rattle.mm_manager.specs.Calls.{Passes}
 use Rattle.mm_manager.specs.private.HandsDown.{HandsDown}
-use Rattle.mm_manager.specs.private.Numbers.{KeepOwned}
+use Rattle.mm_manager.specs.LockState.{KeepOwned}
 use Rattle.mm_manager.proofs.Lemmas.Numbers.{some_not_none}
 
 -- what is waited for has an owner
@@ -58,4 +58,5 @@ module _ (old new : LockState) (k : Key) (Loses : ℕ → Key → Type 0) (Loses
           inl (waits.0, kept_name old.names new.table new.names keep waits.0 owner.0 owner.1 ∙ waits.1, still)
       | inr g ↦ inr (g.0.key, g.2, (g.0, g.1, refl, ap (name_of old.names) g.3 ∙ waits.1))
     ];
+    verdicts = down.verdicts;
   }

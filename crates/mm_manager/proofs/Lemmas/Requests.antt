@@ -1,23 +1,22 @@
 -- What a request leaves of names and owners.
-use Rattle.std.proofs.Common.{◌≡◌, ◌<◌, ◌+◌, ◌++◌, ℕ, Bool, true, false, List, [], ◌∷◌, length, Option, Some, None, Result, Ok, Err, IsTrue, refl, sym, ap, ◌∙◌, inl, inr, slice_set, slice_index, slice_index_or, length-set, get_or-set_same, nat_eq}
-use Rattle.std.proofs.lemmas.Bool.{and_parts, eqb-true, not-false}
+use Rattle.std.proofs.Common.{◌≡◌, ◌<◌, ◌+◌, ◌++◌, ℕ, true, false, List, [], ◌∷◌, length, Option, Some, None, Ok, IsTrue, refl, sym, ap, ◌∙◌, inl, inr, slice_set, slice_index, slice_index_or, length-set, get_or-set_same, nat_eq}
+use Rattle.std.proofs.lemmas.Bool.{and_parts, eqb-true}
 use Rattle.std.proofs.lemmas.List.{set-set, set-get_or}
 use Rattle.mm_arena.specs.declared.key.Key.{Key}
 use Rattle.mm_label.specs.Label.{Label}
 use Rattle.mm_names.specs.Names.{NameTable, name_of, with_name, Interns}
 use Rattle.mm_names.proofs.Lemmas.Index.{named_in_range}
-use Rattle.mm_rules.specs.declared.refusal.Refusal.{Refusal}
-use Rattle.mm_rules.specs.declared.refusal.Refusal.TheVariants.{AlreadyOwns, CountsExhausted, Stale, NoResource, Waiting, LabelsExhausted}
 use Rattle.mm_rules.specs.declared.reply.Acquired.{Acquired}
 use Rattle.mm_rules.specs.declared.reply.Acquired.TheVariants as acquired
 use Rattle.mm_rules.specs.TableState.{TableState, is_live, owner_of, owns, wait_of}
-use Rattle.mm_rules.specs.Event.{Acquire, Step, acquire_tests, acquire_answer, acquire_change, allowed, decided}
+use Rattle.mm_rules.specs.Event.{Acquire, Step, acquire_tests, acquire_answer, acquire_change}
 use Rattle.mm_rules.specs.Laws.{Laws}
 use Rattle.mm_rules.proofs.States.Lookups.{none_of_is_some}
 use Rattle.mm_rules.proofs.States.Outcome.{counting}
 use Rattle.mm_rules.proofs.States.Release.{owns_gives}
 use Rattle.mm_rules.proofs.States.SettleKeeps.{settle_keeps}
 use Rattle.mm_settled.specs.Calls.{Locks, WaitsFrom}
+use Rattle.mm_settled.specs.declared.reply.Locked.{Locked}
 use Rattle.mm_settled.specs.declared.reply.Locked.TheVariants as locked
 use Rattle.mm_settled.proofs.Lemmas.Accepted.{IsAccepted, accepted}
 use Rattle.mm_manager.specs.private.Numbers.{AreNumbered, forgotten}
@@ -85,33 +84,13 @@ owner_is_key s k n laws live mine =
     let owner = owns_gives s k.process n mine in
     owner.1 ∙ ap Some (one_key s owner.0 k (laws.lawful.well_formed.owners n owner.0 owner.1) live owner.2)
 
-refused_by : {A : Type 0} (r : Result (Unit {0}) Refusal) (old new : TableState) (answer : A) (e : Refusal) → Err e ≡ (decided r old answer new).reply → r ≡ Err e
-refused_by (Ok passed) old new answer e is = absurd (cc)
-refused_by (Err refusal) old new answer e is = (let same : e ≡ refusal = cc in ap Err (sym same))
+-- ---- a number that is free
 
--- what is refused as AlreadyOwns has passed the tests before that one
-owns_by_tests : (counts stale out waits mine full : Bool)
-    → allowed ((counts, CountsExhausted) ∷ (stale, Stale) ∷ (out, NoResource) ∷ (waits, Waiting) ∷ (mine, AlreadyOwns) ∷ (full, LabelsExhausted) ∷ []) ≡ Err AlreadyOwns
-    → (stale ≡ false) × (mine ≡ true)
-owns_by_tests true stale out waits mine full is = (let never : Err CountsExhausted ≡ Err AlreadyOwns = is in absurd (cc))
-owns_by_tests false true out waits mine full is = (let never : Err Stale ≡ Err AlreadyOwns = is in absurd (cc))
-owns_by_tests false false true waits mine full is = (let never : Err NoResource ≡ Err AlreadyOwns = is in absurd (cc))
-owns_by_tests false false false true mine full is = (let never : Err Waiting ≡ Err AlreadyOwns = is in absurd (cc))
-owns_by_tests false false false false true full is = (refl, refl)
-owns_by_tests false false false false false true is = (let never : Err LabelsExhausted ≡ Err AlreadyOwns = is in absurd (cc))
-owns_by_tests false false false false false false is = (let never : Ok tt ≡ Err AlreadyOwns = is in absurd (cc))
-
-held_by : (s : TableState) (k : Key) (n : ℕ) → Laws s → Step (Acquire k n) s (Err AlreadyOwns) s → owner_of s n ≡ Some k
-held_by s k n laws step =
-    let is = refused_by (allowed (acquire_tests s k n)) s (acquire_change s k n (owner_of s n)) (acquire_answer s k (owner_of s n)) AlreadyOwns step.0 in
-    let tests = owns_by_tests _ _ _ _ (owns s k.process n) _ is in
-    owner_is_key s k n laws (not-false (is_live s k) tests.0) tests.1
-
-pub held_is : (s u : TableState) (k : Key) (n : ℕ) → Laws s → Locks s k n (Err AlreadyOwns) u → owner_of s n ≡ Some k
-held_is s u k n laws refused = elim refused.1 [
-  | inl step ↦ held_by s k n laws step
-  | inr never ↦ absurd (let no : AlreadyOwns ≡ CountsExhausted = never.0 in cc)
-]
+-- a request for it is granted
+pub free_granted : (s u : TableState) (k : Key) (n : ℕ) (answer : Locked) → owner_of s n ≡ None → Locks s k n (Ok answer) u → Locks s k n (Ok locked.Granted) u
+free_granted s u k n locked.Granted free locks = locks
+free_granted s u k n (locked.Waits h) free locks = absurd (some_not_none (owner_of s n) h (queued_is s u k h n locks.0).held free)
+free_granted s u k n (locked.Deadlock h) free locks = absurd (some_not_none (owner_of s n) h (queued_is s u k h n locks.0).held free)
 
 -- ---- the names
 

@@ -2,10 +2,13 @@
 use Rattle.std.specs.Prelude.{◌≡◌, true, false, [], Result, Ok, Err, slice_set}
 use Rattle.mm_arena.specs.declared.key.Key.{Key}
 use Rattle.mm_names.specs.Names.{NameTable}
+use Rattle.mm_rules.specs.declared.refusal.Refusal as table
 use Rattle.mm_rules.specs.declared.refusal.Refusal.TheVariants.{Carried}
 use Rattle.mm_rules.specs.TableState.{TableState}
 use Rattle.mm_rules.specs.Event.{Finish, GiveUp, Step}
 use Rattle.mm_manager.specs.LockState.{LockState}
+use Rattle.mm_manager.specs.Permit.{refusal_of}
+use Rattle.mm_manager.specs.Refused.{RefusedBy, WaitStays}
 use Rattle.mm_manager.specs.declared.lists.Lists.{Lists}
 use Rattle.mm_manager.specs.declared.refusal.Refusal.{Refusal}
 use Rattle.mm_manager.specs.declared.reply.Abort.{Abort}
@@ -24,8 +27,9 @@ abbrev pub AbortsWaiting : TableState → NameTable → Lists → Key → Result
 AbortsWaiting s t l k (Ok Done) u named m =
     (mid : TableState) × Step (GiveUp k) s (Ok tt) mid × Handed (Finish k) mid t (slice_set l.due.items k.process false) tt k.process (IsEnding k) u named m
 AbortsWaiting s t l k (Ok Later) u named m = Step (GiveUp k) s (Err Carried) s × (u ≡ s) × (named ≡ t) × (m.due.items ≡ slice_set l.due.items k.process true) × TellNobody m
-AbortsWaiting s t l k (Ok Withdrawn) u named m = Step (GiveUp k) s (Ok tt) u × (named ≡ t) × (m.due.items ≡ slice_set l.due.items k.process false) × TellNobody m
-AbortsWaiting s t l k (Err refusal) u named m = IsUntouched s t l u named m
+AbortsWaiting s t l k (Ok Withdrawn) u named m =
+    Step (GiveUp k) s (Ok tt) u × (named ≡ t) × (m.due.items ≡ slice_set l.due.items k.process false) × TellNobody m × ((refusal : Refusal) × RefusedBy (Finish k) u refusal)
+AbortsWaiting s t l k (Err refusal) u named m = IsUntouched s t l u named m × WaitStays s k refusal
 
 -- what a contract sees of these parts
 abbrev pub seen : TableState → NameTable → Lists → LockState
@@ -43,8 +47,13 @@ cancel_of (Ok Withdrawn) = Ok cancels.Withdrawn
 cancel_of (Ok Later) = Ok cancels.Carried
 cancel_of (Err refusal) = Err refusal
 
--- a cancel of one whose abort is not due, by its parts
-abbrev pub CancelsWaiting : TableState → NameTable → Lists → Key → Result cancel.Cancel Refusal → TableState → NameTable → Lists → Type 0
-CancelsWaiting s t l k (Ok cancels.Withdrawn) u named m = Step (GiveUp k) s (Ok tt) u × (named ≡ t) × (m.due.items ≡ l.due.items) × TellNobody m
-CancelsWaiting s t l k (Ok cancels.Carried) u named m = Step (GiveUp k) s (Err Carried) s × IsUntouched s t l u named m
-CancelsWaiting s t l k (Err refusal) u named m = IsUntouched s t l u named m
+-- a wait is taken back, by the answer
+abbrev pub GaveUp : TableState → Key → Result cancel.Cancel Refusal → TableState → Type 0
+GaveUp s k (Ok cancels.Withdrawn) u = Step (GiveUp k) s (Ok tt) u
+GaveUp s k (Ok cancels.Carried) u = Step (GiveUp k) s (Err Carried) s × (u ≡ s)
+GaveUp s k (Err refusal) u = WaitStays s k refusal × (u ≡ s)
+
+-- what the answer is where the table refuses that
+abbrev pub stayed : table.Refusal → Result cancel.Cancel Refusal
+stayed Carried = Ok cancels.Carried
+stayed why = Err (refusal_of why)

@@ -1,5 +1,5 @@
 -- The ends of those whose abort comes due in a call.
-use Rattle.std.specs.Prelude.{◌≡◌, ◌⊎◌, ◌≤◌, ◌<◌, ℕ, Bool, true, false, List, [], ◌∷◌, ◌++◌, length, map, take, None, Some, MatchBool, slice_set}
+use Rattle.std.specs.Prelude.{◌≡◌, ◌≢◌, ◌⊎◌, ◌≤◌, ◌<◌, ℕ, Bool, true, false, List, [], ◌∷◌, ◌++◌, length, map, take, None, Some, MatchBool, slice_set}
 use Rattle.mm_arena.specs.declared.key.Key.{Key}
 use Rattle.mm_lists.specs.Members.{Among, NoRepeat}
 use Rattle.mm_marks.specs.Marks.{has}
@@ -10,11 +10,14 @@ use Rattle.mm_rules.specs.Laws.{Laws}
 use Rattle.mm_settled.specs.Calls.{Made}
 use Rattle.mm_settled.specs.Grants.{grants, EndsWaits}
 use Rattle.mm_settled.specs.declared.reply.Grant.{Grant}
-use Rattle.mm_manager.specs.Calls.{EndsAll}
+use Rattle.mm_manager.specs.Calls.{EndsAll, EndIsRefused}
+use Rattle.mm_manager.specs.Refused.{RefusedBy}
+use Rattle.mm_manager.specs.declared.refusal.Refusal.{Refusal}
 use Rattle.mm_manager.specs.declared.lists.Lists.{Lists}
 use Rattle.mm_manager.specs.private.HandsDown.{HandsDown}
 use Rattle.mm_manager.specs.private.Lists.{Fits}
-use Rattle.mm_manager.specs.private.Numbers.{AreNumbered, KeepOwned}
+use Rattle.mm_manager.specs.private.Numbers.{AreNumbered}
+use Rattle.mm_manager.specs.LockState.{KeepOwned}
 
 abbrev pub process_of : Grant → ℕ
 process_of g = g.key.process
@@ -53,12 +56,14 @@ pub record EndsDue (s : TableState) (t : NameTable) (first : List Grant) (marks 
   pub was_due : (k : Key) → Among k m.aborted.items → (has marks k.process ≡ true) × (has m.due.items k.process ≡ false) × ((g : Grant) × Among g m.granted.items × (g.key ≡ k))
   pub fewer : (p : ℕ) → has m.due.items p ≡ true → has marks p ≡ true
   pub done : (g : Grant) → Among g (take next m.granted.items) → has m.due.items g.key.process ≡ false
+  pub stay : (p : ℕ) → has marks p ≡ true → ((g : Grant) → Among g (take next m.granted.items) → g.key.process ≢ p) → has m.due.items p ≡ true
+  pub all : (g : Grant) → Among g (take next m.granted.items) → has marks g.key.process ≡ true → Among g.key m.aborted.items ⊎ EndIsRefused s m.aborted.items g.key
 
 -- the transaction ends, which is told; or the table refuses that
 abbrev pub Ended : TableState → Lists → Key → TableState → Lists → Type 0
 Ended s l k u m =
     (Made (Finish k) s tt u × EndsWaits s u k.process (grants s u) × (m.granted.items ≡ l.granted.items ++ grants s u) × (m.aborted.items ≡ l.aborted.items ++ k ∷ []))
-    ⊎ ((u ≡ s) × (m.granted.items ≡ l.granted.items) × (m.aborted.items ≡ l.aborted.items))
+    ⊎ ((u ≡ s) × (m.granted.items ≡ l.granted.items) × (m.aborted.items ≡ l.aborted.items) × ((refusal : Refusal) × RefusedBy (Finish k) s refusal))
 
 -- the abort of k is due no longer, and it ends or the table refuses that
 pub record EndsOne (s : TableState) (t : NameTable) (l : Lists) (k : Key) (u : TableState) (named : NameTable) (m : Lists) : Type 0 where

@@ -1,24 +1,25 @@
 -- A call that hands over, by number.
-use Rattle.std.specs.Prelude.{◌≡◌, ◌⊎◌, ◌++◌, ℕ, Bool, true, List, []}
+use Rattle.std.specs.Prelude.{◌≡◌, ◌≢◌, ◌↔◌, ◌⊎◌, ◌++◌, ℕ, Bool, true, false, List, []}
 use Rattle.mm_arena.specs.declared.key.Key.{Key}
 use Rattle.mm_lists.specs.Members.{Among}
 use Rattle.mm_marks.specs.Marks.{has}
 use Rattle.mm_names.specs.Names.{NameTable}
-use Rattle.mm_rules.specs.TableState.{TableState, is_waiting}
+use Rattle.mm_rules.specs.TableState.{TableState, is_waiting, has_verdict}
 use Rattle.mm_rules.specs.Event.{Event, Answer}
 use Rattle.mm_rules.specs.Laws.{Laws}
 use Rattle.mm_settled.specs.Calls.{Made}
 use Rattle.mm_settled.specs.Grants.{grants}
 use Rattle.mm_settled.specs.declared.reply.Grant.{Grant}
-use Rattle.mm_manager.specs.Calls.{EndsAll}
+use Rattle.mm_manager.specs.Calls.{EndsAll, EndIsRefused}
 use Rattle.mm_manager.specs.declared.lists.Lists.{Lists}
 use Rattle.mm_manager.specs.private.HandsDown.{HandsDown}
 use Rattle.mm_manager.specs.private.Lists.{Fits}
-use Rattle.mm_manager.specs.private.Numbers.{AreNumbered, KeepOwned}
+use Rattle.mm_manager.specs.private.Numbers.{AreNumbered}
+use Rattle.mm_manager.specs.LockState.{KeepOwned}
 
--- each transaction whose abort is due waits
+-- each transaction whose abort is due waits, in no deadlock
 abbrev pub DueWait : TableState → List Bool → Type 0
-DueWait s due = (p : ℕ) → has due p ≡ true → is_waiting s p ≡ true
+DueWait s due = (p : ℕ) → has due p ≡ true → (is_waiting s p ≡ true) × (has_verdict s p ≡ false)
 
 -- what holds of the parts of a manager
 pub record AreParts (s : TableState) (t : NameTable) (l : Lists) : Type 0 where
@@ -50,4 +51,5 @@ pub record Handed (e : Event) (s : TableState) (t : NameTable) (due : List Bool)
   pub names : KeepOwned t u named
   pub parts : AreParts u named m
   pub was_due : (k : Key) → Among k m.aborted.items → (has due k.process ≡ true) × ((g : Grant) × Among g m.granted.items × (g.key ≡ k))
-  pub fewer : (p : ℕ) → has m.due.items p ≡ true → has due p ≡ true
+  pub all : (g : Grant) → Among g m.granted.items → has due g.key.process ≡ true → Among g.key m.aborted.items ⊎ EndIsRefused mid m.aborted.items g.key
+  pub stay : (p : ℕ) → (has m.due.items p ≡ true) ↔ ((has due p ≡ true) × ((g : Grant) → Among g m.granted.items → g.key.process ≢ p))

@@ -1,7 +1,8 @@
 -- Names and owners by number.
-use Rattle.std.specs.Prelude.{◌≡◌, ◌↔◌, ℕ, None, length, is_some, if◌then◌else◌}
+use Rattle.std.specs.Prelude.{◌≡◌, ◌↔◌, ℕ, [], None, length, is_some, if◌then◌else◌}
 use Rattle.mm_names.specs.Names.{NameTable, name_of, with_name}
 use Rattle.mm_rules.specs.TableState.{TableState, owner_of}
+use Rattle.mm_manager.specs.LockState.{LockState}
 
 -- there is a number for each resource, and one has a name exactly while it has an owner
 pub record AreNumbered (s : TableState) (t : NameTable) : Type 0 where
@@ -12,6 +13,6 @@ pub record AreNumbered (s : TableState) (t : NameTable) : Type 0 where
 abbrev pub forgotten : TableState → NameTable → ℕ → NameTable
 forgotten s t n = if is_some (owner_of s n) then t else with_name t n None
 
--- a number that is owned keeps its name, and no other one has one
-abbrev pub KeepOwned : NameTable → TableState → NameTable → Type 0
-KeepOwned t new named = (n : ℕ) → name_of named n ≡ (if is_some (owner_of new n) then name_of t n else None)
+-- a manager of these, in which no abort is due and nothing is told
+abbrev pub bare : TableState → NameTable → LockState
+bare s t = record { table = s; names = t; due = []; granted = []; aborted = [] }

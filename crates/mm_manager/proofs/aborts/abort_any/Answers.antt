@@ -1,19 +1,75 @@
+use Rattle.std.proofs.Common.{◌≡◌, Ok, sym, ap, ◌∙◌}
+use Rattle.mm_rules.specs.TableState.{TableState}
+use Rattle.mm_rules.specs.Event.{state_of}
 use Rattle.mm_manager.proofs.Lemmas.Aborted.{active_aborts, convicted_aborts, waiting_aborts}
+use Rattle.mm_manager.proofs.Lemmas.May.{is_told, told_active, told_convicted, told_waiting, may_cancel_of}
 use Rattle.mm_manager.proofs.aborts.abort_any.Goals as goal
+
+pub end-requires-clause-live : goal.end-requires-clause-live
+end-requires-clause-live c =
+    let s = c.args.table.now.table in
+    let k = c.args.key in
+    let told : state_of s k ≡ Ok c.in-Ok.state = ap (λ (t : TableState). state_of t k) (sym c.table.ensures) ∙ sym c.state.ensures ∙ c.in-Ok.is in
+    let is = told_active s k c.in-Ok.state (is_told s k c.in-Ok.state told) c.in-Active.is in
+    is.live
+
+pub end-requires-clause-active : goal.end-requires-clause-active
+end-requires-clause-active c =
+    let s = c.args.table.now.table in
+    let k = c.args.key in
+    let told : state_of s k ≡ Ok c.in-Ok.state = ap (λ (t : TableState). state_of t k) (sym c.table.ensures) ∙ sym c.state.ensures ∙ c.in-Ok.is in
+    let is = told_active s k c.in-Ok.state (is_told s k c.in-Ok.state told) c.in-Active.is in
+    is.idle
 
 pub returns-in-Active-clause-aborts : goal.returns-in-Active-clause-aborts
 returns-in-Active-clause-aborts c =
+    let s = c.args.table.now.table in
+    let k = c.args.key in
+    let told : state_of s k ≡ Ok c.in-Ok.state = ap (λ (t : TableState). state_of t k) (sym c.table.ensures) ∙ sym c.state.ensures ∙ c.in-Ok.is in
+    let is = told_active s k c.in-Ok.state (is_told s k c.in-Ok.state told) c.in-Active.is in
     rw c.done.ensures
-    (active_aborts c.args.table.now.table c.end.new.table.table c.args.names.now c.end.new.names c.args.lists.now c.clear.new.self c.end.new.lists c.args.key c.clear.ensures.due
-    c.end.result c.end.ensures.handed c.end.ensures.untouched)
+    (active_aborts s c.end.new.table.table c.args.names.now c.end.new.names c.args.lists.now c.clear.new.self c.end.new.lists k c.clear.ensures.due is.live
+    c.end.result c.end.ensures.handed c.end.ensures.untouched c.end.ensures.refused)
+
+pub end_convicted-requires-clause-live : goal.end_convicted-requires-clause-live
+end_convicted-requires-clause-live c =
+    let s = c.args.table.now.table in
+    let k = c.args.key in
+    let told : state_of s k ≡ Ok c.in-Ok.state = ap (λ (t : TableState). state_of t k) (sym c.table.ensures) ∙ sym c.state.ensures ∙ c.in-Ok.is in
+    let is = told_convicted s k c.in-Ok.state c.in-Convicted.field-0 (is_told s k c.in-Ok.state told) c.in-Convicted.is in
+    is.live
+
+pub end_convicted-requires-clause-verdict : goal.end_convicted-requires-clause-verdict
+end_convicted-requires-clause-verdict c =
+    let s = c.args.table.now.table in
+    let k = c.args.key in
+    let told : state_of s k ≡ Ok c.in-Ok.state = ap (λ (t : TableState). state_of t k) (sym c.table.ensures) ∙ sym c.state.ensures ∙ c.in-Ok.is in
+    let is = told_convicted s k c.in-Ok.state c.in-Convicted.field-0 (is_told s k c.in-Ok.state told) c.in-Convicted.is in
+    is.verdict
 
 pub returns-in-Convicted-clause-aborts : goal.returns-in-Convicted-clause-aborts
 returns-in-Convicted-clause-aborts c =
+    let s = c.args.table.now.table in
+    let k = c.args.key in
+    let told : state_of s k ≡ Ok c.in-Ok.state = ap (λ (t : TableState). state_of t k) (sym c.table.ensures) ∙ sym c.state.ensures ∙ c.in-Ok.is in
+    let is = told_convicted s k c.in-Ok.state c.in-Convicted.field-0 (is_told s k c.in-Ok.state told) c.in-Convicted.is in
     rw c.done-in-Convicted.ensures
-    (convicted_aborts c.args.table.now.table c.end_convicted.new.table.table c.args.names.now c.end_convicted.new.names c.args.lists.now c.clear.new.self c.end_convicted.new.lists c.args.key c.clear.ensures.due
-    c.end_convicted.result c.end_convicted.ensures.handed c.end_convicted.ensures.untouched)
+    (convicted_aborts s c.end_convicted.new.table.table c.args.names.now c.end_convicted.new.names c.args.lists.now c.clear.new.self c.end_convicted.new.lists k c.clear.ensures.due is.live
+    c.end_convicted.result c.end_convicted.ensures.handed c.end_convicted.ensures.untouched c.end_convicted.ensures.refused)
+
+pub abort_waiting-requires-clause-may : goal.abort_waiting-requires-clause-may
+abort_waiting-requires-clause-may c =
+    let s = c.args.table.now.table in
+    let k = c.args.key in
+    let told : state_of s k ≡ Ok c.in-Ok.state = ap (λ (t : TableState). state_of t k) (sym c.table.ensures) ∙ sym c.state.ensures ∙ c.in-Ok.is in
+    let is = told_waiting s k c.in-Ok.state c.in-Waiting.field-0 (is_told s k c.in-Ok.state told) c.in-Waiting.is in
+    may_cancel_of s k c.in-Waiting.field-0 is
 
 pub returns-in-Waiting-clause-aborts : goal.returns-in-Waiting-clause-aborts
 returns-in-Waiting-clause-aborts c =
-    waiting_aborts c.args.table.now.table c.abort_waiting.new.table.table c.args.names.now c.abort_waiting.new.names c.args.lists.now c.clear.new.self c.abort_waiting.new.lists c.args.key c.clear.ensures.due
+    let s = c.args.table.now.table in
+    let k = c.args.key in
+    let told : state_of s k ≡ Ok c.in-Ok.state = ap (λ (t : TableState). state_of t k) (sym c.table.ensures) ∙ sym c.state.ensures ∙ c.in-Ok.is in
+    let is = told_waiting s k c.in-Ok.state c.in-Waiting.field-0 (is_told s k c.in-Ok.state told) c.in-Waiting.is in
+    waiting_aborts s c.abort_waiting.new.table.table c.args.names.now c.abort_waiting.new.names c.args.lists.now c.clear.new.self c.abort_waiting.new.lists k c.clear.ensures.due is.live
     c.abort_waiting.result c.abort_waiting.ensures.aborts

@@ -1,14 +1,14 @@
-use Rattle.std.proofs.Common.{false, Ok, Err, length-set, refl, ◌∙◌}
+use Rattle.std.proofs.Common.{Ok, false, length-set, ◌∙◌}
 use Rattle.mm_rules.specs.Event.{GiveUp, Step}
-use Rattle.mm_settled.proofs.Lemmas.Refused.{give_up_refused}
-use Rattle.mm_manager.proofs.Lemmas.GivesUp.{given_up_config, given_up_numbered, given_up_due}
+use Rattle.mm_manager.proofs.Lemmas.GivesUp.{given_up_active, given_up_config, given_up_numbered, given_up_due}
+use Rattle.mm_manager.proofs.Lemmas.May.{cancels}
 use Rattle.mm_manager.proofs.aborts.abort_waiting.Goals as goal
 
 pub end-requires-clause-parts : goal.end-requires-clause-parts
 end-requires-clause-parts c =
     let s = c.args.table.now.table in
-    let u = c.give_up.new.self.table in
-    let step : Step (GiveUp c.args.key) s (Ok tt) u = rw c.in-Ok.is at c.give_up.ensures.step in
+    let u = c.give_up.new.table.table in
+    let step : Step (GiveUp c.args.key) s (Ok tt) u = rw c.in-Ok-Withdrawn.field-0-is at c.in-Ok-Withdrawn.ensures in
     let was = c.requires.parts.fits in
     record {
       numbered = given_up_numbered s u c.args.key step c.args.names.now c.requires.parts.numbered;
@@ -16,12 +16,16 @@ end-requires-clause-parts c =
       due = given_up_due s u c.args.key step c.args.lists.now.due.items c.requires.parts.due;
     }
 
-pub returns-in-Err : goal.returns-in-Err
-returns-in-Err c =
+pub end-requires-clause-active : goal.end-requires-clause-active
+end-requires-clause-active c =
     let s = c.args.table.now.table in
-    let step : Step (GiveUp c.args.key) s (Err c.in-Err.refusal) c.give_up.new.self.table = rw c.in-Err.is at c.give_up.ensures.step in
-    let same = give_up_refused s c.give_up.new.self.table c.args.key c.in-Err.refusal step in
-    record {
-      aborts = record { table = same; names = refl; due = refl; granted = c.requires.none_granted; aborted = c.requires.none_aborted };
-      parts = rw same c.requires.parts;
-    }
+    let u = c.give_up.new.table.table in
+    let step : Step (GiveUp c.args.key) s (Ok tt) u = rw c.in-Ok-Withdrawn.field-0-is at c.in-Ok-Withdrawn.ensures in
+    (given_up_active s u c.args.key step (cancels s c.args.key c.requires.may).live).idle
+
+pub end-requires-clause-live : goal.end-requires-clause-live
+end-requires-clause-live c =
+    let s = c.args.table.now.table in
+    let u = c.give_up.new.table.table in
+    let step : Step (GiveUp c.args.key) s (Ok tt) u = rw c.in-Ok-Withdrawn.field-0-is at c.in-Ok-Withdrawn.ensures in
+    (given_up_active s u c.args.key step (cancels s c.args.key c.requires.may).live).live

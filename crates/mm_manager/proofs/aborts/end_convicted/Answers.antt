@@ -1,4 +1,4 @@
-use Rattle.std.proofs.Common.{Ok, false, length, length-set, slice_set, sym, subst, refl, ◌∙◌, List}
+use Rattle.std.proofs.Common.{Ok, Err, length, sym, subst, refl, List}
 use Rattle.mm_rules.specs.Event.{Abort}
 use Rattle.mm_settled.specs.Calls.{Makes}
 use Rattle.mm_settled.specs.Grants.{grants, EndsWaits}
@@ -7,7 +7,8 @@ use Rattle.mm_manager.specs.private.Due.{AreGranted, EndsDue}
 use Rattle.mm_manager.specs.private.Handed.{Handed}
 use Rattle.mm_manager.specs.private.HandsDown.{IsEnding}
 use Rattle.mm_manager.proofs.Lemmas.HandsDown.{abort_hands_down}
-use Rattle.mm_manager.proofs.Lemmas.Handed.{event_granted, handed_on, unmarked, unmarked_here}
+use Rattle.mm_manager.proofs.Lemmas.Handed.{convicted_not_due, event_granted, handed_on}
+use Rattle.mm_manager.proofs.Lemmas.Limits.{abort_refusal}
 use Rattle.mm_manager.proofs.Lemmas.Owners.{abort_leaves}
 use Rattle.mm_manager.proofs.aborts.end_convicted.Goals as goal
 
@@ -15,7 +16,7 @@ pub pass_on-requires-clause-fits : goal.pass_on-requires-clause-fits
 pass_on-requires-clause-fits c =
     let was = c.requires.parts.fits in
     rw (abort_leaves c.args.table.now.table c.abort.new.table.table c.args.key c.abort.result c.is_at_rest.ensures.laws c.abort.ensures.makes).config
-    record { granted = was.granted; aborted = was.aborted; due = length-set c.args.lists.now.due.items c.args.key.process false ∙ was.due; owned = rw c.abort.ensures.room was.owned }
+    record { granted = was.granted; aborted = was.aborted; due = was.due; owned = rw c.abort.ensures.room was.owned }
 
 pub pass_on-requires-clause-granted : goal.pass_on-requires-clause-granted
 pass_on-requires-clause-granted c =
@@ -27,17 +28,17 @@ pass_on-requires-clause-granted c =
     (event_granted s mid c.args.key.process (IsEnding c.args.key) c.is_at_rest.ensures.laws (abort_hands_down s mid c.args.key (grants s mid) c.is_at_rest.ensures.laws ends refl made))
 
 handed : (c : goal.After-pass_on)
-    → Handed (Abort c.args.key) c.args.table.now.table c.args.names.now (slice_set c.args.lists.now.due.items c.args.key.process false) tt c.args.key.process (IsEnding c.args.key) c.pass_on.new.table.table c.pass_on.new.names c.pass_on.new.lists
+    → Handed (Abort c.args.key) c.args.table.now.table c.args.names.now c.args.lists.now.due.items tt c.args.key.process (IsEnding c.args.key) c.pass_on.new.table.table c.pass_on.new.names c.pass_on.new.lists
 handed c =
     let s = c.args.table.now.table in
     let mid = c.abort.new.table.table in
     let k = c.args.key in
     let made : Makes (Abort k) s (Ok tt) mid = rw c.in-Ok.is at c.abort.ensures.makes in
     let ends : EndsWaits s mid k.process (grants s mid) = subst (EndsWaits s mid k.process) c.abort.ensures.told.granted c.abort.ensures.ended in
-    let passed : EndsDue mid c.abort.new.names (grants s mid) (slice_set c.args.lists.now.due.items c.args.key.process false) (length c.pass_on.new.lists.granted.items) c.pass_on.new.table.table c.pass_on.new.names c.pass_on.new.lists
-    = subst (λ (gs : List Grant). EndsDue mid c.abort.new.names gs (slice_set c.args.lists.now.due.items c.args.key.process false) (length c.pass_on.new.lists.granted.items) c.pass_on.new.table.table c.pass_on.new.names c.pass_on.new.lists) c.abort.ensures.told.granted c.pass_on.ensures in
-    handed_on (Abort k) s c.args.names.now (slice_set c.args.lists.now.due.items c.args.key.process false) tt k.process (IsEnding k) mid c.abort.new.names made
-    (abort_hands_down s mid k (grants s mid) c.is_at_rest.ensures.laws ends refl made) c.abort.ensures.names c.abort.ensures.numbered (unmarked s c.args.lists.now.due.items k.process c.requires.parts.due) (unmarked_here c.args.lists.now.due.items k.process) (length c.pass_on.new.lists.granted.items)
+    let passed : EndsDue mid c.abort.new.names (grants s mid) c.args.lists.now.due.items (length c.pass_on.new.lists.granted.items) c.pass_on.new.table.table c.pass_on.new.names c.pass_on.new.lists
+    = subst (λ (gs : List Grant). EndsDue mid c.abort.new.names gs c.args.lists.now.due.items (length c.pass_on.new.lists.granted.items) c.pass_on.new.table.table c.pass_on.new.names c.pass_on.new.lists) c.abort.ensures.told.granted c.pass_on.ensures in
+    handed_on (Abort k) s c.args.names.now c.args.lists.now.due.items tt k.process (IsEnding k) mid c.abort.new.names made
+    (abort_hands_down s mid k (grants s mid) c.is_at_rest.ensures.laws ends refl made) c.abort.ensures.names c.abort.ensures.numbered c.requires.parts.due (convicted_not_due s c.args.lists.now.due.items k.process c.requires.parts.due c.requires.verdict) (length c.pass_on.new.lists.granted.items)
     c.pass_on.new.table.table c.pass_on.new.names c.pass_on.new.lists passed refl
 
 pub returns-in-Ok-clause-handed : goal.returns-in-Ok-clause-handed
@@ -45,3 +46,11 @@ returns-in-Ok-clause-handed c = handed c
 
 pub returns-in-Ok-clause-parts : goal.returns-in-Ok-clause-parts
 returns-in-Ok-clause-parts c = (handed c).parts
+
+pub returns-in-Err-clause-refused : goal.returns-in-Err-clause-refused
+returns-in-Err-clause-refused c =
+    let s = c.args.table.now.table in
+    let k = c.args.key in
+    let e = c.in-Err.refusal in
+    let refuses : Makes (Abort c.args.key) s (Err e) c.abort.new.table.table = rw c.in-Err.is at c.abort.ensures.makes in
+    rw c.of_table.ensures (abort_refusal s k c.requires.live c.requires.verdict c.abort.new.table.table e refuses)

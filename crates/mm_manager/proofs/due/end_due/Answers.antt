@@ -1,7 +1,7 @@
 use Rattle.std.proofs.Common.{◌≡◌, ◌<◌, ◌+◌, length, slice_index_or, arith, ap, sym}
 use Rattle.mm_manager.proofs.Lemmas.Due.{among_index}
 use Rattle.mm_manager.proofs.Lemmas.Granted.{few_granted}
-use Rattle.mm_manager.proofs.Lemmas.Ends.{IsTurned, ends_start, ends_turn}
+use Rattle.mm_manager.proofs.Lemmas.Ends.{IsTurned, ends_start, ends_turn, due_lives}
 use Rattle.mm_manager.proofs.due.end_due.Goals as goal
 
 pub grants-init : goal.grants-init
@@ -37,3 +37,17 @@ end_if_due-requires-clause-within c =
     let inside : c.grants.next < length m = omega (arith, c.grants-test.true, c.len.ensures) in
     let here : slice_index_or m c.grants.next g ≡ g = sym c.index.ensures in
     c.grants.invariant.so_far.are_granted.within g (among_index m c.grants.next g inside here)
+
+pub end_if_due-requires-clause-idle : goal.end_if_due-requires-clause-idle
+end_if_due-requires-clause-idle c =
+    let m = c.grants.lists.granted.items in
+    let g = c.index.result.now in
+    let inside : c.grants.next < length m = omega (arith, c.grants-test.true, c.len.ensures) in
+    c.grants.invariant.so_far.are_granted.idle g (among_index m c.grants.next g inside (sym c.index.ensures))
+
+pub end_if_due-requires-clause-live : goal.end_if_due-requires-clause-live
+end_if_due-requires-clause-live c =
+    let m = c.grants.lists.granted.items in
+    let g = c.index.result.now in
+    let inside : c.grants.next < length m = omega (arith, c.grants-test.true, c.len.ensures) in
+    due_lives _ _ _ _ _ _ _ _ c.grants.invariant.so_far g (among_index m c.grants.next g inside (sym c.index.ensures))

@@ -1,9 +1,9 @@
-use Rattle.std.proofs.Common.{◌++◌, ◌+◌, ◌≤◌, false, length, length-set, ap, subst, sym, refl, ◌∙◌, inl, arith}
+use Rattle.std.proofs.Common.{◌++◌, ◌+◌, ◌≤◌, false, length, length-set, ap, subst, sym, refl, ◌∙◌, inl, inr, arith}
 use Rattle.mm_rules.specs.Event.{Finish}
 use Rattle.mm_settled.specs.Calls.{Made}
 use Rattle.mm_settled.specs.Grants.{grants, EndsWaits}
 use Rattle.mm_manager.proofs.Lemmas.Owners.{finish_leaves}
-use Rattle.mm_manager.proofs.Lemmas.Ended.{finish_made, room_for_grants}
+use Rattle.mm_manager.proofs.Lemmas.Ended.{finish_made, finish_failed, room_for_grants}
 use Rattle.mm_manager.proofs.due.end_one.Goals as goal
 
 made : (c : goal.After-granted) → Made (Finish c.args.key) c.args.table.now.table tt c.finish.new.table.table
@@ -45,4 +45,19 @@ returns-then-is_ok c =
         due = length-set c.args.lists.now.due.items c.args.key.process false ∙ was.due;
         owned = rw c.finish.ensures.room was.owned;
       };
+    }
+
+pub returns-else-is_ok : goal.returns-else-is_ok
+returns-else-is_ok c =
+    let s = c.args.table.now.table in
+    let u = c.finish.new.table.table in
+    let config = (finish_leaves s u c.args.key c.finish.result c.is_at_rest.ensures.laws c.finish.ensures.makes).config in
+    let was = c.requires.fits in
+    let failed = finish_failed s u c.args.key c.finish.result c.requires.live c.requires.idle (sym c.is_ok.ensures.value ∙ c.if-is_ok.false) c.finish.ensures.makes in
+    record {
+      ended = inr (failed.same, refl, refl, (failed.refusal, failed.refused));
+      due = refl;
+      names = c.finish.ensures.names;
+      numbered = c.finish.ensures.numbered;
+      fits = rw config record { granted = was.granted; aborted = was.aborted; due = length-set c.args.lists.now.due.items c.args.key.process false ∙ was.due; owned = rw c.finish.ensures.room was.owned };
     }

@@ -1,19 +1,10 @@
-use Rattle.std.proofs.Common.{◌≡◌, ◌↔◌, ℕ, Some, fold, ap, subst, ◌∙◌, arith}
+use Rattle.std.proofs.Common.{◌≡◌, ◌↔◌, ℕ, Some, fold, ap, subst, ◌∙◌}
 use Rattle.mm_lists.specs.Members.{Among}
 use Rattle.mm_rules.specs.TableState.{TableState, owner_of}
-use Rattle.mm_settled.proofs.Lemmas.Ends.{owner_in_range}
 use Rattle.mm_manager.specs.private.Numbers.{forgotten}
 use Rattle.mm_manager.proofs.Lemmas.Owners.{abort_leaves}
 use Rattle.mm_manager.proofs.Lemmas.Forgets.{NamesFollow, ended_names, abort_keeps_names}
 use Rattle.mm_manager.proofs.hand_over.abort.Goals as goal
-
-pub forget_each-requires : goal.forget_each-requires
-forget_each-requires c =
-    let s = c.args.table.now.table in
-    let leaves = abort_leaves s c.abort-answer.new.self.table c.args.key c.abort-answer.result c.is_at_rest.ensures.laws c.abort-answer.ensures.makes in
-    λ n among.
-    let mine : owner_of s n ≡ Some c.args.key = subst (λ (t : TableState). owner_of t n ≡ Some c.args.key) c.table.ensures ((c.owned_by.ensures.listed n).0 (subst (Among n) c.deref.ensures.value among)) in
-    omega (arith, owner_in_range s c.is_at_rest.ensures.laws n c.args.key mine, ap (λ (t : TableState). t.config.resources) c.table-2.ensures, ap (λ g. g.resources) leaves.config)
 
 follow : (c : goal.After-forget_each) → NamesFollow c.args.names.now c.abort-answer.new.self.table c.forget_each.new.names
 follow c =

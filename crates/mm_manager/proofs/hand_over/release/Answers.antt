@@ -1,18 +1,11 @@
-use Rattle.std.proofs.Common.{ap, ◌∙◌, arith}
+use Rattle.std.proofs.Common.{ap, ◌∙◌}
 use Rattle.mm_names.specs.Names.{name_of}
-use Rattle.mm_names.proofs.Lemmas.Index.{some_in_range}
 use Rattle.mm_rules.specs.TableState.{TableState}
 use Rattle.mm_manager.specs.private.Numbers.{forgotten}
 use Rattle.mm_manager.proofs.Lemmas.Owners.{release_leaves}
 use Rattle.mm_manager.proofs.Lemmas.Forgets.{NamesFollow, released_names, release_keeps_names}
 use Rattle.mm_manager.proofs.Lemmas.Numbers.{is_some_not_none}
 use Rattle.mm_manager.proofs.hand_over.release.Goals as goal
-
-pub forget_unowned-requires : goal.forget_unowned-requires
-forget_unowned-requires c =
-    let s = c.args.table.now.table in
-    let leaves = release_leaves s c.release-answer.new.self.table c.args.key c.args.number c.release-answer.result c.is_at_rest.ensures.laws c.release-answer.ensures.makes in
-    omega (arith, some_in_range c.args.names.now c.args.number c.requires.named, c.requires.numbered.as_many, ap (λ (t : TableState). t.config.resources) c.table.ensures, ap (λ g. g.resources) leaves.config)
 
 follow : (c : goal.After-forget_unowned) → NamesFollow c.args.names.now c.release-answer.new.self.table c.forget_unowned.new.names
 follow c =

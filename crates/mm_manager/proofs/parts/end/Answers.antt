@@ -1,4 +1,4 @@
-use Rattle.std.proofs.Common.{Ok, length, sym, subst, refl, List}
+use Rattle.std.proofs.Common.{Ok, Err, length, sym, subst, refl, List}
 use Rattle.mm_rules.specs.Event.{Finish}
 use Rattle.mm_settled.specs.Calls.{Makes}
 use Rattle.mm_settled.specs.Grants.{grants, EndsWaits}
@@ -7,7 +7,8 @@ use Rattle.mm_manager.specs.private.Due.{AreGranted, EndsDue}
 use Rattle.mm_manager.specs.private.Handed.{Handed}
 use Rattle.mm_manager.specs.private.HandsDown.{IsEnding}
 use Rattle.mm_manager.proofs.Lemmas.HandsDown.{finish_hands_down}
-use Rattle.mm_manager.proofs.Lemmas.Handed.{event_granted, handed_on}
+use Rattle.mm_manager.proofs.Lemmas.Handed.{active_not_due, event_granted, handed_on}
+use Rattle.mm_manager.proofs.Lemmas.Limits.{finish_refusal}
 use Rattle.mm_manager.proofs.Lemmas.Owners.{finish_leaves}
 use Rattle.mm_manager.proofs.parts.end.Goals as goal
 
@@ -37,7 +38,7 @@ handed c =
     let passed : EndsDue mid c.finish.new.names (grants s mid) c.args.lists.now.due.items (length c.pass_on.new.lists.granted.items) c.pass_on.new.table.table c.pass_on.new.names c.pass_on.new.lists
     = subst (λ (gs : List Grant). EndsDue mid c.finish.new.names gs c.args.lists.now.due.items (length c.pass_on.new.lists.granted.items) c.pass_on.new.table.table c.pass_on.new.names c.pass_on.new.lists) c.finish.ensures.told.granted c.pass_on.ensures in
     handed_on (Finish k) s c.args.names.now c.args.lists.now.due.items tt k.process (IsEnding k) mid c.finish.new.names made
-    (finish_hands_down s mid k (grants s mid) c.is_at_rest.ensures.laws ends refl made) c.finish.ensures.names c.finish.ensures.numbered c.requires.parts.due c.requires.idle (length c.pass_on.new.lists.granted.items)
+    (finish_hands_down s mid k (grants s mid) c.is_at_rest.ensures.laws ends refl made) c.finish.ensures.names c.finish.ensures.numbered c.requires.parts.due (active_not_due s c.args.lists.now.due.items k.process c.requires.parts.due c.requires.active) (length c.pass_on.new.lists.granted.items)
     c.pass_on.new.table.table c.pass_on.new.names c.pass_on.new.lists passed refl
 
 pub returns-in-Ok-clause-handed : goal.returns-in-Ok-clause-handed
@@ -45,3 +46,11 @@ returns-in-Ok-clause-handed c = handed c
 
 pub returns-in-Ok-clause-parts : goal.returns-in-Ok-clause-parts
 returns-in-Ok-clause-parts c = (handed c).parts
+
+pub returns-in-Err-clause-refused : goal.returns-in-Err-clause-refused
+returns-in-Err-clause-refused c =
+    let s = c.args.table.now.table in
+    let k = c.args.key in
+    let e = c.in-Err.refusal in
+    let refuses : Makes (Finish c.args.key) s (Err e) c.finish.new.table.table = rw c.in-Err.is at c.finish.ensures.makes in
+    rw c.of_table.ensures (finish_refusal s k c.requires.live c.requires.active c.finish.new.table.table e refuses)

@@ -1,4 +1,8 @@
+use Rattle.std.proofs.Common.{◌≡◌, Ok, sym, ap, ◌∙◌}
+use Rattle.mm_rules.specs.TableState.{TableState}
+use Rattle.mm_manager.specs.Permit.{may_ask}
 use Rattle.mm_manager.proofs.Lemmas.Asked.{RequestKeeps, asked_keeps, due_still}
+use Rattle.mm_manager.proofs.Lemmas.May.{asks}
 use Rattle.mm_manager.proofs.parts.lock.Goals as goal
 
 keeps : (c : goal.After-request) → RequestKeeps c.args.table.now.table c.request.new.table.table
@@ -11,8 +15,10 @@ returns-clause-laws c = (c.is_at_rest.ensures.laws, (keeps c).laws)
 
 pub returns-clause-parts : goal.returns-clause-parts
 returns-clause-parts c =
+    let s = c.args.table.now.table in
     let was = c.requires.fits in
     let cleared = c.clear.ensures in
+    let may : may_ask s c.args.key ≡ Ok tt = ap (λ (t : TableState). may_ask t c.args.key) (sym c.table.ensures) ∙ sym c.in_ok-may_ask.ensures in
     record {
       numbered = c.request.ensures.numbered;
       fits = rw (keeps c).config record {
@@ -21,5 +27,5 @@ returns-clause-parts c =
         due = rw cleared.due was.due;
         owned = rw cleared.owned was.owned;
       };
-      due = rw cleared.due (due_still c.args.table.now.table c.request.new.table.table c.args.lists.now.due.items (keeps c) c.requires.due);
+      due = rw cleared.due (due_still s c.request.new.table.table c.args.lists.now.due.items c.args.key (keeps c) c.request.ensures.others (asks s c.args.key may).idle c.requires.due);
     }

@@ -1,13 +1,15 @@
-use Rattle.std.proofs.Common.{Ok, length, sym, subst, refl, List}
+use Rattle.std.proofs.Common.{Ok, Err, length, sym, subst, refl, List}
 use Rattle.mm_rules.specs.Event.{Release}
 use Rattle.mm_settled.specs.Calls.{Makes}
 use Rattle.mm_settled.specs.Grants.{grants, EndsWaits}
 use Rattle.mm_settled.specs.declared.reply.Grant.{Grant}
+use Rattle.mm_settled.proofs.Lemmas.Ends.{owner_in_range}
 use Rattle.mm_manager.specs.private.Due.{AreGranted, EndsDue}
 use Rattle.mm_manager.specs.private.Handed.{Handed}
 use Rattle.mm_manager.specs.private.HandsDown.{IsReleased}
 use Rattle.mm_manager.proofs.Lemmas.HandsDown.{release_hands_down}
-use Rattle.mm_manager.proofs.Lemmas.Handed.{event_granted, handed_on}
+use Rattle.mm_manager.proofs.Lemmas.Handed.{active_not_due, event_granted, handed_on}
+use Rattle.mm_manager.proofs.Lemmas.Limits.{owner_owns, release_refusal}
 use Rattle.mm_manager.proofs.Lemmas.Owners.{release_leaves}
 use Rattle.mm_manager.proofs.parts.release_number.Goals as goal
 
@@ -37,7 +39,7 @@ handed c =
     let passed : EndsDue mid c.release.new.names (grants s mid) c.args.lists.now.due.items (length c.pass_on.new.lists.granted.items) c.pass_on.new.table.table c.pass_on.new.names c.pass_on.new.lists
     = subst (λ (gs : List Grant). EndsDue mid c.release.new.names gs c.args.lists.now.due.items (length c.pass_on.new.lists.granted.items) c.pass_on.new.table.table c.pass_on.new.names c.pass_on.new.lists) c.release.ensures.told.granted c.pass_on.ensures in
     handed_on (Release k c.args.number) s c.args.names.now c.args.lists.now.due.items c.in-Ok.field-0 k.process (IsReleased c.args.number) mid c.release.new.names made
-    (release_hands_down s mid k (grants s mid) c.is_at_rest.ensures.laws ends refl c.args.number c.in-Ok.field-0 made) c.release.ensures.names c.release.ensures.numbered c.requires.parts.due c.requires.idle (length c.pass_on.new.lists.granted.items)
+    (release_hands_down s mid k (grants s mid) c.is_at_rest.ensures.laws ends refl c.args.number c.in-Ok.field-0 made) c.release.ensures.names c.release.ensures.numbered c.requires.parts.due (active_not_due s c.args.lists.now.due.items k.process c.requires.parts.due c.requires.active) (length c.pass_on.new.lists.granted.items)
     c.pass_on.new.table.table c.pass_on.new.names c.pass_on.new.lists passed refl
 
 pub returns-in-Ok-clause-handed : goal.returns-in-Ok-clause-handed
@@ -45,3 +47,14 @@ returns-in-Ok-clause-handed c = (c.in-Ok.field-0, handed c)
 
 pub returns-in-Ok-clause-parts : goal.returns-in-Ok-clause-parts
 returns-in-Ok-clause-parts c = (handed c).parts
+
+pub returns-in-Err-clause-refused : goal.returns-in-Err-clause-refused
+returns-in-Err-clause-refused c =
+    let s = c.args.table.now.table in
+    let k = c.args.key in
+    let e = c.in-Err.refusal in
+    let refuses : Makes (Release c.args.key c.args.number) s (Err e) c.release.new.table.table = rw c.in-Err.is at c.release.ensures.makes in
+    let laws = c.is_at_rest.ensures.laws in
+    let live = laws.lawful.well_formed.owners c.args.number k c.requires.owned in
+    let mine = owner_owns s k c.args.number c.requires.owned in
+    rw c.of_table.ensures (release_refusal s k live c.requires.active c.args.number (owner_in_range s laws c.args.number k c.requires.owned) mine c.release.new.table.table e refuses)

@@ -1,13 +1,13 @@
-use Rattle.std.proofs.Common.{OnOk, refl, subst}
+use Rattle.std.proofs.Common.{refl, subst}
 use Rattle.mm_manager.specs.LockState.{LockState}
-use Rattle.mm_manager.specs.Calls.{Unlocks}
-use Rattle.mm_manager.proofs.Lemmas.Told.{released_unlocks, on_ok}
+use Rattle.mm_manager.specs.Calls.{UnlocksName}
+use Rattle.mm_manager.specs.private.Aborts.{seen}
+use Rattle.mm_manager.proofs.Lemmas.Aborted.{unlocks}
 use Rattle.mm_manager.proofs.manager.LockManager.unlock.Goals as goal
 
-pub returns-clause-unlocks : goal.returns-clause-unlocks
-returns-clause-unlocks c =
-    let new : LockState = record { table = c.unlock.new.table.table; names = c.unlock.new.names; due = c.unlock.new.lists.due.items; granted = c.unlock.new.lists.granted.items; aborted = c.unlock.new.lists.aborted.items } in
+pub returns : goal.returns
+returns c =
     let i = c.self.inside in
-    let old : LockState = record { table = i.table.table; names = i.names; due = i.lists.due.items; granted = i.lists.granted.items; aborted = i.lists.aborted.items } in
-    subst (λ (m : LockState). OnOk c.unlock.result (Unlocks m c.args.key c.args.name.now new)) c.self.view_is
-    (on_ok c.unlock.result _ _ (λ done. released_unlocks old new c.args.key c.unlock.new.lists refl refl c.args.name.now done.0 done.2.0 c.unlock.ensures.laws done.1 done.2.1) c.unlock.ensures.handed)
+    let now = c.unlock.new in
+    subst (λ (m : LockState). UnlocksName m c.args.key c.args.name.now c.unlock.result (seen now.table.table now.names now.lists)) c.self.view_is
+    (unlocks i.table.table now.table.table i.names now.names i.lists i.lists now.lists c.args.key refl c.args.name.now c.unlock.result c.unlock.ensures.handed c.unlock.ensures.untouched c.unlock.ensures.refused)

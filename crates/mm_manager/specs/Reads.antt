@@ -1,0 +1,41 @@
+-- What the reads answer.
+use Rattle.std.specs.Prelude.{◌≡◌, ℕ, true, false, List, Option, Some, None, Result, Ok, Err, option_map, option_and_then}
+use Rattle.std.specs.List.{filter_map, range_with_len}
+use Rattle.mm_arena.specs.declared.key.Key.{Key}
+use Rattle.mm_marks.specs.Marks.{has}
+use Rattle.mm_rules.specs.TableState.{TableState, key_of, is_live, owner_of, wait_of, has_verdict}
+use Rattle.mm_manager.specs.LockState.{LockState}
+use Rattle.mm_manager.specs.declared.refusal.Refusal.{Refusal}
+use Rattle.mm_manager.specs.declared.refusal.Refusal.TheVariants.{NoTransaction}
+use Rattle.mm_manager.specs.declared.reply.Status.{Status}
+use Rattle.mm_manager.specs.declared.reply.Status.TheVariants as status
+use Rattle.mm_manager.specs.declared.reply.Wait.{Wait}
+
+-- process p waits for the name of number n, which h owns
+pub record IsHeldUp (m : LockState) (p n : ℕ) (h : Key) : Type 0 where
+  pub waits : wait_of m.table p ≡ Some n
+  pub holder : owner_of m.table n ≡ Some h
+
+-- what a live transaction does
+abbrev pub Does : LockState → ℕ → Status → Type 0
+Does m p status.Active = wait_of m.table p ≡ None
+Does m p (status.Waiting n h aborting) = IsHeldUp m p n h × (has_verdict m.table p ≡ false) × (aborting ≡ has m.due p)
+Does m p (status.Deadlock n h) = IsHeldUp m p n h × (has_verdict m.table p ≡ true)
+
+-- what `status` answers
+abbrev pub HasStatus : LockState → Key → Result Status Refusal → Type 0
+HasStatus m k (Ok told) = (is_live m.table k ≡ true) × Does m k.process told
+HasStatus m k (Err refusal) = (is_live m.table k ≡ false) × (refusal ≡ NoTransaction)
+
+-- ---- the wait-for graph
+
+abbrev pub arrow : TableState → ℕ → ℕ → Option Wait
+arrow s p n = option_map (λ h. record { key = key_of s p; number = n; holder = h }) (owner_of s n)
+
+-- for what process p waits, and whose that is
+abbrev pub wait_at : TableState → ℕ → Option Wait
+wait_at s p = option_and_then (arrow s p) (wait_of s p)
+
+-- each who waits, for which number, and whose that is, by rising process
+abbrev pub waits_of : TableState → List Wait
+waits_of s = filter_map (wait_at s) (range_with_len 0 s.config.processes)

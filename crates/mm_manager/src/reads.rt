@@ -1,0 +1,76 @@
+//! What can be read of a manager.
+ghost use Rattle.std.specs.Prelude.{◌≡◌, ◌≤◌, Some, IsSome, length, vec_capacity};
+ghost use Rattle.mm_rules.specs.TableState.{owner_of};
+ghost use Rattle.mm_manager.specs.Reads.{HasStatus, wait_at, waits_of};
+ghost use Rattle.mm_manager.specs.private.Reads.{marked};
+
+use crate::numbers::owner_of;
+use crate::{Key, Refusal, Status, Wait};
+use mm_settled::Table;
+use mm_table::Mode;
+
+/// What a transaction does. `due` says of each process whether the abort of its transaction is due.
+pub fn status(table: &Table, due: &[bool], key: Key) -> Result<Status, Refusal>
+    requires { length due.now ≡ table.now.config.processes }
+    ensures { HasStatus (marked table.now due.now) key result }
+{
+    table.keeps_laws();
+    let Ok(state) = table.state(key) else {
+        return Err(Refusal::NoTransaction);
+    };
+    match state.mode {
+        Mode::Active => Ok(Status::Active),
+        Mode::Waiting(number) => Ok(Status::Waiting {
+            number,
+            holder: holder(table, number),
+            aborting: due[key.process as usize],
+        }),
+        Mode::Convicted(number) => Ok(Status::Deadlock {
+            number,
+            holder: holder(table, number),
+        }),
+    }
+}
+
+/// The owner of a number that is owned.
+fn holder(table: &Table, number: u32) -> Key
+    requires { IsSome (owner_of table.now number) }
+    ensures { owner_of table.now number ≡ Some result }
+{
+    match owner_of(table, number) {
+        Some(key) => key,
+        None => unreachable!(),
+    }
+}
+
+/// Lists each who waits, by rising process.
+pub fn list_waits(table: &Table, waits: &mut Vec<Wait>)
+    requires { table.now.config.processes ≤ vec_capacity waits.old }
+    ensures waits { waits.new.items ≡ waits_of table.now }
+    ensures room { vec_capacity waits.new ≡ vec_capacity waits.old }
+{
+    waits.clear();
+    for process in 0..table.config().processes {
+        if let Some(wait) = wait_at(table, process) {
+            waits.push_reserved(wait);
+        }
+    }
+}
+
+/// For what a process waits, and whose that is.
+fn wait_at(table: &Table, process: u32) -> Option<Wait>
+    ensures { result ≡ wait_at table.now process }
+{
+    table.keeps_laws();
+    let key = table.tenant(process)?;
+    let number = match table.state(key).ok()?.mode {
+        Mode::Active => return None,
+        Mode::Waiting(number) | Mode::Convicted(number) => number,
+    };
+    let holder = owner_of(table, number)?;
+    Some(Wait {
+        key,
+        number,
+        holder,
+    })
+}
