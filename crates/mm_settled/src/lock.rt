@@ -11,6 +11,9 @@ use crate::settle::{has_room, settle_listing};
 use crate::{Key, Locked, Refusal, Table};
 use mm_table::Acquired;
 
+/// Where no count is this or more, many more events can be counted.
+const FAR_BELOW_LIMIT: u64 = 1 << 61;
+
 /// Asks for the resource. Where the transaction waits, the table is settled.
 #[inline]
 pub fn lock(
@@ -39,16 +42,28 @@ pub fn lock(
     }
 }
 
-/// Whether somebody owns the resource, and a wait for it and the settle after it can no longer be counted.
+/// Whether somebody owns the resource, and a wait for it and the settle after it can no longer be counted. Far below the limit of the
+/// counts one test says that they can.
 #[inline]
 fn lacks_room(table: &Table, resource: u32) -> bool
+    ensures { result ≡ (not (has_room table.now) && is_owned table.now resource) }
+{
+    let totals = table.totals();
+    if (totals.accepted >= FAR_BELOW_LIMIT) | (totals.verdicts >= FAR_BELOW_LIMIT) {
+        return lacks_room_near_limit(table, resource);
+    }
+    false
+}
+
+/// `lacks_room`, by the limit itself.
+#[inline(never)]
+fn lacks_room_near_limit(table: &Table, resource: u32) -> bool
     ensures { result ≡ (not (has_room table.now) && is_owned table.now resource) }
 {
     !has_room(table) && is_owned(table, resource)
 }
 
 /// Whether the resource has an owner.
-#[inline(never)]
 fn is_owned(table: &Table, resource: u32) -> bool
     ensures { result ≡ is_owned table.now resource }
 {

@@ -20,11 +20,7 @@ pub fn has_room(table: &Table) -> bool
     ensures { result ≡ has_room table.now }
 {
     let totals = table.totals();
-    // The test that the table makes, which so serves for both.
-    if (totals.accepted >= COUNT_LIMIT) | (totals.verdicts >= COUNT_LIMIT) {
-        return false;
-    }
-    totals.accepted != COUNT_LIMIT - 1
+    totals.accepted < COUNT_LIMIT - 1 && totals.verdicts < COUNT_LIMIT
 }
 
 /// Settles a table of which one more event can be counted, and lists whom that changes.
