@@ -6,13 +6,11 @@
 
 mod arena;
 mod key;
-mod law;
-mod memory;
+mod laws;
 mod shelf;
 mod slot;
 
 pub use arena::{Arena, MAX_CAPACITY};
 pub use key::Key;
-pub use law::removed_is_never_live;
-pub use memory::Memory;
+pub use laws::removed_is_never_live;
 pub use shelf::Shelf;

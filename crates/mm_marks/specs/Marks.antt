@@ -11,7 +11,7 @@ abbrev pub HasNoneFrom : List Bool → ℕ → Type 0
 HasNoneFrom set from = (k : ℕ) → from ≤ k → has set k ≡ false
 
 -- n is the first member at or above this place
-pub record IsNext (set : List Bool) (from n : ℕ) : Type 0 where
+pub record IsNextMember (set : List Bool) (from n : ℕ) : Type 0 where
   pub at_least : from ≤ n
   pub member : has set n ≡ true
   pub first : (k : ℕ) → from ≤ k → k < n → has set k ≡ false

@@ -31,8 +31,8 @@ head [] = None
 head (r ∷ rs) = Some r
 
 -- wherever r stands in a list, this follows it
-abbrev pub IsNext : Ownership → ℕ → Option ℕ → Type 0
-IsNext s r next =
+abbrev pub FollowsInList : Ownership → ℕ → Option ℕ → Type 0
+FollowsInList s r next =
     (n : ℕ) (earlier later : List ℕ) → list_at s n ≡ earlier ++ r ∷ later → next ≡ head later
 
 -- so many processes, and so many resources that nobody owns

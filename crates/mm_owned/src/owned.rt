@@ -4,7 +4,7 @@ ghost use Rattle.std.specs.Prelude.{◌≡◌, ◌≤◌, ◌<◌, length, vec_c
 ghost use Rattle.std.specs.Option.{ForSome};
 ghost use Rattle.mm_links.specs.Links.{with_before, with_next};
 ghost use Rattle.mm_links.specs.Chain.{first_with_next};
-ghost use Rattle.mm_owned.specs.Owned.{unowned, owner_at, list_at, head, given, freed, IsNext, ListsMatchOwners};
+ghost use Rattle.mm_owned.specs.Owned.{unowned, owner_at, list_at, head, given, freed, FollowsInList, ListsMatchOwners};
 ghost use Rattle.mm_owned.specs.private.Linked.{links_of, owners_of};
 
 use crate::owner::Owner;
@@ -96,7 +96,7 @@ impl Owned {
     #[inline]
     pub fn next(&self, resource: u32) -> Option<u32>
         requires { resource < length self.now.owners }
-        ensures listed { IsNext self.now resource result }
+        ensures listed { FollowsInList self.now resource result }
         ensures unowned { owner_at self.now resource ≡ None → IsNone result }
         ensures matched { ListsMatchOwners self.now }
     {

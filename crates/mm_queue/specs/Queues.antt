@@ -35,8 +35,8 @@ abbrev pub IsOccupied : Queues → ℕ → Type 0
 IsOccupied q process = (key : Key) × (key.process ≡ process) × Stands q key
 
 -- wherever the key stands in a list, this follows it
-abbrev pub IsNext : Queues → Key → Option Key → Type 0
-IsNext q key next =
+abbrev pub IsNextKey : Queues → Key → Option Key → Type 0
+IsNextKey q key next =
     (list : ℕ) (before after : List Key) → queue q list ≡ before ++ key ∷ after → next ≡ first after
 
 -- wherever a key of this process stands in a list, `next` is the process of the one that follows it

@@ -2,13 +2,13 @@
 ghost use Rattle.std.specs.Prelude.{◌≡◌, ◌<◌, ◌≤◌, ◌↔◌, ◌++◌, ◌∷◌, [], length, drop, IsTrue, IsNone, IfOk, MatchOption};
 ghost use Rattle.std.specs.Bool.{OnFalse};
 ghost use Rattle.mm_queue.specs.Members.{Among};
-ghost use Rattle.mm_queue.specs.Queues.{queue, first, empty_queues, with_queue, Stands, IsOccupied, IsNext, IsNextProcess, Removes, StandsOnce};
+ghost use Rattle.mm_queue.specs.Queues.{queue, first, empty_queues, with_queue, Stands, IsOccupied, IsNextKey, IsNextProcess, Removes, StandsOnce};
 
 use crate::ends::Ends;
-use crate::entry::{Entry, set_before, set_next};
-use mm_arena::{Key, MAX_CAPACITY, Memory, Shelf};
+use crate::standing::{Standing, set_before, set_next};
+use mm_arena::{Key, MAX_CAPACITY, Shelf};
 use mm_links::{Link, Links};
-use std::alloc::Global;
+use std::alloc::{AllocError, Global};
 use std::marker::Model;
 
 /// Lists of keys, in each of which the keys stand in the order in which they came. A process stands in at most one list, under one key,
@@ -16,7 +16,7 @@ use std::marker::Model;
 #[derive(Drop)]
 pub struct Lists {
     ends: Vec<Ends>,
-    entries: Shelf<Entry>,
+    entries: Shelf<Standing>,
 }
 
 impl Model for Lists {
@@ -34,14 +34,14 @@ impl Lists {
     /// This many lists without keys, for this many processes, in `O(lists + processes)`. It takes memory twice, and no later call takes any.
     ///
     /// `Err` only where that memory is refused.
-    pub fn new(alloc: Global, lists: u32, processes: u32) -> Result<Lists, Memory>
+    pub fn new(alloc: Global, lists: u32, processes: u32) -> Result<Lists, AllocError>
         requires some_lists { 1 ≤ lists }
         requires lists_in_range { lists ≤ MAX_CAPACITY }
         requires some_processes { 1 ≤ processes }
         requires processes_in_range { processes ≤ MAX_CAPACITY }
         ensures { IfOk result (λ made. made ≡ empty_queues lists processes) }
     {
-        let mut ends = Vec::with_capacity(alloc, lists as usize).map_err(|_| Memory)?;
+        let mut ends = Vec::with_capacity(alloc, lists as usize)?;
         for _ in 0..lists {
             ends.push_reserved(Ends::NONE);
         }
@@ -64,7 +64,7 @@ impl Lists {
         ends.len += 1;
         self.entries.put(
             key,
-            Entry {
+            Standing {
                 list,
                 links: Links {
                     before: last,
@@ -92,7 +92,7 @@ impl Lists {
     /// The key after this one in its list, in constant time. `None` for the last of a list, and for a key that stands in no list.
     #[inline]
     pub fn next(&self, key: Key) -> Option<Key>
-        ensures listed { IsNext self.now key result }
+        ensures listed { IsNextKey self.now key result }
         ensures absent { ¬ Stands self.now key → IsNone result }
     {
         let process = self.entries.get(key)?.links.next.get()?;

@@ -6,5 +6,5 @@ pub mod Event
 pub mod Laws
 pub mod Victims
 pub mod Rest
--- private: what private functions' contracts cite; no public clause cites these
-pub mod private
+-- what a table is between the parts of an event, for the contracts of whoever keeps a table; no public clause cites these
+pub mod Stages

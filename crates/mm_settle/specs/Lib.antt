@@ -1,4 +1,4 @@
 pub mod Touched
 pub mod Shown
--- private: what private functions of mm_table cite; no public clause cites these
-pub mod private
+-- what the parts of a settle and of a hand-over leave, for the contracts of whoever keeps a table; no public clause cites these
+pub mod Steps

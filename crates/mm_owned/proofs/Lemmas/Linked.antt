@@ -12,7 +12,7 @@ use Rattle.mm_links.specs.Links.{unlinked, next_of}
 use Rattle.mm_links.specs.Chain.{head_or, walk, IsChain}
 use Rattle.mm_links.proofs.Lemmas.Ends.{Among-head_or}
 use Rattle.mm_links.proofs.Lemmas.Chain.{IsChain-kept, IsChain-cut, walk-IsChain}
-use Rattle.mm_owned.specs.Owned.{Ownership, owner_at, list_at, head, unowned, IsNext}
+use Rattle.mm_owned.specs.Owned.{Ownership, owner_at, list_at, head, unowned, FollowsInList}
 use Rattle.mm_owned.specs.private.Linked.{AreLinked}
 use Rattle.mm_owned.proofs.Lemmas.ListsMatchOwners.{in_range, one_list, list_at-unowned, unowned_matches}
 
@@ -67,8 +67,8 @@ module _ (s : Ownership) (firsts : List (Option ℕ)) (links : List Links) (link
     pub link_is : slice_get links r ≡ Some link
     link_is = slice_get-get_or links r other (omega (arith, linked.size)) ∙ ap Some (sym read)
 
-    pub IsNext-link : IsNext s r link.next
-    IsNext-link n earlier later whole =
+    pub FollowsInList-link : FollowsInList s r link.next
+    FollowsInList-link n earlier later whole =
         let here = IsChain-cut links None earlier r later None (subst (λ rs. IsChain links None rs None) whole (linked.chains n)) in
         ap (λ l. l.next) (same_Some link _ (sym link_is ∙ here.link)) ∙ head_or-None later
 

@@ -9,7 +9,7 @@ use Rattle.mm_lists.proofs.Lemmas.Among.{among_right}
 use Rattle.mm_lists.proofs.Lemmas.NoRepeat.{length-NoRepeat}
 use Rattle.mm_lists.proofs.Lemmas.Cut.{cut_at, AreApart, AreApart-cut}
 use Rattle.mm_links.proofs.Lemmas.Ends.{Among-head_or}
-use Rattle.mm_owned.specs.Owned.{Ownership, ListsMatchOwners, process_at, list_at, head, IsNext}
+use Rattle.mm_owned.specs.Owned.{Ownership, ListsMatchOwners, process_at, list_at, head, FollowsInList}
 use Rattle.mm_owned.proofs.Lemmas.Linked.{head_or-None}
 
 -- the part of a list from this one on
@@ -39,7 +39,7 @@ rest_from-after earlier r (q ∷ later) apart =
     rest_from-append earlier (r ∷ q ∷ later) q (λ among. apart.disjoint q among (inl refl))
     ∙ rw (ne_eqb r q (λ same. apart.not_later (inl same))) (rest_from-head (q ∷ later))
 
-module _ (s : Ownership) (n r : ℕ) (next : Option ℕ) (among : Among r (list_at s n)) (is_next : IsNext s r next) where
+module _ (s : Ownership) (n r : ℕ) (next : Option ℕ) (among : Among r (list_at s n)) (is_next : FollowsInList s r next) where
   -- what follows r is in its list
   pub Among-next : (q : ℕ) → next ≡ Some q → Among q (list_at s n)
   Among-next q is =

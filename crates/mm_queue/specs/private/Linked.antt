@@ -7,30 +7,30 @@ use Rattle.mm_lists.specs.Members.{Among, NoRepeat}
 use Rattle.mm_links.specs.declared.links.Links.{Links}
 use Rattle.mm_links.specs.Links.{unlinked}
 use Rattle.mm_links.specs.Chain.{head_or, last_or, walk, IsChain}
-use Rattle.mm_queue.specs.declared.entry.Entry.{Entry}
+use Rattle.mm_queue.specs.declared.standing.Standing.{Standing}
 use Rattle.mm_queue.specs.declared.ends.Ends.{Ends}
 use Rattle.mm_queue.specs.Queues.{Queues, queue}
 
 -- a key of this process has an entry
-abbrev pub HasEntry : Entries Entry → ℕ → Type 0
+abbrev pub HasEntry : Entries Standing → ℕ → Type 0
 HasEntry s process = option_map (λ e. e.0.process) (entry_at s process) ≡ Some process
 
 -- the links of what a process has
-abbrev pub links_in : Option (Key × Entry) → Links
+abbrev pub links_in : Option (Key × Standing) → Links
 links_in None = unlinked
 links_in (Some e) = e.1.links
 
 -- its key, and the list in which that stands
-abbrev pub tag_in : Option (Key × Entry) → Option (Key × ℕ)
+abbrev pub tag_in : Option (Key × Standing) → Option (Key × ℕ)
 tag_in None = None
 tag_in (Some e) = Some (e.0, e.1.list)
 
 -- the links of each process
-abbrev pub links_of : Entries Entry → List Links
+abbrev pub links_of : Entries Standing → List Links
 links_of s = map links_in s
 
 -- the key of each process, and the list in which that stands
-abbrev pub tags_of : Entries Entry → List (Option (Key × ℕ))
+abbrev pub tags_of : Entries Standing → List (Option (Key × ℕ))
 tags_of s = map tag_in s
 
 -- those of one process
@@ -55,7 +55,7 @@ abbrev pub keys_along : List Links → List (Option (Key × ℕ)) → Ends → L
 keys_along links tags ends = map (λ process. key_in process (tag_at tags process)) (walk links ends.len ends.front)
 
 -- what a contract sees of the fields
-abbrev pub seen : List Ends → Entries Entry → Queues
+abbrev pub seen : List Ends → Entries Standing → Queues
 seen ends s = record { lists = map (keys_along (links_of s) (tags_of s)) ends; processes = length s }
 
 -- the ends, the links and the tags keep these queues
@@ -70,5 +70,5 @@ pub record AreLinked (q : Queues) (ends : List Ends) (links : List Links) (tags 
   pub small : q.processes ≤ 1048576
 
 -- the fields keep what a contract sees of them
-abbrev pub AreConsistent : List Ends → Entries Entry → Type 0
+abbrev pub AreConsistent : List Ends → Entries Standing → Type 0
 AreConsistent ends s = AreLinked (seen ends s) ends (links_of s) (tags_of s)

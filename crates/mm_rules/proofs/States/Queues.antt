@@ -6,7 +6,7 @@ use Rattle.mm_label.specs.Label.{opening_label}
 use Rattle.mm_lists.specs.Members.{Among, NoRepeat}
 use Rattle.mm_rules.specs.TableState.{TableState, Wait}
 use Rattle.mm_rules.specs.Change.{block, block_fits, label_against}
-use Rattle.mm_rules.specs.private.Stages.{NoneIs}
+use Rattle.mm_rules.specs.Stages.{NoneIs}
 
 pub once_drop : (xs : List Wait) (i : ℕ) → NoRepeat (map (λ w. w.key.process) xs) → NoRepeat (map (λ w. w.key.process) (drop i xs))
 once_drop xs zero once = once

@@ -6,7 +6,7 @@ use Rattle.mm_rules.specs.TableState.{TableState, waiting_processes}
 use Rattle.mm_rules.specs.Change.{can_detect, detect, swept}
 use Rattle.mm_rules.specs.Event.{counts_exhausted, Settle, Step, Gives, outcome}
 use Rattle.mm_rules.specs.declared.refusal.Refusal.TheVariants.{CountsExhausted}
-use Rattle.mm_rules.specs.private.Stages.{IsSwept}
+use Rattle.mm_rules.specs.Stages.{IsSwept}
 use Rattle.mm_rules.proofs.States.Outcome.{counting}
 
 pub below_limit : (s : TableState) → counts_exhausted s ≡ false → (s.totals.accepted < 2 ^ 62) × (s.totals.verdicts < 2 ^ 62)

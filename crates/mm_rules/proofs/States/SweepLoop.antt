@@ -4,7 +4,7 @@ use Rattle.std.proofs.lemmas.Bool.{cases_eq}
 use Rattle.mm_rules.specs.TableState.{TableState, waiting_processes}
 use Rattle.mm_rules.specs.Change.{sweep, sweep_raises, swept, total_raises}
 use Rattle.mm_rules.specs.Laws.{Laws, most_raises}
-use Rattle.mm_rules.specs.private.Stages.{IsSwept}
+use Rattle.mm_rules.specs.Stages.{IsSwept}
 use Rattle.mm_rules.proofs.States.Sweep.{swept_same_waits, raised_nothing}
 use Rattle.mm_rules.proofs.States.SweepRaises.{sweep_raises_bound, most_raises_bound}
 

@@ -5,7 +5,7 @@ use Rattle.std.proofs.lemmas.Bool.{cases_Bool}
 use Rattle.mm_label.specs.Label.{Label}
 use Rattle.mm_rules.specs.TableState.{TableState, Wait, waiters_of, waiting_processes, resources_of}
 use Rattle.mm_rules.specs.Change.{activate, block, give_to, hand_over, free_slot, vacate, greater_label, transmit, can_detect, detect, swept}
-use Rattle.mm_rules.specs.private.Stages.{blocked_on, IsSwept}
+use Rattle.mm_rules.specs.Stages.{blocked_on, IsSwept}
 use Rattle.mm_rules.proofs.States.Transmit.{shown}
 use Rattle.mm_rules.proofs.States.Detect.{detect_still, detect_convicts}
 

@@ -8,7 +8,7 @@ use Rattle.mm_rules.specs.Event.{acquire_change}
 use Rattle.mm_rules.specs.Laws.{WellFormed}
 use Rattle.mm_rules.proofs.States.Lookups.{waits_here, held}
 use Rattle.mm_settle.specs.Touched.{IsUnchanged, Touches}
-use Rattle.mm_settle.specs.private.Added.{Adds}
+use Rattle.mm_settle.specs.Steps.Added.{Adds}
 use Rattle.mm_settle.proofs.Lemmas.Waiters.{waited_front}
 use Rattle.mm_settle.proofs.Lemmas.Touched.{unchanged_then, touches_nobody, touches_one, block_else, block_rises, owner_else}
 

@@ -5,7 +5,7 @@ use Rattle.mm_lists.specs.Members.{Among}
 use Rattle.mm_lists.proofs.Lemmas.Among.{among_append, among_left}
 use Rattle.mm_rules.specs.TableState.{Wait}
 use Rattle.mm_marks.specs.Marks.{has}
-use Rattle.mm_settle.specs.private.Added.{Adds, AddsAll}
+use Rattle.mm_settle.specs.Steps.Added.{Adds, AddsAll}
 use Rattle.mm_settle.proofs.Lemmas.Passes.{has_added, has_apart}
 
 pub adds_set : (old new : List Bool) (n : ℕ) → n < length old → new ≡ slice_set old n true → Adds n old new

@@ -7,9 +7,9 @@ use Rattle.mm_rules.specs.TableState.{TableState, has_verdict, holder_of}
 use Rattle.mm_rules.specs.Change.{can_transmit, can_detect, detect}
 use Rattle.mm_lists.proofs.Lemmas.Set.{true_still}
 use Rattle.mm_rules.proofs.States.Detect.{detect_still, detect_convicts}
-use Rattle.mm_marks.specs.Marks.{has, IsNext}
-use Rattle.mm_settle.specs.private.Marked.{AddsWaiters}
-use Rattle.mm_settle.specs.private.Changed.{holder_in, AreChanged, ChangesOnly, IsLoading}
+use Rattle.mm_marks.specs.Marks.{has, IsNextMember}
+use Rattle.mm_settle.specs.Steps.Marked.{AddsWaiters}
+use Rattle.mm_settle.specs.Steps.Changed.{holder_in, AreChanged, ChangesOnly, IsLoading}
 use Rattle.mm_settle.proofs.Lemmas.Frames.{greater_from, detects_from, idle_transmits_not, idle_detects_not}
 use Rattle.mm_settle.proofs.Lemmas.Passes.{has_cleared, has_apart, not_cleared}
 
@@ -84,7 +84,7 @@ loading_starts s changed pending are = record {
   below = λ k under. absurd (omega arith);
 }
 
-module _ (s : TableState) (from : ℕ) (changed pending more : List Bool) (way : IsLoading s from changed pending) (n : ℕ) (next : IsNext changed from n)
+module _ (s : TableState) (from : ℕ) (changed pending more : List Bool) (way : IsLoading s from changed pending) (n : ℕ) (next : IsNextMember changed from n)
     (mine : (holder_of s n ≡ None) ⊎ (has more n ≡ true)) (adds : AddsWaiters s n pending more) where
   holder_far : (k : ℕ) (o : Option ℕ) → holder_of s k ≡ o → has more k ≡ false → option_map_or (has (slice_set changed n false)) o false ≡ false → option_map_or (has changed) o false ≡ false
   holder_far k None waits out far = refl
@@ -129,6 +129,6 @@ pub none_changed : (s : TableState) (changed : List Bool) → ((k : ℕ) → can
 none_changed s changed transmits detects = record { transmits = λ k out far. transmits k; detects = λ k out far. detects k }
 
 -- one turn of the loading, where n was taken from the changed
-pub loading_turn : (s : TableState) (from : ℕ) (changed pending more : List Bool) → IsLoading s from changed pending → (n : ℕ) → IsNext changed from n
+pub loading_turn : (s : TableState) (from : ℕ) (changed pending more : List Bool) → IsLoading s from changed pending → (n : ℕ) → IsNextMember changed from n
     → ((holder_of s n ≡ None) ⊎ (has more n ≡ true)) → AddsWaiters s n pending more → (taken : List Bool) → taken ≡ slice_set changed n false → IsLoading s (n + 1) taken more
 loading_turn s from changed pending more way n next mine adds taken cleared = rw cleared (loading_next s from changed pending more way n next mine adds)

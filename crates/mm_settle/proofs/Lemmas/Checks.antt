@@ -12,9 +12,9 @@ use Rattle.mm_lists.proofs.Lemmas.Range.{among_range_gives}
 use Rattle.mm_lists.proofs.Lemmas.Set.{true_within}
 use Rattle.mm_rules.proofs.States.Counts.{detect_apart, verdicts_after, count_same}
 use Rattle.mm_rules.proofs.States.Detect.{convicted, detect_still, detect_convicts, detect_keeps}
-use Rattle.mm_marks.specs.Marks.{has, HasNoneFrom, IsNext}
-use Rattle.mm_settle.specs.private.Pass.{ahead}
-use Rattle.mm_settle.specs.private.Detects.{IsDetecting, IsDetected}
+use Rattle.mm_marks.specs.Marks.{has, HasNoneFrom, IsNextMember}
+use Rattle.mm_settle.specs.Steps.Pass.{ahead}
+use Rattle.mm_settle.specs.Steps.Detects.{IsDetecting, IsDetected}
 use Rattle.mm_settle.proofs.Lemmas.Frames.{detects_from, idle_detects_not, not_waiting_idle}
 use Rattle.mm_settle.proofs.Lemmas.Skips.{one, count_first, skip_detects, skip_detects_then, skip_count, skip_count_then, ahead_split, between}
 use Rattle.mm_settle.proofs.Lemmas.Passes.{has_apart, has_cleared}
@@ -120,7 +120,7 @@ detects_start s checks laws sized detects = record {
 }
 
 module _ (s : TableState) (from verdicts : ℕ) (checks : List Bool) (now : TableState)
-    (way : IsDetecting s from verdicts checks now) (n : ℕ) (next : IsNext checks from n) where
+    (way : IsDetecting s from verdicts checks now) (n : ℕ) (next : IsNextMember checks from n) where
   pub check_within : n < s.config.processes
   check_within = omega (arith, true_within checks n next.member, way.sized)
 
@@ -177,7 +177,7 @@ module _ (s : TableState) (from verdicts : ℕ) (checks : List Bool) (now : Tabl
 
 -- one turn of the detects, where n was taken from those to check
 pub detects_turn : (s : TableState) (from verdicts : ℕ) (checks : List Bool) (now : TableState) → IsDetecting s from verdicts checks now
-    → (n : ℕ) → IsNext checks from n → (convicted : Bool) (count : ℕ) (taken : List Bool) (new : TableState) → convicted ≡ can_detect now n
+    → (n : ℕ) → IsNextMember checks from n → (convicted : Bool) (count : ℕ) (taken : List Bool) (new : TableState) → convicted ≡ can_detect now n
     → count ≡ verdicts + one convicted → taken ≡ slice_set checks n false → new ≡ detect now n → IsDetecting s (n + 1) count taken new
 detects_turn s from verdicts checks now way n next convicted count taken new is counted cleared state =
     rw (state, cleared, counted, is) (detects_next s from verdicts checks now way n next)

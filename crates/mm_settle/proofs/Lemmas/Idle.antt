@@ -13,7 +13,7 @@ use Rattle.mm_rules.proofs.States.HandOverLaws.{owner_within}
 use Rattle.mm_rules.proofs.States.Release.{may_hand_over}
 use Rattle.mm_rules.proofs.States.Vacate.{Vacating, vacating_begins, vacating_next}
 use Rattle.mm_settle.specs.Shown.{IdleShowTheSame}
-use Rattle.mm_settle.specs.private.Vacating.{HeldAreUnchanged}
+use Rattle.mm_settle.specs.Steps.Vacating.{HeldAreUnchanged}
 use Rattle.mm_settle.proofs.Lemmas.Touched.{blocks_else, blocks_waits, hand_over_else}
 use Rattle.mm_settle.proofs.Lemmas.Vacated.{waits_or, held_at_first, holds, held_next, gone, free_slot_else}
 use Rattle.mm_settle.proofs.Lemmas.Waiters.{in_queue}

@@ -8,9 +8,9 @@ use Rattle.mm_rules.specs.TableState.{TableState, holder_of}
 use Rattle.mm_rules.specs.Change.{can_transmit, transmit, raises_along, can_detect, sweep, sweep_raises}
 use Rattle.mm_lists.proofs.Lemmas.Set.{true_within}
 use Rattle.mm_rules.proofs.States.Transmit.{transmit_keeps}
-use Rattle.mm_marks.specs.Marks.{has, HasNoneFrom, IsNext}
-use Rattle.mm_settle.specs.private.Pass.{ahead, IsPassing, IsPassed}
-use Rattle.mm_settle.specs.private.Marked.{AddsWaiters, AreMarked}
+use Rattle.mm_marks.specs.Marks.{has, HasNoneFrom, IsNextMember}
+use Rattle.mm_settle.specs.Steps.Pass.{ahead, IsPassing, IsPassed}
+use Rattle.mm_settle.specs.Steps.Marked.{AddsWaiters, AreMarked}
 use Rattle.mm_settle.proofs.Lemmas.Frames.{transmit_config, transmit_holder, transmit_frame, detect_frame, cannot_still, risen_transmits_not, risen_detects_not}
 use Rattle.mm_settle.proofs.Lemmas.Skips.{one, skip_state, skip_raises, skip_state_then, skip_raises_then, sweep_of_all, raises_of_all, ahead_split, between}
 
@@ -66,7 +66,7 @@ pass_starts s pending checks marked = record {
 }
 
 module _ (s : TableState) (from raises : ℕ) (pending checks : List Bool) (now : TableState)
-    (way : IsPassing s from raises pending checks now) (n : ℕ) (next : IsNext pending from n) where
+    (way : IsPassing s from raises pending checks now) (n : ℕ) (next : IsNextMember pending from n) where
   pub next_within : n < s.config.processes
   next_within = omega (arith, true_within pending n next.member, way.marked.pending_sized, ap (λ c. c.processes) way.config)
 

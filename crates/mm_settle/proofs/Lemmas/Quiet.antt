@@ -7,14 +7,14 @@ use Rattle.mm_marks.specs.Marks.{has}
 use Rattle.mm_rules.specs.TableState.{TableState, holder_of}
 use Rattle.mm_rules.specs.Event.{Step, Settle, counts_exhausted}
 use Rattle.mm_rules.specs.Laws.{Laws}
-use Rattle.mm_rules.specs.private.Stages.{IsSwept}
+use Rattle.mm_rules.specs.Stages.{IsSwept}
 use Rattle.mm_rules.proofs.States.Outcome.{counting}
 use Rattle.mm_rules.proofs.States.SettleStep.{settle_gives}
 use Rattle.mm_rules.proofs.States.SweepLoop.{ends}
 use Rattle.mm_settle.specs.Touched.{Touches}
-use Rattle.mm_settle.specs.private.Changed.{AreChanged}
-use Rattle.mm_settle.specs.private.Detects.{IsDetected}
-use Rattle.mm_settle.specs.private.Marked.{AreMarked, IsNoneMarked, NoneCan}
+use Rattle.mm_settle.specs.Steps.Changed.{AreChanged}
+use Rattle.mm_settle.specs.Steps.Detects.{IsDetected}
+use Rattle.mm_settle.specs.Steps.Marked.{AreMarked, IsNoneMarked, NoneCan}
 use Rattle.mm_settle.proofs.Lemmas.Checks.{detects_start, detects_end}
 use Rattle.mm_settle.proofs.Lemmas.Passes.{pass_starts, pass_ends}
 use Rattle.mm_settle.proofs.Lemmas.Settling.{settling_starts, settling_touches}

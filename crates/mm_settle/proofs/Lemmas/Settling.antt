@@ -8,8 +8,8 @@ use Rattle.mm_rules.specs.Laws.{Laws}
 use Rattle.mm_rules.proofs.States.LabelOrder.{label_le_then, label_le_lt}
 use Rattle.mm_marks.specs.Marks.{has}
 use Rattle.mm_settle.specs.Touched.{IsChanged, Touches}
-use Rattle.mm_settle.specs.private.Added.{Adds}
-use Rattle.mm_settle.specs.private.Settling.{IsSettling}
+use Rattle.mm_settle.specs.Steps.Added.{Adds}
+use Rattle.mm_settle.specs.Steps.Settling.{IsSettling}
 use Rattle.mm_settle.proofs.Lemmas.Frames.{transmit_holder, transmit_private, transmit_verdict, transmit_public, raised_shows}
 use Rattle.mm_settle.proofs.Lemmas.Added.{adds_kept}
 use Rattle.mm_settle.proofs.Lemmas.Changed.{not_kept}

@@ -11,8 +11,8 @@ use Rattle.mm_rules.specs.TableState.{TableState, private_of, public_of, has_ver
 use Rattle.mm_rules.proofs.States.LabelOrder.{label_eq_true, label_eq_is}
 use Rattle.mm_marks.specs.Marks.{has, members}
 use Rattle.mm_settle.specs.Touched.{IsUnchanged, IsChanged, Touches, is_changed, changed_processes}
-use Rattle.mm_settle.specs.private.Marked.{IsNoneMarked}
-use Rattle.mm_settle.specs.private.Changed.{AreChanged}
+use Rattle.mm_settle.specs.Steps.Marked.{IsNoneMarked}
+use Rattle.mm_settle.specs.Steps.Changed.{AreChanged}
 use Rattle.mm_settle.proofs.Lemmas.Changed.{changes_keep}
 use Rattle.mm_settle.proofs.Lemmas.Touched.{touches_changes}
 

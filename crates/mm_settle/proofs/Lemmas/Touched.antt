@@ -9,15 +9,15 @@ use Rattle.mm_lists.proofs.Lemmas.NoRepeat.{found_by_number}
 use Rattle.mm_lists.specs.Members.{Among}
 use Rattle.mm_rules.specs.TableState.{TableState, Wait, public_of, owner_of, wait_of, waited_for, is_waiting, waiters_of}
 use Rattle.mm_rules.specs.Change.{greater_label, can_transmit, transmit, block, label_against, activate, give_to, hand_over}
-use Rattle.mm_rules.specs.private.Stages.{blocked_on}
+use Rattle.mm_rules.specs.Stages.{blocked_on}
 use Rattle.mm_rules.specs.Laws.{Laws}
 use Rattle.mm_rules.proofs.States.Lookups.{waiter_within}
 use Rattle.mm_rules.proofs.States.Transmit.{shown}
 use Rattle.mm_rules.proofs.States.Activate.{waits_no_longer, waits_else}
 use Rattle.mm_marks.specs.Marks.{has}
 use Rattle.mm_settle.specs.Touched.{IsUnchanged, IsChanged, Touches}
-use Rattle.mm_settle.specs.private.Added.{Adds, AddsAll}
-use Rattle.mm_settle.specs.private.Changed.{ChangesOnly}
+use Rattle.mm_settle.specs.Steps.Added.{Adds, AddsAll}
+use Rattle.mm_settle.specs.Steps.Changed.{ChangesOnly}
 use Rattle.mm_settle.proofs.Lemmas.Frames.{transmit_holder, transmit_private, transmit_verdict, transmit_public, not_below_itself, raised_shows}
 use Rattle.mm_settle.proofs.Lemmas.Changed.{not_kept}
 use Rattle.mm_settle.proofs.Lemmas.Waiters.{in_queue}

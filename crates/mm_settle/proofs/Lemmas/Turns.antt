@@ -2,9 +2,9 @@
 use Rattle.std.proofs.Common.{◌≡◌, ◌+◌, ℕ, Bool, true, false, List, slice_set, sym, subst, ◌∙◌, arith}
 use Rattle.mm_rules.specs.TableState.{TableState}
 use Rattle.mm_rules.specs.Change.{can_transmit, transmit}
-use Rattle.mm_marks.specs.Marks.{IsNext}
-use Rattle.mm_settle.specs.private.Marked.{AddsWaiters}
-use Rattle.mm_settle.specs.private.Pass.{IsPassing, IsTurn}
+use Rattle.mm_marks.specs.Marks.{IsNextMember}
+use Rattle.mm_settle.specs.Steps.Marked.{AddsWaiters}
+use Rattle.mm_settle.specs.Steps.Pass.{IsPassing, IsTurn}
 use Rattle.mm_settle.proofs.Lemmas.Frames.{transmit_holder, cannot_still}
 use Rattle.mm_settle.proofs.Lemmas.Skips.{one}
 use Rattle.mm_settle.proofs.Lemmas.Passes.{pass_still, pass_raises}
@@ -14,7 +14,7 @@ adds_after : (s : TableState) (n : ℕ) (old new : List Bool) → AddsWaiters s 
 adds_after s n old new adds = record { kept = adds.kept; added = λ k waits. adds.added k (sym (transmit_holder s n k) ∙ waits); sized = adds.sized }
 
 module _ (s : TableState) (from raises : ℕ) (pending checks : List Bool) (now : TableState)
-    (way : IsPassing s from raises pending checks now) (n : ℕ) (next : IsNext pending from n) where
+    (way : IsPassing s from raises pending checks now) (n : ℕ) (next : IsNextMember pending from n) where
   turn_by : (raised : Bool) (more checked : List Bool) → raised ≡ can_transmit now n → IsTurn now n raised (slice_set pending n false) checks more checked
       → IsPassing s (n + 1) (raises + one raised) more checked (transmit now n)
   turn_by true more checked is sets =

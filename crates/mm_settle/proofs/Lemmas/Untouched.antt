@@ -9,7 +9,7 @@ use Rattle.mm_rules.proofs.States.Detect.{detect_still}
 use Rattle.mm_rules.proofs.States.Outcome.{counting}
 use Rattle.mm_marks.specs.Marks.{has}
 use Rattle.mm_settle.specs.Touched.{Touches, IsUnchanged}
-use Rattle.mm_settle.specs.private.Marked.{IsNoneMarked}
+use Rattle.mm_settle.specs.Steps.Marked.{IsNoneMarked}
 use Rattle.mm_settle.proofs.Lemmas.Skips.{one, count_first}
 
 -- where none of these is due, their detects change nothing

@@ -5,13 +5,13 @@ use Rattle.mm_arena.specs.declared.key.Key.{Key}
 use Rattle.mm_lists.specs.Members.{Among}
 use Rattle.mm_rules.specs.TableState.{TableState, Wait, holder_of, owner_of, wait_of, waited_for, waiters_of}
 use Rattle.mm_rules.specs.Change.{activate, block, give_to, hand_over, free_slot, withdraw}
-use Rattle.mm_rules.specs.private.Stages.{blocked_on}
+use Rattle.mm_rules.specs.Stages.{blocked_on}
 use Rattle.mm_rules.specs.Laws.{Laws}
 use Rattle.mm_rules.proofs.States.Lookups.{no_holder}
 use Rattle.mm_rules.proofs.States.Activate.{waits_no_longer, waits_else}
 use Rattle.mm_settle.specs.Touched.{IsUnchanged, Touches}
-use Rattle.mm_settle.specs.private.Added.{Adds, AddsAll}
-use Rattle.mm_settle.specs.private.Vacating.{HeldAreUnchanged, IsVacating}
+use Rattle.mm_settle.specs.Steps.Added.{Adds, AddsAll}
+use Rattle.mm_settle.specs.Steps.Vacating.{HeldAreUnchanged, IsVacating}
 use Rattle.mm_settle.proofs.Lemmas.Touched.{unchanged, unchanged_then, touches_then, touches_nobody, touches_hand_over, hand_over_else, blocks_waits, waits_for, touches_one, activate_else}
 use Rattle.mm_settle.proofs.Lemmas.Waiters.{in_queue}
 

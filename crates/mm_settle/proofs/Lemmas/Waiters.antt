@@ -8,7 +8,7 @@ use Rattle.mm_lists.specs.Members.{Among}
 use Rattle.mm_lists.proofs.Lemmas.Filter.{filter_keeps}
 use Rattle.mm_rules.proofs.States.Lookups.{waits_here}
 use Rattle.mm_marks.specs.Marks.{has}
-use Rattle.mm_settle.specs.private.Marked.{AddsWaiters}
+use Rattle.mm_settle.specs.Steps.Marked.{AddsWaiters}
 
 -- nobody is taken out
 abbrev pub Keeps : List Bool → List Bool → Type 0

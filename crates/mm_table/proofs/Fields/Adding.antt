@@ -3,7 +3,7 @@ use Rattle.std.proofs.Common.{◌≡◌, ◌<◌, ◌++◌, ℕ, Bool, true, Lis
 use Rattle.std.proofs.lemmas.List.{append-nil}
 use Rattle.mm_lists.specs.Members.{NoRepeat}
 use Rattle.mm_rules.specs.TableState.{Wait}
-use Rattle.mm_settle.specs.private.Added.{AddsAll}
+use Rattle.mm_settle.specs.Steps.Added.{AddsAll}
 use Rattle.mm_settle.proofs.Lemmas.Added.{adds_set, adds_nobody, adds_last}
 use Rattle.mm_table.proofs.Fields.Walk.{process, left_from, IsAt, Passes, append_one, left_is}
 

@@ -6,7 +6,7 @@ use Rattle.mm_label.specs.Label.{opening_label}
 use Rattle.mm_lists.specs.Members.{Among, NoRepeat}
 use Rattle.mm_rules.specs.TableState.{TableState, Wait, public_of, waiters_of}
 use Rattle.mm_rules.specs.Change.{block, block_fits, label_against}
-use Rattle.mm_rules.specs.private.Stages.{blocked_on, NoneIs}
+use Rattle.mm_rules.specs.Stages.{blocked_on, NoneIs}
 use Rattle.mm_rules.proofs.States.Queues.{fits_after}
 use Rattle.mm_transactions.specs.Transactions.{first_key, IsNextWaiter}
 use Rattle.mm_table.proofs.Fields.Walk.{IsAt, Passes, passes, at_start, at_next}

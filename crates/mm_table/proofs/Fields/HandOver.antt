@@ -13,9 +13,9 @@ use Rattle.mm_rules.specs.TableState.{TableState, Wait, is_of, is_live, is_waiti
 use Rattle.mm_rules.specs.Change.{activate, block_fits, give_to, give_to_fits, hand_over, hand_over_fits}
 use Rattle.mm_rules.specs.Event.{release_answer}
 use Rattle.mm_rules.specs.declared.reply.Released.TheVariants.{To}
-use Rattle.mm_rules.specs.private.Stages.{blocked_on, NoneIs}
+use Rattle.mm_rules.specs.Stages.{blocked_on, NoneIs}
 use Rattle.mm_transactions.specs.Transactions.{first_key, IsNextWaiter, WaitsAreLawful}
-use Rattle.mm_settle.specs.private.Added.{Adds, AddsAll}
+use Rattle.mm_settle.specs.Steps.Added.{Adds, AddsAll}
 use Rattle.mm_settle.proofs.Lemmas.Added.{adds_first}
 use Rattle.mm_table.specs.declared.records.Records.TheInside.{Inside}
 use Rattle.mm_table.specs.private.Records.{IsConsistent, state_of_records}

@@ -15,7 +15,7 @@ use Rattle.mm_rules.specs.declared.reply.Totals.{Totals}
 use Rattle.mm_table.specs.declared.records.Labels.{Labels}
 use Rattle.mm_transactions.specs.Transactions.{Transactions}
 use Rattle.mm_owned.specs.Owned.{Ownership}
-use Rattle.mm_table.specs.private.Records.{state_of_fields, state_of_records, AreSized, AreAtMost, IsConsistent}
+use Rattle.mm_table.specs.private.Records.{state_of_fields, state_of_records, FieldsAreSized, AreAtMost, IsConsistent}
 
 -- both labels of process n are new
 pub labels_written : (c : Config) (s : Transactions) (ls : List Labels) (os : List (Option Key)) (t : Totals) (n : ℕ) (l : Labels)
@@ -31,7 +31,7 @@ public_written c s ls os t n own l is =
     let new : Labels = record own { public = l } in
     rw (map-set_same (λ q. q.private) ls n new own (ap (λ q. q.private) is), map-set (λ q. q.public) ls n new) refl
 
-pub sized_labels : {c : Config} {t : Transactions} {ls : List Labels} {o : Ownership} (n : ℕ) (l : Labels) → AreSized c t ls o → AreSized c t (slice_set ls n l) o
+pub sized_labels : {c : Config} {t : Transactions} {ls : List Labels} {o : Ownership} (n : ℕ) (l : Labels) → FieldsAreSized c t ls o → FieldsAreSized c t (slice_set ls n l) o
 sized_labels {c} {t} {ls} n l sizes = record {
   config = sizes.config;
   slots = sizes.slots;

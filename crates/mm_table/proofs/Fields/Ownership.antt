@@ -6,7 +6,7 @@ use Rattle.std.specs.List.{range_with_len}
 use Rattle.std.specs.Option.{option_map_or}
 use Rattle.mm_arena.specs.declared.key.Key.{Key}
 use Rattle.mm_lists.specs.Members.{Among, NoRepeat, without}
-use Rattle.mm_owned.specs.Owned.{Ownership, ListsMatchOwners, IsNext, owner_at, list_at, head, given, freed}
+use Rattle.mm_owned.specs.Owned.{Ownership, ListsMatchOwners, FollowsInList, owner_at, list_at, head, given, freed}
 use Rattle.mm_owned.proofs.Lemmas.Walk.{Among-next, next-apart}
 use Rattle.mm_owned.proofs.Lemmas.ListsMatchOwners.{in_range}
 use Rattle.mm_rules.specs.declared.config.Config.{Config}
@@ -15,14 +15,14 @@ use Rattle.mm_table.specs.declared.records.Labels.{Labels}
 use Rattle.mm_transactions.specs.Transactions.{Transactions}
 use Rattle.mm_rules.specs.TableState.{TableState, owns, resources_of}
 use Rattle.mm_rules.specs.Change.{hand_over_fits, vacate_fits}
-use Rattle.mm_table.specs.private.Records.{AreSized, IsConsistent, state_of_records}
+use Rattle.mm_table.specs.private.Records.{FieldsAreSized, IsConsistent, state_of_records}
 use Rattle.mm_lists.proofs.Lemmas.Filter.{filter_gives, filter_keeps}
 use Rattle.mm_lists.proofs.Lemmas.Among.{list_all_at, list_all_from}
 use Rattle.mm_lists.proofs.Lemmas.Range.{among_range, among_range_gives}
 
 -- ---- sizes
 
-pub given_sized : {c : Config} {s : Transactions} {ls : List Labels} {o : Ownership} (k : Key) (r : ℕ) → AreSized c s ls o → AreSized c s ls (given o k r)
+pub given_sized : {c : Config} {s : Transactions} {ls : List Labels} {o : Ownership} (k : Key) (r : ℕ) → FieldsAreSized c s ls o → FieldsAreSized c s ls (given o k r)
 given_sized {c} {s} {ls} {o} k r sizes = record {
   config = sizes.config;
   slots = sizes.slots;
@@ -33,7 +33,7 @@ given_sized {c} {s} {ls} {o} k r sizes = record {
   owners = length-set o.owners r (Some k) ∙ sizes.owners;
 }
 
-pub freed_sized : {c : Config} {s : Transactions} {ls : List Labels} {o : Ownership} (r : ℕ) → AreSized c s ls o → AreSized c s ls (freed o r)
+pub freed_sized : {c : Config} {s : Transactions} {ls : List Labels} {o : Ownership} (r : ℕ) → FieldsAreSized c s ls o → FieldsAreSized c s ls (freed o r)
 freed_sized {c} {s} {ls} {o} r sizes = record {
   config = sizes.config;
   slots = sizes.slots;
@@ -80,7 +80,7 @@ module _ (s : TableState) (owned : Ownership) (lists : Listed s owned) (n : ℕ)
   of_resources r among = lists.all n r (filter_gives (owns s n) (range_with_len 0 s.config.resources) r among).1
 
   -- what follows r in its list is owned as well, and is another resource
-  pub follows : (r : ℕ) (next : Option ℕ) → NoRepeat (list_at owned n) → IsNext owned r next → Among r (resources_of s n)
+  pub follows : (r : ℕ) (next : Option ℕ) → NoRepeat (list_at owned n) → FollowsInList owned r next → Among r (resources_of s n)
       → (q : ℕ) → next ≡ Some q → Among q (resources_of s n) × (q ≢ r)
   follows r next once is_next among q is =
       let listed = of_resources r among in

@@ -14,8 +14,8 @@ use Rattle.mm_rules.specs.Event.{Event, Answer, Step, Settle, decided}
 use Rattle.mm_rules.proofs.States.EventsKeepLaws.{event_keeps}
 use Rattle.mm_rules.proofs.States.Config.{event_config}
 use Rattle.mm_settle.specs.Touched.{Touches, changed_processes}
-use Rattle.mm_settle.specs.private.Changed.{AreChanged}
-use Rattle.mm_settle.specs.private.Marked.{AreSized}
+use Rattle.mm_settle.specs.Steps.Changed.{AreChanged}
+use Rattle.mm_settle.specs.Steps.Marked.{SetsAreSized}
 use Rattle.mm_settle.proofs.Lemmas.Changed.{changes_keep, none_changed}
 use Rattle.mm_settle.proofs.Lemmas.Frames.{idle_transmits_not, idle_detects_not}
 use Rattle.mm_settle.proofs.Lemmas.Told.{told, touches_union}
@@ -84,7 +84,7 @@ module _ (e : Event) (old : Inside) (new : TableState) (reply : Result (Answer e
   listed touched list touches is = is ∙ told old.records new old.touched touched touches kept.touched_none kept.touched_sized
 
   -- a settle
-  pub settled_keeps_table : (changed touched left pending checks : List Bool) → AreChanged new changed → AreSized new changed pending checks → Touches old.records new old.touched touched
+  pub settled_keeps_table : (changed touched left pending checks : List Bool) → AreChanged new changed → SetsAreSized new changed pending checks → Touches old.records new old.touched touched
       → left ≡ replicate (length touched) false → IsLawfulTable (record { records = new; changed = changed; touched = left; pending = pending; checks = checks })
   settled_keeps_table changed touched left pending checks are sized touches is = record {
     laws = (event_keeps e old.records new reply step kept.laws).laws;
@@ -96,7 +96,7 @@ module _ (e : Event) (old : Inside) (new : TableState) (reply : Result (Answer e
 
 -- a settle that raises and convicts nobody
 pub still_keeps_table : (old : Inside) (new : TableState) → Step Settle old.records (Ok nothing) new → IsLawfulTable old → (changed touched pending checks : List Bool) → AreChanged new changed
-    → AreSized new changed pending checks → Touches old.records new old.touched touched → IsLawfulTable (record { records = new; changed = changed; touched = touched; pending = pending; checks = checks })
+    → SetsAreSized new changed pending checks → Touches old.records new old.touched touched → IsLawfulTable (record { records = new; changed = changed; touched = touched; pending = pending; checks = checks })
 still_keeps_table old new step kept changed touched pending checks are sized touches = record {
   laws = (event_keeps Settle old.records new (Ok nothing) step kept.laws).laws;
   changed = are;

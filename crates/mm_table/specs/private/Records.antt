@@ -35,7 +35,7 @@ abbrev pub state_of_records : Inside → TableState
 state_of_records t = state_of_fields t.config t.transactions t.labels.items t.owned.owners t.totals
 
 -- There is one slot, one pair of labels and one list of owned resources for each process, and one owner and one queue for each resource.
-pub record AreSized (c : Config) (t : Transactions) (ls : List Labels) (o : Ownership) : Type 0 where
+pub record FieldsAreSized (c : Config) (t : Transactions) (ls : List Labels) (o : Ownership) : Type 0 where
   pub config : IsInRange c
   pub slots : length t.live ≡ c.processes
   pub last_generation : t.generation_limit ≡ c.generation_limit
@@ -50,6 +50,6 @@ AreAtMost greatest labels = AllByRecursion (λ l. l.public.counter ≤ greatest)
 
 -- the fields are of one table, no wait arrived after the last accepted event, and no public label has a counter above the greatest
 pub record IsConsistent (t : Inside) : Type 0 where
-  pub sizes : AreSized t.config t.transactions t.labels.items t.owned
+  pub sizes : FieldsAreSized t.config t.transactions t.labels.items t.owned
   pub arrivals : t.transactions.latest ≤ t.totals.accepted
   pub counters : AreAtMost t.greatest t.labels.items

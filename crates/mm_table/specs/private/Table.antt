@@ -1,14 +1,14 @@
 -- What holds of every `Table`.
 use Rattle.std.specs.Prelude.{◌≡◌, length}
 use Rattle.mm_rules.specs.Laws.{Laws}
-use Rattle.mm_settle.specs.private.Changed.{AreChanged}
-use Rattle.mm_settle.specs.private.Marked.{AreSized, IsNoneMarked}
+use Rattle.mm_settle.specs.Steps.Changed.{AreChanged}
+use Rattle.mm_settle.specs.Steps.Marked.{SetsAreSized, IsNoneMarked}
 use Rattle.mm_table.specs.declared.table.Table.TheInside.{Inside}
 
 -- all laws; whoever may transmit or newly detect is among the changed, or its holder is; each set has a place for each process
 pub record IsLawfulTable (t : Inside) : Type 0 where
   pub laws : Laws t.records
   pub changed : AreChanged t.records t.changed
-  pub sized : AreSized t.records t.changed t.pending t.checks
+  pub sized : SetsAreSized t.records t.changed t.pending t.checks
   pub touched_sized : length t.touched ≡ t.records.config.processes
   pub touched_none : IsNoneMarked t.touched

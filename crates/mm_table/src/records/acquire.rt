@@ -5,7 +5,7 @@ ghost use Rattle.mm_rules.specs.Change.{block_fits, label_against};
 ghost use Rattle.mm_rules.specs.Event.{Gives, acquired};
 ghost use Rattle.mm_rules.specs.Laws.{Laws};
 ghost use Rattle.mm_settle.specs.Touched.{Touches};
-ghost use Rattle.mm_settle.specs.private.Added.{Adds};
+ghost use Rattle.mm_settle.specs.Steps.Added.{Adds};
 ghost use Rattle.mm_table.specs.private.LabelLimit.{waiting};
 
 use super::Records;

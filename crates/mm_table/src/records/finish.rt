@@ -5,7 +5,7 @@ ghost use Rattle.mm_rules.specs.Change.{hand_over, free_slot, vacate, vacate_fit
 ghost use Rattle.mm_rules.specs.Event.{Gives, allowed, finished, finish_tests};
 ghost use Rattle.mm_rules.specs.Laws.{Laws};
 ghost use Rattle.mm_settle.specs.Touched.{Touches};
-ghost use Rattle.mm_settle.specs.private.Vacating.{IsVacating};
+ghost use Rattle.mm_settle.specs.Steps.Vacating.{IsVacating};
 
 use super::Records;
 use crate::{Key, Refusal};

@@ -4,8 +4,8 @@ ghost use Rattle.std.specs.List.{list_all};
 ghost use Rattle.mm_rules.specs.TableState.{waiters_of};
 ghost use Rattle.mm_rules.specs.Change.{block_fits, hand_over, hand_over_fits};
 ghost use Rattle.mm_rules.specs.Event.{release_answer};
-ghost use Rattle.mm_rules.specs.private.Stages.{blocked_on, NoneIs};
-ghost use Rattle.mm_settle.specs.private.Added.{AddsAll};
+ghost use Rattle.mm_rules.specs.Stages.{blocked_on, NoneIs};
+ghost use Rattle.mm_settle.specs.Steps.Added.{AddsAll};
 
 use super::Records;
 use crate::{Key, Released};

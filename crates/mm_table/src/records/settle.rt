@@ -4,8 +4,8 @@ ghost use Rattle.mm_marks.specs.Marks.{has};
 ghost use Rattle.mm_rules.specs.Event.{Step, Settle, counts_exhausted};
 ghost use Rattle.mm_rules.specs.Laws.{Laws};
 ghost use Rattle.mm_settle.specs.Touched.{Touches};
-ghost use Rattle.mm_settle.specs.private.Changed.{AreChanged};
-ghost use Rattle.mm_settle.specs.private.Marked.{AddsWaiters, AreMarked, IsNoneMarked, NoneCan, SameLengths, AreSized};
+ghost use Rattle.mm_settle.specs.Steps.Changed.{AreChanged};
+ghost use Rattle.mm_settle.specs.Steps.Marked.{AddsWaiters, AreMarked, IsNoneMarked, NoneCan, SameLengths, SetsAreSized};
 
 use super::Records;
 use crate::{Refusal, Settled};
@@ -26,11 +26,11 @@ impl Records {
     ) -> Result<Settled, Refusal>
         requires laws { Laws self.old }
         requires changed { AreChanged self.old changed.old }
-        requires sized { AreSized self.old changed.old pending.old checks.old }
+        requires sized { SetsAreSized self.old changed.old pending.old checks.old }
         requires touched { length touched.old ≡ self.old.config.processes }
         ensures step { Step Settle self.old result self.new }
         ensures changed { AreChanged self.new changed.new }
-        ensures sized { AreSized self.new changed.new pending.new checks.new }
+        ensures sized { SetsAreSized self.new changed.new pending.new checks.new }
         ensures touched { Touches self.old self.new touched.old touched.new }
     {
         if self.counts_exhausted() {

@@ -1,8 +1,8 @@
 //! Who waits for what a process owns.
 ghost use Rattle.std.specs.Prelude.{◌≡◌, ◌<◌, length};
 ghost use Rattle.mm_rules.specs.TableState.{waiters_of};
-ghost use Rattle.mm_settle.specs.private.Added.{AddsAll};
-ghost use Rattle.mm_settle.specs.private.Marked.{AddsWaiters};
+ghost use Rattle.mm_settle.specs.Steps.Added.{AddsAll};
+ghost use Rattle.mm_settle.specs.Steps.Marked.{AddsWaiters};
 
 use super::Records;
 use mm_marks::Marks;

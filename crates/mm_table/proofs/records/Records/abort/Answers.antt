@@ -8,7 +8,7 @@ use Rattle.mm_rules.proofs.States.GiveUp.{withdraw_keeps}
 use Rattle.mm_rules.proofs.States.Abort.{fits_still}
 use Rattle.mm_rules.proofs.States.Lookups.{waiting_is_some, live_within}
 use Rattle.mm_settle.specs.Touched.{Touches}
-use Rattle.mm_settle.specs.private.Vacating.{IsVacating}
+use Rattle.mm_settle.specs.Steps.Vacating.{IsVacating}
 use Rattle.mm_settle.proofs.Lemmas.Added.{adds_set}
 use Rattle.mm_settle.proofs.Lemmas.Told.{touches_counted}
 use Rattle.mm_settle.proofs.Lemmas.Vacated.{abort_touches}

@@ -3,7 +3,7 @@ use Rattle.std.specs.List.{AllByRecursion}
 use Rattle.mm_arena.specs.declared.key.Key.{Key}
 use Rattle.mm_rules.specs.TableState.{Wait, waited_for, waiters_of}
 use Rattle.mm_transactions.specs.Transactions.{first_key, IsNextWaiter}
-use Rattle.mm_settle.specs.private.Added.{AddsAll}
+use Rattle.mm_settle.specs.Steps.Added.{AddsAll}
 use Rattle.mm_settle.proofs.Lemmas.Added.{adds_nobody}
 use Rattle.mm_table.proofs.Fields.Adding.{AddsUpTo, adding_starts, adding_next, adding_ends}
 use Rattle.mm_table.proofs.Fields.Walk.{left_from, at_start, at_among, at_next, fewer_left, IsAt, Passes, passes}

@@ -1,9 +1,9 @@
 use Rattle.std.proofs.Common.{◌≡◌, ◌<◌, List, length, Some, option_map, ap, sym, subst, ◌∙◌, arith}
 use Rattle.mm_arena.specs.declared.key.Key.{Key}
 use Rattle.mm_rules.specs.TableState.{TableState, Wait, public_of, waited_for, waiters_of}
-use Rattle.mm_rules.specs.private.Stages.{blocked_on}
+use Rattle.mm_rules.specs.Stages.{blocked_on}
 use Rattle.mm_transactions.specs.Transactions.{first_key, IsNextWaiter}
-use Rattle.mm_settle.specs.private.Added.{AddsAll}
+use Rattle.mm_settle.specs.Steps.Added.{AddsAll}
 use Rattle.mm_settle.proofs.Lemmas.Added.{adds_nobody}
 use Rattle.mm_table.specs.private.LabelLimit.{label_under, labelled}
 use Rattle.mm_table.proofs.Fields.Adding.{AddsUpTo, adding_starts, adding_next}

@@ -1,5 +1,5 @@
 use Rattle.std.proofs.Common.{◌≡◌, ◌+◌, ◌<◌, ℕ, Bool, List, if◌then◌else◌, ap, ◌∙◌, sym, subst, arith}
-use Rattle.mm_settle.specs.private.Detects.{IsDetected}
+use Rattle.mm_settle.specs.Steps.Detects.{IsDetected}
 use Rattle.mm_settle.proofs.Lemmas.Checks.{detects_start, detects_turn, detects_end, check_within}
 use Rattle.mm_settle.proofs.Lemmas.Settling.{settling_starts, settling_then}
 use Rattle.mm_table.proofs.records.Records.detect_all.Goals as goal

@@ -5,7 +5,7 @@ use Rattle.mm_owned.proofs.Lemmas.Walk.{Among-head}
 use Rattle.mm_rules.specs.TableState.{TableState, resources_of}
 use Rattle.mm_rules.specs.Change.{hand_over}
 use Rattle.mm_rules.proofs.States.HandOverAll.{IsUnderWay, starts, handed_one, fewer_left, stays_in}
-use Rattle.mm_settle.specs.private.Vacating.{IsVacating}
+use Rattle.mm_settle.specs.Steps.Vacating.{IsVacating}
 use Rattle.mm_settle.proofs.Lemmas.Vacated.{vacating_starts, vacating_next}
 use Rattle.mm_table.proofs.Fields.Ownership.{listed, in_resources, none_left, below, follows}
 use Rattle.mm_table.proofs.records.Records.hand_over_all.Goals as goal

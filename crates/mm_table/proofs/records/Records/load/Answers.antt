@@ -4,7 +4,7 @@ use Rattle.std.specs.Option.{option_map_or}
 use Rattle.mm_lists.proofs.Lemmas.Set.{true_within}
 use Rattle.mm_marks.specs.Marks.{has}
 use Rattle.mm_rules.specs.TableState.{holder_of}
-use Rattle.mm_settle.specs.private.Marked.{IsNoneMarked}
+use Rattle.mm_settle.specs.Steps.Marked.{IsNoneMarked}
 use Rattle.mm_settle.proofs.Lemmas.Changed.{loading_starts, loading_turn}
 use Rattle.mm_settle.proofs.Lemmas.Quiet.{quiet_unchanged}
 use Rattle.mm_table.proofs.records.Records.load.Goals as goal

@@ -1,6 +1,6 @@
 use Rattle.std.proofs.Common.{sym, subst, ◌∙◌, arith}
 use Rattle.mm_rules.specs.TableState.{TableState}
-use Rattle.mm_settle.specs.private.Settling.{IsSettling}
+use Rattle.mm_settle.specs.Steps.Settling.{IsSettling}
 use Rattle.mm_settle.proofs.Lemmas.Added.{adds_set}
 use Rattle.mm_settle.proofs.Lemmas.Settling.{settling_transmit}
 use Rattle.mm_table.proofs.records.Records.turn.Goals as goal

@@ -3,7 +3,7 @@ use Rattle.mm_rules.specs.TableState.{TableState, is_live, wait_of, has_verdict}
 use Rattle.mm_rules.specs.Change.{free_slot}
 use Rattle.mm_rules.proofs.States.HandOverAll.{live_still, active_still, no_verdict_then}
 use Rattle.mm_rules.proofs.States.Totals.{vacate_totals}
-use Rattle.mm_settle.specs.private.Vacating.{IsVacating}
+use Rattle.mm_settle.specs.Steps.Vacating.{IsVacating}
 use Rattle.mm_settle.proofs.Lemmas.Vacated.{vacating_ends}
 use Rattle.mm_table.proofs.records.Records.vacate.Goals as goal
 

@@ -1,5 +1,5 @@
 use Rattle.mm_arena.proofs.Lemmas.RemovedIsNeverLive as removed
-use Rattle.mm_arena.proofs.law.removed_is_never_live.Goals as goal
+use Rattle.mm_arena.proofs.laws.removed_is_never_live.Goals as goal
 
 pub returns : goal.returns
 returns g c = removed.removed_is_never_live

@@ -40,7 +40,7 @@ abbrev pub SameLengths : List Bool → List Bool → Type 0
 SameLengths old new = length new ≡ length old
 
 -- each set has a place for each process
-pub record AreSized (s : TableState) (changed pending checks : List Bool) : Type 0 where
+pub record SetsAreSized (s : TableState) (changed pending checks : List Bool) : Type 0 where
   pub changed_sized : length changed ≡ s.config.processes
   pub pending_sized : length pending ≡ s.config.processes
   pub checks_sized : length checks ≡ s.config.processes

@@ -4,7 +4,7 @@ use Rattle.mm_marks.specs.Marks.{has}
 use Rattle.mm_rules.specs.TableState.{TableState, waiting_processes}
 use Rattle.mm_rules.specs.Change.{can_detect, detect}
 use Rattle.mm_rules.specs.Laws.{Laws}
-use Rattle.mm_settle.specs.private.Pass.{ahead}
+use Rattle.mm_settle.specs.Steps.Pass.{ahead}
 
 -- the detects of s, where each process below this place had its turn, and so many verdicts were given
 pub record IsDetecting (s : TableState) (from verdicts : ℕ) (checks : List Bool) (now : TableState) : Type 0 where

@@ -10,16 +10,21 @@ use mm_links::{Link, Links};
 
 /// The list in which a key stands, and its links to the processes of the keys before it and after it there. It takes twelve bytes.
 #[derive(Clone, Copy, Debug)]
-pub(crate) struct Entry {
+pub(crate) struct Standing {
     pub(crate) list: u32,
     pub(crate) links: Links,
 }
 
-const _: () = prove!(size_of::<Entry>() == 12);
+const _: () = prove!(size_of::<Standing>() == 12);
 
 /// Sets what comes before a process, in constant time. Where there is none, it is the last of its list.
 #[inline]
-pub(crate) fn set_before(entries: &mut Shelf<Entry>, last: &mut Link, process: Link, before: Link)
+pub(crate) fn set_before(
+    entries: &mut Shelf<Standing>,
+    last: &mut Link,
+    process: Link,
+    before: Link,
+)
     requires { ForSome process (HasEntry entries.old) }
     ensures last { last.new ≡ first_with_next last.old process before }
     ensures links { links_of entries.new ≡ with_before (links_of entries.old) process before }
@@ -33,7 +38,7 @@ pub(crate) fn set_before(entries: &mut Shelf<Entry>, last: &mut Link, process: L
 
 /// Sets what follows a process, in constant time. Where there is none, it is the first of its list.
 #[inline]
-pub(crate) fn set_next(entries: &mut Shelf<Entry>, first: &mut Link, process: Link, next: Link)
+pub(crate) fn set_next(entries: &mut Shelf<Standing>, first: &mut Link, process: Link, next: Link)
     requires { ForSome process (HasEntry entries.old) }
     ensures first { first.new ≡ first_with_next first.old process next }
     ensures links { links_of entries.new ≡ with_next (links_of entries.old) process next }

@@ -4,7 +4,7 @@ use Rattle.std.specs.List.{range_with_len}
 use Rattle.mm_marks.specs.Marks.{has}
 use Rattle.mm_rules.specs.TableState.{TableState}
 use Rattle.mm_rules.specs.Change.{transmit, raises_along, sweep, sweep_raises}
-use Rattle.mm_settle.specs.private.Marked.{AddsWaiters, AreMarked}
+use Rattle.mm_settle.specs.Steps.Marked.{AddsWaiters, AreMarked}
 
 -- the processes of a table at or above this place
 abbrev pub ahead : ℕ → ℕ → List ℕ
