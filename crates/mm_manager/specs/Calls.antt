@@ -43,6 +43,7 @@ pub record Gets (old : LockState) (k : Key) (name : List ℕ) (new : LockState) 
   pub owns : Owns new k name
   pub others : (h : Key) (other : List ℕ) → other ≢ name → Owns new h other ↔ Owns old h other
   pub waits : (h : Key) (other : List ℕ) → Waits new h other ↔ Waits old h other
+  pub config : new.table.config ≡ old.table.config
 
 -- h owns the name and k waits for it from now on; all else stays
 pub record Queues (old : LockState) (k : Key) (name : List ℕ) (h : Key) (new : LockState) : Type 0 where
@@ -50,6 +51,7 @@ pub record Queues (old : LockState) (k : Key) (name : List ℕ) (h : Key) (new :
   pub waits : Waits new k name
   pub owners : (g : Key) (other : List ℕ) → Owns new g other ↔ Owns old g other
   pub others : (g : Key) (other : List ℕ) → g.process ≢ k.process → Waits new g other ↔ Waits old g other
+  pub config : new.table.config ≡ old.table.config
 
 -- what a request for a name does, by its answer
 abbrev pub LocksName : LockState → Key → List ℕ → Result Lock Refusal → LockState → Type 0
@@ -114,24 +116,25 @@ pub record AbortsDue (old : LockState) (mid : TableState) (new : LockState) : Ty
 abbrev pub IsGranted : LockState → LockState → Key → List ℕ → Type 0
 IsGranted old new h name = (g : Grant) × Among g new.granted × (g.key ≡ h) × (name_of old.names g.resource ≡ Some name)
 
--- in a call of k, whoever loses a name loses it, `granted` are the waits that ended, all but that of k, nobody else gets or loses a verdict, and all else stays
+-- in a call of k, whoever loses a name does not own it afterwards, `granted` are the waits that ended, all but that of k, nobody else gets or loses a verdict, and all else stays
 pub record Passes (old : LockState) (k : Key) (Loses : Key → List ℕ → Type 0) (new : LockState) : Type 0 where
   pub keeps : (h : Key) (name : List ℕ) → Owns old h name → ¬ Loses h name → Owns new h name
-  pub gains : (h : Key) (name : List ℕ) → Owns new h name → Owns old h name ⊎ IsGranted old new h name
+  pub gains : (h : Key) (name : List ℕ) → Owns new h name → ¬ Loses h name × (Owns old h name ⊎ IsGranted old new h name)
   pub granted : (h : Key) (name : List ℕ) → IsGranted old new h name → Waits old h name × (¬ Loses h name → Owns new h name)
   pub goes_on : (g : Grant) (name : List ℕ) → Among g new.granted → ¬ Waits new g.key name
   pub waits : (h : Key) (name : List ℕ) → Waits new h name → Waits old h name
   pub ended : (h : Key) (name : List ℕ) → h.process ≢ k.process → Waits old h name
       → Waits new h name ⊎ ((g : Key) × (g.process ≡ h.process) × IsGranted old new g name)
   pub verdicts : OthersKeepVerdicts old.table new.table k.process
+  pub config : new.table.config ≡ old.table.config
 
 -- ---- unlock, commit
 
--- whoever owns this name, or is aborted
-abbrev pub LosesName : List ℕ → List Key → Key → List ℕ → Type 0
-LosesName name aborted h other = (other ≡ name) ⊎ Among h aborted
+-- k this name, or whoever is aborted
+abbrev pub LosesName : Key → List ℕ → List Key → Key → List ℕ → Type 0
+LosesName k name aborted h other = ((h ≡ k) × (other ≡ name)) ⊎ Among h aborted
 
--- k, or whoever is aborted
+-- k all that it owns, or whoever is aborted
 abbrev pub LosesAll : Key → List Key → Key → List ℕ → Type 0
 LosesAll k aborted h name = (h ≡ k) ⊎ Among h aborted
 
@@ -142,7 +145,7 @@ pub record Unlocks (old : LockState) (k : Key) (name : List ℕ) (new : LockStat
   pub owned : owner_of old.table number ≡ Some k
   pub answer : Released
   pub over : HandsOver (Release k number) old answer new
-  pub passes : Passes old k (LosesName name new.aborted) new
+  pub passes : Passes old k (LosesName k name new.aborted) new
   pub due : AbortsDue old over.mid new
 
 -- k ends by this event, and hands over all that it owned

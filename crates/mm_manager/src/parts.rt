@@ -2,7 +2,7 @@
 ghost use Rattle.std.specs.Prelude.{◌≡◌, ℕ, [], Some, None, Ok, Err, true, length, IfOk, IfErr, OnOk, OnErr, IsSome};
 ghost use Rattle.mm_arena.specs.declared.key.Key.{Key as KeyValue};
 ghost use Rattle.mm_lists.specs.Members.{Among};
-ghost use Rattle.mm_names.specs.Names.{name_of};
+ghost use Rattle.mm_names.specs.Names.{name_of, IsLawful as IsLawfulNames};
 ghost use Rattle.mm_rules.specs.declared.reply.Released.{Released as ReleasedValue};
 ghost use Rattle.mm_rules.specs.TableState.{is_live, owner_of, wait_of};
 ghost use Rattle.mm_rules.specs.declared.refusal.Refusal.{Refusal as TableRefusal};
@@ -58,7 +58,7 @@ pub fn release_number(
     requires named { IsSome (name_of names.old number) }
     requires owned { owner_of table.old.table number ≡ Some key }
     requires active { wait_of table.old.table key.process ≡ None }
-    ensures handed { OnOk result ((answer : ReleasedValue) × Handed (Release key number) table.old.table names.old lists.old.due.items answer key.process (IsReleased number) table.new.table names.new lists.new) }
+    ensures handed { OnOk result ((answer : ReleasedValue) × Handed (Release key number) table.old.table names.old lists.old.due.items answer key.process (IsReleased key number) table.new.table names.new lists.new) }
     ensures untouched { OnErr result (IsUntouched table.old.table names.old lists.old table.new.table names.new lists.new) }
     ensures refused { IfErr result (RefusedBy (Release key number) table.old.table) }
     ensures parts { AreParts table.new.table names.new lists.new }
@@ -179,12 +179,14 @@ pub fn unlock(
     name: &[u8],
 ) -> Result<(), Refusal>
     requires { AreParts table.old.table names.old lists.old }
-    ensures handed { OnOk result ((n : ℕ) × (name_of names.old n ≡ Some name.now) × (owner_of table.old.table n ≡ Some key) × ((answer : ReleasedValue) × Handed (Release key n) table.old.table names.old lists.old.due.items answer key.process (IsReleased n) table.new.table names.new lists.new)) }
+    ensures handed { OnOk result ((n : ℕ) × (name_of names.old n ≡ Some name.now) × (owner_of table.old.table n ≡ Some key) × ((answer : ReleasedValue) × Handed (Release key n) table.old.table names.old lists.old.due.items answer key.process (IsReleased key n) table.new.table names.new lists.new)) }
     ensures untouched { OnErr result (IsUntouched table.old.table names.old lists.old table.new.table names.new lists.new) }
     ensures refused { IfErr result (λ refusal. UnlockRefused (bare table.old.table names.old) key name.now refusal) }
+    ensures distinct { IsLawfulNames names.old }
     ensures parts { AreParts table.new.table names.new lists.new }
 {
     lists.clear();
+    names.keeps_laws();
     let number = owned_number(table.table(), names, key, name)?;
     release_number(table, names, lists, key, number)
 }

@@ -3,7 +3,7 @@ use Rattle.std.proofs.Common.{◌≡◌, ℕ, true, false, List, [], Some, Resul
 use Rattle.std.proofs.lemmas.List.{set-get_or}
 use Rattle.mm_arena.specs.declared.key.Key.{Key}
 use Rattle.mm_marks.specs.Marks.{has}
-use Rattle.mm_names.specs.Names.{NameTable, name_of}
+use Rattle.mm_names.specs.Names.{NameTable, name_of, IsLawful as IsLawfulNames}
 use Rattle.mm_rules.specs.declared.reply.Released.{Released}
 use Rattle.mm_rules.specs.TableState.{TableState, is_live, owner_of}
 use Rattle.mm_rules.specs.Event.{Event, Answer, Release, Finish, Abort}
@@ -38,12 +38,12 @@ module _ (s u : TableState) (t named : NameTable) (l cleared m : Lists) (k : Key
 
   -- ---- an unlock and a commit
 
-  pub unlocks : (name : List ℕ) (ended : Result (Unit {0}) Refusal)
-      → OnOk ended ((n : ℕ) × (name_of t n ≡ Some name) × (owner_of s n ≡ Some k) × ((answer : Released) × Handed (Release k n) s t cleared.due.items answer k.process (IsReleased n) u named m))
+  pub unlocks : (name : List ℕ) (ended : Result (Unit {0}) Refusal) → IsLawfulNames t
+      → OnOk ended ((n : ℕ) × (name_of t n ≡ Some name) × (owner_of s n ≡ Some k) × ((answer : Released) × Handed (Release k n) s t cleared.due.items answer k.process (IsReleased k n) u named m))
       → OnErr ended (IsUntouched s t cleared u named m) → IfErr ended (λ refusal. UnlockRefused old k name refusal) → UnlocksName old k name ended new
-  unlocks name (Ok x) (n, is, owned, (answer, handed)) same_parts refused =
-      released_unlocks old new k m refl refl refl name n answer owned is (subst (λ ds. Handed (Release k n) s t ds answer k.process (IsReleased n) u named m) marks handed)
-  unlocks name (Err e) handed same_parts refused = (untouched same_parts, refused)
+  unlocks name (Ok x) names (n, is, owned, (answer, handed)) same_parts refused =
+      released_unlocks old new k m refl refl refl name n answer names owned is (subst (λ ds. Handed (Release k n) s t ds answer k.process (IsReleased k n) u named m) marks handed)
+  unlocks name (Err e) names handed same_parts refused = (untouched same_parts, refused)
 
   ended : (e : Event) (answer : Answer e) → Handed e s t cleared.due.items answer k.process (IsEnding k) u named m → EndsBy e old answer k new
   ended e answer handed = ended_by old new k m refl refl refl e answer (subst (λ ds. Handed e s t ds answer k.process (IsEnding k) u named m) marks handed)

@@ -128,6 +128,7 @@ module _ (old new : LockState) (k : Key) (name : List ℕ) (n : ℕ) (numbered :
 
     pub gets : Gets old k name new
     gets = record {
+      config = granted.config;
       free = λ h owns. not_named (owns.0, owns.1);
       owns = (n, name_here, ap (λ os. slice_index_or os n None) granted.owners ∙ get_or-set_same old.table.owners n (Some k) None (omega (arith, fresh.0, numbered.as_many, laws.lawful.well_formed.sizes.owners)));
       others = λ h other differ. (
@@ -158,6 +159,7 @@ module _ (old new : LockState) (k : Key) (name : List ℕ) (n : ℕ) (numbered :
 
     pub queues : Queues old k name h new
     queues = record {
+      config = queued.config;
       holder = (n, known.0, queued.held);
       waits = (
         n,

@@ -113,8 +113,8 @@ module _ (u v : TableState) (t named after : NameTable) (first : KeepOwned t u n
 
 -- ---- owners and waits
 
-pub down_same : (s : TableState) (n : ℕ) (Loses : ℕ → Key → Type 0) → HandsDown s n Loses [] s
-down_same s n Loses = record {
+pub down_same : (s : TableState) (n : ℕ) (Loses : ℕ → Key → Type 0) → wait_of s n ≡ None → ((q : ℕ) (h : Key) → ¬ Loses q h) → HandsDown s n Loses [] s
+down_same s n Loses idle none = record {
   config = refl;
   keeps = λ q h owned kept. owned;
   gains = λ q h owned. inl owned;
@@ -124,10 +124,13 @@ down_same s n Loses = record {
   goes_on = λ g among. absurd among;
   owns = λ g among. absurd among;
   verdicts = λ v apart. refl;
+  lost = λ q h loses. absurd (none q h loses);
+  own = idle;
 }
 
 module _ (s u v : TableState) (n : ℕ) (First Second Both : ℕ → Key → Type 0) (before after : List Grant) (first : HandsDown s n First before u) (second : HandsDown u n Second after v)
-    (one : (q : ℕ) (h : Key) → First q h → Both q h) (other : (q : ℕ) (h : Key) → Second q h → Both q h) where
+    (one : (q : ℕ) (h : Key) → First q h → Both q h) (other : (q : ℕ) (h : Key) → Second q h → Both q h)
+    (either : (q : ℕ) (h : Key) → Both q h → First q h ⊎ Second q h) (idle : (q : ℕ) (h : Key) → First q h → wait_of u h.process ≡ None) where
   pub down_then : HandsDown s n Both (before ++ after) v
   down_then = record {
     config = second.config ∙ first.config;
@@ -160,6 +163,14 @@ module _ (s u v : TableState) (n : ℕ) (First Second Both : ℕ → Key → Typ
       | inr now ↦ second.owns g now (λ lost. kept (other g.resource g.key lost))
     ];
     verdicts = λ w apart. second.verdicts w apart ∙ first.verdicts w apart;
+    lost = λ q h loses owned. elim (either q h loses) [
+      | inr now ↦ second.lost q h now owned
+      | inl early ↦ elim (second.gains q h owned) [
+        | inl before ↦ first.lost q h early before
+        | inr among ↦ some_not_none (wait_of u h.process) q (second.waited (record { key = h; resource = q }) among) (idle q h early)
+      ]
+    ];
+    own = idle_still u v n Second after second n first.own;
   }
 
 -- whoever does not wait has no verdict
@@ -170,8 +181,8 @@ idle_is_free s laws v idle = elim (cases_Bool (has_verdict s v)) [
 ]
 
 -- whoever does not wait has no wait that could end
-pub down_of_idle : (s u : TableState) (k n : ℕ) (Loses : ℕ → Key → Type 0) (granted : List Grant) → Laws s → Laws u → wait_of s k ≡ None → HandsDown s k Loses granted u → HandsDown s n Loses granted u
-down_of_idle s u k n Loses granted laws after idle down = record {
+pub down_of_idle : (s u : TableState) (k n : ℕ) (Loses : ℕ → Key → Type 0) (granted : List Grant) → Laws s → Laws u → wait_of s k ≡ None → wait_of s n ≡ None → HandsDown s k Loses granted u → HandsDown s n Loses granted u
+down_of_idle s u k n Loses granted laws after idle own down = record {
   config = down.config;
   keeps = down.keeps;
   gains = down.gains;
@@ -188,6 +199,8 @@ down_of_idle s u k n Loses granted laws after idle down = record {
         ap (has_verdict u) same ∙ idle_is_free u after k (idle_still s u k Loses granted down k idle) ∙ sym (ap (has_verdict s) same ∙ idle_is_free s laws k idle)
     | inr other ↦ down.verdicts v other
   ];
+  lost = down.lost;
+  own = idle_still s u k Loses granted down n own;
 }
 
 -- ---- one more end

@@ -31,7 +31,8 @@ ends_start s t l laws ready =
       later = [];
       granted = sym (append-nil l.granted.items);
       ends = subst (λ ks. EndsAll s ks [] s) (sym ready.none) (refl, refl);
-      down = λ n. down_same s n (IsAmong l.aborted.items);
+      config = refl;
+      down = λ n idle. down_same s n (IsAmong l.aborted.items) idle (λ q h among. none h among);
       names = keep_same s t ready.numbered;
       numbered = ready.numbered;
       fits = ready.fits;
@@ -90,6 +91,7 @@ module _ (s : TableState) (t : NameTable) (first : List Grant) (marks : List Boo
     later = so_far.later;
     granted = so_far.granted;
     ends = so_far.ends;
+    config = so_far.config;
     down = so_far.down;
     names = so_far.names;
     numbered = so_far.numbered;
@@ -166,7 +168,8 @@ module _ (s : TableState) (t : NameTable) (first : List Grant) (marks : List Boo
       later = so_far.later;
       granted = granted ∙ so_far.granted;
       ends = rw (same, aborted) so_far.ends;
-      down = λ n. rw (same, aborted) (so_far.down n);
+      config = ap (λ (w : TableState). w.config) same ∙ so_far.config;
+      down = λ n own. rw (same, aborted) (so_far.down n own);
       names = kept;
       numbered = one.numbered;
       fits = one.fits;
@@ -201,9 +204,12 @@ module _ (s : TableState) (t : NameTable) (first : List Grant) (marks : List Boo
           later = so_far.later ++ grants u v;
           granted = granted ∙ ap (λ gs. gs ++ grants u v) so_far.granted ∙ append_assoc first so_far.later (grants u v);
           ends = rw aborted (ends_then m.aborted.items s u v g.key so_far.later so_far.ends made);
-          down = λ n. rw aborted (down_then s u v n (IsAmong m.aborted.items) (IsEnding g.key) (IsAmong (m.aborted.items ++ g.key ∷ [])) so_far.later (grants u v) (so_far.down n)
-              (down_of_idle u v g.key.process n (IsEnding g.key) (grants u v) so_far.laws laws idle down)
-              (λ q h lost. among_left m.aborted.items (g.key ∷ []) h lost) (λ q h lost. among_right m.aborted.items (g.key ∷ []) h (inl lost)));
+          config = down.config ∙ so_far.config;
+          down = λ n own. rw aborted (down_then s u v n (IsAmong m.aborted.items) (IsEnding g.key) (IsAmong (m.aborted.items ++ g.key ∷ [])) so_far.later (grants u v) (so_far.down n own)
+              (down_of_idle u v g.key.process n (IsEnding g.key) (grants u v) so_far.laws laws idle (so_far.down n own).own down)
+              (λ q h lost. among_left m.aborted.items (g.key ∷ []) h lost) (λ q h lost. among_right m.aborted.items (g.key ∷ []) h (inl lost))
+              (λ q h lost. among_last m.aborted.items g.key h lost)
+              (λ q h lost. let was = so_far.was_due h lost in ap (λ (i : Key). wait_of u i.process) (sym was.2.2) ∙ so_far.are_granted.idle was.2.0 was.2.1));
           names = kept;
           numbered = one.numbered;
           fits = one.fits;

@@ -61,10 +61,13 @@ event_granted s mid n Loses laws down =
 
 module _ (e : Event) (s : TableState) (t : NameTable) (due : List Bool) (answer : Answer e) (n : ℕ) (Loses : ℕ → Key → Type 0) (mid : TableState) (t1 : NameTable)
     (made : Made e s answer mid) (down : HandsDown s n Loses (grants s mid) mid) (names : KeepOwned t mid t1) (numbered : AreNumbered mid t1)
-    (waits : DueWait s due) (own : has due n ≡ false) (next : ℕ) (u : TableState) (named : NameTable) (m : Lists)
+    (by_own : (q : ℕ) (h : Key) → Loses q h → h.process ≡ n) (waits : DueWait s due) (own : has due n ≡ false) (next : ℕ) (u : TableState) (named : NameTable) (m : Lists)
     (ends : EndsDue mid t1 (grants s mid) due next u named m) (all : next ≡ length m.granted.items) where
   all_down : HandsDown s n (LosesOr Loses m.aborted.items) m.granted.items u
-  all_down = rw ends.granted (down_then s mid u n Loses (IsAmong m.aborted.items) (LosesOr Loses m.aborted.items) (grants s mid) ends.later down (ends.down n) (λ q h lost. inl lost) (λ q h lost. inr lost))
+  all_down =
+      rw ends.granted
+      (down_then s mid u n Loses (IsAmong m.aborted.items) (LosesOr Loses m.aborted.items) (grants s mid) ends.later down (ends.down n down.own) (λ q h lost. inl lost) (λ q h lost. inr lost) (λ q h lost. lost)
+      (λ q h lost. ap (wait_of mid) (by_own q h lost) ∙ down.own))
 
   granted_clear : (g : Grant) → Among g m.granted.items → has m.due.items g.key.process ≡ false
   granted_clear g among = ends.done g (subst (Among g) (sym (take_all next m.granted.items (omega (arith, all)))) among)

@@ -7,11 +7,13 @@ use Rattle.mm_arena.specs.declared.key.Key.{Key}
 use Rattle.mm_lists.specs.Members.{Among}
 use Rattle.mm_lists.proofs.Lemmas.Range.{among_range}
 use Rattle.mm_rules.specs.declared.reply.Released.{Released}
-use Rattle.mm_rules.specs.TableState.{TableState, is_live, has_verdict, owner_of, owns, wait_of, waited_for}
-use Rattle.mm_rules.specs.Change.{vacate, abort}
-use Rattle.mm_rules.specs.Event.{Event, Answer, Release, Finish, Abort, Settle, finish_tests, abort_tests}
+use Rattle.mm_rules.specs.TableState.{TableState, is_live, has_verdict, owner_of, owns, wait_of, waited_for, waiters_of}
+use Rattle.mm_rules.specs.Change.{hand_over, vacate, abort}
+use Rattle.mm_rules.specs.Event.{Event, Answer, Release, Finish, Abort, Settle, release_tests, release_answer, finish_tests, abort_tests}
 use Rattle.mm_rules.specs.Laws.{Laws}
 use Rattle.mm_rules.proofs.States.EventsKeepLaws.{event_keeps}
+use Rattle.mm_rules.proofs.States.Lookups.{waits_here, held}
+use Rattle.mm_rules.proofs.States.Release.{owns_gives}
 use Rattle.mm_settled.specs.Calls.{Made, Rests}
 use Rattle.mm_settled.specs.Grants.{waits_for, to_waiter, grant_of, grants, EndsWaits}
 use Rattle.mm_settled.specs.declared.reply.Grant.{Grant}
@@ -20,7 +22,9 @@ use Rattle.mm_settled.proofs.Lemmas.Ends.{HandsOn, release_hands_on, finish_hand
 use Rattle.mm_settled.proofs.Lemmas.Grants.{filter_map_keeps}
 use Rattle.mm_manager.specs.private.HandsDown.{HandsDown, IsEnding, IsReleased}
 use Rattle.mm_manager.proofs.Lemmas.Numbers.{some_not_none}
+use Rattle.mm_manager.proofs.Lemmas.Limits.{owner_owns}
 use Rattle.mm_manager.proofs.Lemmas.Owners.{RestsAlike, rests_alike, not_mine}
+use Rattle.mm_manager.proofs.Lemmas.Requests.{owner_is_key}
 
 -- the laws hold after it
 rest_laws : (mid new : TableState) → Laws mid → Rests mid new → Laws new
@@ -42,7 +46,7 @@ grant_listed s u q h waited owned within =
 
 -- an event by which the numbers that pass p are handed over, and nothing or a settle after it
 module _ (s mid u : TableState) (n : ℕ) (p : ℕ → Bool) (Loses : ℕ → Key → Type 0) (granted : List Grant) (laws : Laws u) (on : HandsOn s n p mid) (rests : Rests mid u)
-    (ends : EndsWaits s u n granted) (are : granted ≡ grants s u) (same : (v : ℕ) → has_verdict u v ≡ has_verdict mid v) (lost : (q : ℕ) (h : Key) → owner_of s q ≡ Some h → ¬ Loses q h → p q ≡ false) where
+    (ends : EndsWaits s u n granted) (are : granted ≡ grants s u) (same : (v : ℕ) → has_verdict u v ≡ has_verdict mid v) (gone : (q : ℕ) (h : Key) → Loses q h → ¬ (owner_of mid q ≡ Some h)) (lost : (q : ℕ) (h : Key) → owner_of s q ≡ Some h → ¬ Loses q h → p q ≡ false) where
   alike : RestsAlike mid u
   alike = rests_alike mid u rests
 
@@ -85,25 +89,59 @@ module _ (s mid u : TableState) (n : ℕ) (p : ℕ → Bool) (Loses : ℕ → Ke
     goes_on = λ g among. (ends.each g among).goes_on;
     owns = λ g among kept. (ends.each g among).owns;
     verdicts = λ v apart. same v ∙ on.verdicts v apart;
+    lost = λ q h loses owned. gone q h loses (sym (owner q) ∙ owned);
+    own = wait n ∙ on.own;
   }
 
 other_key : (s : TableState) (k : Key) → Laws s → IsTrue (is_live s k) → (q : ℕ) (h : Key) → owner_of s q ≡ Some h → ¬ (h ≡ k) → owns s k.process q ≡ false
 other_key s k laws live q h owned apart = not_mine s k q laws live (λ mine. apart (let same : Some h ≡ Some k = sym owned ∙ mine in cc))
 
+-- nobody waits for what is its own
+not_awaited : (s : TableState) (k : Key) (q : ℕ) → Laws s → owns s k.process q ≡ true → wait_of s k.process ≡ Some q → ⊥
+not_awaited s k q laws mine waits =
+    let here = waits_here s k.process q waits in
+    let holder = held s laws.lawful.well_formed here.wait here.among in
+    let owner = owns_gives s k.process q mine in
+    let same : Some holder.0 ≡ Some owner.0 = sym holder.1 ∙ ap (owner_of s) here.resource ∙ owner.1 in
+    let one : holder.0 ≡ owner.0 = cc in
+    holder.2 (ap (λ (h : Key). h.process) one ∙ owner.2 ∙ sym here.process)
+
+-- k owns nothing of what it handed over
+gone_by : (s mid : TableState) (k : Key) (p : ℕ → Bool) (q : ℕ) → Laws s → HandsOn s k.process p mid → p q ≡ true → owns s k.process q ≡ true → ¬ (owner_of mid q ≡ Some k)
+gone_by s mid k p q laws on handed mine owned = not_awaited s k q laws mine (on.handed q k handed owned)
+
+gone_all : (s mid : TableState) (k : Key) (q : ℕ) → Laws s → HandsOn s k.process (owns s k.process) mid → ¬ (owner_of mid q ≡ Some k)
+gone_all s mid k q laws on owned = elim (cases_Bool (owns s k.process q)) [
+  | inl mine ↦ gone_by s mid k (owns s k.process) q laws on mine mine owned
+  | inr other ↦ (let never : true ≡ false = sym (owner_owns s k q (sym (on.others q other) ∙ owned)) ∙ other in absurd (cc))
+]
+
 module _ (s u : TableState) (k : Key) (granted : List Grant) (laws : Laws s) (ends : EndsWaits s u k.process granted) (are : granted ≡ grants s u) where
-  pub release_hands_down : (r : ℕ) (answer : Released) → Made (Release k r) s answer u → HandsDown s k.process (IsReleased r) granted u
+  pub release_hands_down : (r : ℕ) (answer : Released) → Made (Release k r) s answer u → HandsDown s k.process (IsReleased k r) granted u
   release_hands_down r answer made =
-      hands_down s made.mid u k.process (λ q. nat_eq q r) (IsReleased r) granted (made_laws (Release k r) s u answer laws made) (release_hands_on s made.mid k r answer laws made.event) made.rests ends are made.verdicts
-      (λ q h owned apart. ne_eqb q r apart)
+      let done = accepted (release_tests s k r) s (release_answer (waiters_of s r)) (hand_over s r) answer made.mid made.event in
+      let on = release_hands_on s made.mid k r answer laws made.event in
+      let mine = not-false (owns s k.process r) done.passed.1.1.1.1.0 in
+      let owner = owner_is_key s k r laws (not-false (is_live s k) done.passed.1.0) mine in
+      hands_down s made.mid u k.process (λ q. nat_eq q r) (IsReleased k r) granted (made_laws (Release k r) s u answer laws made) on made.rests ends are made.verdicts
+      (λ q h loses owned. gone_by s made.mid k (λ i. nat_eq i r) r laws on (eq-eqb r r refl) mine (ap (owner_of made.mid) (sym loses.1) ∙ owned ∙ ap Some loses.0))
+      (λ q h owned apart. elim (cases_eq q r) [
+        | inl same ↦ absurd (apart (let both : Some h ≡ Some k = sym owned ∙ ap (owner_of s) same ∙ owner in let key : h ≡ k = cc in (key, same)))
+        | inr other ↦ ne_eqb q r other
+      ])
 
   pub finish_hands_down : Made (Finish k) s tt u → HandsDown s k.process (IsEnding k) granted u
   finish_hands_down made =
       let done = accepted (finish_tests s k) s tt (vacate s k.process) tt made.mid made.event in
-      hands_down s made.mid u k.process (owns s k.process) (IsEnding k) granted (made_laws (Finish k) s u tt laws made) (finish_hands_on s made.mid k laws made.event) made.rests ends are made.verdicts
+      let on = finish_hands_on s made.mid k laws made.event in
+      hands_down s made.mid u k.process (owns s k.process) (IsEnding k) granted (made_laws (Finish k) s u tt laws made) on made.rests ends are made.verdicts
+      (λ q h loses owned. gone_all s made.mid k q laws on (owned ∙ ap Some loses))
       (other_key s k laws (not-false (is_live s k) done.passed.1.0))
 
   pub abort_hands_down : Made (Abort k) s tt u → HandsDown s k.process (IsEnding k) granted u
   abort_hands_down made =
       let done = accepted (abort_tests s k) s tt (abort s k.process) tt made.mid made.event in
-      hands_down s made.mid u k.process (owns s k.process) (IsEnding k) granted (made_laws (Abort k) s u tt laws made) (abort_hands_on s made.mid k laws made.event) made.rests ends are made.verdicts
+      let on = abort_hands_on s made.mid k laws made.event in
+      hands_down s made.mid u k.process (owns s k.process) (IsEnding k) granted (made_laws (Abort k) s u tt laws made) on made.rests ends are made.verdicts
+      (λ q h loses owned. gone_all s made.mid k q laws on (owned ∙ ap Some loses))
       (other_key s k laws (not-false (is_live s k) done.passed.1.0))

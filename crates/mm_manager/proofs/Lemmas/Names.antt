@@ -31,18 +31,21 @@ name_before t u named keep q name has = name_before_by t u named keep q name (ow
 
 module _ (old new : LockState) (k : Key) (Loses : ℕ → Key → Type 0) (LosesName : Key → List ℕ → Type 0) (laws : Laws new.table)
     (down : HandsDown old.table k.process Loses new.granted new.table) (keep : KeepOwned old.names new.table new.names)
-    (loses : (q : ℕ) (h : Key) (name : List ℕ) → name_of old.names q ≡ Some name → Loses q h → LosesName h name) where
+    (loses : (q : ℕ) (h : Key) (name : List ℕ) → name_of old.names q ≡ Some name → Loses q h → LosesName h name)
+    (back : (q : ℕ) (h : Key) (name : List ℕ) → name_of old.names q ≡ Some name → LosesName h name → Loses q h) where
   pub passes : Passes old k LosesName new
   passes = record {
     keeps = λ h name owns kept.
         let owned = down.keeps owns.0 h owns.2 (λ lost. kept (loses owns.0 h name owns.1 lost)) in
         (owns.0, kept_name old.names new.table new.names keep owns.0 h owned ∙ owns.1, owned);
     gains = λ h name owns.
-        let named = name_before old.names new.table new.names keep owns.0 name owns.1 in
-        elim (down.gains owns.0 h owns.2) [
-          | inl before ↦ inl (owns.0, named, before)
-          | inr among ↦ inr (record { key = h; resource = owns.0 }, among, refl, named)
-        ];
+        let named = name_before old.names new.table new.names keep owns.0 name owns.1 in (
+          λ lost. down.lost owns.0 h (back owns.0 h name named lost) owns.2,
+          elim (down.gains owns.0 h owns.2) [
+            | inl before ↦ inl (owns.0, named, before)
+            | inr among ↦ inr (record { key = h; resource = owns.0 }, among, refl, named)
+          ],
+        );
     granted = λ h name granted.
         let g = granted.0 in (
           (g.resource, granted.3, ap (λ (i : Key). wait_of old.table i.process) (sym granted.2) ∙ down.waited g granted.1),
@@ -59,4 +62,5 @@ module _ (old new : LockState) (k : Key) (Loses : ℕ → Key → Type 0) (Loses
       | inr g ↦ inr (g.0.key, g.2, (g.0, g.1, refl, ap (name_of old.names) g.3 ∙ waits.1))
     ];
     verdicts = down.verdicts;
+    config = down.config;
   }

@@ -2,7 +2,7 @@
 use Rattle.std.proofs.Common.{◌≡◌, ◌≢◌, ℕ, List, [], Some, Result, Ok, Err, IfOk, IfErr, OnErr, inl, inr, sym, ap, subst, ◌∙◌}
 use Rattle.mm_arena.specs.declared.key.Key.{Key}
 use Rattle.mm_lists.specs.Members.{Among}
-use Rattle.mm_names.specs.Names.{name_of}
+use Rattle.mm_names.specs.Names.{name_of, IsLawful as IsLawfulNames}
 use Rattle.mm_rules.specs.declared.reply.Released.{Released}
 use Rattle.mm_rules.specs.TableState.{owner_of}
 use Rattle.mm_rules.specs.Event.{Event, Answer, Release}
@@ -77,20 +77,24 @@ module _ (old new : LockState) (k : Key) (m : Lists) (granted : new.granted ≡ 
     stay = rw (granted, marks) handed.stay;
   }
 
-  pub released_unlocks : (name : List ℕ) (n : ℕ) (answer : Released) → owner_of old.table n ≡ Some k → name_of old.names n ≡ Some name
-      → Handed (Release k n) old.table old.names old.due answer k.process (IsReleased n) new.table new.names m → Unlocks old k name new
-  released_unlocks name n answer owned named handed = record {
+  pub released_unlocks : (name : List ℕ) (n : ℕ) (answer : Released) → IsLawfulNames old.names → owner_of old.table n ≡ Some k → name_of old.names n ≡ Some name
+      → Handed (Release k n) old.table old.names old.due answer k.process (IsReleased k n) new.table new.names m → Unlocks old k name new
+  released_unlocks name n answer names owned named handed = record {
     number = n;
     named = named;
     owned = owned;
     answer = answer;
-    over = hands_over (Release k n) answer k.process (IsReleased n) handed;
-    passes = passes old new k (LosesOr (IsReleased n) m.aborted.items) (LosesName name new.aborted) handed.laws (rw granted handed.down) handed.names
+    over = hands_over (Release k n) answer k.process (IsReleased k n) handed;
+    passes = passes old new k (LosesOr (IsReleased k n) m.aborted.items) (LosesName k name new.aborted) handed.laws (rw granted handed.down) handed.names
         (λ q h other is lost. elim lost [
-          | inl same ↦ inl (let both : Some other ≡ Some name = sym is ∙ ap (name_of old.names) same ∙ named in cc)
+          | inl same ↦ inl (same.0, (let both : Some other ≡ Some name = sym is ∙ ap (name_of old.names) same.1 ∙ named in cc))
           | inr ended ↦ inr (subst (Among h) (sym aborted) ended)
+        ])
+        (λ q h other is lost. elim lost [
+          | inl same ↦ inl (same.0, names.distinct q n name (is ∙ ap Some same.1) named)
+          | inr ended ↦ inr (subst (Among h) aborted ended)
         ]);
-    due = aborts_due (Release k n) answer k.process (IsReleased n) handed;
+    due = aborts_due (Release k n) answer k.process (IsReleased k n) handed;
   }
 
   pub ended_by : (e : Event) (answer : Answer e) → Handed e old.table old.names old.due answer k.process (IsEnding k) new.table new.names m → EndsBy e old answer k new
@@ -100,6 +104,10 @@ module _ (old new : LockState) (k : Key) (m : Lists) (granted : new.granted ≡ 
         (λ q h other is lost. elim lost [
           | inl same ↦ inl same
           | inr ended ↦ inr (subst (Among h) (sym aborted) ended)
+        ])
+        (λ q h other is lost. elim lost [
+          | inl same ↦ inl same
+          | inr ended ↦ inr (subst (Among h) aborted ended)
         ]);
     due = aborts_due e answer k.process (IsEnding k) handed;
   }

@@ -46,7 +46,8 @@ pub record EndsDue (s : TableState) (t : NameTable) (first : List Grant) (marks 
   pub later : List Grant
   pub granted : m.granted.items ≡ first ++ later
   pub ends : EndsAll s m.aborted.items later u
-  pub down : (n : ℕ) → HandsDown s n (IsAmong m.aborted.items) later u
+  pub config : u.config ≡ s.config
+  pub down : (n : ℕ) → wait_of s n ≡ None → HandsDown s n (IsAmong m.aborted.items) later u
   pub names : KeepOwned t u named
   pub numbered : AreNumbered u named
   pub fits : Fits u.config m

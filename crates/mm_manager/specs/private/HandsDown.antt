@@ -5,7 +5,7 @@ use Rattle.mm_lists.specs.Members.{Among}
 use Rattle.mm_rules.specs.TableState.{TableState, owner_of, wait_of, has_verdict}
 use Rattle.mm_settled.specs.declared.reply.Grant.{Grant}
 
--- from s to u, in a call of process n, whoever loses a number loses it, `granted` are the waits that ended, and all else stays
+-- from s to u, in a call of process n, which waits no longer, whoever loses a number does not own it, `granted` are the waits that ended, and all else stays
 pub record HandsDown (s : TableState) (n : ℕ) (Loses : ℕ → Key → Type 0) (granted : List Grant) (u : TableState) : Type 0 where
   pub config : u.config ≡ s.config
   pub keeps : (q : ℕ) (h : Key) → owner_of s q ≡ Some h → ¬ Loses q h → owner_of u q ≡ Some h
@@ -16,11 +16,13 @@ pub record HandsDown (s : TableState) (n : ℕ) (Loses : ℕ → Key → Type 0)
   pub goes_on : (g : Grant) → Among g granted → wait_of u g.key.process ≡ None
   pub owns : (g : Grant) → Among g granted → ¬ Loses g.resource g.key → owner_of u g.resource ≡ Some g.key
   pub verdicts : (v : ℕ) → v ≢ n → has_verdict u v ≡ has_verdict s v
+  pub lost : (q : ℕ) (h : Key) → Loses q h → ¬ (owner_of u q ≡ Some h)
+  pub own : wait_of u n ≡ None
 
 -- whoever loses its numbers by an end is the one that ends
 abbrev pub IsEnding : Key → ℕ → Key → Type 0
 IsEnding k q h = h ≡ k
 
--- what a release hands over is one number
-abbrev pub IsReleased : ℕ → ℕ → Key → Type 0
-IsReleased r q h = q ≡ r
+-- whoever loses a number by a release is the one that releases it
+abbrev pub IsReleased : Key → ℕ → ℕ → Key → Type 0
+IsReleased k r q h = (h ≡ k) × (q ≡ r)

@@ -23,7 +23,7 @@ grants-preserved c = record { so_far = (turned c).so_far; within = (turned c).wi
 pub grants-smaller : goal.grants-smaller
 grants-smaller c =
     let few = few_granted c.grants.table.table c.grants.lists.granted.items c.grants.invariant.so_far.are_granted in
-    omega (arith, few, c.grants-test.true, c.len.ensures, ap (λ g. g.processes) (c.grants.invariant.so_far.down 0).config)
+    omega (arith, few, c.grants-test.true, c.len.ensures, ap (λ g. g.processes) c.grants.invariant.so_far.config)
 
 pub end_if_due-requires-clause-room : goal.end_if_due-requires-clause-room
 end_if_due-requires-clause-room c =

@@ -1,4 +1,5 @@
-use Rattle.std.proofs.Common.{Ok, Err, length, sym, subst, refl, List}
+use Rattle.std.proofs.Common.{Ok, Err, length, sym, ap, subst, refl, List}
+use Rattle.mm_arena.specs.declared.key.Key.{Key}
 use Rattle.mm_rules.specs.Event.{Finish}
 use Rattle.mm_settled.specs.Calls.{Makes}
 use Rattle.mm_settled.specs.Grants.{grants, EndsWaits}
@@ -38,7 +39,7 @@ handed c =
     let passed : EndsDue mid c.finish.new.names (grants s mid) c.args.lists.now.due.items (length c.pass_on.new.lists.granted.items) c.pass_on.new.table.table c.pass_on.new.names c.pass_on.new.lists
     = subst (λ (gs : List Grant). EndsDue mid c.finish.new.names gs c.args.lists.now.due.items (length c.pass_on.new.lists.granted.items) c.pass_on.new.table.table c.pass_on.new.names c.pass_on.new.lists) c.finish.ensures.told.granted c.pass_on.ensures in
     handed_on (Finish k) s c.args.names.now c.args.lists.now.due.items tt k.process (IsEnding k) mid c.finish.new.names made
-    (finish_hands_down s mid k (grants s mid) c.is_at_rest.ensures.laws ends refl made) c.finish.ensures.names c.finish.ensures.numbered c.requires.parts.due (active_not_due s c.args.lists.now.due.items k.process c.requires.parts.due c.requires.active) (length c.pass_on.new.lists.granted.items)
+    (finish_hands_down s mid k (grants s mid) c.is_at_rest.ensures.laws ends refl made) c.finish.ensures.names c.finish.ensures.numbered (λ q h is. ap (λ (i : Key). i.process) is) c.requires.parts.due (active_not_due s c.args.lists.now.due.items k.process c.requires.parts.due c.requires.active) (length c.pass_on.new.lists.granted.items)
     c.pass_on.new.table.table c.pass_on.new.names c.pass_on.new.lists passed refl
 
 pub returns-in-Ok-clause-handed : goal.returns-in-Ok-clause-handed

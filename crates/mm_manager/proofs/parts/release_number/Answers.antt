@@ -1,4 +1,5 @@
-use Rattle.std.proofs.Common.{Ok, Err, length, sym, subst, refl, List}
+use Rattle.std.proofs.Common.{Ok, Err, length, sym, ap, subst, refl, List}
+use Rattle.mm_arena.specs.declared.key.Key.{Key}
 use Rattle.mm_rules.specs.Event.{Release}
 use Rattle.mm_settled.specs.Calls.{Makes}
 use Rattle.mm_settled.specs.Grants.{grants, EndsWaits}
@@ -26,10 +27,10 @@ pass_on-requires-clause-granted c =
     let made : Makes (Release c.args.key c.args.number) s (Ok c.in-Ok.field-0) mid = rw c.in-Ok.is at c.release.ensures.makes in
     let ends : EndsWaits s mid c.args.key.process (grants s mid) = subst (EndsWaits s mid c.args.key.process) c.release.ensures.told.granted c.release.ensures.ended in
     subst (AreGranted mid) (sym c.release.ensures.told.granted)
-    (event_granted s mid c.args.key.process (IsReleased c.args.number) c.is_at_rest.ensures.laws (release_hands_down s mid c.args.key (grants s mid) c.is_at_rest.ensures.laws ends refl c.args.number c.in-Ok.field-0 made))
+    (event_granted s mid c.args.key.process (IsReleased c.args.key c.args.number) c.is_at_rest.ensures.laws (release_hands_down s mid c.args.key (grants s mid) c.is_at_rest.ensures.laws ends refl c.args.number c.in-Ok.field-0 made))
 
 handed : (c : goal.After-pass_on)
-    → Handed (Release c.args.key c.args.number) c.args.table.now.table c.args.names.now c.args.lists.now.due.items c.in-Ok.field-0 c.args.key.process (IsReleased c.args.number) c.pass_on.new.table.table c.pass_on.new.names c.pass_on.new.lists
+    → Handed (Release c.args.key c.args.number) c.args.table.now.table c.args.names.now c.args.lists.now.due.items c.in-Ok.field-0 c.args.key.process (IsReleased c.args.key c.args.number) c.pass_on.new.table.table c.pass_on.new.names c.pass_on.new.lists
 handed c =
     let s = c.args.table.now.table in
     let mid = c.release.new.table.table in
@@ -38,8 +39,8 @@ handed c =
     let ends : EndsWaits s mid k.process (grants s mid) = subst (EndsWaits s mid k.process) c.release.ensures.told.granted c.release.ensures.ended in
     let passed : EndsDue mid c.release.new.names (grants s mid) c.args.lists.now.due.items (length c.pass_on.new.lists.granted.items) c.pass_on.new.table.table c.pass_on.new.names c.pass_on.new.lists
     = subst (λ (gs : List Grant). EndsDue mid c.release.new.names gs c.args.lists.now.due.items (length c.pass_on.new.lists.granted.items) c.pass_on.new.table.table c.pass_on.new.names c.pass_on.new.lists) c.release.ensures.told.granted c.pass_on.ensures in
-    handed_on (Release k c.args.number) s c.args.names.now c.args.lists.now.due.items c.in-Ok.field-0 k.process (IsReleased c.args.number) mid c.release.new.names made
-    (release_hands_down s mid k (grants s mid) c.is_at_rest.ensures.laws ends refl c.args.number c.in-Ok.field-0 made) c.release.ensures.names c.release.ensures.numbered c.requires.parts.due (active_not_due s c.args.lists.now.due.items k.process c.requires.parts.due c.requires.active) (length c.pass_on.new.lists.granted.items)
+    handed_on (Release k c.args.number) s c.args.names.now c.args.lists.now.due.items c.in-Ok.field-0 k.process (IsReleased c.args.key c.args.number) mid c.release.new.names made
+    (release_hands_down s mid k (grants s mid) c.is_at_rest.ensures.laws ends refl c.args.number c.in-Ok.field-0 made) c.release.ensures.names c.release.ensures.numbered (λ q h is. ap (λ (i : Key). i.process) is.0) c.requires.parts.due (active_not_due s c.args.lists.now.due.items k.process c.requires.parts.due c.requires.active) (length c.pass_on.new.lists.granted.items)
     c.pass_on.new.table.table c.pass_on.new.names c.pass_on.new.lists passed refl
 
 pub returns-in-Ok-clause-handed : goal.returns-in-Ok-clause-handed
