@@ -4,9 +4,9 @@ ghost use Rattle.std.specs.Option.{ok_or, option_copied_mut};
 ghost use Rattle.std.specs.Borrow.{sem};
 ghost use Rattle.mm_arena.specs.Slots.{opening_slots, lookup, IsLive, live_key, next_key, live_count, inserted, removed, vacated, AddsKey, DropsKey};
 
-use crate::Key;
+use crate::{Key, Memory};
 use crate::slot::Slot;
-use std::alloc::{AllocError, Global};
+use std::alloc::Global;
 use std::marker::Model;
 
 /// The largest capacity of an arena.
@@ -46,13 +46,13 @@ impl<T> Arena<T> {
     /// later call takes any.
     ///
     /// `Err` only where that memory is refused.
-    pub fn new(alloc: Global, capacity: u32, generation_limit: u32) -> Result<Self, AllocError>
+    pub fn new(alloc: Global, capacity: u32, generation_limit: u32) -> Result<Self, Memory>
         requires some_capacity { 1 ≤ capacity }
         requires capacity_in_range { capacity ≤ MAX_CAPACITY }
         requires some_generation { 1 ≤ generation_limit }
         ensures { IfOk result (λ arena. arena ≡ opening_slots capacity generation_limit) }
     {
-        let mut slots = Vec::with_capacity(alloc, capacity as usize)?;
+        let mut slots = Vec::with_capacity(alloc, capacity as usize).map_err(|_| Memory)?;
         for _ in 0..capacity {
             slots.push_reserved(Slot::new());
         }

@@ -7,10 +7,12 @@
 mod arena;
 mod key;
 mod laws;
+mod memory;
 mod shelf;
 mod slot;
 
 pub use arena::{Arena, MAX_CAPACITY};
 pub use key::Key;
 pub use laws::removed_is_never_live;
+pub use memory::Memory;
 pub use shelf::Shelf;

@@ -4,8 +4,8 @@ ghost use Rattle.std.specs.Option.{option_copied_mut};
 ghost use Rattle.std.specs.Borrow.{sem};
 ghost use Rattle.mm_arena.specs.Shelf.{entry_at, value_at, taken, HasValue};
 
-use crate::{Key, MAX_CAPACITY};
-use std::alloc::{AllocError, Global};
+use crate::{Key, MAX_CAPACITY, Memory};
+use std::alloc::Global;
 use std::marker::Model;
 
 /// At most one value for each process, under the key that it was put with. All of its memory is taken when it is made.
@@ -54,12 +54,12 @@ impl<T> Shelf<T> {
     /// later call takes any.
     ///
     /// `Err` only where that memory is refused.
-    pub fn new(alloc: Global, capacity: u32) -> Result<Self, AllocError>
+    pub fn new(alloc: Global, capacity: u32) -> Result<Self, Memory>
         requires some_capacity { 1 ≤ capacity }
         requires capacity_in_range { capacity ≤ MAX_CAPACITY }
         ensures { IfOk result (λ shelf. shelf ≡ replicate capacity None) }
     {
-        let mut entries = Vec::with_capacity(alloc, capacity as usize)?;
+        let mut entries = Vec::with_capacity(alloc, capacity as usize).map_err(|_| Memory)?;
         for _ in 0..capacity {
             entries.push_reserved(None);
         }

@@ -6,9 +6,9 @@ ghost use Rattle.mm_queue.specs.Queues.{queue, first, empty_queues, with_queue, 
 
 use crate::ends::Ends;
 use crate::standing::{Standing, set_before, set_next};
-use mm_arena::{Key, MAX_CAPACITY, Shelf};
+use mm_arena::{Key, MAX_CAPACITY, Memory, Shelf};
 use mm_links::{Link, Links};
-use std::alloc::{AllocError, Global};
+use std::alloc::Global;
 use std::marker::Model;
 
 /// Lists of keys, in each of which the keys stand in the order in which they came. A process stands in at most one list, under one key,
@@ -34,14 +34,14 @@ impl Lists {
     /// This many lists without keys, for this many processes, in `O(lists + processes)`. It takes memory twice, and no later call takes any.
     ///
     /// `Err` only where that memory is refused.
-    pub fn new(alloc: Global, lists: u32, processes: u32) -> Result<Lists, AllocError>
+    pub fn new(alloc: Global, lists: u32, processes: u32) -> Result<Lists, Memory>
         requires some_lists { 1 ≤ lists }
         requires lists_in_range { lists ≤ MAX_CAPACITY }
         requires some_processes { 1 ≤ processes }
         requires processes_in_range { processes ≤ MAX_CAPACITY }
         ensures { IfOk result (λ made. made ≡ empty_queues lists processes) }
     {
-        let mut ends = Vec::with_capacity(alloc, lists as usize)?;
+        let mut ends = Vec::with_capacity(alloc, lists as usize).map_err(|_| Memory)?;
         for _ in 0..lists {
             ends.push_reserved(Ends::NONE);
         }

@@ -4,7 +4,7 @@ ghost use Rattle.mm_arena.specs.declared.key.Key.{Key};
 ghost use Rattle.mm_board.specs.Views.{current_labels, label_at, new_seen, NoneFalls};
 ghost use Rattle.mm_label.specs.Label.{Label};
 ghost use Rattle.mm_rules.specs.Event.{Step, Begin, Acquire, Release, Finish, Transmit, Detect, Abort, GiveUp, Settle, state_of, owner_told, tenant_of};
-ghost use Rattle.mm_rules.specs.Laws.{HasSoundVerdicts};
+ghost use Rattle.mm_rules.specs.Laws.{HasSoundVerdicts, Laws};
 ghost use Rattle.mm_shared.specs.Booked.{Booked};
 ghost use Rattle.mm_shared.specs.Published.{AppendsOnly, IsPublished, holders_of};
 ghost use Rattle.mm_shared.specs.Shares.{CountsEvent};
@@ -345,14 +345,17 @@ impl<N: Name, A: Ledger, V: Ledger, B: Ledger> Inside<N, A, V, B> {
         }
     }
 
-    /// Does nothing. Its contract is what holds of any value behind the lock, whatever was called and by whom: no owner or wait names a
-    /// freed key, private labels are distinct, each standing verdict names a transaction on a cycle of waits whose private label is
-    /// that cycle's greatest, no cycle has two, the books equal the table's totals, and the board shows each public label and holder.
-    pub fn verdicts_are_sound(&self)
+    /// Does nothing. Its contract is what holds of any value behind the lock, whatever was called and by whom: the table keeps all laws,
+    /// so no owner or wait names a freed key, private labels are distinct, each standing verdict names a transaction on a cycle of waits
+    /// whose private label is that cycle's greatest, and no cycle has two; the books equal the table's totals, and the board shows each
+    /// public label and holder.
+    pub fn keeps_laws(&self)
+        ensures laws { Laws self.now.table }
         ensures sound { HasSoundVerdicts self.now.table }
         ensures booked { Booked self.now.table.totals self.now.accepted.total self.now.verdicts.total self.now.aborts.total }
         ensures published { IsPublished self.now.publisher self.now.table }
     {
+        self.table.keeps_laws();
         self.table.verdicts_are_sound();
     }
 }

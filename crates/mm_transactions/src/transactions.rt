@@ -5,10 +5,10 @@ ghost use Rattle.mm_transactions.specs.Transactions.{opening, is_live, tenant_of
 
 use crate::Transaction;
 use crate::transaction::Entry;
-use mm_arena::{Arena, Key, MAX_CAPACITY};
+use mm_arena::{Arena, Key, MAX_CAPACITY, Memory};
 use mm_links::Link;
 use mm_queue::Lists;
-use std::alloc::{AllocError, Global};
+use std::alloc::Global;
 use std::marker::Model;
 
 /// The live transactions, each under its key, and for each resource the queue of those that wait for it. All of the memory is taken
@@ -47,7 +47,7 @@ impl Transactions {
         processes: u32,
         resources: u32,
         generation_limit: u32,
-    ) -> Result<Transactions, AllocError>
+    ) -> Result<Transactions, Memory>
         requires some_processes { 1 ≤ processes }
         requires processes_in_range { processes ≤ MAX_CAPACITY }
         requires some_resources { 1 ≤ resources }
@@ -136,10 +136,10 @@ impl Transactions {
 }
 
 /// The number 0 for each process, since nobody waited yet, in `O(processes)`. `Err` only where that memory is refused.
-fn no_arrivals(alloc: Global, processes: u32) -> Result<Vec<u64>, AllocError>
+fn no_arrivals(alloc: Global, processes: u32) -> Result<Vec<u64>, Memory>
     ensures { IfOk result (λ made. made.items ≡ replicate processes 0) }
 {
-    let mut arrivals = Vec::with_capacity(alloc, processes as usize)?;
+    let mut arrivals = Vec::with_capacity(alloc, processes as usize).map_err(|_| Memory)?;
     for _ in 0..processes {
         arrivals.push_reserved(0);
     }

@@ -2,7 +2,7 @@ ghost use Rattle.std.specs.Prelude.{◌≡◌, ◌≢◌, ◌+◌, Some, IfOk, O
 ghost use Rattle.mm_arena.specs.Slots.{lookup, live_count};
 
 use crate::tests::same::same;
-use mm_arena::{Arena, Key, MAX_CAPACITY};
+use mm_arena::{Arena, Key, MAX_CAPACITY, Memory};
 use std::alloc::{AllocError, Global};
 use std::process::Abort;
 use std::test::Fail;
@@ -158,8 +158,8 @@ fn fill_twice(rt: &impl Abort, arena: &mut Arena<u32>) {
 }
 
 #[test]
-fn prints_keys(rt: HostRuntime) -> Result<(), Fail> {
-    let text = format!(in rt.alloc(); "{}", key(3, 12))?;
-    assert_eq!(rt; text.as_str(), "3.12");
+fn prints_keys_and_errors(rt: HostRuntime) -> Result<(), Fail> {
+    let text = format!(in rt.alloc(); "{}: {}", key(3, 12), Memory)?;
+    assert_eq!(rt; text.as_str(), "3.12: a request for memory was refused");
     Ok(())
 }

@@ -1,0 +1,7 @@
+//! The one error of an arena.
+use thiserror::Error;
+
+/// A request for memory was refused.
+#[derive(Clone, Copy, Debug, PartialEq, Eq, Error)]
+#[error("a request for memory was refused")]
+pub struct Memory;
