@@ -32,7 +32,7 @@ fn tell<R: Runtime>(rt: &R, table: &Table, processes: &[u32]) -> io::Result<Opti
                 Mode::Active => println!(rt; "{key}: wake up, and go on")?,
                 Mode::Waiting(resource) => println!(rt; "{key}: wait on for {resource}")?,
                 Mode::Convicted(_) => {
-                    println!(rt; "{key}: give way")?;
+                    println!(rt; "{key}: abort")?;
                     convicted = Some(key);
                 }
             },

@@ -1,4 +1,4 @@
-//! A transaction that takes two resources, and gives way where that closes a cycle of waits.
+//! A transaction that takes two resources, and is aborted where that closes a cycle of waits.
 ghost use Rattle.std.specs.Prelude.{◌≡◌, ◌+◌, IfOk, OnErr};
 ghost use Rattle.example_two_threads.specs.Ending.{aborts_of};
 

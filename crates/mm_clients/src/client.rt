@@ -148,11 +148,11 @@ impl<S: Steps + Drop, G: Gate + Drop> Client<S, G> {
             WorkStep::Acquire(resource) => match self.steps.acquire(key, resource) {
                 Ok(Acquired::Granted) => Ok(Next::GoOn),
                 Ok(Acquired::Waits { .. }) => self.wait(key),
-                Err(refusal) => Err(self.give_way(key, refusal)),
+                Err(refusal) => Err(self.end_refused(key, refusal)),
             },
             WorkStep::Release(resource) => match self.steps.release(key, resource) {
                 Ok(_) => Ok(Next::GoOn),
-                Err(refusal) => Err(self.give_way(key, refusal)),
+                Err(refusal) => Err(self.end_refused(key, refusal)),
             },
             WorkStep::Meet(arrivals) => self.meet(arrivals),
         }
@@ -172,7 +172,7 @@ impl<S: Steps + Drop, G: Gate + Drop> Client<S, G> {
                 Ok(Some(next)) => return Ok(next),
                 Ok(None) => thread::yield_now(),
                 Err(Refusal::NotWaiting) => return Ok(Next::GoOn),
-                Err(refusal) => return Err(self.give_way(key, refusal)),
+                Err(refusal) => return Err(self.end_refused(key, refusal)),
             }
         }
         Err(End::Spent)
@@ -227,12 +227,12 @@ impl<S: Steps + Drop, G: Gate + Drop> Client<S, G> {
     {
         match self.steps.abort(key) {
             Ok(()) => End::Aborted,
-            Err(refusal) => self.give_way(key, refusal),
+            Err(refusal) => self.end_refused(key, refusal),
         }
     }
 
     /// The end after a call that was refused: it tries once to finish, whatever that answers.
-    fn give_way(&mut self, key: Key, refusal: Refusal) -> End
+    fn end_refused(&mut self, key: Key, refusal: Refusal) -> End
         ensures end { is_aborted result ≡ false }
         ensures aborts { (S.shares self.new).aborts ≡ (S.shares self.old).aborts }
         ensures parts { (S.shares self.new).parts ≡ (S.shares self.old).parts }

@@ -1,13 +1,14 @@
 //! The bytes of a file.
 
+use mm_workload::MOST_BYTES;
 use std::alloc::Global;
 use std::fs::File;
 use std::io;
 use std::io::{ErrorKind, Read};
 use std::rt::Files;
 
-/// One byte more than a workload may have, so that a longer file is told from one of the greatest length.
-const MOST_BYTES: u64 = 1_048_577;
+/// How many bytes of a file are read: one more than a workload may have, so that a longer file is told from one of the greatest length.
+const BYTES_READ: u64 = MOST_BYTES as u64 + 1;
 
 /// What came of a file.
 #[derive(Debug, Drop)]
@@ -18,7 +19,7 @@ pub enum Taken {
     Fault(io::Error),
 }
 
-/// Returns the bytes of the file at that path: all, or the first 1,048,577 of them. Allocates.
+/// Returns the bytes of the file at that path: all, or the first `BYTES_READ` of them. Takes memory.
 pub fn taken_from(rt: &impl Files, alloc: Global, path: &str) -> Taken {
     match File::open(rt, path) {
         Ok(file) => taken_of(alloc, file),
@@ -26,10 +27,10 @@ pub fn taken_from(rt: &impl Files, alloc: Global, path: &str) -> Taken {
     }
 }
 
-/// The bytes that a reader has left, up to that many.
+/// The bytes that a reader has left, or the first `BYTES_READ` of them.
 pub fn taken_of<R: Read + Drop>(alloc: Global, reader: R) -> Taken {
     let mut bytes = Vec::new(alloc);
-    match reader.take(MOST_BYTES).read_to_end(&mut bytes) {
+    match reader.take(BYTES_READ).read_to_end(&mut bytes) {
         Ok(_) => Taken::Bytes(bytes),
         Err(error) => fault(error),
     }

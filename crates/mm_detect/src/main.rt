@@ -26,7 +26,8 @@ use std::rt::Runtime;
 use std::sync::Wait;
 use std::thread::Threads;
 use verbose::run_verbose;
-use work::{WRITE_FAULT, generated, memory_refused, storm_on, threads_on};
+use work::{generated, print_end, storm_on, threads_on};
+use work_end::WorkEnd;
 
 fn main(rt: HostRuntime) -> ExitCode {
     let (mut input, mut output) = (rt.stdin(), rt.stdout());
@@ -51,10 +52,10 @@ fn answer<R: Runtime + Threads + Wait + Sync, I: Read, W: Write>(
     match request {
         Request::Script => Ending::Ran(run_script(alloc, input, output)),
         Request::Threads { file, verbose } => {
-            Ending::Worked(threads(rt, alloc, file.as_str(), *verbose, output))
+            Ending::Worked(run_file(rt, alloc, file.as_str(), *verbose, output))
         }
         Request::Storm { options, verbose } => {
-            Ending::Worked(stormed(rt, alloc, *options, *verbose, output))
+            Ending::Worked(run_storm(rt, alloc, *options, *verbose, output))
         }
         Request::Help(text) => {
             Ending::Helped(print!(rt; "{text}").map_err(|_| ScriptFault::Write))
@@ -71,7 +72,7 @@ fn answer<R: Runtime + Threads + Wait + Sync, I: Read, W: Write>(
 }
 
 /// Runs the workload in this file, and returns the status.
-fn threads<R: Runtime + Threads + Wait + Sync, W: Write>(
+fn run_file<R: Runtime + Threads + Wait + Sync, W: Write>(
     rt: &R,
     alloc: Global,
     file: &str,
@@ -79,8 +80,8 @@ fn threads<R: Runtime + Threads + Wait + Sync, W: Write>(
     output: &mut W,
 ) -> Result<u8, ScriptFault> {
     match taken_from(rt, alloc, file) {
-        Taken::Bytes(bytes) => said(rt, alloc, file, bytes.as_slice(), verbose, output),
-        Taken::Memory => written(memory_refused(output)),
+        Taken::Bytes(bytes) => run_bytes(rt, alloc, file, bytes.as_slice(), verbose, output),
+        Taken::Memory => print_end(&WorkEnd::Refused(Refusal::Memory), output),
         Taken::Fault(error) => {
             if verbose {
                 let _ = eprintln!(rt; "{file}: {error}");
@@ -91,7 +92,7 @@ fn threads<R: Runtime + Threads + Wait + Sync, W: Write>(
 }
 
 /// Runs the workload that these bytes of a file say, and returns the status.
-fn said<R: Runtime + Threads + Wait + Sync, W: Write>(
+fn run_bytes<R: Runtime + Threads + Wait + Sync, W: Write>(
     rt: &R,
     alloc: Global,
     file: &str,
@@ -99,33 +100,22 @@ fn said<R: Runtime + Threads + Wait + Sync, W: Write>(
     verbose: bool,
     output: &mut W,
 ) -> Result<u8, ScriptFault> {
-    written(if verbose {
-        run_verbose(rt, alloc, file, Workload::read(alloc, bytes), output)
-    } else {
-        threads_on(rt, alloc, bytes, output)
-    })
+    if verbose {
+        return run_verbose(rt, alloc, file, Workload::read(alloc, bytes), output);
+    }
+    threads_on(rt, alloc, bytes, output)
 }
 
 /// Runs the workload that is generated from these numbers, and returns the status.
-fn stormed<R: Runtime + Threads + Wait + Sync, W: Write>(
+fn run_storm<R: Runtime + Threads + Wait + Sync, W: Write>(
     rt: &R,
     alloc: Global,
     options: StormOptions,
     verbose: bool,
     output: &mut W,
 ) -> Result<u8, ScriptFault> {
-    written(if verbose {
-        run_verbose(rt, alloc, "storm", generated(alloc, options), output)
-    } else {
-        storm_on(rt, alloc, options, output)
-    })
-}
-
-/// The status of a run whose lines were written, else the fault.
-fn written(status: u8) -> Result<u8, ScriptFault> {
-    if status == WRITE_FAULT {
-        Err(ScriptFault::Write)
-    } else {
-        Ok(status)
+    if verbose {
+        return run_verbose(rt, alloc, "storm", generated(alloc, options), output);
     }
+    storm_on(rt, alloc, options, output)
 }

@@ -1,10 +1,11 @@
 //! What is printed on standard error for a person while a workload is run. Where that cannot be written, it is left out, and the run goes on.
-ghost use Rattle.std.specs.Prelude.{◌≡◌, ◌≢◌, ◌+◌, IsErrAnd, length, vec_len};
+ghost use Rattle.std.specs.Prelude.{◌≡◌, ◌≢◌, ◌+◌, Ok, IfErr, IsErrAnd, length, vec_len};
 ghost use Rattle.mm_workload.specs.declared.fault.WorkFault.TheVariants.{Memory};
 ghost use Rattle.mm_detect.specs.WorkEnd.{work_status};
 
-use crate::work::{gates_of, printed};
+use crate::work::{gates_of, print_end};
 use crate::work_end::WorkEnd;
+use mm_script::ScriptFault;
 use mm_table::Refusal;
 use mm_workers::{End, Outcome, SharedGate, run_threads};
 use mm_workload::{WorkFault, Workload};
@@ -25,8 +26,9 @@ pub fn run_verbose<R: Clock + Eprint + Threads + Wait + Sync, W: Write>(
     name: &str,
     read: Result<Workload, WorkFault>,
     writer: &mut W,
-) -> u8
-    ensures { result ≡ 1 → IsErrAnd read (λ fault. ¬ (fault ≡ Memory)) }
+) -> Result<u8, ScriptFault>
+    ensures malformed { result ≡ Ok 1 → IsErrAnd read (λ fault. ¬ (fault ≡ Memory)) }
+    ensures fault { IfErr result (λ fault. fault ≡ ScriptFault.Write) }
 {
     let end = match read {
         Ok(work) => verbose_end(rt, alloc, name, &work),
@@ -36,7 +38,7 @@ pub fn run_verbose<R: Clock + Eprint + Threads + Wait + Sync, W: Write>(
         }
         Err(WorkFault::Memory) => WorkEnd::Refused(Refusal::Memory),
     };
-    printed(&end, writer)
+    print_end(&end, writer)
 }
 
 /// Runs the workload, and prints what is run, how far it is, and how it ended.

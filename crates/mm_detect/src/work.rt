@@ -1,5 +1,5 @@
 //! Runs of workloads, on threads.
-ghost use Rattle.std.specs.Prelude.{◌≡◌, ◌≢◌, ◌≤◌, ◌+◌, ◌⊎◌, Err, IfOk, IfErr, MatchResult, length, vec_len};
+ghost use Rattle.std.specs.Prelude.{◌≡◌, ◌≢◌, ◌≤◌, ◌+◌, ◌⊎◌, Ok, Err, IfOk, IfErr, MatchResult, length, vec_len};
 ghost use Rattle.mm_rules.specs.Event.{Opens};
 ghost use Rattle.mm_workload.specs.Json.{Says, SaysNone};
 ghost use Rattle.mm_workload.specs.Storm.{storm_of};
@@ -9,6 +9,7 @@ ghost use Rattle.mm_detect.specs.WorkEnd.{EndsAs, work_status};
 
 use crate::work_end::WorkEnd;
 use mm_command::StormOptions;
+use mm_script::ScriptFault;
 use mm_table::Refusal;
 use mm_workers::{Outcome, SharedGate, run_threads, shared_gates};
 use mm_workload::{WorkFault, Workload, storm};
@@ -17,22 +18,20 @@ use std::io::Write;
 use std::sync::Wait;
 use std::thread::Threads;
 
-/// The status of a run whose lines could not be written.
-pub const WRITE_FAULT: u8 = 3;
-
-/// Runs the workload that the bytes of a file say, prints what came of it, and returns the status that the program exits with: as
-/// `WorkEnd::status`, and 3 where a line could not be written. Takes memory.
+/// Runs the workload that the bytes of a file say, prints what came of it, and returns the status that the program exits with
+/// (`WorkEnd::status`); `Err` where a line could not be written. Takes memory.
 pub fn threads_on<R: Threads + Wait + Sync, W: Write>(
     rt: &R,
     alloc: Global,
     bytes: &[u8],
     writer: &mut W,
-) -> u8
-    ensures malformed { result ≡ 1 → SaysNone bytes.now }
-    ensures ran { (result ≡ 0) ⊎ (result ≡ 5) → (work : Work) × Says bytes.now work }
+) -> Result<u8, ScriptFault>
+    ensures malformed { result ≡ Ok 1 → SaysNone bytes.now }
+    ensures ran { (result ≡ Ok 0) ⊎ (result ≡ Ok 5) → (work : Work) × Says bytes.now work }
+    ensures fault { IfErr result (λ fault. fault ≡ ScriptFault.Write) }
 {
     let end = end_of(rt, alloc, Workload::read(alloc, bytes));
-    printed(&end, writer)
+    print_end(&end, writer)
 }
 
 /// Runs the workload that is generated from these numbers, as `threads_on` runs that of a file.
@@ -41,11 +40,12 @@ pub fn storm_on<R: Threads + Wait + Sync, W: Write>(
     alloc: Global,
     options: StormOptions,
     writer: &mut W,
-) -> u8
-    ensures { result ≢ 1 }
+) -> Result<u8, ScriptFault>
+    ensures status { IfOk result (λ status. status ≢ 1) }
+    ensures fault { IfErr result (λ fault. fault ≡ ScriptFault.Write) }
 {
     let end = end_of(rt, alloc, generated(alloc, options));
-    printed(&end, writer)
+    print_end(&end, writer)
 }
 
 /// The workload that is generated from these numbers.
@@ -105,17 +105,13 @@ pub fn gates_of<'a, R: Wait>(
     }
 }
 
-/// Prints what came of a workload, and returns the status.
-pub fn printed<W: Write>(end: &WorkEnd, writer: &mut W) -> u8
-    ensures { (result ≡ 3) ⊎ (result ≡ work_status end.now) }
+/// Prints what came of a workload, and returns the status; `Err` where that could not be written.
+pub fn print_end<W: Write>(end: &WorkEnd, writer: &mut W) -> Result<u8, ScriptFault>
+    ensures status { IfOk result (λ status. status ≡ work_status end.now) }
+    ensures fault { IfErr result (λ fault. fault ≡ ScriptFault.Write) }
 {
     if writeln!(writer, "{end}").is_err() || writer.flush().is_err() {
-        return WRITE_FAULT;
+        return Err(ScriptFault::Write);
     }
-    end.status()
-}
-
-/// Prints that memory was refused, and returns the status.
-pub fn memory_refused<W: Write>(writer: &mut W) -> u8 {
-    printed(&WorkEnd::Refused(Refusal::Memory), writer)
+    Ok(end.status())
 }

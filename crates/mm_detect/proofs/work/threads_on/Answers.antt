@@ -1,17 +1,23 @@
-use Rattle.std.proofs.Common.{◌≡◌, ◌∙◌, ◌⊎◌, inl, inr, sym}
+use Rattle.std.proofs.Common.{◌≡◌, ◌⊎◌, inl, inr, ℕ, sym, subst, Result, Ok, IfOk}
+use Rattle.mm_script.specs.declared.ScriptFault.{ScriptFault}
 use Rattle.mm_detect.specs.WorkEnd.{work_status}
+use Rattle.mm_detect.specs.declared.work_end.WorkEnd.{WorkEnd}
 use Rattle.mm_detect.proofs.Lemmas.Workload.{ends_as_malformed, ends_as_run}
 use Rattle.mm_detect.proofs.work.threads_on.Goals as goal
 
-pub returns : goal.returns
-returns g c = record {
-  malformed = λ is.
-      let ended : work_status c.end_of-end.result ≡ 1 = elim c.printed.ensures [ inl three ↦ absurd (cc) | inr same ↦ sym same ∙ is ] in
-      ends_as_malformed c.read.result c.end_of-end.result c.end_of-end.ensures ended c.read.ensures.malformed;
-  ran = λ is.
-      let ended : (work_status c.end_of-end.result ≡ 0) ⊎ (work_status c.end_of-end.result ≡ 5) = elim c.printed.ensures [
-        | inl three ↦ absurd (elim is [ inl e ↦ cc | inr e ↦ cc ])
-        | inr same ↦ elim is [ inl e ↦ inl (sym same ∙ e) | inr e ↦ inr (sym same ∙ e) ]
-      ] in
-      ends_as_run c.read.result c.end_of-end.result c.end_of-end.ensures ended c.read.ensures.ok;
-}
+-- the status that was returned is that of the end
+told : (end : WorkEnd) (r : Result ℕ ScriptFault) (n : ℕ) → IfOk r (λ status. status ≡ work_status end) → r ≡ Ok n → work_status end ≡ n
+told end r n is e = sym (subst (λ (q : Result ℕ ScriptFault). IfOk q (λ status. status ≡ work_status end)) e is)
+
+pub returns-clause-malformed : goal.returns-clause-malformed
+returns-clause-malformed g c is =
+    let ended = told c.end_of-end.result c.print_end.result 1 c.print_end.ensures.status is in
+    ends_as_malformed c.read.result c.end_of-end.result c.end_of-end.ensures ended c.read.ensures.malformed
+
+pub returns-clause-ran : goal.returns-clause-ran
+returns-clause-ran g c is =
+    let ended : (work_status c.end_of-end.result ≡ 0) ⊎ (work_status c.end_of-end.result ≡ 5) = elim is [
+      | inl e ↦ inl (told c.end_of-end.result c.print_end.result 0 c.print_end.ensures.status e)
+      | inr e ↦ inr (told c.end_of-end.result c.print_end.result 5 c.print_end.ensures.status e)
+    ] in
+    ends_as_run c.read.result c.end_of-end.result c.end_of-end.ensures ended c.read.ensures.ok
