@@ -1,10 +1,10 @@
 //! Threads that use up all slots of a table.
-ghost use Rattle.std.specs.Prelude.{◌≡◌};
+ghost use Rattle.std.specs.Prelude.{◌<◌};
 
 use crate::tests::same::same;
-use mm_shared::{Config, Name, Pass, Prepared, Refusal, Report, SharedTable};
+use crate::tests::shared::{PARTS, Work, accepted, on_a_table};
+use mm_shared::{Config, Name, Pass, Refusal, Report, SharedTable};
 use std::alloc::{AllocError, Global};
-use std::marker::Brand;
 use std::process::Abort;
 use std::sync::Wait;
 use std::sync::ledger::Ledger;
@@ -18,7 +18,7 @@ const THREADS: u32 = 8;
 const PROCESSES: u32 = 5;
 
 /// The last generation of each process.
-const GENERATIONS: u32 = 20_000;
+const GENERATIONS: u32 = 5_000;
 
 /// A thread's pass, how many transactions it began, and the sum of their generations.
 #[derive(Drop)]
@@ -114,7 +114,7 @@ fn beginners<N: Name, A: Ledger, V: Ledger, B: Ledger>(
     Ok(beginners)
 }
 
-/// Lets the threads work, each with a part of this pass, and joins all.
+/// Lets the threads work, each with a part of this pass.
 fn work_all<
     N: Name + Send + Sync,
     A: Ledger + Send + Sync,
@@ -125,59 +125,60 @@ fn work_all<
     rt: &R,
     alloc: Global,
     table: &SharedTable<N, A, V, B>,
-    pass: Pass<N, A, V, B>,
-) -> Result<Beginner<N, A, V, B>, AllocError> {
-    let mut pass = pass;
-    let workers = beginners(alloc, table, &mut pass)?;
-    let ended = map_vec(
+    pass: &mut Pass<N, A, V, B>,
+) -> Result<Vec<Beginner<N, A, V, B>>, AllocError> {
+    let workers = beginners(alloc, table, pass)?;
+    map_vec(
         rt,
         workers,
         &|worker: Beginner<N, A, V, B>| worker.work(rt, table),
-    )?;
-    // What the threads left over, where one missed a transaction that began while it looked.
+    )
+}
+
+/// Makes what the threads left over, where one missed a transaction that began while it looked, and joins all.
+fn work_rest<N: Name, A: Ledger, V: Ledger, B: Ledger, R: Wait + Abort>(
+    rt: &R,
+    table: &SharedTable<N, A, V, B>,
+    pass: Pass<N, A, V, B>,
+    ended: Vec<Beginner<N, A, V, B>>,
+) -> Beginner<N, A, V, B> {
     let mut all = Beginner::new(pass).work(rt, table);
     for worker in ended {
         all.join(table, worker);
     }
-    Ok(all)
+    all
 }
 
-/// Ends the test unless each slot was given in each of its generations once, and none is given again.
-fn are_used_up<N: Name, A: Ledger, V: Ledger, B: Ledger, R: Wait + Abort>(
-    rt: &R,
-    table: SharedTable<N, A, V, B>,
-    all: Beginner<N, A, V, B>,
-) {
-    let mut all = all;
-    all.is_refused_for_good(rt, &table);
+/// Ends the test unless each slot was given in each of its generations once.
+fn are_given_once(rt: &impl Abort, begun: u64, generations: u64) {
     let processes = u64::from(PROCESSES);
     let last = u64::from(GENERATIONS);
-    same(rt, all.begun, processes * last);
-    same(rt, all.generations, processes * (last * (last + 1) / 2));
-    let expected = Report {
-        accepted: 2 * (processes * last),
-        verdicts: 0,
-        aborts: 0,
-    };
-    same(rt, table.close(all.pass).ok(), Some(expected));
+    same(rt, begun, processes * last);
+    same(rt, generations, processes * (last * (last + 1) / 2));
 }
 
-fn use_up<
+/// Uses up all slots, and returns what was made. Ends the test unless none is given again.
+pub fn use_up_slots<
     N: Name + Send + Sync,
     A: Ledger + Send + Sync,
     V: Ledger + Send + Sync,
     B: Ledger + Send + Sync,
     R: Threads + Wait + Abort + Sync,
->(rt: &R, alloc: Global, prepared: Prepared) -> Result<(), AllocError>
-    requires board { prepared.board ≡ N.board }
-    requires accepted { (prepared.accepted.name ≡ A.name) × (prepared.accepted.parts ≡ A.parts) }
-    requires verdicts { (prepared.verdicts.name ≡ V.name) × (prepared.verdicts.parts ≡ V.parts) }
-    requires aborts { (prepared.aborts.name ≡ B.name) × (prepared.aborts.parts ≡ B.parts) }
+>(
+    rt: &R,
+    alloc: Global,
+    table: &SharedTable<N, A, V, B>,
+    pass: &mut Pass<N, A, V, B>,
+) -> Result<Report, AllocError>
+    requires { 1000 < pass.old.parts }
 {
-    let (table, pass) = prepared.open::<N, A, V, B>();
-    let all = work_all(rt, alloc, &table, pass)?;
-    are_used_up(rt, table, all);
-    Ok(())
+    let mut mine = pass.split(table, PARTS);
+    let ended = work_all(rt, alloc, table, &mut mine)?;
+    let mut all = work_rest(rt, table, mine, ended);
+    all.is_refused_for_good(rt, table);
+    are_given_once(rt, all.begun, all.generations);
+    pass.join(table, all.pass);
+    Ok(accepted(2 * u64::from(PROCESSES) * u64::from(GENERATIONS)))
 }
 
 /// Each slot is given in each of its generations once, by whichever thread, and then never again.
@@ -189,7 +190,5 @@ fn all_slots_are_retired(rt: HostRuntime) -> Result<(), Fail> {
         label_limit: 9,
         generation_limit: GENERATIONS,
     };
-    let prepared = Prepared::new(rt.alloc(), config)?;
-    use_up::<Brand, Brand, Brand, Brand, _>(&rt, rt.alloc(), prepared)?;
-    Ok(())
+    on_a_table(&rt, rt.alloc(), config, Work::AllSlots)
 }
