@@ -67,7 +67,7 @@ impl Work {
             Work::TwoThreads => Ok(threads::begin_and_finish_both(rt, table, pass, other)),
             Work::KeptKey => Ok(old_key::keep_a_key(rt, table, pass)),
             Work::Deadlocks => deadlocks::break_all(rt, alloc, table, pass),
-            Work::ReadLabels => labels::read_beside_deadlocks(rt, alloc, table, pass),
+            Work::ReadLabels => labels::read_beside_deadlocks(rt, alloc, table, pass, other),
             Work::AllLabels => exhausted::use_up_labels(rt, alloc, table, pass),
             Work::AllSlots => retired::use_up_slots(rt, alloc, table, pass),
         }

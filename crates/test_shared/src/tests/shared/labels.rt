@@ -23,10 +23,10 @@ const THREADS: u32 = 6;
 const ROUNDS: u64 = 250;
 
 /// How many labels are read at least, from the first one on that rose.
-const READS: u64 = 100_000;
+const READS: u64 = 1_000_000;
 
 /// How often the reader reads all labels before it lets the others go on, where there is one processor.
-const LOOKS: u32 = 50;
+const LOOKS: u32 = 500;
 
 /// What the reader and the others tell each other.
 #[derive(Drop)]
@@ -65,20 +65,15 @@ struct Reader<N: Name, A: Ledger, V: Ledger, B: Ledger> {
 }
 
 impl<N: Name, A: Ledger, V: Ledger, B: Ledger> Reader<N, A, V, B> {
-    /// A reader that has read each label once.
-    fn new(
-        alloc: Global,
-        table: &SharedTable<N, A, V, B>,
-        mut pass: Pass<N, A, V, B>,
-    ) -> Result<Reader<N, A, V, B>, AllocError> {
-        let last = all_labels(alloc, table, &mut pass)?;
-        Ok(Reader {
+    /// A reader with the labels that were read last.
+    fn new(pass: Pass<N, A, V, B>, last: Vec<Label>) -> Reader<N, A, V, B> {
+        Reader {
             pass,
             last,
             rises: 0,
             falls: 0,
             reads: 0,
-        })
+        }
     }
 
     /// Reads all labels until nobody makes deadlocks any more. It has no handle, so it may not wait.
@@ -194,33 +189,6 @@ fn none_fell<N: Name, A: Ledger, V: Ledger, B: Ledger>(
     same(rt, made.verdicts, made.aborts);
 }
 
-/// Lets the reader read beside those who make deadlocks, each with a pass of its own.
-fn read_beside<
-    N: Name + Send + Sync,
-    A: Ledger + Send + Sync,
-    V: Ledger + Send + Sync,
-    B: Ledger + Send + Sync,
-    R: Threads + Wait + Abort + Sync,
->(
-    rt: &R,
-    alloc: Global,
-    table: &SharedTable<N, A, V, B>,
-    reader: Reader<N, A, V, B>,
-    pass: Pass<N, A, V, B>,
-) -> Result<Team<N, A, V, B>, AllocError> {
-    let signals = Signals {
-        enough: AtomicBool::new(false),
-        done: AtomicBool::new(false),
-    };
-    let told = &signals;
-    let (reader, team) = join(
-        rt,
-        || reader.work(table, told),
-        || work_beside_reader(rt, alloc, table, pass, told),
-    );
-    team.map(|team| joined(rt, table, reader, team))
-}
-
 /// Joins the pass of the reader to that of the others.
 fn joined<N: Name, A: Ledger, V: Ledger, B: Ledger>(
     rt: &impl Abort,
@@ -234,7 +202,59 @@ fn joined<N: Name, A: Ledger, V: Ledger, B: Ledger>(
     team
 }
 
-/// Lets the reader read and the others make deadlocks, and returns what these made.
+/// Lets the reader read beside those who make deadlocks, each with a pass of its own.
+fn read_beside<
+    N: Name + Send + Sync,
+    A: Ledger + Send + Sync,
+    V: Ledger + Send + Sync,
+    B: Ledger + Send + Sync,
+    R: Threads + Wait + Abort + Sync,
+>(
+    rt: &R,
+    alloc: Global,
+    table: &SharedTable<N, A, V, B>,
+    reader: Reader<N, A, V, B>,
+    pass: Pass<N, A, V, B>,
+    signals: &Signals,
+) -> Result<Team<N, A, V, B>, AllocError> {
+    let (reader, team) = join(
+        rt,
+        || reader.work(table, signals),
+        || work_beside_reader(rt, alloc, table, pass, signals),
+    );
+    match team {
+        Ok(team) => Ok(joined(rt, table, reader, team)),
+        Err(error) => Err(error),
+    }
+}
+
+/// Lets the reader read and the others make deadlocks, each with a part of this pass.
+fn read_by_part<
+    N: Name + Send + Sync,
+    A: Ledger + Send + Sync,
+    V: Ledger + Send + Sync,
+    B: Ledger + Send + Sync,
+    R: Threads + Wait + Abort + Sync,
+>(
+    rt: &R,
+    alloc: Global,
+    table: &SharedTable<N, A, V, B>,
+    pass: &mut Pass<N, A, V, B>,
+    last: Vec<Label>,
+) -> Result<Team<N, A, V, B>, AllocError>
+    requires { 1000 < pass.old.parts }
+{
+    let signals = Signals {
+        enough: AtomicBool::new(false),
+        done: AtomicBool::new(false),
+    };
+    let mut mine = pass.split(table, PARTS);
+    let reader = Reader::new(mine.split(table, 1), last);
+    read_beside(rt, alloc, table, reader, mine, &signals)
+}
+
+/// Lets the reader read and the others make deadlocks, and returns what these made. The reader is given the labels that the other pass reads
+/// at first.
 pub fn read_beside_deadlocks<
     N: Name + Send + Sync,
     A: Ledger + Send + Sync,
@@ -246,13 +266,13 @@ pub fn read_beside_deadlocks<
     alloc: Global,
     table: &SharedTable<N, A, V, B>,
     pass: &mut Pass<N, A, V, B>,
+    other: &mut Pass<N, A, V, B>,
 ) -> Result<Report, AllocError>
     requires { 1000 < pass.old.parts }
 {
-    let mut mine = pass.split(table, PARTS);
-    let reader = Reader::new(alloc, table, mine.split(table, 1))?;
-    let Team { pass: other, made } = read_beside(rt, alloc, table, reader, mine)?;
-    pass.join(table, other);
+    let last = all_labels(alloc, table, other)?;
+    let Team { pass: mine, made } = read_by_part(rt, alloc, table, pass, last)?;
+    pass.join(table, mine);
     Ok(made)
 }
 
