@@ -1,9 +1,9 @@
 //! The end of a shared table, and the calls that take no lock.
-ghost use Rattle.std.specs.Prelude.{◌≡◌};
+ghost use Rattle.std.specs.Prelude.{◌≡◌, ◌<◌};
 
 use crate::tests::same::same;
-use crate::tests::shared::config;
-use mm_shared::{CloseRefused, Name, Pass, Prepared, Refusal, Report, SharedTable};
+use crate::tests::shared::{accepted, closes_with, config, refused_close};
+use mm_shared::{CloseRefused, Name, Pass, Prepared, Report, SharedTable};
 use std::alloc::{AllocError, Global};
 use std::error::Error;
 use std::marker::Brand;
@@ -11,15 +11,6 @@ use std::process::Abort;
 use std::sync::Wait;
 use std::sync::ledger::Ledger;
 use std::test::Fail;
-
-/// The report of a table that accepted so many calls, no verdict or abort among them.
-fn accepted(calls: u64) -> Report {
-    Report {
-        accepted: calls,
-        verdicts: 0,
-        aborts: 0,
-    }
-}
 
 /// Ends the test unless this text is printed.
 fn is_printed<E: Error>(
@@ -34,35 +25,34 @@ fn is_printed<E: Error>(
 }
 
 /// Ends the test unless the table goes on, and is closed with both passes.
-fn closes_with_both<N: Name, A: Ledger, V: Ledger, B: Ledger, R: Wait + Abort>(
+fn goes_on_and_closes<N: Name, A: Ledger, V: Ledger, B: Ledger, R: Wait + Abort>(
     rt: &R,
-    table: SharedTable<N, A, V, B>,
-    pass: Pass<N, A, V, B>,
+    refused: CloseRefused<N, A, V, B>,
     kept: Pass<N, A, V, B>,
 ) {
+    let CloseRefused {
+        refusal: _,
+        table,
+        pass,
+    } = refused;
     let mut kept = kept;
     same(rt, pass.parts(), 1_047_576);
     same(rt, table.begin(rt, &mut kept).is_ok(), true);
     kept.join(&table, pass);
-    same(rt, table.close(kept).ok(), Some(accepted(2)));
+    closes_with(rt, table, kept, Some(accepted(2)));
 }
 
-/// Ends the test unless the table was not closed for want of the pass that was kept, and is closed with it.
-fn misses<N: Name + Drop, A: Ledger + Drop, V: Ledger + Drop, B: Ledger + Drop, R: Wait + Abort>(
+/// Splits off a pass that makes one accepted call.
+fn kept_pass<N: Name, A: Ledger, V: Ledger, B: Ledger, R: Wait + Abort>(
     rt: &R,
-    alloc: Global,
-    refused: CloseRefused<N, A, V, B>,
-    kept: Pass<N, A, V, B>,
-) -> Result<(), AllocError> {
-    let told = is_printed(rt, alloc, &refused, "the pass does not have all parts");
-    let CloseRefused {
-        refusal,
-        table,
-        pass,
-    } = refused;
-    same(rt, refusal, Refusal::SharesMissing);
-    closes_with_both(rt, table, pass, kept);
-    told
+    table: &SharedTable<N, A, V, B>,
+    pass: &mut Pass<N, A, V, B>,
+) -> Pass<N, A, V, B>
+    requires { 1000 < pass.old.parts }
+{
+    let mut kept = pass.split(table, 1000);
+    same(rt, table.begin(rt, &mut kept).is_ok(), true);
+    kept
 }
 
 /// Ends the test unless a table is not closed without a pass that made one accepted call, goes on after that, and is closed with it.
@@ -79,13 +69,11 @@ fn keep_a_pass<
     requires aborts { (prepared.aborts.name ≡ B.name) × (prepared.aborts.parts ≡ B.parts) }
 {
     let (table, mut pass) = prepared.open::<N, A, V, B>();
-    let mut kept = pass.split(&table, 1000);
-    same(rt, table.begin(rt, &mut kept).is_ok(), true);
-    let Err(refused) = table.close(pass) else {
-        assert!(rt; false);
-        return Ok(());
-    };
-    misses(rt, alloc, refused, kept)
+    let kept = kept_pass(rt, &table, &mut pass);
+    let refused = refused_close(rt, table, pass);
+    let told = is_printed(rt, alloc, &refused, "the pass does not have all parts");
+    goes_on_and_closes(rt, refused, kept);
+    told
 }
 
 #[test]
@@ -95,28 +83,51 @@ fn a_kept_pass_is_missed_at_the_end(rt: HostRuntime) -> Result<(), Fail> {
     Ok(())
 }
 
+/// What was seen of a table from its opening to its close.
+#[derive(Drop)]
+struct Seen {
+    processes: u32,
+    parts: u64,
+    report: Option<Report>,
+}
+
+/// Splits the pass and joins it again, and returns how many parts were left to it. It has no handle, so it may not wait.
+fn split_and_join<N: Name, A: Ledger, V: Ledger, B: Ledger>(
+    table: &SharedTable<N, A, V, B>,
+    pass: &mut Pass<N, A, V, B>,
+) -> u64
+    requires { 48576 < pass.old.parts }
+{
+    let other = pass.split(table, 48_576);
+    let parts = pass.parts();
+    pass.join(table, other);
+    parts
+}
+
 /// Opens a table, splits its pass, joins it again and closes the table. It has no handle, so it may not wait.
-fn open_and_close<N: Name, A: Ledger, V: Ledger, B: Ledger>(
-    prepared: Prepared,
-) -> (u32, u64, Option<Report>)
+fn open_and_close<N: Name, A: Ledger, V: Ledger, B: Ledger>(prepared: Prepared) -> Seen
     requires board { prepared.board ≡ N.board }
     requires accepted { (prepared.accepted.name ≡ A.name) × (prepared.accepted.parts ≡ A.parts) }
     requires verdicts { (prepared.verdicts.name ≡ V.name) × (prepared.verdicts.parts ≡ V.parts) }
     requires aborts { (prepared.aborts.name ≡ B.name) × (prepared.aborts.parts ≡ B.parts) }
 {
     let (table, mut pass) = prepared.open::<N, A, V, B>();
-    let other = pass.split(&table, 48_576);
-    let parts = pass.parts();
-    pass.join(&table, other);
-    (table.processes(), parts, table.close(pass).ok())
+    let parts = split_and_join(&table, &mut pass);
+    let processes = table.processes();
+    let report = table.close(pass).ok();
+    Seen {
+        processes,
+        parts,
+        report,
+    }
 }
 
 #[test]
 fn nothing_waits_but_what_takes_the_lock(rt: HostRuntime) -> Result<(), Fail> {
     let prepared = Prepared::new(rt.alloc(), config(3, 1))?;
-    let (processes, parts, report) = open_and_close::<Brand, Brand, Brand, Brand>(prepared);
-    same(&rt, processes, 3);
-    same(&rt, parts, 1_000_000);
-    same(&rt, report, Some(accepted(0)));
+    let seen = open_and_close::<Brand, Brand, Brand, Brand>(prepared);
+    same(&rt, seen.processes, 3);
+    same(&rt, seen.parts, 1_000_000);
+    same(&rt, seen.report, Some(accepted(0)));
     Ok(())
 }

@@ -2,17 +2,16 @@
 //!
 //! - `spender`: a thread that makes waits and deadlocks until a call is refused, since a label would be past the limit.
 //! - `after`: what the table still does then.
-ghost use Rattle.std.specs.Prelude.{◌≡◌};
+ghost use Rattle.std.specs.Prelude.{◌<◌};
 
 mod after;
 mod spender;
 
-use crate::tests::same::same;
+use crate::tests::shared::{PARTS, Work, on_a_table};
 use after::After;
-use mm_shared::{Config, Name, Pass, Prepared, SharedTable};
+use mm_shared::{Config, Name, Pass, Report, SharedTable};
 use spender::Spender;
 use std::alloc::{AllocError, Global};
-use std::marker::Brand;
 use std::process::Abort;
 use std::sync::Wait;
 use std::sync::atomic::AtomicBool;
@@ -41,8 +40,8 @@ fn all_spenders<N: Name, A: Ledger, V: Ledger, B: Ledger>(
     Ok(spenders)
 }
 
-/// Lets the threads work until the labels are used up, and joins all.
-fn work_all<
+/// Lets the threads work until the labels are used up, each with a part of this pass.
+fn spend_all<
     N: Name + Send + Sync,
     A: Ledger + Send + Sync,
     V: Ledger + Send + Sync,
@@ -52,21 +51,28 @@ fn work_all<
     rt: &R,
     alloc: Global,
     table: &SharedTable<N, A, V, B>,
-    pass: Pass<N, A, V, B>,
-) -> Result<After<N, A, V, B>, AllocError> {
-    let mut pass = pass;
-    let spenders = all_spenders(alloc, table, &mut pass)?;
+    pass: &mut Pass<N, A, V, B>,
+) -> Result<Vec<Spender<N, A, V, B>>, AllocError> {
+    let spenders = all_spenders(alloc, table, pass)?;
     let used_up = &AtomicBool::new(false);
-    let ended = map_vec(
+    map_vec(
         rt,
         spenders,
         &|spender: Spender<N, A, V, B>| spender.work(rt, table, used_up),
-    )?;
+    )
+}
+
+/// Joins all to this pass.
+fn after_all<N: Name, A: Ledger, V: Ledger, B: Ledger>(
+    table: &SharedTable<N, A, V, B>,
+    pass: Pass<N, A, V, B>,
+    ended: Vec<Spender<N, A, V, B>>,
+) -> After<N, A, V, B> {
     let mut after = After::new(pass);
     for spender in ended {
         after.join(table, spender);
     }
-    Ok(after)
+    after
 }
 
 /// Ends the test unless a call was refused and nothing is half done, and the calls that the table still takes are answered as they are to be.
@@ -84,23 +90,28 @@ fn goes_on<N: Name, A: Ledger, V: Ledger, B: Ledger, R: Wait + Abort>(
     Ok(())
 }
 
-fn use_up_labels<
+/// Uses up the labels, looks at what the table does then, and returns what was made.
+pub fn use_up_labels<
     N: Name + Send + Sync,
     A: Ledger + Send + Sync,
     V: Ledger + Send + Sync,
     B: Ledger + Send + Sync,
     R: Threads + Wait + Abort + Sync,
->(rt: &R, alloc: Global, prepared: Prepared) -> Result<(), AllocError>
-    requires board { prepared.board ≡ N.board }
-    requires accepted { (prepared.accepted.name ≡ A.name) × (prepared.accepted.parts ≡ A.parts) }
-    requires verdicts { (prepared.verdicts.name ≡ V.name) × (prepared.verdicts.parts ≡ V.parts) }
-    requires aborts { (prepared.aborts.name ≡ B.name) × (prepared.aborts.parts ≡ B.parts) }
+>(
+    rt: &R,
+    alloc: Global,
+    table: &SharedTable<N, A, V, B>,
+    pass: &mut Pass<N, A, V, B>,
+) -> Result<Report, AllocError>
+    requires { 1000 < pass.old.parts }
 {
-    let (table, pass) = prepared.open::<N, A, V, B>();
-    let mut after = work_all(rt, alloc, &table, pass)?;
-    let gone_on = goes_on(rt, alloc, &table, &mut after);
-    same(rt, table.close(after.pass).ok(), Some(after.made));
-    gone_on
+    let mut mine = pass.split(table, PARTS);
+    let ended = spend_all(rt, alloc, table, &mut mine)?;
+    let mut after = after_all(table, mine, ended);
+    let gone_on = goes_on(rt, alloc, table, &mut after);
+    let made = after.made;
+    pass.join(table, after.pass);
+    gone_on.map(|()| made)
 }
 
 #[test]
@@ -112,8 +123,7 @@ fn labels_are_used_up(rt: HostRuntime) -> Result<(), Fail> {
             label_limit,
             generation_limit: u32::MAX,
         };
-        let prepared = Prepared::new(rt.alloc(), config)?;
-        use_up_labels::<Brand, Brand, Brand, Brand, _>(&rt, rt.alloc(), prepared)?;
+        on_a_table(&rt, rt.alloc(), config, Work::AllLabels)?;
     }
     Ok(())
 }

@@ -1,13 +1,12 @@
 //! A thread that reads all labels again and again, without the lock, while others make deadlocks and break them.
-ghost use Rattle.std.specs.Prelude.{◌≡◌};
+ghost use Rattle.std.specs.Prelude.{◌<◌};
 
 use crate::tests::same::same;
-use crate::tests::shared::config;
-use crate::tests::shared::worker::{NOTHING, Worker};
+use crate::tests::shared::worker::{NOTHING, add, work_all};
+use crate::tests::shared::{PARTS, Work, config, on_a_table};
 use mm_label::Label;
-use mm_shared::{Name, Pass, Prepared, SharedTable};
+use mm_shared::{Name, Pass, Report, SharedTable};
 use std::alloc::{AllocError, Global};
-use std::marker::Brand;
 use std::process::Abort;
 use std::sync::Wait;
 use std::sync::atomic::AtomicBool;
@@ -15,70 +14,40 @@ use std::sync::atomic::Ordering::SeqCst;
 use std::sync::ledger::Ledger;
 use std::test::Fail;
 use std::thread;
-use std::thread::{Threads, join, map_vec};
+use std::thread::{Threads, join};
 
-/// How many pairs of threads there are. The two of a pair make deadlocks with each other.
-const PAIRS: u32 = 3;
+/// How many threads there are beside the reader. Each two of them make deadlocks with each other.
+const THREADS: u32 = 6;
 
-/// How many transactions each thread of a pair makes, and how many deadlocks the pair, before it asks whether enough labels were read.
-const ROUNDS: u64 = 1500;
+/// How many transactions each of these threads makes, and how many deadlocks each two, before they ask whether enough labels were read.
+const ROUNDS: u64 = 250;
 
 /// How many labels are read at least, from the first one on that rose.
 const READS: u64 = 1_000_000;
 
-/// What the reader and the pairs tell each other.
+/// How often the reader reads all labels before it lets the others go on, where there is one processor.
+const LOOKS: u32 = 500;
+
+/// What the reader and the others tell each other.
 #[derive(Drop)]
 struct Signals {
     /// Enough labels were read.
     enough: AtomicBool,
-    /// No pair is at work any more.
+    /// Nobody makes deadlocks any more.
     done: AtomicBool,
 }
 
-/// Two threads that make deadlocks with each other, until enough labels were read.
-#[derive(Drop)]
-struct Pair<N: Name, A: Ledger, V: Ledger, B: Ledger> {
-    first: Worker<N, A, V, B>,
-    second: Worker<N, A, V, B>,
-}
-
-impl<
-    N: Name + Send + Sync,
-    A: Ledger + Send + Sync,
-    V: Ledger + Send + Sync,
-    B: Ledger + Send + Sync,
-> Pair<N, A, V, B> {
-    /// Works until enough labels were read.
-    fn work<R: Threads + Wait + Sync>(
-        self,
-        rt: &R,
-        table: &SharedTable<N, A, V, B>,
-        signals: &Signals,
-    ) -> Pair<N, A, V, B> {
-        let mut pair = self;
-        for _ in rt.forever() {
-            pair = pair.rounds(rt, table);
-            if signals.enough.load(SeqCst) {
-                return pair;
-            }
-        }
-        pair
+/// The label of each process.
+fn all_labels<N: Name, A: Ledger, V: Ledger, B: Ledger>(
+    alloc: Global,
+    table: &SharedTable<N, A, V, B>,
+    pass: &mut Pass<N, A, V, B>,
+) -> Result<Vec<Label>, AllocError> {
+    let mut labels = Vec::new(alloc);
+    for process in 0..table.processes() {
+        labels.push(table.peek(pass, process))?;
     }
-
-    /// So many transactions of each thread.
-    fn rounds<R: Threads + Wait + Sync>(
-        self,
-        rt: &R,
-        table: &SharedTable<N, A, V, B>,
-    ) -> Pair<N, A, V, B> {
-        let Pair { first, second } = self;
-        let (first, second) = join(
-            rt,
-            || first.work(rt, table, ROUNDS),
-            || second.work(rt, table, ROUNDS),
-        );
-        Pair { first, second }
-    }
+    Ok(labels)
 }
 
 /// A pass with which all labels are read, and what was seen.
@@ -96,39 +65,37 @@ struct Reader<N: Name, A: Ledger, V: Ledger, B: Ledger> {
 }
 
 impl<N: Name, A: Ledger, V: Ledger, B: Ledger> Reader<N, A, V, B> {
-    /// A reader that has read each label once.
-    fn new(
-        alloc: Global,
-        table: &SharedTable<N, A, V, B>,
-        mut pass: Pass<N, A, V, B>,
-    ) -> Result<Reader<N, A, V, B>, AllocError> {
-        let mut last = Vec::new(alloc);
-        for process in 0..table.processes() {
-            last.push(table.peek(&mut pass, process))?;
-        }
-        Ok(Reader {
+    /// A reader with the labels that were read last.
+    fn new(pass: Pass<N, A, V, B>, last: Vec<Label>) -> Reader<N, A, V, B> {
+        Reader {
             pass,
             last,
             rises: 0,
             falls: 0,
             reads: 0,
-        })
+        }
     }
 
-    /// Reads all labels until no pair is at work any more. It has no handle, so it may not wait.
+    /// Reads all labels until nobody makes deadlocks any more. It has no handle, so it may not wait.
     fn work(self, table: &SharedTable<N, A, V, B>, signals: &Signals) -> Reader<N, A, V, B> {
         let mut reader = self;
         for _ in 0..u64::MAX {
             if signals.done.load(SeqCst) {
                 return reader;
             }
-            reader.read_all(table);
+            reader.read_often(table);
             if reader.reads >= READS {
                 signals.enough.store(true, SeqCst);
             }
             thread::yield_now();
         }
         reader
+    }
+
+    fn read_often(&mut self, table: &SharedTable<N, A, V, B>) {
+        for _ in 0..LOOKS {
+            self.read_all(table);
+        }
     }
 
     fn read_all(&mut self, table: &SharedTable<N, A, V, B>) {
@@ -156,25 +123,15 @@ impl<N: Name, A: Ledger, V: Ledger, B: Ledger> Reader<N, A, V, B> {
     }
 }
 
-/// The pairs of threads, each thread with a part of this pass.
-fn all_pairs<N: Name, A: Ledger, V: Ledger, B: Ledger>(
-    alloc: Global,
-    table: &SharedTable<N, A, V, B>,
-    pass: &mut Pass<N, A, V, B>,
-) -> Result<Vec<Pair<N, A, V, B>>, AllocError> {
-    let mut pairs = Vec::new(alloc);
-    for number in 0..PAIRS {
-        if pass.parts() > 2 {
-            let first = Worker::new(2 * number, pass.split(table, 1));
-            let second = Worker::new(2 * number + 1, pass.split(table, 1));
-            pairs.push(Pair { first, second })?;
-        }
-    }
-    Ok(pairs)
+/// A pass, and what was made with its parts.
+#[derive(Drop)]
+struct Team<N: Name, A: Ledger, V: Ledger, B: Ledger> {
+    pass: Pass<N, A, V, B>,
+    made: Report,
 }
 
-/// Runs all pairs, and tells the reader when they have ended.
-fn work_all<
+/// Makes deadlocks and breaks them, until enough labels were read.
+fn work_until_enough<
     N: Name + Send + Sync,
     A: Ledger + Send + Sync,
     V: Ledger + Send + Sync,
@@ -182,62 +139,145 @@ fn work_all<
     R: Threads + Wait + Sync,
 >(
     rt: &R,
+    alloc: Global,
     table: &SharedTable<N, A, V, B>,
-    pairs: Vec<Pair<N, A, V, B>>,
+    pass: &mut Pass<N, A, V, B>,
     signals: &Signals,
-) -> Result<Vec<Pair<N, A, V, B>>, AllocError> {
-    let ended = map_vec(
-        rt,
-        pairs,
-        &|pair: Pair<N, A, V, B>| pair.work(rt, table, signals),
-    );
-    signals.done.store(true, SeqCst);
-    ended
+) -> Result<Report, AllocError> {
+    let mut made = NOTHING;
+    for _ in rt.forever() {
+        add(
+            &mut made,
+            work_all(rt, alloc, table, pass, THREADS, ROUNDS)?,
+        );
+        if signals.enough.load(SeqCst) {
+            return Ok(made);
+        }
+    }
+    Ok(made)
 }
 
-fn read_beside_deadlocks<
+/// Does so, and tells the reader then.
+fn work_beside_reader<
+    N: Name + Send + Sync,
+    A: Ledger + Send + Sync,
+    V: Ledger + Send + Sync,
+    B: Ledger + Send + Sync,
+    R: Threads + Wait + Sync,
+>(
+    rt: &R,
+    alloc: Global,
+    table: &SharedTable<N, A, V, B>,
+    pass: Pass<N, A, V, B>,
+    signals: &Signals,
+) -> Result<Team<N, A, V, B>, AllocError> {
+    let mut pass = pass;
+    let made = work_until_enough(rt, alloc, table, &mut pass, signals);
+    signals.done.store(true, SeqCst);
+    made.map(|made| Team { pass, made })
+}
+
+/// Ends the test unless enough labels were read, none of them fell, and each deadlock was broken.
+fn none_fell<N: Name, A: Ledger, V: Ledger, B: Ledger>(
+    rt: &impl Abort,
+    reader: &Reader<N, A, V, B>,
+    made: Report,
+) {
+    same(rt, reader.falls, 0);
+    assert!(rt; reader.reads >= READS);
+    assert!(rt; made.aborts >= u64::from(THREADS) / 2 * ROUNDS);
+    same(rt, made.verdicts, made.aborts);
+}
+
+/// Joins the pass of the reader to that of the others.
+fn joined<N: Name, A: Ledger, V: Ledger, B: Ledger>(
+    rt: &impl Abort,
+    table: &SharedTable<N, A, V, B>,
+    reader: Reader<N, A, V, B>,
+    team: Team<N, A, V, B>,
+) -> Team<N, A, V, B> {
+    none_fell(rt, &reader, team.made);
+    let mut team = team;
+    team.pass.join(table, reader.pass);
+    team
+}
+
+/// Lets the reader read beside those who make deadlocks, each with a pass of its own.
+fn read_beside<
     N: Name + Send + Sync,
     A: Ledger + Send + Sync,
     V: Ledger + Send + Sync,
     B: Ledger + Send + Sync,
     R: Threads + Wait + Abort + Sync,
->(rt: &R, alloc: Global, prepared: Prepared) -> Result<(), AllocError>
-    requires board { prepared.board ≡ N.board }
-    requires accepted { (prepared.accepted.name ≡ A.name) × (prepared.accepted.parts ≡ A.parts) }
-    requires verdicts { (prepared.verdicts.name ≡ V.name) × (prepared.verdicts.parts ≡ V.parts) }
-    requires aborts { (prepared.aborts.name ≡ B.name) × (prepared.aborts.parts ≡ B.parts) }
+>(
+    rt: &R,
+    alloc: Global,
+    table: &SharedTable<N, A, V, B>,
+    reader: Reader<N, A, V, B>,
+    pass: Pass<N, A, V, B>,
+    signals: &Signals,
+) -> Result<Team<N, A, V, B>, AllocError> {
+    let (reader, team) = join(
+        rt,
+        || reader.work(table, signals),
+        || work_beside_reader(rt, alloc, table, pass, signals),
+    );
+    match team {
+        Ok(team) => Ok(joined(rt, table, reader, team)),
+        Err(error) => Err(error),
+    }
+}
+
+/// Lets the reader read and the others make deadlocks, each with a part of this pass.
+fn read_by_part<
+    N: Name + Send + Sync,
+    A: Ledger + Send + Sync,
+    V: Ledger + Send + Sync,
+    B: Ledger + Send + Sync,
+    R: Threads + Wait + Abort + Sync,
+>(
+    rt: &R,
+    alloc: Global,
+    table: &SharedTable<N, A, V, B>,
+    pass: &mut Pass<N, A, V, B>,
+    last: Vec<Label>,
+) -> Result<Team<N, A, V, B>, AllocError>
+    requires { 1000 < pass.old.parts }
 {
-    let (table, mut pass) = prepared.open::<N, A, V, B>();
-    let reader = Reader::new(alloc, &table, pass.split(&table, 1))?;
-    let pairs = all_pairs(alloc, &table, &mut pass)?;
     let signals = Signals {
         enough: AtomicBool::new(false),
         done: AtomicBool::new(false),
     };
-    let (shared, told) = (&table, &signals);
-    let (reader, ended) = join(
-        rt,
-        || reader.work(shared, told),
-        || work_all(rt, shared, pairs, told),
-    );
-    let mut made = NOTHING;
-    for pair in ended? {
-        pair.first.join_to(&table, &mut pass, &mut made);
-        pair.second.join_to(&table, &mut pass, &mut made);
-    }
-    pass.join(&table, reader.pass);
-    same(rt, reader.falls, 0);
-    assert!(rt; reader.reads >= READS);
-    assert!(rt; made.aborts >= u64::from(PAIRS) * ROUNDS);
-    same(rt, made.verdicts, made.aborts);
-    same(rt, table.close(pass).ok(), Some(made));
-    Ok(())
+    let mut mine = pass.split(table, PARTS);
+    let reader = Reader::new(mine.split(table, 1), last);
+    read_beside(rt, alloc, table, reader, mine, &signals)
+}
+
+/// Lets the reader read and the others make deadlocks, and returns what these made. The reader is given the labels that the other pass reads
+/// at first.
+pub fn read_beside_deadlocks<
+    N: Name + Send + Sync,
+    A: Ledger + Send + Sync,
+    V: Ledger + Send + Sync,
+    B: Ledger + Send + Sync,
+    R: Threads + Wait + Abort + Sync,
+>(
+    rt: &R,
+    alloc: Global,
+    table: &SharedTable<N, A, V, B>,
+    pass: &mut Pass<N, A, V, B>,
+    other: &mut Pass<N, A, V, B>,
+) -> Result<Report, AllocError>
+    requires { 1000 < pass.old.parts }
+{
+    let last = all_labels(alloc, table, other)?;
+    let Team { pass: mine, made } = read_by_part(rt, alloc, table, pass, last)?;
+    pass.join(table, mine);
+    Ok(made)
 }
 
 // What each read gives is proved: no label is below the one before. The test shows that the program that was built does it.
 #[test]
 fn no_label_falls_beside_deadlocks(rt: HostRuntime) -> Result<(), Fail> {
-    let prepared = Prepared::new(rt.alloc(), config(2 * PAIRS, 2 * PAIRS))?;
-    read_beside_deadlocks::<Brand, Brand, Brand, Brand, _>(&rt, rt.alloc(), prepared)?;
-    Ok(())
+    on_a_table(&rt, rt.alloc(), config(THREADS, THREADS), Work::ReadLabels)
 }

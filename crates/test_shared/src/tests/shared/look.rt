@@ -1,19 +1,38 @@
 //! What is read on the board of a shared table, without its lock.
-ghost use Rattle.std.specs.Prelude.{◌≡◌};
 
+use crate::tests::call::{call_of, is_told};
 use crate::tests::same::same;
-use crate::tests::shared::config;
+use crate::tests::shared::{Work, config, on_a_table};
 use mm_label::Label;
-use mm_shared::{
-    Acquired, Detected, Hint, HintKind, Key, Name, Pass, Prepared, Refusal, Settled, SharedTable,
-    Transmitted,
-};
-use std::marker::Brand;
+use mm_shared::{Hint, HintKind, Name, Pass, Report, SharedTable};
+use std::alloc::{AllocError, Global};
 use std::process::Abort;
 use std::sync::Wait;
 use std::sync::ledger::Ledger;
 use std::test::Fail;
-use test_support::label;
+
+/// By which pass a step is made.
+#[derive(Clone, Copy)]
+enum By {
+    First,
+    Other,
+}
+
+/// A call or a look at the board, and what is to come of it.
+#[derive(Clone, Copy)]
+enum Step {
+    /// A call, as a script has it, and its reply.
+    Calls(&'static str, &'static str),
+    /// The label of a process: its counter and its process.
+    Peeks(u32, u64, u32),
+    /// The table has no process of this number, so nothing is read.
+    HasNot(u32),
+    /// The first hints from each process of two on, and past both of them.
+    Scans([Option<Hint>; 3]),
+}
+
+#[derive(Clone, Copy)]
+pub struct Turn(By, Step);
 
 /// The label of a process on the board; `None` where it is not one of the table's. It has no handle, so it may not wait.
 fn peeked<N: Name, A: Ledger, V: Ledger, B: Ledger>(
@@ -39,178 +58,220 @@ fn scanned<N: Name, A: Ledger, V: Ledger, B: Ledger>(
     ]
 }
 
-fn hint(process: u32, holder: u32, kind: HintKind) -> Option<Hint> {
-    Some(Hint {
-        process,
-        holder,
-        kind,
-    })
-}
-
-/// Begins two transactions, each of which takes one resource.
-fn begin_two<N: Name, A: Ledger, V: Ledger, B: Ledger, R: Wait>(
+/// Makes a call. Ends the test where it has another reply.
+fn calls<N: Name, A: Ledger, V: Ledger, B: Ledger, R: Wait + Abort>(
     rt: &R,
+    alloc: Global,
     table: &SharedTable<N, A, V, B>,
     pass: &mut Pass<N, A, V, B>,
-) -> Result<(Key, Key), Refusal> {
-    let first = table.begin(rt, pass)?;
-    let second = table.begin(rt, pass)?;
-    table.acquire(rt, pass, first, 0)?;
-    table.acquire(rt, pass, second, 1)?;
-    Ok((first, second))
+    line: &str,
+    reply: &str,
+) -> Result<(), AllocError> {
+    let call = call_of(line).expect(rt, "a call");
+    is_told(rt, alloc, call.on_shared(rt, table, pass), reply)
 }
 
-/// A deadlock of two, as two passes see it on the board: from the first wait on until it is broken.
-fn watch_a_deadlock<N: Name, A: Ledger, V: Ledger, B: Ledger, R: Wait + Abort>(
-    rt: &R,
-    table: &SharedTable<N, A, V, B>,
-    pass: &mut Pass<N, A, V, B>,
-    other: &mut Pass<N, A, V, B>,
-) -> Result<(), Refusal> {
-    let (first, second) = begin_two(rt, table, pass)?;
-    same(rt, peeked(table, pass, 0), Some(label(0, 0)));
-    let waits = Acquired::Waits {
-        holder: second,
-        label: label(1, 0),
-    };
-    same(rt, table.acquire(rt, pass, first, 1)?, waits);
-    same(rt, peeked(table, pass, 0), Some(label(1, 0)));
-    same(rt, peeked(table, other, 0), Some(label(1, 0)));
-    same(rt, scanned(table, pass), [None, None, None]);
-    table.acquire(rt, pass, second, 0)?;
-    let raise = hint(0, 1, HintKind::Raise);
-    same(rt, scanned(table, other), [raise, None, None]);
-    let raised = Transmitted::Raised(label(2, 1));
-    same(rt, table.transmit(rt, pass, first)?, raised);
-    let equal = hint(1, 0, HintKind::Equal);
-    let both = [hint(0, 1, HintKind::Equal), equal, None];
-    same(rt, scanned(table, pass), both);
-    same(rt, scanned(table, other), both);
-    let deadlock = Detected::Deadlock(label(2, 1));
-    same(rt, table.detect(rt, pass, second)?, deadlock);
-    table.abort(rt, pass, second)?;
-    same(rt, scanned(table, other), [None, None, None]);
-    same(rt, peeked(table, other, 1), Some(label(2, 1)));
-    same(rt, peeked(table, other, 2), None);
-    Ok(())
-}
-
-/// A resource that two wait for is handed over twice, and each time the board shows who waits for whom.
-fn watch_a_queue<N: Name, A: Ledger, V: Ledger, B: Ledger, R: Wait + Abort>(
-    rt: &R,
-    table: &SharedTable<N, A, V, B>,
-    pass: &mut Pass<N, A, V, B>,
-    other: &mut Pass<N, A, V, B>,
-) -> Result<(Key, Key), Refusal> {
-    let first = table.begin(rt, pass)?;
-    let second = table.begin(rt, pass)?;
-    let third = table.begin(rt, pass)?;
-    table.acquire(rt, pass, first, 0)?;
-    table.acquire(rt, pass, second, 0)?;
-    table.acquire(rt, pass, third, 0)?;
-    table.release(rt, pass, first, 0)?;
-    same(rt, peeked(table, other, 1), Some(label(1, 1)));
-    same(rt, peeked(table, other, 2), Some(label(2, 2)));
-    table.finish(rt, pass, second)?;
-    same(rt, peeked(table, other, 2), Some(label(2, 2)));
-    same(rt, scanned(table, other), [None, None, None]);
-    Ok((first, third))
-}
-
-/// A deadlock of three that a settle finds. Each of the three owns one resource and waits for that of the next.
-fn watch_a_settle<N: Name, A: Ledger, V: Ledger, B: Ledger, R: Wait + Abort>(
-    rt: &R,
-    table: &SharedTable<N, A, V, B>,
-    pass: &mut Pass<N, A, V, B>,
-    other: &mut Pass<N, A, V, B>,
-) -> Result<(), Refusal> {
-    let (first, third) = watch_a_queue(rt, table, pass, other)?;
-    let second = table.begin(rt, pass)?;
-    table.acquire(rt, pass, first, 1)?;
-    table.acquire(rt, pass, second, 2)?;
-    table.acquire(rt, pass, first, 2)?; // waits under 2.0
-    table.acquire(rt, pass, second, 0)?; // waits under 3.1
-    table.acquire(rt, pass, third, 1)?; // waits under 3.2
-    same(rt, peeked(table, other, 0), Some(label(2, 0)));
-    same(rt, peeked(table, other, 1), Some(label(3, 1)));
-    let settled = Settled {
-        raises: 3,
-        verdicts: 1,
-    };
-    same(rt, table.settle(rt, pass)?, settled);
-    same(rt, peeked(table, other, 0), Some(label(3, 2)));
-    same(rt, peeked(table, other, 1), Some(label(3, 2)));
-    let first_waits = hint(0, 1, HintKind::Equal);
-    let second_waits = hint(1, 2, HintKind::Equal);
-    let third_waits = hint(2, 0, HintKind::Equal);
-    let all = [first_waits, second_waits, third_waits];
-    same(rt, scanned(table, other), all);
-    table.abort(rt, pass, third)?;
-    same(rt, scanned(table, other), [first_waits, None, None]);
-    Ok(())
-}
-
-/// One of two that wait for each other gives up. From then on the board shows no holder of it, and the label that it had.
-fn watch_a_wait_given_up<N: Name, A: Ledger, V: Ledger, B: Ledger, R: Wait + Abort>(
-    rt: &R,
-    table: &SharedTable<N, A, V, B>,
-    pass: &mut Pass<N, A, V, B>,
-    other: &mut Pass<N, A, V, B>,
-) -> Result<(), Refusal> {
-    let (first, second) = begin_two(rt, table, pass)?;
-    table.acquire(rt, pass, first, 1)?; // waits under 1.0
-    table.acquire(rt, pass, second, 0)?; // waits under 2.1
-    let raise = hint(0, 1, HintKind::Raise);
-    same(rt, scanned(table, other), [raise, None, None]);
-    same(rt, table.give_up(rt, pass, first), Ok(()));
-    same(rt, scanned(table, other), [None, None, None]);
-    same(rt, peeked(table, other, 0), Some(label(1, 0)));
-    same(rt, table.give_up(rt, pass, first), Err(Refusal::NotWaiting));
-    same(rt, scanned(table, pass), [None, None, None]);
-    table.acquire(rt, pass, first, 1)?; // waits again, under 3.0
-    let raise = hint(1, 0, HintKind::Raise);
-    same(rt, scanned(table, other), [raise, raise, None]);
-    same(rt, table.give_up(rt, other, second), Ok(()));
-    same(rt, scanned(table, pass), [None, None, None]);
-    Ok(())
-}
-
-/// Opens a table of two processes, of three or of four, and lets two passes watch it.
-fn watch<N: Name, A: Ledger, V: Ledger, B: Ledger, R: Wait + Abort>(
-    rt: &R,
-    prepared: Prepared,
-) -> Result<(), Refusal>
-    requires board { prepared.board ≡ N.board }
-    requires accepted { (prepared.accepted.name ≡ A.name) × (prepared.accepted.parts ≡ A.parts) }
-    requires verdicts { (prepared.verdicts.name ≡ V.name) × (prepared.verdicts.parts ≡ V.parts) }
-    requires aborts { (prepared.aborts.name ≡ B.name) × (prepared.aborts.parts ≡ B.parts) }
-{
-    let (table, mut pass) = prepared.open::<N, A, V, B>();
-    let mut other = pass.split(&table, 1);
-    match table.processes() {
-        2 => watch_a_deadlock(rt, &table, &mut pass, &mut other),
-        3 => watch_a_settle(rt, &table, &mut pass, &mut other),
-        _ => watch_a_wait_given_up(rt, &table, &mut pass, &mut other),
+impl Step {
+    /// Makes the step. Ends the test where something else comes of it.
+    fn make<N: Name, A: Ledger, V: Ledger, B: Ledger, R: Wait + Abort>(
+        self,
+        rt: &R,
+        alloc: Global,
+        table: &SharedTable<N, A, V, B>,
+        pass: &mut Pass<N, A, V, B>,
+    ) -> Result<(), AllocError> {
+        match self {
+            Step::Calls(line, reply) => return calls(rt, alloc, table, pass, line, reply),
+            Step::Peeks(process, counter, of) => {
+                same(rt, peeked(table, pass, process), Label::new(counter, of));
+            }
+            Step::HasNot(process) => same(rt, peeked(table, pass, process), None),
+            Step::Scans(hints) => same(rt, scanned(table, pass), hints),
+        }
+        Ok(())
     }
 }
 
+/// Makes the steps one after the other, each by its pass. The table is then to have counted so much.
+pub fn watch<N: Name, A: Ledger, V: Ledger, B: Ledger, R: Wait + Abort>(
+    rt: &R,
+    alloc: Global,
+    table: &SharedTable<N, A, V, B>,
+    pass: &mut Pass<N, A, V, B>,
+    other: &mut Pass<N, A, V, B>,
+    turns: &[Turn],
+    report: Report,
+) -> Result<Report, AllocError> {
+    for turn in turns {
+        let Turn(by, step) = *turn;
+        match by {
+            By::First => step.make(rt, alloc, table, pass)?,
+            By::Other => step.make(rt, alloc, table, other)?,
+        }
+    }
+    Ok(report)
+}
+
+const NONE: [Option<Hint>; 3] = [None, None, None];
+
+const FIRST_RAISES: Option<Hint> = Some(Hint {
+    process: 0,
+    holder: 1,
+    kind: HintKind::Raise,
+});
+
+const SECOND_RAISES: Option<Hint> = Some(Hint {
+    process: 1,
+    holder: 0,
+    kind: HintKind::Raise,
+});
+
+const FIRST_IS_EQUAL: Option<Hint> = Some(Hint {
+    process: 0,
+    holder: 1,
+    kind: HintKind::Equal,
+});
+
+const SECOND_IS_EQUAL: Option<Hint> = Some(Hint {
+    process: 1,
+    holder: 0,
+    kind: HintKind::Equal,
+});
+
+const SECOND_IS_EQUAL_TO_THIRD: Option<Hint> = Some(Hint {
+    process: 1,
+    holder: 2,
+    kind: HintKind::Equal,
+});
+
+const THIRD_IS_EQUAL: Option<Hint> = Some(Hint {
+    process: 2,
+    holder: 0,
+    kind: HintKind::Equal,
+});
+
+/// A deadlock of two, as two passes see it on the board: from the first wait on until it is broken.
+static DEADLOCK: [Turn; 19] = [
+    Turn(By::First, Step::Calls("begin", "key 0.1")),
+    Turn(By::First, Step::Calls("begin", "key 1.1")),
+    Turn(By::First, Step::Calls("acquire 0.1 0", "granted")),
+    Turn(By::First, Step::Calls("acquire 1.1 1", "granted")),
+    Turn(By::First, Step::Peeks(0, 0, 0)),
+    Turn(By::First, Step::Calls("acquire 0.1 1", "waits 1.1 1.0")),
+    Turn(By::First, Step::Peeks(0, 1, 0)),
+    Turn(By::Other, Step::Peeks(0, 1, 0)),
+    Turn(By::First, Step::Scans(NONE)),
+    Turn(By::First, Step::Calls("acquire 1.1 0", "waits 0.1 2.1")),
+    Turn(By::Other, Step::Scans([FIRST_RAISES, None, None])),
+    Turn(By::First, Step::Calls("transmit 0.1", "raised 2.1")),
+    Turn(By::First, Step::Scans(BOTH_ARE_EQUAL)),
+    Turn(By::Other, Step::Scans(BOTH_ARE_EQUAL)),
+    Turn(By::First, Step::Calls("detect 1.1", "deadlock 2.1")),
+    Turn(By::First, Step::Calls("abort 1.1", "aborted")),
+    Turn(By::Other, Step::Scans(NONE)),
+    Turn(By::Other, Step::Peeks(1, 2, 1)),
+    Turn(By::Other, Step::HasNot(2)),
+];
+
+const BOTH_ARE_EQUAL: [Option<Hint>; 3] = [FIRST_IS_EQUAL, SECOND_IS_EQUAL, None];
+
 #[test]
 fn the_board_shows_a_deadlock(rt: HostRuntime) -> Result<(), Fail> {
-    let prepared = Prepared::new(rt.alloc(), config(2, 2))?;
-    watch::<Brand, Brand, Brand, Brand, _>(&rt, prepared)?;
-    Ok(())
+    let report = Report {
+        accepted: 9,
+        verdicts: 1,
+        aborts: 1,
+    };
+    on_a_table(
+        &rt,
+        rt.alloc(),
+        config(2, 2),
+        Work::Turns(&DEADLOCK, report),
+    )
 }
+
+/// A resource that two wait for is handed over twice, and each time the board shows who waits for whom. Then each of three owns one
+/// resource and waits for that of the next, and a settle finds the deadlock.
+static QUEUE_AND_SETTLE: [Turn; 26] = [
+    Turn(By::First, Step::Calls("begin", "key 0.1")),
+    Turn(By::First, Step::Calls("begin", "key 1.1")),
+    Turn(By::First, Step::Calls("begin", "key 2.1")),
+    Turn(By::First, Step::Calls("acquire 0.1 0", "granted")),
+    Turn(By::First, Step::Calls("acquire 1.1 0", "waits 0.1 1.1")),
+    Turn(By::First, Step::Calls("acquire 2.1 0", "waits 0.1 1.2")),
+    Turn(By::First, Step::Calls("release 0.1 0", "to 1.1")),
+    Turn(By::Other, Step::Peeks(1, 1, 1)),
+    Turn(By::Other, Step::Peeks(2, 2, 2)),
+    Turn(By::First, Step::Calls("finish 1.1", "finished")),
+    Turn(By::Other, Step::Peeks(2, 2, 2)),
+    Turn(By::Other, Step::Scans(NONE)),
+    Turn(By::First, Step::Calls("begin", "key 1.2")),
+    Turn(By::First, Step::Calls("acquire 0.1 1", "granted")),
+    Turn(By::First, Step::Calls("acquire 1.2 2", "granted")),
+    Turn(By::First, Step::Calls("acquire 0.1 2", "waits 1.2 2.0")),
+    Turn(By::First, Step::Calls("acquire 1.2 0", "waits 2.1 3.1")),
+    Turn(By::First, Step::Calls("acquire 2.1 1", "waits 0.1 3.2")),
+    Turn(By::Other, Step::Peeks(0, 2, 0)),
+    Turn(By::Other, Step::Peeks(1, 3, 1)),
+    Turn(By::First, Step::Calls("settle", "settled 3 1")),
+    Turn(By::Other, Step::Peeks(0, 3, 2)),
+    Turn(By::Other, Step::Peeks(1, 3, 2)),
+    Turn(By::Other, Step::Scans(THREE_ARE_EQUAL)),
+    Turn(By::First, Step::Calls("abort 2.1", "aborted")),
+    Turn(By::Other, Step::Scans([FIRST_IS_EQUAL, None, None])),
+];
+
+const THREE_ARE_EQUAL: [Option<Hint>; 3] = [
+    FIRST_IS_EQUAL,
+    SECOND_IS_EQUAL_TO_THIRD,
+    THIRD_IS_EQUAL,
+];
 
 #[test]
 fn the_board_shows_a_queue_and_a_settle(rt: HostRuntime) -> Result<(), Fail> {
-    let prepared = Prepared::new(rt.alloc(), config(3, 3))?;
-    watch::<Brand, Brand, Brand, Brand, _>(&rt, prepared)?;
-    Ok(())
+    let report = Report {
+        accepted: 16,
+        verdicts: 1,
+        aborts: 1,
+    };
+    let work = Work::Turns(&QUEUE_AND_SETTLE, report);
+    on_a_table(&rt, rt.alloc(), config(3, 3), work)
 }
+
+/// One of two that wait for each other gives up. From then on the board shows no holder of it, and the label that it had.
+static GIVEN_UP: [Turn; 16] = [
+    Turn(By::First, Step::Calls("begin", "key 0.1")),
+    Turn(By::First, Step::Calls("begin", "key 1.1")),
+    Turn(By::First, Step::Calls("acquire 0.1 0", "granted")),
+    Turn(By::First, Step::Calls("acquire 1.1 1", "granted")),
+    Turn(By::First, Step::Calls("acquire 0.1 1", "waits 1.1 1.0")),
+    Turn(By::First, Step::Calls("acquire 1.1 0", "waits 0.1 2.1")),
+    Turn(By::Other, Step::Scans([FIRST_RAISES, None, None])),
+    Turn(By::First, Step::Calls("give_up 0.1", "withdrawn")),
+    Turn(By::Other, Step::Scans(NONE)),
+    Turn(By::Other, Step::Peeks(0, 1, 0)),
+    Turn(
+        By::First,
+        Step::Calls("give_up 0.1", "refused 8 NotWaiting"),
+    ),
+    Turn(By::First, Step::Scans(NONE)),
+    Turn(By::First, Step::Calls("acquire 0.1 1", "waits 1.1 3.0")),
+    Turn(By::Other, Step::Scans([SECOND_RAISES, SECOND_RAISES, None])),
+    Turn(By::Other, Step::Calls("give_up 1.1", "withdrawn")),
+    Turn(By::First, Step::Scans(NONE)),
+];
 
 #[test]
 fn the_board_shows_no_holder_of_who_gave_up(rt: HostRuntime) -> Result<(), Fail> {
-    let prepared = Prepared::new(rt.alloc(), config(4, 2))?;
-    watch::<Brand, Brand, Brand, Brand, _>(&rt, prepared)?;
-    Ok(())
+    let report = Report {
+        accepted: 9,
+        verdicts: 0,
+        aborts: 0,
+    };
+    on_a_table(
+        &rt,
+        rt.alloc(),
+        config(4, 2),
+        Work::Turns(&GIVEN_UP, report),
+    )
 }

@@ -1,10 +1,9 @@
 //! A key that a thread keeps after its transaction has ended.
-ghost use Rattle.std.specs.Prelude.{◌≡◌};
+ghost use Rattle.std.specs.Prelude.{◌<◌};
 
 use crate::tests::same::same;
-use crate::tests::shared::config;
-use mm_shared::{Key, Name, Pass, Prepared, Refusal, Report, SharedTable};
-use std::marker::Brand;
+use crate::tests::shared::{Work, accepted, config, on_a_table};
+use mm_shared::{Key, Name, Pass, Refusal, Report, SharedTable};
 use std::process::Abort;
 use std::sync::Wait;
 use std::sync::ledger::Ledger;
@@ -85,40 +84,30 @@ fn call_by_old_keys<N: Name, A: Ledger, V: Ledger, B: Ledger, R: Wait + Abort>(
     pass
 }
 
-fn keep_a_key<
+/// Two threads: one gives the process its second transaction, and the other one calls by the key of the first.
+pub fn keep_a_key<
     N: Name + Send + Sync,
     A: Ledger + Send + Sync,
     V: Ledger + Send + Sync,
     B: Ledger + Send + Sync,
     R: Threads + Wait + Abort + Sync,
->(rt: &R, prepared: Prepared)
-    requires board { prepared.board ≡ N.board }
-    requires accepted { (prepared.accepted.name ≡ A.name) × (prepared.accepted.parts ≡ A.parts) }
-    requires verdicts { (prepared.verdicts.name ≡ V.name) × (prepared.verdicts.parts ≡ V.parts) }
-    requires aborts { (prepared.aborts.name ≡ B.name) × (prepared.aborts.parts ≡ B.parts) }
+>(rt: &R, table: &SharedTable<N, A, V, B>, pass: &mut Pass<N, A, V, B>) -> Report
+    requires { 2 < pass.old.parts }
 {
-    let (table, mut pass) = prepared.open::<N, A, V, B>();
-    let other = pass.split(&table, 1);
-    let shared = &table;
-    same(rt, shared.begin(rt, &mut pass), Ok(key(1)));
-    let (pass, other) = join(
+    same(rt, table.begin(rt, pass), Ok(key(1)));
+    let mine = pass.split(table, 1);
+    let theirs = pass.split(table, 1);
+    let (mine, theirs) = join(
         rt,
-        || begin_again(rt, shared, pass),
-        || call_by_old_keys(rt, shared, other),
+        || begin_again(rt, table, mine),
+        || call_by_old_keys(rt, table, theirs),
     );
-    let mut pass = pass;
-    pass.join(&table, other);
-    let expected = Report {
-        accepted: 3,
-        verdicts: 0,
-        aborts: 0,
-    };
-    same(rt, table.close(pass).ok(), Some(expected));
+    pass.join(table, mine);
+    pass.join(table, theirs);
+    accepted(3)
 }
 
 #[test]
 fn a_kept_key_is_stale(rt: HostRuntime) -> Result<(), Fail> {
-    let prepared = Prepared::new(rt.alloc(), config(PROCESSES, 1))?;
-    keep_a_key::<Brand, Brand, Brand, Brand, _>(&rt, prepared);
-    Ok(())
+    on_a_table(&rt, rt.alloc(), config(PROCESSES, 1), Work::KeptKey)
 }

@@ -1,10 +1,9 @@
 //! Threads that use up all slots of a table.
-ghost use Rattle.std.specs.Prelude.{◌≡◌};
 
 use crate::tests::same::same;
-use mm_shared::{Config, Name, Pass, Prepared, Refusal, Report, SharedTable};
+use crate::tests::shared::{Work, accepted, on_a_table};
+use mm_shared::{Config, Key, Name, Pass, Refusal, Report, SharedTable};
 use std::alloc::{AllocError, Global};
-use std::marker::Brand;
 use std::process::Abort;
 use std::sync::Wait;
 use std::sync::ledger::Ledger;
@@ -18,103 +17,119 @@ const THREADS: u32 = 8;
 const PROCESSES: u32 = 5;
 
 /// The last generation of each process.
-const GENERATIONS: u32 = 20_000;
+const GENERATIONS: u32 = 5_000;
 
-/// A thread's pass, how many transactions it began, and the sum of their generations.
-#[derive(Drop)]
-struct Beginner<N: Name, A: Ledger, V: Ledger, B: Ledger> {
-    pass: Pass<N, A, V, B>,
-    begun: u64,
+/// How many transactions were begun, and the sum of their generations.
+#[derive(Clone, Copy)]
+struct Begun {
+    transactions: u64,
     generations: u64,
 }
 
-impl<N: Name, A: Ledger, V: Ledger, B: Ledger> Beginner<N, A, V, B> {
-    fn new(pass: Pass<N, A, V, B>) -> Beginner<N, A, V, B> {
-        Beginner {
-            pass,
-            begun: 0,
-            generations: 0,
-        }
+impl Begun {
+    fn count(&mut self, key: Key) {
+        self.add(Begun {
+            transactions: 1,
+            generations: u64::from(key.generation),
+        });
     }
 
-    /// Begins and finishes transactions until no slot is free and none is in use.
-    fn work<R: Wait + Abort>(
-        self,
-        rt: &R,
-        table: &SharedTable<N, A, V, B>,
-    ) -> Beginner<N, A, V, B> {
-        let mut beginner = self;
-        for _ in rt.forever() {
-            if !beginner.begin_and_finish(rt, table) && beginner.sees_no_tenant(rt, table) {
-                return beginner;
-            }
-        }
-        beginner
-    }
-
-    /// Begins a transaction and finishes it, or returns `false` where no slot is free.
-    fn begin_and_finish<R: Wait + Abort>(
-        &mut self,
-        rt: &R,
-        table: &SharedTable<N, A, V, B>,
-    ) -> bool {
-        match table.begin(rt, &mut self.pass) {
-            Ok(key) => {
-                self.begun = self.begun.saturating_add(1);
-                self.generations = self.generations.saturating_add(u64::from(key.generation));
-                same(rt, table.finish(rt, &mut self.pass, key), Ok(()));
-                true
-            }
-            Err(refusal) => {
-                same(rt, refusal, Refusal::Full);
-                thread::yield_now();
-                false
-            }
-        }
-    }
-
-    /// Looks at each process in turn. A transaction that begins meanwhile may be missed.
-    fn sees_no_tenant<R: Wait>(&mut self, rt: &R, table: &SharedTable<N, A, V, B>) -> bool {
-        for process in 0..table.processes() {
-            if table.tenant(rt, &mut self.pass, process).is_some() {
-                return false;
-            }
-        }
-        true
-    }
-
-    /// Joins another one to this one.
-    fn join(&mut self, table: &SharedTable<N, A, V, B>, other: Beginner<N, A, V, B>) {
-        self.begun = self.begun.saturating_add(other.begun);
-        self.generations = self.generations.saturating_add(other.generations);
-        self.pass.join(table, other.pass);
-    }
-
-    /// Ends the test unless each begin is refused from now on.
-    fn is_refused_for_good<R: Wait + Abort>(&mut self, rt: &R, table: &SharedTable<N, A, V, B>) {
-        for _ in 0..1000 {
-            same(rt, table.begin(rt, &mut self.pass), Err(Refusal::Full));
-        }
-        assert!(rt; self.sees_no_tenant(rt, table));
+    fn add(&mut self, more: Begun) {
+        self.transactions = self.transactions.saturating_add(more.transactions);
+        self.generations = self.generations.saturating_add(more.generations);
     }
 }
 
-/// Threads that each have a part of this pass.
-fn beginners<N: Name, A: Ledger, V: Ledger, B: Ledger>(
+/// Begins a transaction and finishes it. `None` where no slot is free.
+fn begin_and_finish<N: Name, A: Ledger, V: Ledger, B: Ledger, R: Wait + Abort>(
+    rt: &R,
+    table: &SharedTable<N, A, V, B>,
+    pass: &mut Pass<N, A, V, B>,
+) -> Option<Key> {
+    match table.begin(rt, pass) {
+        Ok(key) => {
+            same(rt, table.finish(rt, pass, key), Ok(()));
+            Some(key)
+        }
+        Err(refusal) => {
+            same(rt, refusal, Refusal::Full);
+            thread::yield_now();
+            None
+        }
+    }
+}
+
+/// Looks at each process in turn. A transaction that begins meanwhile may be missed.
+fn sees_no_tenant<N: Name, A: Ledger, V: Ledger, B: Ledger, R: Wait>(
+    rt: &R,
+    table: &SharedTable<N, A, V, B>,
+    pass: &mut Pass<N, A, V, B>,
+) -> bool {
+    for process in 0..table.processes() {
+        if table.tenant(rt, pass, process).is_some() {
+            return false;
+        }
+    }
+    true
+}
+
+/// Begins and finishes transactions until no slot is free and none is in use.
+fn begin_all<N: Name, A: Ledger, V: Ledger, B: Ledger, R: Wait + Abort>(
+    rt: &R,
+    table: &SharedTable<N, A, V, B>,
+    pass: &mut Pass<N, A, V, B>,
+) -> Begun {
+    let mut begun = Begun {
+        transactions: 0,
+        generations: 0,
+    };
+    for _ in rt.forever() {
+        match begin_and_finish(rt, table, pass) {
+            Some(key) => begun.count(key),
+            None => {
+                if sees_no_tenant(rt, table, pass) {
+                    return begun;
+                }
+            }
+        }
+    }
+    begun
+}
+
+/// A thread's pass, and what it began.
+#[derive(Drop)]
+struct Beginner<N: Name, A: Ledger, V: Ledger, B: Ledger> {
+    pass: Pass<N, A, V, B>,
+    begun: Begun,
+}
+
+/// The work of a thread.
+fn work<N: Name, A: Ledger, V: Ledger, B: Ledger, R: Wait + Abort>(
+    rt: &R,
+    table: &SharedTable<N, A, V, B>,
+    pass: Pass<N, A, V, B>,
+) -> Beginner<N, A, V, B> {
+    let mut pass = pass;
+    let begun = begin_all(rt, table, &mut pass);
+    Beginner { pass, begun }
+}
+
+/// A part of this pass for each thread.
+fn parts_of<N: Name, A: Ledger, V: Ledger, B: Ledger>(
     alloc: Global,
     table: &SharedTable<N, A, V, B>,
     pass: &mut Pass<N, A, V, B>,
-) -> Result<Vec<Beginner<N, A, V, B>>, AllocError> {
-    let mut beginners = Vec::new(alloc);
+) -> Result<Vec<Pass<N, A, V, B>>, AllocError> {
+    let mut parts = Vec::new(alloc);
     for _ in 0..THREADS {
         if pass.parts() > 1 {
-            beginners.push(Beginner::new(pass.split(table, 1)))?;
+            parts.push(pass.split(table, 1))?;
         }
     }
-    Ok(beginners)
+    Ok(parts)
 }
 
-/// Lets the threads work, each with a part of this pass, and joins all.
+/// Lets the threads work, each with a part of this pass.
 fn work_all<
     N: Name + Send + Sync,
     A: Ledger + Send + Sync,
@@ -125,59 +140,65 @@ fn work_all<
     rt: &R,
     alloc: Global,
     table: &SharedTable<N, A, V, B>,
-    pass: Pass<N, A, V, B>,
-) -> Result<Beginner<N, A, V, B>, AllocError> {
-    let mut pass = pass;
-    let workers = beginners(alloc, table, &mut pass)?;
-    let ended = map_vec(
-        rt,
-        workers,
-        &|worker: Beginner<N, A, V, B>| worker.work(rt, table),
-    )?;
-    // What the threads left over, where one missed a transaction that began while it looked.
-    let mut all = Beginner::new(pass).work(rt, table);
-    for worker in ended {
-        all.join(table, worker);
-    }
-    Ok(all)
+    pass: &mut Pass<N, A, V, B>,
+) -> Result<Vec<Beginner<N, A, V, B>>, AllocError> {
+    let parts = parts_of(alloc, table, pass)?;
+    map_vec(rt, parts, &|part: Pass<N, A, V, B>| work(rt, table, part))
 }
 
-/// Ends the test unless each slot was given in each of its generations once, and none is given again.
-fn are_used_up<N: Name, A: Ledger, V: Ledger, B: Ledger, R: Wait + Abort>(
-    rt: &R,
-    table: SharedTable<N, A, V, B>,
-    all: Beginner<N, A, V, B>,
+/// Joins all to this pass, and adds what they began.
+fn join_all<N: Name, A: Ledger, V: Ledger, B: Ledger>(
+    table: &SharedTable<N, A, V, B>,
+    pass: &mut Pass<N, A, V, B>,
+    ended: Vec<Beginner<N, A, V, B>>,
+    begun: &mut Begun,
 ) {
-    let mut all = all;
-    all.is_refused_for_good(rt, &table);
+    for beginner in ended {
+        begun.add(beginner.begun);
+        pass.join(table, beginner.pass);
+    }
+}
+
+/// Ends the test unless each slot was given in each of its generations once.
+fn are_given_once(rt: &impl Abort, begun: Begun) {
     let processes = u64::from(PROCESSES);
     let last = u64::from(GENERATIONS);
-    same(rt, all.begun, processes * last);
-    same(rt, all.generations, processes * (last * (last + 1) / 2));
-    let expected = Report {
-        accepted: 2 * (processes * last),
-        verdicts: 0,
-        aborts: 0,
-    };
-    same(rt, table.close(all.pass).ok(), Some(expected));
+    same(rt, begun.transactions, processes * last);
+    same(rt, begun.generations, processes * (last * (last + 1) / 2));
 }
 
-fn use_up<
+/// Ends the test unless each begin is refused from now on.
+fn are_refused_for_good<N: Name, A: Ledger, V: Ledger, B: Ledger, R: Wait + Abort>(
+    rt: &R,
+    table: &SharedTable<N, A, V, B>,
+    pass: &mut Pass<N, A, V, B>,
+) {
+    for _ in 0..1000 {
+        same(rt, table.begin(rt, pass), Err(Refusal::Full));
+    }
+    same(rt, sees_no_tenant(rt, table, pass), true);
+}
+
+/// Uses up all slots, and returns what was made. Ends the test unless none is given again.
+pub fn use_up_slots<
     N: Name + Send + Sync,
     A: Ledger + Send + Sync,
     V: Ledger + Send + Sync,
     B: Ledger + Send + Sync,
     R: Threads + Wait + Abort + Sync,
->(rt: &R, alloc: Global, prepared: Prepared) -> Result<(), AllocError>
-    requires board { prepared.board ≡ N.board }
-    requires accepted { (prepared.accepted.name ≡ A.name) × (prepared.accepted.parts ≡ A.parts) }
-    requires verdicts { (prepared.verdicts.name ≡ V.name) × (prepared.verdicts.parts ≡ V.parts) }
-    requires aborts { (prepared.aborts.name ≡ B.name) × (prepared.aborts.parts ≡ B.parts) }
-{
-    let (table, pass) = prepared.open::<N, A, V, B>();
-    let all = work_all(rt, alloc, &table, pass)?;
-    are_used_up(rt, table, all);
-    Ok(())
+>(
+    rt: &R,
+    alloc: Global,
+    table: &SharedTable<N, A, V, B>,
+    pass: &mut Pass<N, A, V, B>,
+) -> Result<Report, AllocError> {
+    let ended = work_all(rt, alloc, table, pass)?;
+    // What the threads left over, where one missed a transaction that began while it looked.
+    let mut begun = begin_all(rt, table, pass);
+    join_all(table, pass, ended, &mut begun);
+    are_refused_for_good(rt, table, pass);
+    are_given_once(rt, begun);
+    Ok(accepted(2 * u64::from(PROCESSES) * u64::from(GENERATIONS)))
 }
 
 /// Each slot is given in each of its generations once, by whichever thread, and then never again.
@@ -189,7 +210,5 @@ fn all_slots_are_retired(rt: HostRuntime) -> Result<(), Fail> {
         label_limit: 9,
         generation_limit: GENERATIONS,
     };
-    let prepared = Prepared::new(rt.alloc(), config)?;
-    use_up::<Brand, Brand, Brand, Brand, _>(&rt, rt.alloc(), prepared)?;
-    Ok(())
+    on_a_table(&rt, rt.alloc(), config, Work::AllSlots)
 }

@@ -1,10 +1,8 @@
 //! Two threads, each with a pass.
-ghost use Rattle.std.specs.Prelude.{◌≡◌};
+ghost use Rattle.std.specs.Prelude.{◌<◌};
 
-use crate::tests::same::same;
-use mm_shared::{CloseRefused, Config, Name, Pass, Prepared, Report, SharedTable};
-use std::marker::Brand;
-use std::process::Abort;
+use crate::tests::shared::{Work, accepted, on_a_table};
+use mm_shared::{Config, Name, Pass, Report, SharedTable};
 use std::sync::Wait;
 use std::sync::ledger::Ledger;
 use std::test::Fail;
@@ -25,55 +23,31 @@ fn begin_and_finish<N: Name, A: Ledger, V: Ledger, B: Ledger, R: Wait>(
     pass
 }
 
-/// Ends the test unless the table is not closed with one pass alone, and is closed with this report once the other is joined to it.
-fn closes_with_both<N: Name, A: Ledger, V: Ledger, B: Ledger, R: Abort>(
-    rt: &R,
-    table: SharedTable<N, A, V, B>,
-    pass: Pass<N, A, V, B>,
-    other: Pass<N, A, V, B>,
-    expected: Report,
-) {
-    match table.close(pass) {
-        Ok(_) => assert!(rt; false),
-        Err(refused) => {
-            let CloseRefused {
-                refusal,
-                table,
-                mut pass,
-            } = refused;
-            same(rt, refusal.number(), 12);
-            pass.join(&table, other);
-            same(rt, table.close(pass).ok(), Some(expected));
-        }
-    }
-}
-
-fn two_threads<
+/// Does so in two threads, each with a part of one of the passes.
+pub fn begin_and_finish_both<
     N: Name + Send + Sync,
     A: Ledger + Send + Sync,
     V: Ledger + Send + Sync,
     B: Ledger + Send + Sync,
-    R: Threads + Wait + Abort + Sync,
->(rt: &R, prepared: Prepared)
-    requires board { prepared.board ≡ N.board }
-    requires accepted { (prepared.accepted.name ≡ A.name) × (prepared.accepted.parts ≡ A.parts) }
-    requires verdicts { (prepared.verdicts.name ≡ V.name) × (prepared.verdicts.parts ≡ V.parts) }
-    requires aborts { (prepared.aborts.name ≡ B.name) × (prepared.aborts.parts ≡ B.parts) }
+    R: Threads + Wait + Sync,
+>(
+    rt: &R,
+    table: &SharedTable<N, A, V, B>,
+    pass: &mut Pass<N, A, V, B>,
+    other: &mut Pass<N, A, V, B>,
+) -> Report
+    requires { (1 < pass.old.parts) × (1 < other.old.parts) }
 {
-    let (table, mut pass) = prepared.open::<N, A, V, B>();
-    let other = pass.split(&table, 1);
-    let shared = &table;
-    let (pass, other) = join(
+    let mine = pass.split(table, 1);
+    let theirs = other.split(table, 1);
+    let (mine, theirs) = join(
         rt,
-        || begin_and_finish(rt, shared, pass),
-        || begin_and_finish(rt, shared, other),
+        || begin_and_finish(rt, table, mine),
+        || begin_and_finish(rt, table, theirs),
     );
-    let expected = Report {
-        accepted: 4000,
-        verdicts: 0,
-        aborts: 0,
-    };
-    closes_with_both(rt, table, pass, other, expected);
+    pass.join(table, mine);
+    other.join(table, theirs);
+    accepted(4000)
 }
 
 #[test]
@@ -84,7 +58,5 @@ fn two_threads_begin_and_finish(rt: HostRuntime) -> Result<(), Fail> {
         label_limit: 9,
         generation_limit: 4_294_967_295,
     };
-    let prepared = Prepared::new(rt.alloc(), config)?;
-    two_threads::<Brand, Brand, Brand, Brand, _>(&rt, prepared);
-    Ok(())
+    on_a_table(&rt, rt.alloc(), config, Work::TwoThreads)
 }

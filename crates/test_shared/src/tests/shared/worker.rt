@@ -1,9 +1,11 @@
-//! A thread that makes deadlocks with its partner, and breaks those in which it gets the verdict.
+//! Threads that make deadlocks, each with its partner. A thread breaks those in which it gets the verdict.
 
 use mm_shared::{Acquired, Detected, Key, Mode, Name, Pass, Report, SharedTable};
+use std::alloc::{AllocError, Global};
 use std::sync::Wait;
 use std::sync::ledger::Ledger;
 use std::thread;
+use std::thread::{Threads, map_vec};
 
 /// What was made at first.
 pub const NOTHING: Report = Report {
@@ -12,18 +14,25 @@ pub const NOTHING: Report = Report {
     aborts: 0,
 };
 
+/// Adds one report to another.
+pub fn add(made: &mut Report, more: Report) {
+    made.accepted = made.accepted.saturating_add(more.accepted);
+    made.verdicts = made.verdicts.saturating_add(more.verdicts);
+    made.aborts = made.aborts.saturating_add(more.aborts);
+}
+
 /// A thread's number, its pass, and how many of its calls were accepted, gave a verdict, or were accepted aborts.
 ///
 /// Its own resource has its number. Its partner has that number with the last bit turned.
 #[derive(Drop)]
 pub struct Worker<N: Name, A: Ledger, V: Ledger, B: Ledger> {
     number: u32,
-    pub pass: Pass<N, A, V, B>,
-    pub made: Report,
+    pass: Pass<N, A, V, B>,
+    made: Report,
 }
 
 impl<N: Name, A: Ledger, V: Ledger, B: Ledger> Worker<N, A, V, B> {
-    pub fn new(number: u32, pass: Pass<N, A, V, B>) -> Worker<N, A, V, B> {
+    fn new(number: u32, pass: Pass<N, A, V, B>) -> Worker<N, A, V, B> {
         Worker {
             number,
             pass,
@@ -32,7 +41,7 @@ impl<N: Name, A: Ledger, V: Ledger, B: Ledger> Worker<N, A, V, B> {
     }
 
     /// Makes so many transactions, one after the other.
-    pub fn work<R: Wait>(
+    fn work<R: Wait>(
         self,
         rt: &R,
         table: &SharedTable<N, A, V, B>,
@@ -132,15 +141,66 @@ impl<N: Name, A: Ledger, V: Ledger, B: Ledger> Worker<N, A, V, B> {
     }
 
     /// Joins its pass to this one, and adds what it made to this report.
-    pub fn join_to(
+    fn join_to(
         self,
         table: &SharedTable<N, A, V, B>,
         pass: &mut Pass<N, A, V, B>,
         made: &mut Report,
     ) {
-        made.accepted = made.accepted.saturating_add(self.made.accepted);
-        made.verdicts = made.verdicts.saturating_add(self.made.verdicts);
-        made.aborts = made.aborts.saturating_add(self.made.aborts);
+        add(made, self.made);
         pass.join(table, self.pass);
     }
+}
+
+/// So many workers, each with a part of this pass.
+fn workers<N: Name, A: Ledger, V: Ledger, B: Ledger>(
+    alloc: Global,
+    table: &SharedTable<N, A, V, B>,
+    pass: &mut Pass<N, A, V, B>,
+    threads: u32,
+) -> Result<Vec<Worker<N, A, V, B>>, AllocError> {
+    let mut workers = Vec::new(alloc);
+    for number in 0..threads {
+        if pass.parts() > 1 {
+            workers.push(Worker::new(number, pass.split(table, 1)))?;
+        }
+    }
+    Ok(workers)
+}
+
+/// Joins the passes of all workers to this one, and returns what they made together.
+fn join_all<N: Name, A: Ledger, V: Ledger, B: Ledger>(
+    table: &SharedTable<N, A, V, B>,
+    pass: &mut Pass<N, A, V, B>,
+    ended: Vec<Worker<N, A, V, B>>,
+) -> Report {
+    let mut made = NOTHING;
+    for worker in ended {
+        worker.join_to(table, pass, &mut made);
+    }
+    made
+}
+
+/// Lets so many threads make so many transactions each, with a part of this pass each, and returns what they made together.
+pub fn work_all<
+    N: Name + Send + Sync,
+    A: Ledger + Send + Sync,
+    V: Ledger + Send + Sync,
+    B: Ledger + Send + Sync,
+    R: Threads + Wait + Sync,
+>(
+    rt: &R,
+    alloc: Global,
+    table: &SharedTable<N, A, V, B>,
+    pass: &mut Pass<N, A, V, B>,
+    threads: u32,
+    rounds: u64,
+) -> Result<Report, AllocError> {
+    let workers = workers(alloc, table, pass, threads)?;
+    let ended = map_vec(
+        rt,
+        workers,
+        &|worker: Worker<N, A, V, B>| worker.work(rt, table, rounds),
+    )?;
+    Ok(join_all(table, pass, ended))
 }

@@ -3,7 +3,7 @@
 use crate::tests::same::same;
 use crate::tests::shared::exhausted::RESOURCES;
 use crate::tests::shared::exhausted::spender::Spender;
-use crate::tests::shared::worker::NOTHING;
+use crate::tests::shared::worker::{NOTHING, add};
 use mm_shared::{Acquired, Key, Mode, Name, Pass, Refusal, Released, Report, SharedTable, State};
 use std::alloc::{AllocError, Global};
 use std::process::Abort;
@@ -33,9 +33,7 @@ impl<N: Name, A: Ledger, V: Ledger, B: Ledger> After<N, A, V, B> {
 
     /// Joins the pass of a thread to this one, and adds what it made.
     pub fn join(&mut self, table: &SharedTable<N, A, V, B>, other: Spender<N, A, V, B>) {
-        self.made.accepted = self.made.accepted.saturating_add(other.made.accepted);
-        self.made.verdicts = self.made.verdicts.saturating_add(other.made.verdicts);
-        self.made.aborts = self.made.aborts.saturating_add(other.made.aborts);
+        add(&mut self.made, other.made);
         self.refused = self.refused.saturating_add(other.refused);
         self.pass.join(table, other.pass);
     }
@@ -73,16 +71,31 @@ impl<N: Name, A: Ledger, V: Ledger, B: Ledger> After<N, A, V, B> {
         self.count(begun.is_ok());
         assert!(rt; begun.is_ok());
         if let Ok(key) = begun {
-            let acquired = table.acquire(rt, &mut self.pass, key, RESOURCES);
-            self.count(acquired.is_ok());
-            same(rt, acquired, Ok(Acquired::Granted));
-            let released = table.release(rt, &mut self.pass, key, RESOURCES);
-            self.count(released.is_ok());
-            same(rt, released, Ok(Released::Free));
-            let finished = table.finish(rt, &mut self.pass, key);
-            self.count(finished.is_ok());
-            same(rt, finished, Ok(()));
+            self.makes_a_transaction(rt, table, key);
         }
+        self.settles(rt, table);
+    }
+
+    /// A transaction that has begun takes a resource that nobody else wants, releases it, and finishes.
+    fn makes_a_transaction<R: Wait + Abort>(
+        &mut self,
+        rt: &R,
+        table: &SharedTable<N, A, V, B>,
+        key: Key,
+    ) {
+        let acquired = table.acquire(rt, &mut self.pass, key, RESOURCES);
+        self.count(acquired.is_ok());
+        same(rt, acquired, Ok(Acquired::Granted));
+        let released = table.release(rt, &mut self.pass, key, RESOURCES);
+        self.count(released.is_ok());
+        same(rt, released, Ok(Released::Free));
+        let finished = table.finish(rt, &mut self.pass, key);
+        self.count(finished.is_ok());
+        same(rt, finished, Ok(()));
+    }
+
+    /// A look for all deadlocks.
+    fn settles<R: Wait + Abort>(&mut self, rt: &R, table: &SharedTable<N, A, V, B>) {
         let settled = table.settle(rt, &mut self.pass);
         self.count(settled.is_ok());
         if let Ok(answer) = settled {
@@ -121,26 +134,46 @@ impl<N: Name, A: Ledger, V: Ledger, B: Ledger> After<N, A, V, B> {
         let (Some(key), Ok(state)) = self.process(rt, table, process) else {
             return false;
         };
-        let (answer, refusal) = match state.mode {
-            Mode::Active => (
-                table.finish(rt, &mut self.pass, key),
-                Refusal::LabelsExhausted,
-            ),
-            Mode::Waiting(_) => (table.give_up(rt, &mut self.pass, key), Refusal::Carried),
-            Mode::Convicted(_) => (
-                table.abort(rt, &mut self.pass, key),
-                Refusal::LabelsExhausted,
-            ),
-        };
-        if let Err(told) = answer {
-            same(rt, told, refusal);
-            return false;
+        match state.mode {
+            Mode::Active => {
+                let finished = table.finish(rt, &mut self.pass, key);
+                self.is_accepted(rt, finished, Refusal::LabelsExhausted)
+            }
+            Mode::Waiting(_) => {
+                let given_up = table.give_up(rt, &mut self.pass, key);
+                self.is_accepted(rt, given_up, Refusal::Carried)
+            }
+            Mode::Convicted(_) => self.aborts(rt, table, key),
         }
-        self.count(true);
-        if let Mode::Convicted(_) = state.mode {
+    }
+
+    /// Aborts a transaction with a verdict, and returns whether that was accepted.
+    fn aborts<R: Wait + Abort>(
+        &mut self,
+        rt: &R,
+        table: &SharedTable<N, A, V, B>,
+        key: Key,
+    ) -> bool {
+        let aborted = table.abort(rt, &mut self.pass, key);
+        let accepted = self.is_accepted(rt, aborted, Refusal::LabelsExhausted);
+        if accepted {
             self.made.aborts = self.made.aborts.saturating_add(1);
         }
-        true
+        accepted
+    }
+
+    /// Whether a call was accepted. Ends the test where it was refused, and not as it may be.
+    fn is_accepted(
+        &mut self,
+        rt: &impl Abort,
+        answer: Result<(), Refusal>,
+        refusal: Refusal,
+    ) -> bool {
+        if let Err(told) = answer {
+            same(rt, told, refusal);
+        }
+        self.count(answer.is_ok());
+        answer.is_ok()
     }
 
     /// All processes.
