@@ -15,7 +15,7 @@ use Rattle.mm_settled.specs.Grants.{grants}
 use Rattle.mm_settled.specs.declared.reply.Grant.{Grant}
 use Rattle.mm_settled.specs.declared.reply.Locked.{Locked}
 use Rattle.mm_settled.specs.declared.reply.Locked.TheVariants as locked
-use Rattle.mm_manager.specs.Permit.{refusal_of}
+use Rattle.mm_manager.specs.Permit.{may_cancel, refusal_of}
 use Rattle.mm_manager.specs.LockState.{LockState, Owns, Waits, IsUnowned, KeepOwned, untold}
 use Rattle.mm_manager.specs.Refused.{RefusedBy, NameRefused, UnlockRefused, CommitRefused, AbortRefused, CancelRefused}
 use Rattle.mm_manager.specs.declared.refusal.Refusal.{Refusal}
@@ -174,11 +174,11 @@ GivesUp old k new = Step (GiveUp k) old.table (Ok tt) new.table × (new ≡ reco
 abbrev pub IsEnded : LockState → Key → LockState → Type 0
 IsEnded old k new = EndsBy (Finish k) old tt k new ⊎ EndsBy (Abort k) old tt k new ⊎ ((mid : LockState) × GivesUp old k mid × EndsBy (Finish k) mid tt k new)
 
--- what an abort does, by its answer
+-- what an abort does, by its answer: only who waits in no deadlock can be told of another one than `Done`
 abbrev pub Aborts : LockState → Key → Result abort.Abort Refusal → LockState → Type 0
 Aborts old k (Ok aborts.Done) new = IsEnded old k new
-Aborts old k (Ok aborts.Later) new = Step (GiveUp k) old.table (Err Carried) old.table × (new ≡ record (untold old) { due = slice_set old.due k.process true })
-Aborts old k (Ok aborts.Withdrawn) new = GivesUp old k new × ((refusal : Refusal) × RefusedBy (Finish k) new.table refusal)
+Aborts old k (Ok aborts.Later) new = (may_cancel old.table k ≡ Ok tt) × Step (GiveUp k) old.table (Err Carried) old.table × (new ≡ record (untold old) { due = slice_set old.due k.process true })
+Aborts old k (Ok aborts.Withdrawn) new = (may_cancel old.table k ≡ Ok tt) × GivesUp old k new × ((refusal : Refusal) × RefusedBy (Finish k) new.table refusal)
 Aborts old k (Err refusal) new = (new ≡ untold old) × AbortRefused old k refusal
 
 -- ---- cancel

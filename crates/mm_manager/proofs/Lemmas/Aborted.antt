@@ -65,8 +65,8 @@ module _ (s u : TableState) (t named : NameTable) (l cleared m : Lists) (k : Key
   convicted_aborts live (Ok x) handed same_parts refused = inr (inl (ended (Abort k) tt handed))
   convicted_aborts live (Err e) handed same_parts refused = (untouched same_parts, inr (live, inr (inl refused)))
 
-  pub waiting_aborts : is_live s k ≡ true → (answer : Result reply.Abort Refusal) → AbortsWaiting s t cleared k answer u named m → Aborts old k answer new
-  waiting_aborts live (Ok Done) (mid, step, handed) =
+  pub waiting_aborts : is_live s k ≡ true → may_cancel s k ≡ Ok tt → (answer : Result reply.Abort Refusal) → AbortsWaiting s t cleared k answer u named m → Aborts old k answer new
+  waiting_aborts live may (Ok Done) (mid, step, handed) =
       let between : LockState = record (untold old) { table = mid; due = slice_set l.due.items k.process false } in
       inr (inr (
         between,
@@ -74,19 +74,19 @@ module _ (s u : TableState) (t named : NameTable) (l cleared m : Lists) (k : Key
         ended_by between new k m refl refl refl (Finish k) tt
             (subst (λ ds. Handed (Finish k) mid t (slice_set ds k.process false) tt k.process (IsEnding k) u named m) marks handed),
       ))
-  waiting_aborts live (Ok Later) (step, table, names, due, nobody) =
+  waiting_aborts live may (Ok Later) (step, table, names, due, nobody) =
       let marked = due ∙ ap (λ ds. slice_set ds k.process true) marks in
-      (step, λ i. record { table = table i; names = names i; due = marked i; granted = nobody.granted i; aborted = nobody.aborted i })
-  waiting_aborts live (Ok Withdrawn) (step, names, due, nobody, refused) =
+      (may, step, λ i. record { table = table i; names = names i; due = marked i; granted = nobody.granted i; aborted = nobody.aborted i })
+  waiting_aborts live may (Ok Withdrawn) (step, names, due, nobody, refused) =
       let marked = due ∙ ap (λ ds. slice_set ds k.process false) marks in
-      ((step, λ i. record { table = u; names = names i; due = marked i; granted = nobody.granted i; aborted = nobody.aborted i }), refused)
-  waiting_aborts live (Err e) (same_parts, stays) = (untouched same_parts, inr (live, inr (inr stays)))
+      (may, (step, λ i. record { table = u; names = names i; due = marked i; granted = nobody.granted i; aborted = nobody.aborted i }), refused)
+  waiting_aborts live may (Err e) (same_parts, stays) = (untouched same_parts, inr (live, inr (inr stays)))
 
   -- ---- a cancel
 
   pub due_cancels : may_cancel s k ≡ Ok tt → is_live s k ≡ true → (answer : Result reply.Abort Refusal) → has l.due.items k.process ≡ true → AbortsWaiting s t cleared k answer u named m → Cancels old k (cancel_of answer) new
-  due_cancels may live (Ok Done) is_due aborts = inr (is_due, inl (waiting_aborts live (Ok Done) aborts))
-  due_cancels may live (Ok Withdrawn) is_due aborts = inr (is_due, inr (waiting_aborts live (Ok Withdrawn) aborts))
+  due_cancels may live (Ok Done) is_due aborts = inr (is_due, inl (waiting_aborts live may (Ok Done) aborts))
+  due_cancels may live (Ok Withdrawn) is_due aborts = inr (is_due, inr (waiting_aborts live may (Ok Withdrawn) aborts))
   due_cancels may live (Ok Later) is_due (step, table, names, due, nobody) =
       let still = due ∙ ap (λ ds. slice_set ds k.process true) marks ∙ ap (slice_set l.due.items k.process) (sym is_due) ∙ set-get_or l.due.items k.process false in
       (step, λ i. record { table = table i; names = names i; due = still i; granted = nobody.granted i; aborted = nobody.aborted i })

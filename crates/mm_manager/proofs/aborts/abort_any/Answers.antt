@@ -71,5 +71,5 @@ returns-in-Waiting-clause-aborts c =
     let k = c.args.key in
     let told : state_of s k ≡ Ok c.in-Ok.state = ap (λ (t : TableState). state_of t k) (sym c.table.ensures) ∙ sym c.state.ensures ∙ c.in-Ok.is in
     let is = told_waiting s k c.in-Ok.state c.in-Waiting.field-0 (is_told s k c.in-Ok.state told) c.in-Waiting.is in
-    waiting_aborts s c.abort_waiting.new.table.table c.args.names.now c.abort_waiting.new.names c.args.lists.now c.clear.new.self c.abort_waiting.new.lists k c.clear.ensures.due is.live
+    waiting_aborts s c.abort_waiting.new.table.table c.args.names.now c.abort_waiting.new.names c.args.lists.now c.clear.new.self c.abort_waiting.new.lists k c.clear.ensures.due is.live (may_cancel_of s k c.in-Waiting.field-0 is)
     c.abort_waiting.result c.abort_waiting.ensures.aborts
