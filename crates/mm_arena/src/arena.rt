@@ -4,8 +4,8 @@ ghost use Rattle.std.specs.Option.{ok_or, option_copied_mut};
 ghost use Rattle.std.specs.Borrow.{sem};
 ghost use Rattle.mm_arena.specs.Slots.{opening_slots, lookup, IsLive, live_key, next_key, live_count, inserted, removed, vacated, AddsKey, DropsKey};
 
-use crate::{Key, Memory};
 use crate::slot::Slot;
+use crate::{Key, Memory};
 use std::alloc::Global;
 use std::marker::Model;
 
