@@ -17,7 +17,7 @@ const THREADS: u32 = 8;
 const PROCESSES: u32 = 5;
 
 /// The last generation of each process.
-const GENERATIONS: u32 = 5_000;
+const GENERATIONS: u32 = 20_000;
 
 /// How many transactions were begun, and the sum of their generations.
 #[derive(Clone, Copy)]
