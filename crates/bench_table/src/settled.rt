@@ -23,38 +23,68 @@ fn open_settled(alloc: Global) -> Result<SettledTable, Refusal> {
     )
 }
 
-/// Begins `begins` transactions, the first of which locks resources up to `locks`. Answers how many events were accepted.
-fn lock_all(table: &mut SettledTable, begins: u32, locks: u32) -> Result<u64, Refusal> {
+// The loops below borrow their tables and stand apart, so that what surrounds them changes nothing of how they are compiled.
+
+/// Begins so many transactions.
+#[inline(never)]
+fn begin_settled(table: &mut SettledTable, begins: u32) -> Result<(), Refusal> {
     for _ in 0..begins {
         table.begin()?;
     }
+    Ok(())
+}
+
+/// The first transaction locks resources up to `locks`.
+#[inline(never)]
+fn lock_settled(table: &mut SettledTable, locks: u32) -> Result<(), Refusal> {
     for resource in 0..locks {
         table.lock(FIRST, resource)?;
     }
+    Ok(())
+}
+
+/// Makes these calls, and answers how many events were accepted.
+fn make_settled(table: &mut SettledTable, begins: u32, locks: u32) -> Result<u64, Refusal> {
+    begin_settled(table, begins)?;
+    lock_settled(table, locks)?;
     Ok(table.table().totals().accepted)
 }
 
 fn settled_locks(alloc: Global, begins: u32, locks: u32) -> Result<u64, Refusal> {
     let mut table = open_settled(alloc)?;
-    let accepted = lock_all(&mut table, begins, locks);
+    let accepted = make_settled(&mut table, begins, locks);
     drop(table);
     accepted
 }
 
-/// The same calls of a table.
-fn acquire_all(table: &mut Table, begins: u32, locks: u32) -> Result<u64, Refusal> {
+/// Begins so many transactions.
+#[inline(never)]
+fn begin_plain(table: &mut Table, begins: u32) -> Result<(), Refusal> {
     for _ in 0..begins {
         table.begin()?;
     }
+    Ok(())
+}
+
+/// The first transaction acquires resources up to `locks`.
+#[inline(never)]
+fn acquire_plain(table: &mut Table, locks: u32) -> Result<(), Refusal> {
     for resource in 0..locks {
         table.acquire(FIRST, resource)?;
     }
+    Ok(())
+}
+
+/// Makes the same calls of a table.
+fn make_plain(table: &mut Table, begins: u32, locks: u32) -> Result<u64, Refusal> {
+    begin_plain(table, begins)?;
+    acquire_plain(table, locks)?;
     Ok(table.totals().accepted)
 }
 
 fn acquires(alloc: Global, begins: u32, locks: u32) -> Result<u64, Refusal> {
     let mut table = open(alloc, PROCESSES, Config::MOST_RESOURCES)?;
-    let accepted = acquire_all(&mut table, begins, locks);
+    let accepted = make_plain(&mut table, begins, locks);
     drop(table);
     accepted
 }
