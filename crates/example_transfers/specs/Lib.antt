@@ -1,0 +1,2 @@
+-- what becomes of a transaction that asked for an account
+pub mod Next
