@@ -1,26 +1,36 @@
 //! What workers ask of their gates, and what a run reports.
 
 use crate::tests::same::same;
-use mm_workers::{Gate, run_threads, shared_gates};
+use mm_shared::{Refusal, Report};
+use mm_workers::{Gate, SharedGate, run_threads, shared_gates};
 use mm_workload::Workload;
-use std::sync::Arc;
+use std::alloc::{AllocError, Global};
+use std::process::Abort;
 use std::sync::atomic::AtomicU32;
 use std::sync::atomic::Ordering::SeqCst;
+use std::sync::{Arc, Wait};
 use std::test::Fail;
+use std::thread::Threads;
+
+/// Whether the last gate says that all clients have left.
+fn last_is_over<R: Wait>(gates: &mut Vec<SharedGate<'_, R>>) -> Option<bool> {
+    Some(gates.last_mut()?.over())
+}
+
+/// The client of the first gate leaves.
+fn first_leaves<R: Wait>(gates: &mut Vec<SharedGate<'_, R>>) {
+    if let Some(gate) = gates.first_mut() {
+        gate.leave();
+    }
+}
 
 #[test]
 fn gates_are_over_once_all_clients_have_left(rt: HostRuntime) -> Result<(), Fail> {
     let mut gates = shared_gates(&rt, rt.alloc(), 2, 3)?;
     for is_over in [false, false, true, true] {
-        let Some(gate) = gates.last_mut() else {
-            return Err(Fail::from("there are three gates"));
-        };
-        same(&rt, gate.over(), is_over);
-        let Some(gate) = gates.first_mut() else {
-            return Err(Fail::from("there are three gates"));
-        };
+        same(&rt, last_is_over(&mut gates), Some(is_over));
         if !is_over {
-            gate.leave();
+            first_leaves(&mut gates);
         }
     }
     Ok(())
@@ -51,20 +61,49 @@ impl Gate for Asked {
 const APART: &str =
     r#"{"processes":2,"resources":2,"label_limit":9,"generation_limit":9,"transmitters":3,"turns":5,"clients":[[["acquire",0],["release",0]],[["acquire",1]]]}"#;
 
+/// So many gates that count how often they are asked.
+fn asked_gates(
+    alloc: Global,
+    times: &Arc<AtomicU32>,
+    count: usize,
+) -> Result<Vec<Asked>, AllocError> {
+    let mut gates = Vec::new(alloc);
+    for _ in 0..count {
+        gates.push(Asked {
+            times: Arc::try_clone(times)?,
+        })?;
+    }
+    Ok(gates)
+}
+
+/// Runs the workload at these gates, and reports what the table has counted.
+fn reported<R: Threads + Wait + Abort + Sync>(
+    rt: &R,
+    alloc: Global,
+    workload: &Workload,
+    gates: Vec<Asked>,
+) -> Result<Report, Refusal> {
+    let workers = workload.clients().len() + workload.transmitters() as usize;
+    assert_eq!(rt; gates.len(), workers);
+    run_threads(rt, alloc, workload, gates).map(|outcome| outcome.report)
+}
+
+/// Runs the workload. Ends the test unless the gates are asked fifteen times, and seven calls are accepted.
+fn asks_fifteen_times<R: Threads + Wait + Abort + Sync>(
+    rt: &R,
+    alloc: Global,
+    workload: &Workload,
+) -> Result<(), Fail> {
+    let times = Arc::new(alloc, AtomicU32::new(0))?;
+    let gates = asked_gates(alloc, &times, 5)?;
+    let report = reported(rt, alloc, workload, gates)?;
+    same(rt, times.load(SeqCst), 15);
+    same(rt, report.accepted, 7);
+    Ok(())
+}
+
 #[test]
 fn each_transmitter_has_all_turns_and_each_call_is_reported(rt: HostRuntime) -> Result<(), Fail> {
     let workload = Workload::read(rt.alloc(), APART.as_bytes())?;
-    let times = Arc::new(rt.alloc(), AtomicU32::new(0))?;
-    let mut gates = Vec::new(rt.alloc());
-    for _ in 0..5 {
-        gates.push(Asked {
-            times: Arc::try_clone(&times)?,
-        })?;
-    }
-    let workers = workload.clients().len() + workload.transmitters() as usize;
-    assert_eq!(rt; gates.len(), workers);
-    let outcome = run_threads(&rt, rt.alloc(), &workload, gates)?;
-    same(&rt, times.load(SeqCst), 15);
-    same(&rt, outcome.report.accepted, 7);
-    Ok(())
+    asks_fifteen_times(&rt, rt.alloc(), &workload)
 }

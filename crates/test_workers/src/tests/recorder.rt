@@ -1,17 +1,36 @@
 //! Steps that note the calls that are made.
 ghost use Rattle.std.specs.Prelude.{◌≡◌};
 
+use crate::tests::same::same;
 use mm_shared::{Acquired, Detected, Key, Refusal, Released, Settled, Transmitted};
 use mm_workers::{Hint, Steps};
+use std::process::Abort;
 
 /// A call and its answer, of those that a transmitter makes. `Other` is any of the rest.
-#[derive(Clone, Copy, Debug, PartialEq, Eq)]
+#[derive(Clone, Copy, PartialEq)]
 pub enum Call {
     Scan(u32, Option<Hint>),
     Tenant(u32, Option<Key>),
     Transmit(Key, Result<Transmitted, Refusal>),
     Detect(Key, Result<Detected, Refusal>),
     Other,
+}
+
+/// The first place where two lists of calls differ.
+fn first_difference(came: &[Call], expected: &[Call]) -> Option<usize> {
+    let mut place = 0usize;
+    for (call, wanted) in came.iter().zip(expected) {
+        if call != wanted {
+            return Some(place);
+        }
+        place = place.saturating_add(1);
+    }
+    (came.len() != expected.len()).then_some(place)
+}
+
+/// Ends the test unless just these calls were made.
+pub fn are_made(rt: &impl Abort, came: &[Call], expected: &[Call]) {
+    same(rt, first_difference(came, expected), None);
 }
 
 /// A table, and the calls that were made of it, in order. An answer with a label in it is copied through a reference, since a copy by name

@@ -4,7 +4,7 @@ use mm_shared::Refusal;
 use std::cell::Cell;
 
 /// A call that a client makes, without its key.
-#[derive(Clone, Copy, Debug, PartialEq, Eq)]
+#[derive(Clone, Copy, PartialEq)]
 pub enum Call {
     Begin,
     Acquire(u32),
@@ -21,7 +21,7 @@ pub enum Call {
 }
 
 /// What the table or the gate answers.
-#[derive(Clone, Copy, Debug, PartialEq, Eq)]
+#[derive(Clone, Copy)]
 pub enum Answer {
     /// It is done: begun, granted, freed, still, clear, finished or aborted.
     Done,
@@ -37,8 +37,8 @@ pub enum Answer {
 pub struct Script<'a> {
     pub lines: &'a [(Call, Answer)],
     pub place: Cell<usize>,
-    /// The first place where another call came than was expected, with that call.
-    pub wrong: Cell<Option<(usize, Call)>>,
+    /// The first place where another call came than was expected.
+    pub wrong: Cell<Option<usize>>,
 }
 
 impl<'a> Script<'a> {
@@ -58,7 +58,7 @@ impl<'a> Script<'a> {
             Some((expected, answer)) if *expected == call => *answer,
             _ => {
                 if self.wrong.get().is_none() {
-                    self.wrong.set(Some((place, call)));
+                    self.wrong.set(Some(place));
                 }
                 Answer::Refused(Refusal::CountsExhausted)
             }

@@ -140,7 +140,7 @@ impl<'a> Gate for ScriptedGate<'a> {
     }
 
     fn may_pass(&mut self, arrivals: u32) -> bool {
-        self.script.answer(Call::MayPass(arrivals)) == Answer::Passes
+        matches!(self.script.answer(Call::MayPass(arrivals)), Answer::Passes)
     }
 
     fn leave(&mut self) {

@@ -4,7 +4,7 @@ ghost use Rattle.std.specs.Prelude.{◌≡◌};
 
 use crate::tests::fake::Fake;
 use crate::tests::open_gate::OpenGate;
-use crate::tests::recorder::{Call, Recorder};
+use crate::tests::recorder::{Call, Recorder, are_made};
 use crate::tests::same::same;
 use mm_shared::{Config, Detected, Key, Name, Pass, Prepared, Refusal, SharedTable, Transmitted};
 use mm_table::{Table, Totals};
@@ -42,22 +42,19 @@ fn hint(process: u32, holder: u32, kind: HintKind) -> Option<Hint> {
     })
 }
 
+/// Room for the calls of a transmitter.
+fn room(alloc: Global) -> Result<Vec<Call>, AllocError> {
+    Vec::with_capacity(alloc, 100)
+}
+
 /// Runs a transmitter for four processes, and gives back the table and its calls.
-fn transmit<S: Steps + Drop>(
-    alloc: Global,
-    steps: S,
-    turns: u64,
-    over: bool,
-) -> Result<Recorder<S>, AllocError> {
-    let recorder = Recorder {
-        steps,
-        calls: Vec::with_capacity(alloc, 100)?,
-    };
+fn transmit<S: Steps + Drop>(steps: S, calls: Vec<Call>, turns: u64, over: bool) -> Recorder<S> {
+    let recorder = Recorder { steps, calls };
     let left = Cell::new(0);
     let gate = OpenGate { left: &left, over };
     let mut transmitter = Transmitter::new(recorder, gate, 4, turns);
     transmitter.run();
-    Ok(transmitter.into_steps())
+    transmitter.into_steps()
 }
 
 #[test]
@@ -66,11 +63,8 @@ fn without_a_hint_it_looks_alone(rt: HostRuntime) -> Result<(), Fail> {
         hint: None,
         tenant: Some(first_key(0)),
     };
-    let came = transmit(rt.alloc(), fake, 100, false)?;
-    same(&rt, came.calls.len(), 100);
-    for call in &came.calls {
-        same(&rt, *call, Call::Scan(0, None));
-    }
+    let came = transmit(fake, room(rt.alloc())?, 100, false);
+    are_made(&rt, came.calls.as_slice(), &[Call::Scan(0, None); 100]);
     Ok(())
 }
 
@@ -80,7 +74,7 @@ fn once_all_clients_have_left_it_calls_nothing(rt: HostRuntime) -> Result<(), Fa
         hint: None,
         tenant: None,
     };
-    let came = transmit(rt.alloc(), fake, 100, true)?;
+    let came = transmit(fake, room(rt.alloc())?, 100, true);
     same(&rt, came.calls.len(), 0);
     Ok(())
 }
@@ -93,14 +87,14 @@ fn behind_the_last_process_it_begins_anew(rt: HostRuntime) -> Result<(), Fail> {
         hint: raise,
         tenant,
     };
-    let came = transmit(rt.alloc(), fake, 2, false)?;
+    let came = transmit(fake, room(rt.alloc())?, 2, false);
     let calls = [
         Call::Scan(0, raise),
         Call::Tenant(3, tenant),
         Call::Transmit(first_key(3), Err(Refusal::Stale)),
         Call::Scan(0, None),
     ];
-    same(&rt, came.calls.as_slice(), calls.as_slice());
+    are_made(&rt, came.calls.as_slice(), calls.as_slice());
     Ok(())
 }
 
@@ -111,28 +105,28 @@ fn whoever_is_gone_is_passed_by(rt: HostRuntime) -> Result<(), Fail> {
         hint: equal,
         tenant: None,
     };
-    let came = transmit(rt.alloc(), fake, 3, false)?;
+    let came = transmit(fake, room(rt.alloc())?, 3, false);
     let calls = [
         Call::Scan(0, equal),
         Call::Tenant(1, None),
         Call::Scan(2, None),
         Call::Scan(0, None),
     ];
-    same(&rt, came.calls.as_slice(), calls.as_slice());
+    are_made(&rt, came.calls.as_slice(), calls.as_slice());
     Ok(())
 }
 
 /// Runs a transmitter for four processes, ends the test unless it makes these calls, and gives back the table.
 fn makes<S: Steps + Drop>(
     rt: &impl Abort,
-    alloc: Global,
     steps: S,
+    room: Vec<Call>,
     turns: u64,
     calls: &[Call],
-) -> Result<S, AllocError> {
-    let Recorder { steps, calls: came } = transmit(alloc, steps, turns, false)?;
-    same(rt, came.as_slice(), calls);
-    Ok(steps)
+) -> S {
+    let Recorder { steps, calls: came } = transmit(steps, room, turns, false);
+    are_made(rt, came.as_slice(), calls);
+    steps
 }
 
 /// So many transactions that own a resource each, and wait for that of the next: two under 1.0 and 2.1, three under 1.0, 1.1 and 2.2.
@@ -149,20 +143,29 @@ fn wait_in_a_ring<S: Steps>(steps: &mut S, count: u32) -> Result<(), Refusal> {
     Ok(())
 }
 
-/// Opens a table on which so many transactions wait for each other. Ends the test unless a transmitter makes these calls of it in so many
-/// turns, and the table has counted so much then.
-fn goes_round<R: Abort>(
-    rt: &R,
-    alloc: Global,
+/// What a transmitter makes of a ring of so many in so many turns, and what the table has counted then.
+#[derive(Drop)]
+struct Ring<'a> {
     count: u32,
     turns: u64,
-    calls: &[Call],
+    calls: &'a [Call],
     totals: Totals,
-) -> Result<(), Fail> {
-    let mut table = Table::open(alloc, FOUR)?;
-    same(rt, wait_in_a_ring(&mut table, count), Ok(()));
-    let table = makes(rt, alloc, table, turns, calls)?;
-    same(rt, table.totals(), totals);
+}
+
+/// Lets so many transactions wait for each other on this table. Ends the test unless a transmitter makes the calls of the ring.
+fn goes_round_on<R: Abort>(rt: &R, table: Table, room: Vec<Call>, ring: &Ring) {
+    let mut table = table;
+    same(rt, wait_in_a_ring(&mut table, ring.count), Ok(()));
+    let table = makes(rt, table, room, ring.turns, ring.calls);
+    same(rt, table.totals(), ring.totals);
+    drop(table);
+}
+
+/// Opens a table for the ring.
+fn goes_round<R: Abort>(rt: &R, alloc: Global, ring: &Ring) -> Result<(), Fail> {
+    let room = room(alloc)?;
+    let table = Table::open(alloc, FOUR)?;
+    goes_round_on(rt, table, room, ring);
     Ok(())
 }
 
@@ -193,7 +196,13 @@ fn a_deadlock_on_a_table_alone(rt: HostRuntime) -> Result<(), Fail> {
         aborts: 0,
     };
     let calls = calls_of_four_turns();
-    goes_round(&rt, rt.alloc(), 2, 4, calls.as_slice(), totals)
+    let ring = Ring {
+        count: 2,
+        turns: 4,
+        calls: calls.as_slice(),
+        totals,
+    };
+    goes_round(&rt, rt.alloc(), &ring)
 }
 
 /// What six turns make of a ring of three.
@@ -228,7 +237,13 @@ fn a_ring_of_three_on_a_table_alone(rt: HostRuntime) -> Result<(), Fail> {
         aborts: 0,
     };
     let calls = calls_of_six_turns();
-    goes_round(&rt, rt.alloc(), 3, 6, calls.as_slice(), totals)
+    let ring = Ring {
+        count: 3,
+        turns: 6,
+        calls: calls.as_slice(),
+        totals,
+    };
+    goes_round(&rt, rt.alloc(), &ring)
 }
 
 /// Two wait for each other at a desk of a shared table, and a transmitter makes four turns there.
@@ -240,15 +255,15 @@ fn make_four_turns<
     R: Wait + Abort,
 >(
     rt: &R,
-    alloc: Global,
     table: &SharedTable<N, A, V, B>,
     pass: Pass<N, A, V, B>,
-) -> Result<Pass<N, A, V, B>, AllocError> {
+    room: Vec<Call>,
+) -> Pass<N, A, V, B> {
     let mut desk = Desk::new(rt, table, pass);
     same(rt, wait_in_a_ring(&mut desk, 2), Ok(()));
     let calls = calls_of_four_turns();
-    let desk = makes(rt, alloc, desk, 4, calls.as_slice())?;
-    Ok(desk.into_pass())
+    let desk = makes(rt, desk, room, 4, calls.as_slice());
+    desk.into_pass()
 }
 
 /// The deadlock of two at a desk of a shared table.
@@ -258,26 +273,26 @@ fn four_turns_at_a_desk<
     V: Ledger + Drop,
     B: Ledger + Drop,
     R: Wait + Abort,
->(rt: &R, alloc: Global, prepared: Prepared) -> Result<(), Fail>
+>(rt: &R, prepared: Prepared, room: Vec<Call>)
     requires board { prepared.board ≡ N.board }
     requires accepted { (prepared.accepted.name ≡ A.name) × (prepared.accepted.parts ≡ A.parts) }
     requires verdicts { (prepared.verdicts.name ≡ V.name) × (prepared.verdicts.parts ≡ V.parts) }
     requires aborts { (prepared.aborts.name ≡ B.name) × (prepared.aborts.parts ≡ B.parts) }
 {
     let (table, pass) = prepared.open::<N, A, V, B>();
-    let pass = make_four_turns(rt, alloc, &table, pass)?;
+    let pass = make_four_turns(rt, &table, pass, room);
     let report = Report {
         accepted: 9,
         verdicts: 1,
         aborts: 0,
     };
     same(rt, table.close(pass).ok(), Some(report));
-    Ok(())
 }
 
 #[test]
 fn a_deadlock_on_a_shared_table(rt: HostRuntime) -> Result<(), Fail> {
+    let room = room(rt.alloc())?;
     let prepared = Prepared::new(rt.alloc(), FOUR)?;
-    four_turns_at_a_desk::<Brand, Brand, Brand, Brand, _>(&rt, rt.alloc(), prepared)?;
+    four_turns_at_a_desk::<Brand, Brand, Brand, Brand, _>(&rt, prepared, room);
     Ok(())
 }
