@@ -8,6 +8,7 @@ CALLS = [
     ("open", "Table::open"),
     ("lists", "Table::open, and a list that is lent"),
     ("names", "Names::open, and more names than there is room for"),
+    ("manager", "LockManager::open, and more names than there is room for"),
     ("prepare", "Prepared::new"),
     ("shared", "Prepared::new, and a shared table up to its close"),
     ("read", "Workload::read"),

@@ -72,12 +72,22 @@ TriesName old k name (Err refusal) new = (new ≡ untold old) × NameRefused old
 abbrev pub Asks : TableState → NameTable → Key → List ℕ → Locked → TableState → NameTable → Type 0
 Asks s t k name answer new named = (n : ℕ) × Interns t name n named × Locks s k n (Ok answer) new
 
+-- h owns the name, and nothing changes
+abbrev pub Finds : TableState → NameTable → List ℕ → Key → TableState → NameTable → Type 0
+Finds s t name h new named = ((n : ℕ) × (name_of t n ≡ Some name) × (owner_of s n ≡ Some h)) × (new ≡ s) × (named ≡ t)
+
 -- so a request is answered: with its name's number from now on, or as one that owns it already
 abbrev pub Requests : TableState → NameTable → Key → List ℕ → Lock → TableState → NameTable → Type 0
 Requests s t k name lock.Granted new named = Asks s t k name locked.Granted new named
 Requests s t k name (lock.Waits h) new named = Asks s t k name (locked.Waits h) new named
 Requests s t k name (lock.Deadlock h) new named = Asks s t k name (locked.Deadlock h) new named
-Requests s t k name lock.Held new named = ((n : ℕ) × (name_of t n ≡ Some name) × (owner_of s n ≡ Some k)) × (new ≡ s) × (named ≡ t)
+Requests s t k name lock.Held new named = Finds s t name k new named
+
+-- so a try is answered
+abbrev pub Tries : TableState → NameTable → Key → List ℕ → TryLock → TableState → NameTable → Type 0
+Tries s t k name tried.Granted new named = Asks s t k name locked.Granted new named
+Tries s t k name tried.Held new named = Finds s t name k new named
+Tries s t k name (tried.Busy h) new named = (h ≢ k) × Finds s t name h new named
 
 -- ---- hand-overs
 

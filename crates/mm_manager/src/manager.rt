@@ -6,7 +6,7 @@ ghost use Rattle.mm_names.specs.Names.{name_of};
 ghost use Rattle.mm_settled.specs.Calls.{OthersKeepVerdicts};
 ghost use Rattle.mm_manager.specs.LockState.{Owns, IsLawful};
 ghost use Rattle.mm_manager.specs.Opening.{opening_state, IsTransactionsOut, IsNamesOut, IsNameBytesOut};
-ghost use Rattle.mm_manager.specs.Calls.{Begins, LocksName, TriesName, Requests, UnlocksName, Commits, Aborts, Cancels};
+ghost use Rattle.mm_manager.specs.Calls.{Begins, LocksName, TriesName, Requests, Tries, UnlocksName, Commits, Aborts, Cancels};
 ghost use Rattle.mm_manager.specs.Reads.{HasStatus, waits_of};
 
 use crate::aborts::abort_any;
@@ -109,6 +109,7 @@ impl LockManager {
     /// order. `O(length)`.
     pub fn try_lock(&mut self, key: Key, name: &[u8]) -> Result<TryLock, Refusal>
         ensures tries { TriesName self.old key name.now result self.new }
+        ensures step { IfOk result (λ answer. Tries self.old.table self.old.names key name.now answer self.new.table self.new.names) }
         ensures others { OthersKeepVerdicts self.old.table self.new.table key.process }
         ensures due { self.new.due ≡ self.old.due }
         ensures granted { self.new.granted ≡ [] }

@@ -9,10 +9,9 @@ ghost use Rattle.mm_rules.specs.declared.refusal.Refusal.{Refusal as TableRefusa
 ghost use Rattle.mm_rules.specs.Event.{Begin, Release, Finish, Step};
 ghost use Rattle.mm_rules.specs.Laws.{Laws};
 ghost use Rattle.mm_settled.specs.Calls.{OthersKeepVerdicts};
-ghost use Rattle.mm_manager.specs.Calls.{Requests};
+ghost use Rattle.mm_manager.specs.Calls.{Requests, Tries};
 ghost use Rattle.mm_manager.specs.Permit.{refusal_of};
 ghost use Rattle.mm_manager.specs.Refused.{RefusedBy, NameRefused, UnlockRefused, CommitRefused};
-ghost use Rattle.mm_manager.specs.private.Requests.{Tries};
 ghost use Rattle.mm_settled.specs.declared.reply.Grant.{Grant as GrantValue};
 ghost use Rattle.mm_manager.specs.private.Due.{AreGranted, EndsDue};
 ghost use Rattle.mm_manager.specs.private.Handed.{AreParts, Handed, IsUntouched};

@@ -3,11 +3,11 @@ ghost use Rattle.std.specs.Prelude.{◌≡◌, ◌<◌, Some, Ok, Err, IfOk, IfE
 ghost use Rattle.mm_rules.specs.declared.refusal.Refusal.{Refusal as TableRefusal};
 ghost use Rattle.mm_rules.specs.TableState.{owner_of};
 ghost use Rattle.mm_settled.specs.Calls.{Locks, OthersKeepVerdicts};
-ghost use Rattle.mm_manager.specs.Calls.{Requests};
+ghost use Rattle.mm_manager.specs.Calls.{Requests, Tries};
 ghost use Rattle.mm_manager.specs.Permit.{may_ask, refusal_of};
 ghost use Rattle.mm_manager.specs.Refused.{IsLimit, NameRefused};
 ghost use Rattle.mm_manager.specs.private.Numbers.{AreNumbered, forgotten, bare};
-ghost use Rattle.mm_manager.specs.private.Requests.{Tries, tried_by};
+ghost use Rattle.mm_manager.specs.private.Requests.{tried_by};
 
 use crate::numbers::{forget_unowned, number_of, owner_of};
 use crate::{Key, Lock, Refusal, TryLock};

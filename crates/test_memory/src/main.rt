@@ -1,19 +1,22 @@
 //! `test_memory CALL`: makes one call of the libraries that takes memory, and then calls that take none. It prints `ok`, or how it was refused.
-//! `tests/refuse_memory` runs it with each of its requests for memory refused. The calls: `none`, `open`, `lists`, `names`, `prepare`,
+//! `tests/refuse_memory` runs it with each of its requests for memory refused. The calls: `none`, `open`, `lists`, `names`, `manager`, `prepare`,
 //! `shared`, `read`, `storm`, `gates` and `run`. Without a word it prints nothing.
 //!
 //! - `alone`: a table that nobody shares, and the lists that its callers lend.
 //! - `naming`: names.
+//! - `managing`: a lock manager.
 //! - `sharing`: a shared table, its passes and its board.
 //! - `working`: workloads, gates, and a run of all workers.
 #![tactic(auto)]
 
 mod alone;
+mod managing;
 mod naming;
 mod sharing;
 mod working;
 
 use alone::{lists, opened};
+use managing::managed;
 use mm_table::Refusal;
 use naming::named;
 use sharing::{prepared, shared};
@@ -28,6 +31,7 @@ fn answer<R: Threads + Wait + Sync>(rt: &R, alloc: Global, call: &str) -> Result
         "open" => opened(alloc),
         "lists" => lists(alloc),
         "names" => named(alloc),
+        "manager" => managed(alloc),
         "prepare" => prepared(alloc),
         "shared" => shared(rt, alloc),
         "read" => read(alloc),

@@ -15,13 +15,12 @@ use Rattle.mm_settle.proofs.Lemmas.Acquired.{queue_else}
 use Rattle.mm_settled.specs.Calls.{Locks, WaitsFrom, OthersKeepVerdicts}
 use Rattle.mm_settled.specs.declared.reply.Locked.TheVariants as locked
 use Rattle.mm_manager.specs.LockState.{LockState}
-use Rattle.mm_manager.specs.Calls.{Gets, Queues, Requests}
+use Rattle.mm_manager.specs.Calls.{Gets, Queues, Requests, Tries}
 use Rattle.mm_manager.specs.declared.refusal.Refusal.{Refusal}
 use Rattle.mm_manager.specs.declared.reply.Lock.{Lock}
 use Rattle.mm_manager.specs.declared.reply.Lock.TheVariants as lock
 use Rattle.mm_manager.specs.private.Handed.{DueWait}
 use Rattle.mm_manager.specs.private.Numbers.{AreNumbered}
-use Rattle.mm_manager.specs.private.Requests.{Tries}
 use Rattle.mm_manager.specs.declared.reply.TryLock.{TryLock}
 use Rattle.mm_manager.specs.declared.reply.TryLock.TheVariants as tried
 use Rattle.mm_manager.proofs.Lemmas.Handed.{waits_something, is_waiting_for}

@@ -9,7 +9,7 @@ use Rattle.mm_rules.specs.Event.{Event, Answer, Release}
 use Rattle.mm_rules.specs.Laws.{Laws}
 use Rattle.mm_rules.proofs.States.Lookups.{waits_here, held}
 use Rattle.mm_manager.specs.LockState.{LockState, Owns, Waits, untold}
-use Rattle.mm_manager.specs.Calls.{LocksName, TriesName, Requests, LosesName, LosesAll, HandsOver, AbortsDue, Unlocks, EndsBy}
+use Rattle.mm_manager.specs.Calls.{LocksName, TriesName, Requests, Tries, LosesName, LosesAll, HandsOver, AbortsDue, Unlocks, EndsBy}
 use Rattle.mm_manager.specs.Refused.{NameRefused}
 use Rattle.mm_manager.specs.declared.lists.Lists.{Lists}
 use Rattle.mm_manager.specs.declared.refusal.Refusal.{Refusal}
@@ -20,7 +20,6 @@ use Rattle.mm_manager.specs.private.HandsDown.{IsEnding, IsReleased}
 use Rattle.mm_manager.specs.private.Numbers.{AreNumbered}
 use Rattle.mm_manager.specs.declared.reply.TryLock.{TryLock}
 use Rattle.mm_manager.specs.declared.reply.TryLock.TheVariants as tried
-use Rattle.mm_manager.specs.private.Requests.{Tries}
 use Rattle.mm_manager.proofs.Lemmas.Asked.{gets, queues}
 use Rattle.mm_manager.proofs.Lemmas.Names.{passes}
 use Rattle.mm_manager.proofs.Lemmas.Requests.{granted_is, queued_is}
