@@ -1,0 +1,23 @@
+//! A lock manager that threads share: a request for a name returns when the name is owned, or with `Deadlock`. A thread that waits sleeps.
+//!
+//! - `locks`: `Locks`, what threads share.
+//! - `transaction`: `Transaction`, which locks names, and gives all back at its end.
+//! - `error`: why a call is refused.
+//! - `desk`: the manager behind the lock, with whom it is to wake.
+//! - `wakes`: whom a call is to wake once the lock is free.
+//! - `parkers`: where the thread of each transaction sleeps.
+//! - `patience`: how long a thread is to wait.
+#![tactic(auto)]
+
+mod desk;
+mod error;
+mod locks;
+mod parkers;
+mod patience;
+mod transaction;
+mod wakes;
+
+pub use error::LockError;
+pub use locks::Locks;
+pub use mm_manager::{ManagerConfig, OpenError, Totals};
+pub use transaction::Transaction;
