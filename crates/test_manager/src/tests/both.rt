@@ -33,6 +33,8 @@ pub struct Both {
     /// The names that had a number before the call, by rising number.
     order: Vec<u32>,
     deadlocks: u64,
+    /// How many ended since their abort was due.
+    ended_later: u64,
 }
 
 pub fn open_both(alloc: Global) -> Result<Both, Fail> {
@@ -55,6 +57,7 @@ pub fn open_both(alloc: Global) -> Result<Both, Fail> {
         numbered: Vec::new(alloc),
         order: Vec::new(alloc),
         deadlocks: 0,
+        ended_later: 0,
     })
 }
 
@@ -110,6 +113,7 @@ impl Both {
         let name = name % NAMES.len() as u32;
         self.make_kind(rt, key, name, chance >> 16 & 15)?;
         self.same_lists(rt);
+        self.count_ended();
         Ok(())
     }
 
@@ -337,6 +341,11 @@ impl Both {
         same(rt, self.manager.aborted(), self.plain.aborted.as_slice());
     }
 
+    fn count_ended(&mut self) {
+        let ended = self.plain.aborted.len() as u64;
+        self.ended_later = self.ended_later.wrapping_add(ended);
+    }
+
     fn same_owners(&self, rt: &impl Abort) {
         for name in 0..NAMES.len() as u32 {
             let owner = self
@@ -446,7 +455,10 @@ impl Both {
         }
     }
 
+    /// As many deadlocks as there were, and enough of them and of later ends to show something.
     pub fn same_totals(&self, rt: &impl Abort) {
         same(rt, self.manager.totals().verdicts, self.deadlocks);
+        same(rt, self.deadlocks > 1_000, true);
+        same(rt, self.ended_later > 1_000, true);
     }
 }
