@@ -1,0 +1,60 @@
+//! What one thread is told that has two transactions, and waits that end by time.
+use crate::tests::helpers::{open, same};
+use mm_blocking::{LockError, Locks};
+use std::process::Abort;
+use std::sync::Wait;
+use std::test::Fail;
+use std::time::{Clock, Duration};
+
+/// Each refusal of one who does not wait.
+fn refusals<R: Wait + Abort>(rt: &R, locks: &Locks) {
+    let mut one = locks.begin(rt).expect(rt, "there is room");
+    let two = locks.begin(rt).expect(rt, "there is room");
+    same(rt, locks.begin(rt).err(), Some(LockError::TransactionsFull));
+    same(rt, one.lock(b""), Err(LockError::NameEmpty));
+    same(rt, one.lock(b"nine byte"), Err(LockError::NameTooLong));
+    same(rt, one.unlock(b"a"), Err(LockError::NotOwner));
+    same(rt, one.lock(b"a"), Ok(()));
+    same(rt, one.lock(b"a"), Ok(()));
+    same(rt, one.lock(b"b"), Err(LockError::NamesFull));
+    same(rt, one.try_lock(b"b"), Err(LockError::NamesFull));
+    same(rt, two.commit(), Ok(()));
+    same(rt, one.commit(), Ok(()));
+}
+
+#[test]
+fn refuses(rt: HostRuntime) -> Result<(), Fail> {
+    let locks = open(rt.alloc(), 2, 1)?;
+    refusals(&rt, &locks);
+    Ok(())
+}
+
+/// A name that another one owns is not had by a try, nor in time. Whoever gave up goes on, and has it once it is given back.
+fn tries<R: Wait + Clock + Abort>(rt: &R, locks: &Locks) {
+    let mut owner = locks.begin(rt).expect(rt, "there is room");
+    let mut other = locks.begin(rt).expect(rt, "there is room");
+    let short = Duration::from_millis(2);
+    same(rt, owner.lock(b"a"), Ok(()));
+    same(rt, other.lock_for(b"b", short), Ok(()));
+    same(rt, other.try_lock(b"a"), Ok(false));
+    same(rt, other.lock_for(b"a", short), Err(LockError::TimedOut));
+    same(
+        rt,
+        other.lock_for(b"a", Duration::ZERO),
+        Err(LockError::TimedOut),
+    );
+    same(rt, owner.try_lock(b"b"), Ok(false));
+    same(rt, owner.unlock(b"a"), Ok(()));
+    same(rt, other.try_lock(b"a"), Ok(true));
+    same(rt, owner.lock_for(b"b", short), Err(LockError::TimedOut));
+    drop(other);
+    same(rt, owner.lock_for(b"b", short), Ok(()));
+    same(rt, owner.commit(), Ok(()));
+}
+
+#[test]
+fn gives_up(rt: HostRuntime) -> Result<(), Fail> {
+    let locks = open(rt.alloc(), 2, 2)?;
+    tries(&rt, &locks);
+    Ok(())
+}
