@@ -19,6 +19,8 @@ unsafe extern "C" {
     safe fn mm_bench_find_names(names: u32, length: u32, is_known: bool, count: u64) -> u64;
     safe fn mm_bench_intern_names(names: u32, length: u32, count: u64) -> u64;
     safe fn mm_bench_renew_names(names: u32, length: u32, count: u64) -> u64;
+    safe fn mm_bench_lock_names(names: u32, length: u32, count: u64) -> u64;
+    safe fn mm_bench_lock_numbers(names: u32, count: u64) -> u64;
 }
 
 /// The number of each name.
@@ -111,6 +113,11 @@ fn measure(names: u32, length: u32) {
     line("forget and intern again", 2 * CALLS, &[
         &|is_whole| mm_bench_renew_names(names, length, count(is_whole)),
         &|is_whole| renew(names, length, count(is_whole)),
+    ]);
+    // Beside the lock manager a table at rest, which has numbers in the place of names.
+    line("lock and unlock a name", CALLS, &[
+        &|is_whole| mm_bench_lock_names(names, length, count(is_whole)),
+        &|is_whole| mm_bench_lock_numbers(names, count(is_whole)),
     ]);
 }
 

@@ -10,6 +10,7 @@ use mm_table::{Config, Refusal, Table};
 use std::alloc::Global;
 
 mod blocks;
+mod locks;
 mod names;
 mod openings;
 mod queues;

@@ -5,20 +5,20 @@ use mm_names::{Names, NamesConfig};
 use std::alloc::Global;
 
 /// The most bytes of a name.
-const MOST_BYTES: usize = 64;
+pub const MOST_BYTES: usize = 64;
 
 /// From the last bytes of one name to those of the next. It is odd, so no two numbers have one name.
 const SPREAD: u64 = 0x9e37_79b9_7f4a_7c15;
 
 /// The next number of a sequence that looks like chance; 0 has no next.
-fn next_number(number: u32) -> u32 {
+pub fn next_number(number: u32) -> u32 {
     let number = number ^ number << 13;
     let number = number ^ number >> 17;
     number ^ number << 5
 }
 
 /// Writes the name of a number: its last 8 bytes tell it from the others.
-fn write_name(bytes: &mut [u8; 64], number: u32) {
+pub fn write_name(bytes: &mut [u8; 64], number: u32) {
     bytes[56..].copy_from_slice(&u64::from(number).wrapping_mul(SPREAD).to_le_bytes());
 }
 
