@@ -31,8 +31,14 @@ pub enum LockError {
 }
 
 impl LockError {
+    ghost use Rattle.std.specs.Prelude.{◌≡◌, ◌≢◌};
+    ghost use Rattle.mm_blocking.specs.Errors.{error_of};
+
     /// What a refusal of the manager means.
-    pub(crate) fn of_refusal(refusal: Refusal) -> LockError {
+    pub(crate) fn of_refusal(refusal: Refusal) -> LockError
+        ensures error { result ≡ error_of refusal }
+        ensures in_time { result ≢ LockError.TimedOut }
+    {
         match refusal {
             Refusal::MustAbort => LockError::Deadlock,
             Refusal::NameEmpty => LockError::NameEmpty,

@@ -1,4 +1,7 @@
 //! What threads share.
+ghost use Rattle.std.specs.Prelude.{◌≡◌, ◌≢◌, ◌↔◌, Err, IfErr};
+ghost use Rattle.mm_manager.specs.Opening.{IsTransactionsOut, IsNamesOut, IsNameBytesOut};
+
 use crate::desk::{Asked, Desk};
 use crate::error::LockError;
 use crate::parkers::Parkers;
@@ -13,14 +16,18 @@ use std::sync::{Mutex, MutexGuard, Wait};
 /// How often a thread that finds the lock taken pauses before it asks for it again: long enough for several calls that change little.
 const PAUSES: u32 = 12;
 
-/// The most transactions that a manager can have.
+/// The most transactions that a manager can have at once.
 const MOST_TRANSACTIONS: u32 = 65_536;
 
-/// A lock manager that threads share by reference.
+/// A lock manager that threads share by reference: a `LockManager` behind one lock, and beside it a place to sleep for each transaction.
+///
+/// Each call takes the lock, makes one call of the manager, lets go, and wakes exactly those whom that call granted a name, or whose abort
+/// came due in it. So a call may wait for the lock, and `Transaction::lock` for a name too, but nobody sleeps under the lock. What the
+/// manager promises holds of whatever stands behind the lock at any time (`LockManager::keeps_laws`). No call but `open` takes memory.
 #[derive(Drop)]
 pub struct Locks {
     parkers: Parkers,
-    /// The word of the lock has a cache line of its own.
+    /// The word of the lock has a cache line of its own: a thread that waits for it does not slow down the one that has the lock.
     desk: CachePadded<Mutex<CachePadded<Desk>>>,
 }
 
@@ -32,15 +39,18 @@ struct Room {
 }
 
 impl Room {
-    fn open(alloc: Global, processes: u32) -> Result<Room, AllocError> {
-        let parkers = Parkers::open(alloc, processes)?;
-        let unwoken = Unwoken::open(alloc, processes)?;
+    /// Room for so many transactions.
+    fn open(alloc: Global, transactions: u32) -> Result<Room, AllocError> {
+        let parkers = Parkers::open(alloc, transactions)?;
+        let unwoken = Unwoken::open(alloc, transactions)?;
         Ok(Room { parkers, unwoken })
     }
 }
 
-/// A manager, and room beside it.
-fn put_together(manager: LockManager, room: Result<Room, AllocError>) -> Result<Locks, OpenError> {
+/// The locks of a manager, where there is room beside it.
+fn put_together(manager: LockManager, room: Result<Room, AllocError>) -> Result<Locks, OpenError>
+    ensures { IfErr result (λ error. error ≡ OpenError.Memory) }
+{
     match room {
         Ok(room) => Ok(Locks::of(manager, room)),
         Err(_) => {
@@ -51,8 +61,16 @@ fn put_together(manager: LockManager, room: Result<Room, AllocError>) -> Result<
 }
 
 impl Locks {
-    /// A manager of this configuration: no transaction is live, and nobody owns a name.
-    pub fn open(alloc: Global, config: ManagerConfig) -> Result<Locks, OpenError> {
+    /// Locks of this configuration: no transaction is live, and nobody owns a name.
+    ///
+    /// Refused as `LockManager::open` is: as `Transactions`, `Names` or `NameBytes` exactly where that number is out of its range and those
+    /// before it are not, and as `Memory` only where a request for memory was refused. This is the one call that takes memory: what
+    /// `LockManager::open` takes, and for each transaction a cache line, in which its thread sleeps, and a bit.
+    pub fn open(alloc: Global, config: ManagerConfig) -> Result<Locks, OpenError>
+        ensures transactions { (result ≡ Err OpenError.Transactions) ↔ IsTransactionsOut config }
+        ensures names { (result ≡ Err OpenError.Names) ↔ (¬ IsTransactionsOut config × IsNamesOut config) }
+        ensures name_bytes { (result ≡ Err OpenError.NameBytes) ↔ (¬ IsTransactionsOut config × ¬ IsNamesOut config × IsNameBytesOut config) }
+    {
         let room = Room::open(alloc, config.transactions.min(MOST_TRANSACTIONS));
         let manager = LockManager::open(alloc, config)?;
         put_together(manager, room)
@@ -67,7 +85,7 @@ impl Locks {
         }
     }
 
-    /// Takes the lock: in place where it is free.
+    /// Takes the lock: in place where it is free, since `lock` itself is too long for that.
     #[inline(always)]
     fn locked<R: Wait>(&self, rt: &R) -> MutexGuard<'_, CachePadded<Desk>> {
         match self.desk.try_lock() {
@@ -76,7 +94,7 @@ impl Locks {
         }
     }
 
-    /// Waits for the lock, and takes it.
+    /// Waits for the lock, and takes it. Asking again at once would slow down the one that has it, who is done soon.
     #[inline(never)]
     fn awaited<R: Wait>(&self, rt: &R) -> MutexGuard<'_, CachePadded<Desk>> {
         for _ in 0..PAUSES {
@@ -85,11 +103,16 @@ impl Locks {
         self.desk.lock(rt)
     }
 
-    /// Begins a transaction.
-    pub fn begin<'m, R: Wait>(&'m self, rt: &'m R) -> Result<Transaction<'m, R>, LockError> {
+    /// Begins a transaction. It ends by `commit`; where it is dropped it is rolled back.
+    ///
+    /// Refused as `TransactionsFull` or `CountsFull`. Constant time.
+    pub fn begin<'m, R: Wait>(&'m self, rt: &'m R) -> Result<Transaction<'m, R>, LockError>
+        ensures in_time { result ≢ Err LockError.TimedOut }
+    {
         let key = self.begin_key(rt)?;
         match self.parkers.of(key.process) {
             Some(parker) => Ok(Transaction::new(rt, self, parker, key)),
+            // There is a parker for each process of the manager.
             None => {
                 self.roll_back(rt, key);
                 Err(LockError::TransactionsFull)
@@ -97,32 +120,52 @@ impl Locks {
         }
     }
 
-    fn begin_key<R: Wait>(&self, rt: &R) -> Result<Key, LockError> {
+    fn begin_key<R: Wait>(&self, rt: &R) -> Result<Key, LockError>
+        ensures in_time { result ≢ Err LockError.TimedOut }
+    {
         self.locked(rt).begin()
     }
 
-    pub(crate) fn lock<R: Wait>(&self, rt: &R, key: Key, name: &[u8]) -> Result<Asked, LockError> {
+    /// `Desk::lock`.
+    pub(crate) fn lock<R: Wait>(&self, rt: &R, key: Key, name: &[u8]) -> Result<Asked, LockError>
+        ensures in_time { result ≢ Err LockError.TimedOut }
+    {
         self.locked(rt).lock(key, name)
     }
 
-    pub(crate) fn try_lock<R: Wait>(
+    /// `Desk::try_lock`.
+    pub(crate) fn try_lock<R: Wait>(&self, rt: &R, key: Key, name: &[u8]) -> Result<bool, LockError>
+        ensures in_time { result ≢ Err LockError.TimedOut }
+    {
+        self.locked(rt).try_lock(key, name)
+    }
+
+    /// `Desk::asked`.
+    pub(crate) fn asked<R: Wait>(&self, rt: &R, key: Key, name: &[u8]) -> Result<Asked, LockError>
+        ensures in_time { result ≢ Err LockError.TimedOut }
+    {
+        self.locked(rt).asked(key, name)
+    }
+
+    /// `Desk::take_back`.
+    pub(crate) fn take_back<R: Wait>(
         &self,
         rt: &R,
         key: Key,
         name: &[u8],
-    ) -> Result<bool, LockError> {
-        self.locked(rt).try_lock(key, name)
+    ) -> Result<Asked, LockError> {
+        let mut wakes = Wakes::new();
+        let mut desk = self.locked(rt);
+        let answer = desk.take_back(key, name, &mut wakes);
+        drop(desk);
+        self.wake(rt, &wakes);
+        answer
     }
 
-    pub(crate) fn asked<R: Wait>(&self, rt: &R, key: Key) -> Result<Asked, LockError> {
-        self.locked(rt).asked(key)
-    }
-
-    pub(crate) fn take_back<R: Wait>(&self, rt: &R, key: Key) -> Result<Asked, LockError> {
-        self.locked(rt).take_back(key)
-    }
-
-    pub(crate) fn unlock<R: Wait>(&self, rt: &R, key: Key, name: &[u8]) -> Result<(), LockError> {
+    /// `Desk::unlock`, and wakes whom it told something.
+    pub(crate) fn unlock<R: Wait>(&self, rt: &R, key: Key, name: &[u8]) -> Result<(), LockError>
+        ensures in_time { result ≢ Err LockError.TimedOut }
+    {
         let mut wakes = Wakes::new();
         let mut desk = self.locked(rt);
         let answer = desk.unlock(key, name, &mut wakes);
@@ -131,7 +174,10 @@ impl Locks {
         answer
     }
 
-    pub(crate) fn commit<R: Wait>(&self, rt: &R, key: Key) -> Result<(), LockError> {
+    /// `Desk::commit`, and wakes whom it told something.
+    pub(crate) fn commit<R: Wait>(&self, rt: &R, key: Key) -> Result<(), LockError>
+        ensures in_time { result ≢ Err LockError.TimedOut }
+    {
         let mut wakes = Wakes::new();
         let mut desk = self.locked(rt);
         let answer = desk.commit(key, &mut wakes);
@@ -140,15 +186,16 @@ impl Locks {
         answer
     }
 
+    /// `Desk::roll_back`, and wakes whom it told something.
     pub(crate) fn roll_back<R: Wait>(&self, rt: &R, key: Key) {
         let mut wakes = Wakes::new();
         let mut desk = self.locked(rt);
-        desk.roll_back(key, &mut wakes);
+        let _ = desk.roll_back(key, &mut wakes);
         drop(desk);
         self.wake(rt, &wakes);
     }
 
-    /// What was counted since the opening.
+    /// What was counted since the opening, as `LockManager::totals`. Constant time.
     pub fn totals<R: Wait>(&self, rt: &R) -> Totals {
         self.locked(rt).totals()
     }
@@ -161,6 +208,7 @@ impl Locks {
         }
     }
 
+    /// Wakes those who are to be woken and whom nobody has taken to wake, some at a time, until none is left.
     #[inline(never)]
     fn wake_rest<R: Wait>(&self, rt: &R) {
         for _ in rt.forever() {

@@ -3,14 +3,14 @@ use std::time::{Clock, Duration, Instant};
 
 /// A time by which a thread is to have what it waits for.
 #[derive(Clone, Copy)]
-pub(crate) struct Patience {
+pub struct Patience {
     /// `None` where the clock could not be read.
     start: Option<Instant>,
     limit: Duration,
 }
 
 impl Patience {
-    pub(crate) fn new(clock: &impl Clock, limit: Duration) -> Patience {
+    pub fn new(clock: &impl Clock, limit: Duration) -> Patience {
         Patience {
             start: Instant::now(clock).ok(),
             limit,
@@ -18,7 +18,7 @@ impl Patience {
     }
 
     /// What is left of the time; `None` where it is up, or the clock cannot be read.
-    pub(crate) fn left(&self, clock: &impl Clock) -> Option<Duration> {
+    pub fn left(&self, clock: &impl Clock) -> Option<Duration> {
         let took = self.start?.elapsed(clock).ok()?;
         self.limit.checked_sub(took)
     }
@@ -27,17 +27,17 @@ impl Patience {
 /// The pauses of one whose time is up and that may not withdraw as yet: from one millisecond on, each twice the one before, up to a tenth
 /// of a second.
 #[derive(Clone, Copy)]
-pub(crate) struct Pause {
+pub struct Pause {
     milliseconds: u64,
 }
 
 impl Pause {
-    pub(crate) fn first() -> Pause {
+    pub fn first() -> Pause {
         Pause { milliseconds: 1 }
     }
 
     /// The pause that comes next.
-    pub(crate) fn next(&mut self) -> Duration {
+    pub fn next(&mut self) -> Duration {
         let pause = self.milliseconds;
         self.milliseconds = pause.saturating_mul(2).min(100);
         Duration::from_millis(pause)

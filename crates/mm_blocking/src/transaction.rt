@@ -1,4 +1,6 @@
 //! A transaction.
+ghost use Rattle.std.specs.Prelude.{◌≡◌, ◌≢◌, Err};
+
 use crate::desk::Asked;
 use crate::error::LockError;
 use crate::locks::Locks;
@@ -8,7 +10,9 @@ use std::sync::Wait;
 use std::thread::Parker;
 use std::time::{Clock, Duration};
 
-/// A transaction. Where it is dropped it is rolled back: whatever it owns is handed over.
+/// A transaction. Where it is dropped it is rolled back: all that it owns is handed over, and whoever was granted something is woken.
+///
+/// Between its calls it does not wait: it is active, or in a deadlock. One thread at a time has it, and may hand it to another one.
 pub struct Transaction<'m, R: Wait> {
     rt: &'m R,
     locks: &'m Locks,
@@ -43,20 +47,30 @@ impl<'m, R: Wait> Transaction<'m, R> {
         }
     }
 
-    /// Locks the name: sleeps until the transaction owns it.
-    pub fn lock(&mut self, name: &[u8]) -> Result<(), LockError> {
+    /// Locks the name: returns when the transaction owns it, at once where nobody else does, and else it sleeps until it was granted.
+    ///
+    /// `Deadlock` comes at once too, where the wait would close a cycle of waits; no other call makes a victim of one that sleeps. The
+    /// transaction is then to be dropped: it keeps what it owns until that, so that its caller can undo what it did, and each further call
+    /// but `commit` is refused so. A name that it owns already is `Ok`, and is owned once. Refused as `Deadlock`, `NameEmpty`,
+    /// `NameTooLong`, `NamesFull`, `CountsFull` or `LabelsFull`, and then nothing changes but for a deadlock. What it costs without the
+    /// sleep, `LockManager::lock` says; one who slept looks the name up once more.
+    pub fn lock(&mut self, name: &[u8]) -> Result<(), LockError>
+        ensures in_time { result ≢ Err LockError.TimedOut }
+    {
         match self.locks.lock(self.rt, self.key, name)? {
             Asked::Owns => Ok(()),
-            Asked::Waits => self.sleep(),
+            Asked::Waits => self.sleep(name),
         }
     }
 
     /// Sleeps until the transaction owns what it waits for.
     #[inline(never)]
-    fn sleep(&self) -> Result<(), LockError> {
+    fn sleep(&self, name: &[u8]) -> Result<(), LockError>
+        ensures in_time { result ≢ Err LockError.TimedOut }
+    {
         for _ in self.rt.forever() {
             self.parker.park(self.rt);
-            match self.locks.asked(self.rt, self.key)? {
+            match self.locks.asked(self.rt, self.key, name)? {
                 Asked::Owns => return Ok(()),
                 Asked::Waits => {}
             }
@@ -65,17 +79,32 @@ impl<'m, R: Wait> Transaction<'m, R> {
     }
 
     /// Locks the name where nobody else owns it, and never sleeps for it. Returns whether the transaction owns it.
-    pub fn try_lock(&mut self, name: &[u8]) -> Result<bool, LockError> {
+    ///
+    /// Refused as `Deadlock`, `NameEmpty`, `NameTooLong`, `NamesFull` or `CountsFull`. `O(length)`.
+    pub fn try_lock(&mut self, name: &[u8]) -> Result<bool, LockError>
+        ensures in_time { result ≢ Err LockError.TimedOut }
+    {
         self.locks.try_lock(self.rt, self.key, name)
     }
 
-    /// Gives the name back.
-    pub fn unlock(&mut self, name: &[u8]) -> Result<(), LockError> {
+    /// Gives the name back: its longest waiter owns it from now on, and is woken; with no waiter it is free.
+    ///
+    /// Refused as `Deadlock`, `NameEmpty`, `NameTooLong`, `NotOwner`, `CountsFull` or `LabelsFull`. It costs what `LockManager::unlock`
+    /// costs.
+    pub fn unlock(&mut self, name: &[u8]) -> Result<(), LockError>
+        ensures in_time { result ≢ Err LockError.TimedOut }
+    {
         self.locks.unlock(self.rt, self.key, name)
     }
 
-    /// Ends the transaction.
-    pub fn commit(self) -> Result<(), LockError> {
+    /// Ends the transaction: all that it owns is handed over, and whoever was granted something is woken.
+    ///
+    /// A transaction that is in a deadlock is rolled back, and refused as `Deadlock`. Where a label or a count is at its limit, the end may
+    /// be refused as `LabelsFull` or `CountsFull`, and the same for a transaction that is dropped: then it stays as it was, and nobody has
+    /// it any more. It costs what `LockManager::commit` costs.
+    pub fn commit(self) -> Result<(), LockError>
+        ensures in_time { result ≢ Err LockError.TimedOut }
+    {
         let Self {
             rt,
             locks,
@@ -87,23 +116,28 @@ impl<'m, R: Wait> Transaction<'m, R> {
 }
 
 impl<'m, R: Wait + Clock> Transaction<'m, R> {
-    /// `lock` that gives up after a time.
+    /// `lock` that gives up: `TimedOut` where the name was not granted in this time. The transaction then goes on, and keeps what it owns.
+    ///
+    /// The time is a lower bound. A transaction that carries another's label may not take its request back as yet:
+    /// it then asks for that again, first after a millisecond, and after pauses that grow to a tenth of a second, until it may, or is
+    /// granted the name. A clock that cannot be read counts as a time that is up. Else refused as `lock` is.
     pub fn lock_for(&mut self, name: &[u8], limit: Duration) -> Result<(), LockError> {
         match self.locks.lock(self.rt, self.key, name)? {
             Asked::Owns => Ok(()),
-            Asked::Waits => self.sleep_for(limit),
+            Asked::Waits => self.sleep_for(name, limit),
         }
     }
 
+    /// Sleeps until the transaction owns what it waits for, or the time is up and the request taken back.
     #[inline(never)]
-    fn sleep_for(&self, limit: Duration) -> Result<(), LockError> {
+    fn sleep_for(&self, name: &[u8], limit: Duration) -> Result<(), LockError> {
         let patience = Patience::new(self.rt, limit);
         for _ in self.rt.forever() {
             let Some(left) = patience.left(self.rt) else {
-                return self.take_back();
+                return self.take_back(name);
             };
             self.parker.park_timeout(self.rt, left);
-            match self.locks.asked(self.rt, self.key)? {
+            match self.locks.asked(self.rt, self.key, name)? {
                 Asked::Owns => return Ok(()),
                 Asked::Waits => {}
             }
@@ -112,10 +146,10 @@ impl<'m, R: Wait + Clock> Transaction<'m, R> {
     }
 
     /// Takes the request back as soon as that is allowed.
-    fn take_back(&self) -> Result<(), LockError> {
+    fn take_back(&self, name: &[u8]) -> Result<(), LockError> {
         let mut pause = Pause::first();
         for _ in self.rt.forever() {
-            match self.locks.take_back(self.rt, self.key)? {
+            match self.locks.take_back(self.rt, self.key, name)? {
                 Asked::Owns => return Ok(()),
                 Asked::Waits => self.parker.park_timeout(self.rt, pause.next()),
             }

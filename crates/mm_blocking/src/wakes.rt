@@ -1,44 +1,52 @@
 //! Whom a call is to wake.
-ghost use Rattle.std.specs.Prelude.{◌≡◌, length};
+ghost use Rattle.std.specs.Prelude.{◌≡◌, ◌≤◌, ◌<◌, ◌↔◌, [], ◌∷◌, ◌++◌, ℕ, true, false, length, map};
+ghost use Rattle.mm_blocking.specs.Wakes.{IsToWake, Notes};
 
 use arrayvec::ArrayVec;
+use mm_manager::{Grant, Key};
 use mm_marks::Marks;
 use std::alloc::{AllocError, Global};
 
 /// How many a thread wakes for each time that it had the lock.
-pub(crate) const MOST: usize = 8;
+pub const MOST: usize = 8;
 
 /// Processes whose threads are to be woken once the lock is free.
 #[derive(Drop)]
-pub(crate) struct Wakes {
+pub struct Wakes {
     processes: ArrayVec<u32, MOST>,
 }
 
 impl Wakes {
     /// Nobody.
-    pub(crate) fn new() -> Wakes {
+    pub fn new() -> Wakes
+        ensures { result.processes.items ≡ [] }
+    {
         Wakes {
             processes: ArrayVec::new(),
         }
     }
 
     /// Adds a process, where there is room. Returns whether there was.
-    pub(crate) fn add(&mut self, process: u32) -> bool {
+    pub fn add(&mut self, process: u32) -> bool
+        ensures added { result ≡ true → self.new.processes.items ≡ self.old.processes.items ++ process ∷ [] }
+        ensures full { result ≡ false → self.new.processes.items ≡ self.old.processes.items }
+        ensures room { length self.old.processes.items < 8 → result ≡ true }
+    {
         self.processes.try_push(process).is_ok()
     }
 
-    pub(crate) fn is_full(&self) -> bool {
+    pub fn is_full(&self) -> bool {
         self.processes.is_full()
     }
 
-    pub(crate) fn processes(&self) -> &[u32] {
+    pub fn processes(&self) -> &[u32] {
         self.processes.as_slice()
     }
 }
 
 /// Processes whose threads are to be woken, and that nobody has taken to wake.
 #[derive(Drop)]
-pub(crate) struct Unwoken {
+pub struct Unwoken {
     set: Marks,
     bound: u32,
     ghost sized: { length set ≡ bound },
@@ -46,22 +54,47 @@ pub(crate) struct Unwoken {
 
 impl Unwoken {
     /// No process of those below `bound`. This takes memory.
-    pub(crate) fn open(alloc: Global, bound: u32) -> Result<Unwoken, AllocError> {
+    pub fn open(alloc: Global, bound: u32) -> Result<Unwoken, AllocError> {
         Ok(Unwoken {
             set: Marks::new(alloc, bound)?,
             bound,
         })
     }
 
-    /// Adds a process. One from the bound on is none: nobody sleeps there.
-    pub(crate) fn add(&mut self, process: u32) {
+    /// Notes one that is to be woken: in `wakes`, or here where there is no room. At the bound and above nobody sleeps.
+    fn note(&mut self, wakes: &mut Wakes, process: u32)
+        ensures { Notes (process ∷ []) wakes.old.processes.items self.old.set wakes.new.processes.items self.new.set }
+    {
+        if wakes.add(process) {
+            return;
+        }
         if process < self.bound {
             self.set.add(process);
         }
     }
 
+    /// Notes all who were granted something.
+    pub fn note_granted(&mut self, wakes: &mut Wakes, granted: &[Grant])
+        ensures { Notes (map (λ g. g.key.process) granted.now) wakes.old.processes.items self.old.set wakes.new.processes.items self.new.set }
+    {
+        for grant in granted {
+            self.note(wakes, grant.key.process);
+        }
+    }
+
+    /// Notes all who were aborted.
+    pub fn note_aborted(&mut self, wakes: &mut Wakes, aborted: &[Key])
+        ensures { Notes (map (λ k. k.process) aborted.now) wakes.old.processes.items self.old.set wakes.new.processes.items self.new.set }
+    {
+        for key in aborted {
+            self.note(wakes, key.process);
+        }
+    }
+
     /// Takes out as many as can be woken at a time.
-    pub(crate) fn take(&mut self) -> Wakes {
+    pub fn take(&mut self) -> Wakes
+        ensures { (p : ℕ) → IsToWake [] self.old.set p ↔ IsToWake result.processes.items self.new.set p }
+    {
         let mut wakes = Wakes::new();
         for _ in 0..MOST {
             let Some(process) = self.set.take_next(0) else {

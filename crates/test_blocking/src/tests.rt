@@ -1,5 +1,6 @@
 //! Threads that lock names, and sleep until they own them.
 
+mod carried;
 mod crosswise;
 mod crowd;
 mod ends;

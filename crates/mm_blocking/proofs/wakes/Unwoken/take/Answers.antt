@@ -1,0 +1,16 @@
+use Rattle.std.proofs.Common.{◌∷◌, ◌++◌, ◌↔◌, [], ℕ, false, arith, slice_set, length-append}
+use Rattle.mm_blocking.specs.Wakes.{IsToWake}
+use Rattle.mm_blocking.proofs.Noting.{taken}
+use Rattle.mm_blocking.proofs.wakes.Unwoken.take.Goals as goal
+
+pub loop-preserved : goal.loop-preserved
+loop-preserved c =
+    let n = c.in-Some.process in
+    let w = c.loop.wakes.processes.items in
+    let u = c.loop.self.set in
+    let next = c.in-Some.ensures.member in
+    let items = c.add.ensures.added (c.add.ensures.room (rw c.loop.invariant.0 c.loop-test.true)) in
+    let passes : (p : ℕ) → IsToWake w u p ↔ IsToWake (w ++ n ∷ []) (slice_set u n false) p = taken n w u next.0.member in (
+      rw items (omega (arith, length-append w (n ∷ []), c.loop.invariant.0)),
+      λ p. rw items (rw next.1 ((λ is. (passes p).0 ((c.loop.invariant.1 p).0 is)), λ is. (c.loop.invariant.1 p).1 ((passes p).1 is))),
+    )
