@@ -4,13 +4,13 @@ ghost use Rattle.mm_board.specs.Views.{processes_of, opening_published, opening_
 ghost use Rattle.mm_board.specs.private.Opening.{AreOpening};
 
 use crate::holder;
-use crate::memory::Memory;
 use crate::publisher::Publisher;
 use crate::reader::Reader;
 use crate::rule::{BoardRule, Name};
 use crate::steps::Shows;
 use crate::views::View;
 use atomic_table::{Seat, Table};
+use mm_arena::Memory;
 use mm_label::Label;
 use std::alloc::{AllocError, Global};
 use std::marker::{Model, PhantomData};

@@ -10,12 +10,10 @@
 //! - `views`: what contracts know of the publisher and of a reader.
 //! - `rule`: the rule that holds between any two steps, and the names of boards.
 //! - `steps`: the kinds of step.
-//! - `memory`: the one error.
 #![tactic(auto)]
 
 mod board;
 mod holder;
-mod memory;
 mod publisher;
 mod reader;
 mod rule;
@@ -25,7 +23,7 @@ mod waiter;
 
 pub use board::{Board, MOST_PROCESSES, RawBoard};
 pub use holder::Waiter;
-pub use memory::Memory;
+pub use mm_arena::Memory;
 pub use publisher::Publisher;
 pub use reader::Reader;
 pub use rule::{BoardRule, Name};
