@@ -7,11 +7,24 @@ use Rattle.mm_rules.specs.TableState.{TableState}
 use Rattle.mm_rules.specs.Event.{Event, Answer, Step, Begin, Acquire, Release, Finish, Transmit, Detect, Abort, GiveUp, Settle}
 use Rattle.mm_rules.specs.Laws.{verdicts_made, aborts_made, Counts}
 use Rattle.mm_rules.proofs.States.Counts.{event_counts}
-use Rattle.mm_shared.specs.Shares.{Shares, CountsEvent, CountsVerdicts, CountsAborts}
+use Rattle.mm_board.specs.declared.views.Seen.{Seen}
+use Rattle.mm_shared.specs.Shares.{Shares, CountsEvent, CountsVerdicts, CountsAborts, SeesNothing}
 
 -- the counts of a table, as workers see them
 abbrev pub shares_of : Totals → Shares
 shares_of t = record { parts = 0; accepted = t.accepted; verdicts = t.verdicts; aborts = t.aborts; seen = new_seen [] }
+
+-- who sees nothing new sees nothing, by any event
+sees_nothing : (e : Event) (seen : Seen) → SeesNothing e seen seen
+sees_nothing Begin seen = refl
+sees_nothing (Acquire k r) seen = tt
+sees_nothing (Release k r) seen = refl
+sees_nothing (Finish k) seen = refl
+sees_nothing (Transmit k) seen = tt
+sees_nothing (Detect k) seen = refl
+sees_nothing (Abort k) seen = refl
+sees_nothing (GiveUp k) seen = refl
+sees_nothing Settle seen = refl
 
 module _ (e : Event) (old new : TableState) (reply : Result (Answer e) Refusal) (step : Step e old reply new) where
   adds_one : OnOk reply (new.totals.accepted ≡ old.totals.accepted + 1)
@@ -58,7 +71,7 @@ module _ (e : Event) (old new : TableState) (reply : Result (Answer e) Refusal) 
 
   -- with what it adds to the verdicts and to the aborts, that is all
   counts_with : CountsVerdicts e reply old.totals.verdicts new.totals.verdicts → CountsAborts e reply old.totals.aborts new.totals.aborts → CountsEvent e reply (shares_of old.totals) (shares_of new.totals)
-  counts_with verdicts aborts = record { accepted = adds_one; verdicts = verdicts; aborts = aborts; parts = refl; refused = refused }
+  counts_with verdicts aborts = record { accepted = adds_one; verdicts = verdicts; aborts = aborts; parts = refl; seen = sees_nothing e (new_seen []); refused = refused }
 
 module _ (old new : TableState) where
   -- each event of a table counts as it does in a pass

@@ -1,10 +1,10 @@
 -- What contracts see of a pass.
-use Rattle.std.specs.Prelude.{ℕ, ◌≡◌, ◌+◌, ◌-◌, List, Result, OnOk, OnErr, IfOk}
+use Rattle.std.specs.Prelude.{⊤, ℕ, ◌≡◌, ◌+◌, ◌-◌, List, Result, OnOk, OnErr, IfOk}
 use Rattle.mm_board.specs.declared.views.Seen.{Seen}
 use Rattle.mm_board.specs.Views.{new_seen}
 use Rattle.mm_label.specs.Label.{Label}
 use Rattle.mm_rules.specs.declared.refusal.Refusal.{Refusal}
-use Rattle.mm_rules.specs.Event.{Event, Answer, Detect, Abort, Settle}
+use Rattle.mm_rules.specs.Event.{Event, Answer, Acquire, Transmit, Detect, Abort, Settle}
 use Rattle.mm_rules.specs.Laws.{verdicts_made}
 
 -- how many parts of each ledger the pass has, how much its share of each ledger counts, and what it has seen of the board
@@ -49,6 +49,12 @@ abbrev pub CountsAborts : (e : Event) → Result (Answer e) Refusal → ℕ → 
 CountsAborts (Abort k) reply before after = OnOk reply (after ≡ before + 1)
 CountsAborts e reply before after = after ≡ before
 
+-- an acquire and a transmit may see labels of the board; no other event does
+abbrev pub SeesNothing : Event → Seen → Seen → Type 0
+SeesNothing (Acquire k r) before after = ⊤
+SeesNothing (Transmit k) before after = ⊤
+SeesNothing e before after = after ≡ before
+
 -- an accepted event is counted once, and so are the verdicts that it gives and the abort that it is; a refused one changes nothing;
 -- no event moves parts
 pub record CountsEvent (e : Event) (reply : Result (Answer e) Refusal) (before after : Shares) : Type 0 where
@@ -56,4 +62,5 @@ pub record CountsEvent (e : Event) (reply : Result (Answer e) Refusal) (before a
   pub verdicts : CountsVerdicts e reply before.verdicts after.verdicts
   pub aborts : CountsAborts e reply before.aborts after.aborts
   pub parts : after.parts ≡ before.parts
+  pub seen : SeesNothing e before.seen after.seen
   pub refused : OnErr reply (after ≡ before)

@@ -5,6 +5,7 @@ ghost use Rattle.mm_board.specs.Views.{current_labels, label_at, new_seen, NoneF
 ghost use Rattle.mm_label.specs.Label.{Label};
 ghost use Rattle.mm_rules.specs.Event.{Step, Begin, Acquire, Release, Finish, Transmit, Detect, Abort, GiveUp, Settle, state_of, owner_told, tenant_of};
 ghost use Rattle.mm_rules.specs.Laws.{HasSoundVerdicts, Laws};
+ghost use Rattle.mm_settle.specs.Touched.{changed_processes};
 ghost use Rattle.mm_shared.specs.Booked.{Booked};
 ghost use Rattle.mm_shared.specs.Published.{AppendsOnly, IsPublished, holders_of};
 ghost use Rattle.mm_shared.specs.Shares.{CountsEvent};
@@ -14,6 +15,7 @@ use crate::pass::Pass;
 use crate::publish::{publish, publish_labels};
 use mm_board::{Board, Name, Publisher};
 use mm_table::{Acquired, Detected, Key, Refusal, Released, Settled, State, Table, Transmitted};
+use std::mem;
 use std::sync::ledger::{Book, Ledger};
 
 /// The value behind the lock: a table, the publisher of its board, and the books of three ledgers that count its accepted events, its
@@ -27,12 +29,12 @@ pub struct Inside<N: Name, A: Ledger, V: Ledger, B: Ledger> {
     table: Table,
     /// The one that stores on the board.
     publisher: Publisher<N>,
-    /// The processes that the last event with such a list changed, with room for all.
-    woken: Vec<u32>,
+    /// The processes that the last release, finish, abort or settle changed, with room for all.
+    changed: Vec<u32>,
     accepted: Book<A>,
     verdicts: Book<V>,
     aborts: Book<B>,
-    ghost room: { table.config.processes ≤ vec_capacity woken },
+    ghost room: { table.config.processes ≤ vec_capacity changed },
     ghost published: { IsPublished publisher table },
     ghost booked: { Booked table.totals accepted.total verdicts.total aborts.total },
 }
@@ -46,12 +48,12 @@ impl<N: Name, A: Ledger, V: Ledger, B: Ledger> Inside<N, A, V, B> {
     pub(crate) fn new(
         table: Table,
         publisher: Publisher<N>,
-        woken: Vec<u32>,
+        changed: Vec<u32>,
         accepted: Book<A>,
         verdicts: Book<V>,
         aborts: Book<B>,
     ) -> Inside<N, A, V, B>
-        requires room { table.config.processes ≤ vec_capacity woken }
+        requires room { table.config.processes ≤ vec_capacity changed }
         requires published { IsPublished publisher table }
         requires booked { Booked table.totals accepted.total verdicts.total aborts.total }
         ensures { result.table ≡ table }
@@ -59,7 +61,7 @@ impl<N: Name, A: Ledger, V: Ledger, B: Ledger> Inside<N, A, V, B> {
         Inside {
             table,
             publisher,
-            woken,
+            changed,
             accepted,
             verdicts,
             aborts,
@@ -72,7 +74,6 @@ impl<N: Name, A: Ledger, V: Ledger, B: Ledger> Inside<N, A, V, B> {
     pub fn begin(&mut self, board: &Board<N>, pass: &mut Pass<N, A, V, B>) -> Result<Key, Refusal>
         ensures step { Step Begin self.old.table result self.new.table }
         ensures counts { CountsEvent Begin result pass.old pass.new }
-        ensures seen { pass.new.seen ≡ pass.old.seen }
         ensures appends { AppendsOnly self.old.publisher self.new.publisher self.new.table }
     {
         self.table.keeps_laws();
@@ -126,12 +127,12 @@ impl<N: Name, A: Ledger, V: Ledger, B: Ledger> Inside<N, A, V, B> {
     ) -> Result<Released, Refusal>
         ensures step { Step (Release key resource) self.old.table result self.new.table }
         ensures counts { CountsEvent (Release key resource) result pass.old pass.new }
-        ensures seen { pass.new.seen ≡ pass.old.seen }
+        ensures changed { self.new.changed.items ≡ changed_processes self.old.table self.new.table }
         ensures appends { AppendsOnly self.old.publisher self.new.publisher self.new.table }
     {
         self.table.keeps_laws();
-        let answer = self.table.release_waking(key, resource, &mut self.woken)?;
-        publish(&mut self.publisher, board, &self.table, &self.woken);
+        let answer = self.table.release_waking(key, resource, &mut self.changed)?;
+        publish(&mut self.publisher, board, &self.table, &self.changed);
         pass.count_accepted(&mut self.accepted);
         Ok(answer)
     }
@@ -147,12 +148,12 @@ impl<N: Name, A: Ledger, V: Ledger, B: Ledger> Inside<N, A, V, B> {
     ) -> Result<(), Refusal>
         ensures step { Step (Finish key) self.old.table result self.new.table }
         ensures counts { CountsEvent (Finish key) result pass.old pass.new }
-        ensures seen { pass.new.seen ≡ pass.old.seen }
+        ensures changed { self.new.changed.items ≡ changed_processes self.old.table self.new.table }
         ensures appends { AppendsOnly self.old.publisher self.new.publisher self.new.table }
     {
         self.table.keeps_laws();
-        self.table.finish_waking(key, &mut self.woken)?;
-        publish(&mut self.publisher, board, &self.table, &self.woken);
+        self.table.finish_waking(key, &mut self.changed)?;
+        publish(&mut self.publisher, board, &self.table, &self.changed);
         pass.count_accepted(&mut self.accepted);
         Ok(())
     }
@@ -198,7 +199,6 @@ impl<N: Name, A: Ledger, V: Ledger, B: Ledger> Inside<N, A, V, B> {
     ) -> Result<Detected, Refusal>
         ensures step { Step (Detect key) self.old.table result self.new.table }
         ensures counts { CountsEvent (Detect key) result pass.old pass.new }
-        ensures seen { pass.new.seen ≡ pass.old.seen }
         ensures appends { AppendsOnly self.old.publisher self.new.publisher self.new.table }
     {
         self.table.keeps_laws();
@@ -224,12 +224,12 @@ impl<N: Name, A: Ledger, V: Ledger, B: Ledger> Inside<N, A, V, B> {
     ) -> Result<(), Refusal>
         ensures step { Step (Abort key) self.old.table result self.new.table }
         ensures counts { CountsEvent (Abort key) result pass.old pass.new }
-        ensures seen { pass.new.seen ≡ pass.old.seen }
+        ensures changed { self.new.changed.items ≡ changed_processes self.old.table self.new.table }
         ensures appends { AppendsOnly self.old.publisher self.new.publisher self.new.table }
     {
         self.table.keeps_laws();
-        self.table.abort_waking(key, &mut self.woken)?;
-        publish(&mut self.publisher, board, &self.table, &self.woken);
+        self.table.abort_waking(key, &mut self.changed)?;
+        publish(&mut self.publisher, board, &self.table, &self.changed);
         pass.count_accepted(&mut self.accepted);
         pass.count_abort(&mut self.aborts);
         Ok(())
@@ -247,7 +247,6 @@ impl<N: Name, A: Ledger, V: Ledger, B: Ledger> Inside<N, A, V, B> {
     ) -> Result<(), Refusal>
         ensures step { Step (GiveUp key) self.old.table result self.new.table }
         ensures counts { CountsEvent (GiveUp key) result pass.old pass.new }
-        ensures seen { pass.new.seen ≡ pass.old.seen }
         ensures appends { AppendsOnly self.old.publisher self.new.publisher self.new.table }
         ensures held { OnOk result (self.new.publisher.holders_stored ≡ self.old.publisher.holders_stored + 1) }
     {
@@ -270,12 +269,12 @@ impl<N: Name, A: Ledger, V: Ledger, B: Ledger> Inside<N, A, V, B> {
     ) -> Result<Settled, Refusal>
         ensures step { Step Settle self.old.table result self.new.table }
         ensures counts { CountsEvent Settle result pass.old pass.new }
-        ensures seen { pass.new.seen ≡ pass.old.seen }
+        ensures changed { self.new.changed.items ≡ changed_processes self.old.table self.new.table }
         ensures appends { AppendsOnly self.old.publisher self.new.publisher self.new.table }
     {
         self.table.keeps_laws();
-        let answer = self.table.settle_waking(&mut self.woken)?;
-        publish_labels(&mut self.publisher, board, &self.table, &self.woken);
+        let answer = self.table.settle_waking(&mut self.changed)?;
+        publish_labels(&mut self.publisher, board, &self.table, &self.changed);
         pass.count_accepted(&mut self.accepted);
         pass.count_verdicts(&mut self.verdicts, answer.verdicts);
         Ok(answer)
@@ -324,6 +323,24 @@ impl<N: Name, A: Ledger, V: Ledger, B: Ledger> Inside<N, A, V, B> {
         ensures same { (self.new ≡ self.old) × (pass.new ≡ pass.old) }
     {
         self.table.tenant(process)
+    }
+
+    /// The processes whose labels, wait, holder or verdict the last `release`, `finish`, `abort` or `settle` changed, each once, by
+    /// rising number: none where it was refused. Constant time.
+    pub fn changed(&self) -> &[u32]
+        ensures { result.now ≡ self.now.changed.items }
+    {
+        &self.changed
+    }
+
+    /// Changes the list of `changed` for another one, which has room for each process. Constant time.
+    pub(crate) fn swap_changed(&mut self, board: &Board<N>, list: &mut Vec<u32>)
+        requires room { board.now ≤ vec_capacity list.old }
+        ensures list { list.new ≡ self.old.changed }
+        ensures room { board.now ≤ vec_capacity list.new }
+    {
+        self.publisher.fits(board);
+        mem::swap(&mut self.changed, list);
     }
 
     /// What the table counted. For a pass of all parts, the table's totals, the books and the pass's shares are one and the same.

@@ -18,7 +18,7 @@ use std::sync::ledger::{Blank, Ledger};
 pub struct Prepared {
     table: Table,
     board: RawBoard,
-    woken: Vec<u32>,
+    changed: Vec<u32>,
     processes: u32,
     accepted: Blank,
     verdicts: Blank,
@@ -26,7 +26,7 @@ pub struct Prepared {
     ghost opened: { table ≡ opening table.config },
     ghost sized: { processes ≡ table.config.processes },
     ghost as_many: { processes_of board ≡ processes },
-    ghost room: { processes ≤ vec_capacity woken },
+    ghost room: { processes ≤ vec_capacity changed },
     ghost whole: { (accepted.parts ≡ all_parts) × (verdicts.parts ≡ all_parts) × (aborts.parts ≡ all_parts) },
 }
 
@@ -52,21 +52,21 @@ impl Prepared {
         ensures table { IfOk result (λ prepared. prepared.table ≡ table) }
         ensures refusal { IfErr result (λ refusal. refusal ≡ Refusal.Memory) }
     {
-        let (table, (board, woken)) = beside(table, board_and_list(alloc, processes))?;
-        Ok(Prepared::of(table, board, woken, processes))
+        let (table, (board, changed)) = beside(table, board_and_list(alloc, processes))?;
+        Ok(Prepared::of(table, board, changed, processes))
     }
 
-    fn of(table: Table, board: RawBoard, woken: Vec<u32>, processes: u32) -> Prepared
+    fn of(table: Table, board: RawBoard, changed: Vec<u32>, processes: u32) -> Prepared
         requires opened { table ≡ opening table.config }
         requires sized { processes ≡ table.config.processes }
         requires as_many { processes_of board ≡ processes }
-        requires room { processes ≤ vec_capacity woken }
+        requires room { processes ≤ vec_capacity changed }
         ensures { result.table ≡ table }
     {
         Prepared {
             table,
             board,
-            woken,
+            changed,
             processes,
             accepted: Blank::new(ALL_PARTS),
             verdicts: Blank::new(ALL_PARTS),
@@ -91,7 +91,7 @@ impl Prepared {
         let Prepared {
             table,
             board,
-            woken,
+            changed,
             processes,
             accepted,
             verdicts,
@@ -104,7 +104,7 @@ impl Prepared {
         let inside = Inside::new(
             table,
             publisher,
-            woken,
+            changed,
             accepted_book,
             verdict_book,
             abort_book,
@@ -120,7 +120,7 @@ impl Prepared {
     }
 }
 
-/// What the board and the list of the woken need, for so many processes.
+/// What the board and the list of the changed need, for so many processes.
 fn board_and_list(alloc: Global, processes: u32) -> Result<(RawBoard, Vec<u32>), Refusal>
     requires some_processes { 1 ≤ processes }
     requires in_range { processes ≤ 65536 }
@@ -131,10 +131,10 @@ fn board_and_list(alloc: Global, processes: u32) -> Result<(RawBoard, Vec<u32>),
     let Ok(board) = RawBoard::new(alloc, processes) else {
         return Err(Refusal::Memory);
     };
-    let Ok(woken) = Vec::with_capacity(alloc, processes as usize) else {
+    let Ok(changed) = Vec::with_capacity(alloc, processes as usize) else {
         return Err(Refusal::Memory);
     };
-    Ok((board, woken))
+    Ok((board, changed))
 }
 
 /// The value and what else was asked for, where that was given. A function over all types has a short proof, since it knows nothing of either.

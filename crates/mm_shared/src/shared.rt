@@ -1,5 +1,5 @@
 //! The table that threads share.
-ghost use Rattle.std.specs.Prelude.{◌≡◌, Ok};
+ghost use Rattle.std.specs.Prelude.{◌≡◌, ◌≤◌, Ok, vec_capacity};
 ghost use Rattle.mm_arena.specs.declared.key.Key.{Key};
 ghost use Rattle.mm_board.specs.Views.{label_at, NoneFalls};
 ghost use Rattle.mm_label.specs.Label.{Label};
@@ -111,7 +111,6 @@ impl<N: Name, A: Ledger, V: Ledger, B: Ledger> SharedTable<N, A, V, B> {
     /// Refused as `CountsExhausted` or `Full`. Constant time.
     pub fn begin<R: Wait>(&self, rt: &R, pass: &mut Pass<N, A, V, B>) -> Result<Key, Refusal>
         ensures counts { CountsEvent Begin result pass.old pass.new }
-        ensures seen { pass.new.seen ≡ pass.old.seen }
     {
         self.locked(rt).begin(&self.board, pass)
     }
@@ -147,9 +146,31 @@ impl<N: Name, A: Ledger, V: Ledger, B: Ledger> SharedTable<N, A, V, B> {
         resource: u32,
     ) -> Result<Released, Refusal>
         ensures counts { CountsEvent (Release key resource) result pass.old pass.new }
-        ensures seen { pass.new.seen ≡ pass.old.seen }
     {
         self.locked(rt).release(&self.board, pass, key, resource)
+    }
+
+    /// `release`, which also lists whom to wake: `wake` then has, in place of what it had, all processes whose labels, wait, holder or
+    /// verdict the call changed, each once, by rising number;
+    /// none where the call is refused. `wake` has room for each process, and no memory is taken.
+    ///
+    /// Refused as `release` is. `O(waiters of the resource)`.
+    pub fn release_waking<R: Wait>(
+        &self,
+        rt: &R,
+        pass: &mut Pass<N, A, V, B>,
+        key: Key,
+        resource: u32,
+        wake: &mut Vec<u32>,
+    ) -> Result<Released, Refusal>
+        requires room { self.now ≤ vec_capacity wake.old }
+        ensures counts { CountsEvent (Release key resource) result pass.old pass.new }
+        ensures room { self.now ≤ vec_capacity wake.new }
+    {
+        let mut inside = self.locked(rt);
+        let answer = inside.release(&self.board, pass, key, resource);
+        inside.swap_changed(&self.board, wake);
+        answer
     }
 
     /// `Table::finish`: ends the transaction, hands over all that it owns, and frees its slot.
@@ -162,9 +183,30 @@ impl<N: Name, A: Ledger, V: Ledger, B: Ledger> SharedTable<N, A, V, B> {
         key: Key,
     ) -> Result<(), Refusal>
         ensures counts { CountsEvent (Finish key) result pass.old pass.new }
-        ensures seen { pass.new.seen ≡ pass.old.seen }
     {
         self.locked(rt).finish(&self.board, pass, key)
+    }
+
+    /// `finish`, which also lists whom to wake: `wake` then has, in place of what it had, all processes whose labels, wait, holder or
+    /// verdict the call changed, each once, by rising number;
+    /// none where the call is refused. `wake` has room for each process, and no memory is taken.
+    ///
+    /// Refused as `finish` is. `O(its resources + their waiters)`.
+    pub fn finish_waking<R: Wait>(
+        &self,
+        rt: &R,
+        pass: &mut Pass<N, A, V, B>,
+        key: Key,
+        wake: &mut Vec<u32>,
+    ) -> Result<(), Refusal>
+        requires room { self.now ≤ vec_capacity wake.old }
+        ensures counts { CountsEvent (Finish key) result pass.old pass.new }
+        ensures room { self.now ≤ vec_capacity wake.new }
+    {
+        let mut inside = self.locked(rt);
+        let answer = inside.finish(&self.board, pass, key);
+        inside.swap_changed(&self.board, wake);
+        answer
     }
 
     /// `Table::transmit`: the waiting transaction takes over its holder's public label where that is greater.
@@ -195,7 +237,6 @@ impl<N: Name, A: Ledger, V: Ledger, B: Ledger> SharedTable<N, A, V, B> {
         key: Key,
     ) -> Result<Detected, Refusal>
         ensures counts { CountsEvent (Detect key) result pass.old pass.new }
-        ensures seen { pass.new.seen ≡ pass.old.seen }
     {
         self.locked(rt).detect(&self.board, pass, key)
     }
@@ -210,9 +251,30 @@ impl<N: Name, A: Ledger, V: Ledger, B: Ledger> SharedTable<N, A, V, B> {
         key: Key,
     ) -> Result<(), Refusal>
         ensures counts { CountsEvent (Abort key) result pass.old pass.new }
-        ensures seen { pass.new.seen ≡ pass.old.seen }
     {
         self.locked(rt).abort(&self.board, pass, key)
+    }
+
+    /// `abort`, which also lists whom to wake: `wake` then has, in place of what it had, all processes whose labels, wait, holder or
+    /// verdict the call changed, each once, by rising number;
+    /// none where the call is refused. `wake` has room for each process, and no memory is taken.
+    ///
+    /// Refused as `abort` is. `O(its resources + their waiters)`.
+    pub fn abort_waking<R: Wait>(
+        &self,
+        rt: &R,
+        pass: &mut Pass<N, A, V, B>,
+        key: Key,
+        wake: &mut Vec<u32>,
+    ) -> Result<(), Refusal>
+        requires room { self.now ≤ vec_capacity wake.old }
+        ensures counts { CountsEvent (Abort key) result pass.old pass.new }
+        ensures room { self.now ≤ vec_capacity wake.new }
+    {
+        let mut inside = self.locked(rt);
+        let answer = inside.abort(&self.board, pass, key);
+        inside.swap_changed(&self.board, wake);
+        answer
     }
 
     /// `Table::give_up`: the transaction, which has no verdict and whose two labels are equal, waits no longer. It keeps its labels, and
@@ -226,7 +288,6 @@ impl<N: Name, A: Ledger, V: Ledger, B: Ledger> SharedTable<N, A, V, B> {
         key: Key,
     ) -> Result<(), Refusal>
         ensures counts { CountsEvent (GiveUp key) result pass.old pass.new }
-        ensures seen { pass.new.seen ≡ pass.old.seen }
     {
         self.locked(rt).give_up(&self.board, pass, key)
     }
@@ -237,9 +298,29 @@ impl<N: Name, A: Ledger, V: Ledger, B: Ledger> SharedTable<N, A, V, B> {
     /// Refused as `CountsExhausted`. It costs what `Table::settle` costs.
     pub fn settle<R: Wait>(&self, rt: &R, pass: &mut Pass<N, A, V, B>) -> Result<Settled, Refusal>
         ensures counts { CountsEvent Settle result pass.old pass.new }
-        ensures seen { pass.new.seen ≡ pass.old.seen }
     {
         self.locked(rt).settle(&self.board, pass)
+    }
+
+    /// `settle`, which also lists whom to wake: `wake` then has, in place of what it had, all processes whose labels, wait, holder or
+    /// verdict the call changed, each once, by rising number;
+    /// none where the call is refused. `wake` has room for each process, and no memory is taken.
+    ///
+    /// Refused as `settle` is. It costs what `Table::settle` costs.
+    pub fn settle_waking<R: Wait>(
+        &self,
+        rt: &R,
+        pass: &mut Pass<N, A, V, B>,
+        wake: &mut Vec<u32>,
+    ) -> Result<Settled, Refusal>
+        requires room { self.now ≤ vec_capacity wake.old }
+        ensures counts { CountsEvent Settle result pass.old pass.new }
+        ensures room { self.now ≤ vec_capacity wake.new }
+    {
+        let mut inside = self.locked(rt);
+        let answer = inside.settle(&self.board, pass);
+        inside.swap_changed(&self.board, wake);
+        answer
     }
 
     /// `Table::state`: what the transaction does, and its two labels.

@@ -1,4 +1,5 @@
 //! A line of a script as a call, made on a table and on a shared one, and the text of its answer.
+ghost use Rattle.std.specs.Prelude.{◌≤◌, vec_capacity};
 
 use crate::tests::same::same;
 use mm_shared::{Name, Pass, SharedTable};
@@ -221,6 +222,36 @@ impl Call {
                 verdicts: 0,
                 aborts: 0,
             }),
+        }
+    }
+}
+
+impl Call {
+    /// Makes the call on a shared table. Where it has a form that lists whom to wake, that one.
+    pub fn on_shared_waking<N: Name, A: Ledger, V: Ledger, B: Ledger, R: Wait>(
+        self,
+        rt: &R,
+        table: &SharedTable<N, A, V, B>,
+        pass: &mut Pass<N, A, V, B>,
+        wake: &mut Vec<u32>,
+    ) -> Answer
+        requires { table.now ≤ vec_capacity wake.old }
+        ensures { table.now ≤ vec_capacity wake.new }
+    {
+        let Call {
+            verb,
+            key,
+            resource,
+        } = self;
+        match verb {
+            Verb::Release => told(
+                table.release_waking(rt, pass, key, resource, wake),
+                Answer::Released,
+            ),
+            Verb::Finish => done(table.finish_waking(rt, pass, key, wake), Answer::Finished),
+            Verb::Abort => done(table.abort_waking(rt, pass, key, wake), Answer::Aborted),
+            Verb::Settle => told(table.settle_waking(rt, pass, wake), Answer::Settled),
+            _ => self.on_shared(rt, table, pass),
         }
     }
 }

@@ -10,6 +10,7 @@ mod look;
 mod old_key;
 mod retired;
 mod threads;
+mod wakes;
 mod worker;
 
 use crate::tests::rows::beside_a_table;
@@ -41,6 +42,7 @@ pub enum Work {
     ReadLabels,
     AllLabels,
     AllSlots,
+    Wakes,
 }
 
 impl Work {
@@ -70,6 +72,7 @@ impl Work {
             Work::ReadLabels => labels::read_beside_deadlocks(rt, alloc, table, pass, other),
             Work::AllLabels => exhausted::use_up_labels(rt, alloc, table, pass),
             Work::AllSlots => retired::use_up_slots(rt, alloc, table, pass),
+            Work::Wakes => wakes::list_all(rt, alloc, table, pass),
         }
     }
 }

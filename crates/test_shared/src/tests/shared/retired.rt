@@ -40,7 +40,7 @@ impl Begun {
     }
 }
 
-/// Begins a transaction and finishes it. `None` where no slot is free.
+/// Begins a transaction, asks for its state and finishes it. `None` where no slot is free.
 fn begin_and_finish<N: Name, A: Ledger, V: Ledger, B: Ledger, R: Wait + Abort>(
     rt: &R,
     table: &SharedTable<N, A, V, B>,
@@ -48,6 +48,7 @@ fn begin_and_finish<N: Name, A: Ledger, V: Ledger, B: Ledger, R: Wait + Abort>(
 ) -> Option<Key> {
     match table.begin(rt, pass) {
         Ok(key) => {
+            same(rt, table.state(rt, pass, key).is_ok(), true);
             same(rt, table.finish(rt, pass, key), Ok(()));
             Some(key)
         }
