@@ -23,7 +23,7 @@ pub struct Client<S: Steps + Drop, G: Gate + Drop> {
 }
 
 /// What a client does after a step.
-#[derive(Clone, Copy, Debug, PartialEq, Eq)]
+#[derive(Clone, Copy)]
 enum Next {
     GoOn,
     Abort,
@@ -131,7 +131,7 @@ impl<S: Steps + Drop, G: Gate + Drop> Client<S, G> {
                 return Ok(Next::GoOn);
             };
             let step = *step;
-            if self.step(key, step)? == Next::Abort {
+            if let Next::Abort = self.step(key, step)? {
                 return Ok(Next::Abort);
             }
         }

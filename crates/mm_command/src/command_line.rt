@@ -18,7 +18,7 @@ use std::convert::AsStr;
 use std::{env, io};
 
 /// What a command line asks for.
-#[derive(Debug, Drop)]
+#[derive(Drop)]
 pub enum Request {
     /// A script is to be run.
     Script,

@@ -5,7 +5,7 @@ ghost use Rattle.mm_detect.specs.Ending.{ending_status, fault_told, status_of};
 use mm_script::ScriptFault;
 
 /// How a run of the program ended.
-#[derive(Clone, Copy, Debug, PartialEq, Eq)]
+#[derive(Clone, Copy)]
 pub enum Ending {
     /// A script was run: so many lines were malformed, or a fault came.
     Ran(Result<u64, ScriptFault>),

@@ -11,7 +11,7 @@ use std::rt::Files;
 const BYTES_READ: u64 = MOST_BYTES as u64 + 1;
 
 /// What came of a file.
-#[derive(Debug, Drop)]
+#[derive(Drop)]
 pub enum Taken {
     Bytes(Vec<u8>),
     /// A request for memory was refused.

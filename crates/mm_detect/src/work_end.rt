@@ -10,7 +10,7 @@ use std::fmt;
 use std::fmt::{Display, Formatter};
 
 /// What came of a workload.
-#[derive(Debug, Drop)]
+#[derive(Drop)]
 pub enum WorkEnd {
     /// It was run, and all clients have ended.
     Ran(Outcome),

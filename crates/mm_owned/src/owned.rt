@@ -15,7 +15,7 @@ use std::marker::Model;
 use std::mem;
 
 /// What is kept of a resource, in sixteen bytes that stand together, so that a call reads and writes one place of the memory.
-#[derive(Debug, Drop)]
+#[derive(Drop)]
 struct Resource {
     owner: Owner,
     links: Links,
@@ -31,7 +31,7 @@ const FREE: Resource = Resource {
 
 /// The owner of each resource, and the resources of each process, those that came last first. All of the memory is taken when it is
 /// made.
-#[derive(Debug, Drop)]
+#[derive(Drop)]
 pub struct Owned {
     // By process: the first resource of its list.
     firsts: Vec<Link>,

@@ -7,7 +7,7 @@ use mm_links::Link;
 use std::marker::Model;
 
 /// A key, or none, in eight bytes: a link to the process of the key, and its generation.
-#[derive(Debug, Drop)]
+#[derive(Drop)]
 pub struct Owner {
     process: Link,
     generation: u32,

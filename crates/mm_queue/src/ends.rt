@@ -2,7 +2,7 @@
 use mm_links::Link;
 
 /// The processes of a list's first and last key, and how many keys it has.
-#[derive(Clone, Copy, Debug)]
+#[derive(Clone, Copy)]
 pub(crate) struct Ends {
     pub(crate) front: Link,
     pub(crate) back: Link,

@@ -9,7 +9,7 @@ use mm_arena::Shelf;
 use mm_links::{Link, Links};
 
 /// The list in which a key stands, and its links to the processes of the keys before it and after it there. It takes twelve bytes.
-#[derive(Clone, Copy, Debug)]
+#[derive(Clone, Copy)]
 pub(crate) struct Standing {
     pub(crate) list: u32,
     pub(crate) links: Links,

@@ -32,7 +32,7 @@ mod transmit;
 mod waiters;
 
 /// The labels of a process, which outlive its transactions.
-#[derive(Clone, Copy, Debug)]
+#[derive(Clone, Copy)]
 struct Labels {
     private: Label,
     public: Label,

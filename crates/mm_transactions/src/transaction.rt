@@ -2,7 +2,7 @@
 use mm_links::Link;
 
 /// What a live transaction waits for, and whether it has a verdict.
-#[derive(Clone, Copy, Debug)]
+#[derive(Clone, Copy)]
 pub struct Transaction {
     /// A resource; `None` where it waits for none.
     pub waits_for: Option<u32>,
@@ -10,7 +10,7 @@ pub struct Transaction {
 }
 
 /// The same in eight bytes.
-#[derive(Clone, Copy, Debug)]
+#[derive(Clone, Copy)]
 pub(crate) struct Entry {
     pub(crate) waits_for: Link,
     pub(crate) has_verdict: bool,

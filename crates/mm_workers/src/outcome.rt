@@ -15,7 +15,7 @@ pub struct Outcome {
 }
 
 /// How many clients ended in each way.
-#[derive(Clone, Copy, Debug, PartialEq, Eq)]
+#[derive(Clone, Copy)]
 struct Counted {
     finished: usize,
     aborted: usize,

@@ -2,7 +2,7 @@
 ghost use Rattle.std.specs.Prelude.{◌≤◌};
 
 /// From what a workload is generated: any seed, 1 to 64 clients and 0 to 64 transmitters.
-#[derive(Clone, Copy, Debug, PartialEq, Eq)]
+#[derive(Clone, Copy)]
 pub struct StormOptions {
     pub seed: u64,
     pub clients: u32,
