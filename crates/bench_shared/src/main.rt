@@ -14,8 +14,6 @@
 //! - `storms`: storms, one after another.
 #![tactic(auto)]
 
-ghost use Rattle.std.specs.Prelude.{◌≡◌};
-
 mod board;
 mod calls;
 mod clock;
@@ -25,7 +23,12 @@ mod threads;
 
 use board::{Work, timed_work};
 use mm_shared::{Config, Prepared};
+use std::alloc::Global;
+use std::env::Args;
 use std::marker::Brand;
+use std::sync::Wait;
+use std::thread::Threads;
+use std::time::Clock;
 use std::{env, io};
 use storms::run_storms;
 use threads::timed;
@@ -33,9 +36,14 @@ use threads::timed;
 const MOST_THREADS: u32 = 64;
 
 /// The number that a word of the command line is; 0 where it is none.
-fn number(word: Option<String>) -> u32 {
-    match word {
-        Some(word) => word.as_str().parse::<u32>().unwrap_or(0),
+fn number(word: &str) -> u32 {
+    word.parse::<u32>().unwrap_or(0)
+}
+
+/// The number that the next word is; 0 where it is none, or there is no word.
+fn next_number(words: &mut Args) -> u32 {
+    match words.next() {
+        Some(word) => number(word.as_str()),
         None => 0,
     }
 }
@@ -50,6 +58,76 @@ fn config(processes: u32) -> Config {
     }
 }
 
+/// The storms of seeds 1 to `count` with so many clients, one after another.
+fn print_storms<R: Print + Clock + Threads + Wait + Sync>(
+    rt: &R,
+    alloc: Global,
+    clients: u32,
+    count: u32,
+) -> io::Result<()> {
+    let Some(done) = run_storms(rt, alloc, clients, count) else {
+        return Ok(());
+    };
+    println!(rt; "{} {} {}", done.nanoseconds, done.finished, done.aborted)
+}
+
+/// This work, so many times, on a table of so many processes.
+fn print_work<R: Print + Clock + Threads + Wait + Sync>(
+    rt: &R,
+    alloc: Global,
+    work: Work,
+    processes: u32,
+    count: u32,
+) -> io::Result<()> {
+    let Ok(prepared) = Prepared::new(alloc, config(processes)) else {
+        return Ok(());
+    };
+    let nanoseconds = timed_work::<Brand, Brand, Brand, Brand, _>(rt, prepared, work, count);
+    println!(rt; "{nanoseconds}")
+}
+
+/// So many threads, each of which makes so many transactions.
+fn print_threads<R: Print + Clock + Threads + Wait + Sync>(
+    rt: &R,
+    alloc: Global,
+    threads: u32,
+    count: u32,
+) -> io::Result<()> {
+    let Ok(prepared) = Prepared::new(alloc, config(MOST_THREADS)) else {
+        return Ok(());
+    };
+    let (nanoseconds, done) = timed::<Brand, Brand, Brand, Brand, _>(
+        rt,
+        alloc,
+        prepared,
+        threads,
+        count,
+    )?;
+    println!(rt; "{nanoseconds} {done}")
+}
+
+/// What the words of the command line ask for; nothing where it is not known.
+fn print_for<R: Print + Clock + Threads + Wait + Sync>(
+    rt: &R,
+    alloc: Global,
+    first: &str,
+    second: &str,
+    third: u32,
+    fourth: u32,
+) -> io::Result<()> {
+    match first {
+        "storm" => print_storms(rt, alloc, number(second).clamp(1, MOST_THREADS), third),
+        "board" => match Work::named(second) {
+            Some(work) => print_work(rt, alloc, work, third, fourth),
+            None => Ok(()),
+        },
+        _ => match number(first).min(MOST_THREADS) {
+            0 => Ok(()),
+            threads => print_threads(rt, alloc, threads, number(second)),
+        },
+    }
+}
+
 fn main(rt: HostRuntime) -> io::Result<()> {
     let mut words = env::args(&rt)?;
     let _ = words.next();
@@ -57,39 +135,8 @@ fn main(rt: HostRuntime) -> io::Result<()> {
     let Some(first) = words.next() else {
         return Ok(());
     };
-    if first.as_str() == "storm" {
-        let clients = number(words.next()).clamp(1, MOST_THREADS);
-        let count = number(words.next());
-        let Some(done) = run_storms(&rt, rt.alloc(), clients, count) else {
-            return Ok(());
-        };
-        return println!(rt; "{} {} {}", done.nanoseconds, done.finished, done.aborted);
-    }
-    if first.as_str() == "board" {
-        let Some(work) = words.next().and_then(|name| Work::named(name.as_str())) else {
-            return Ok(());
-        };
-        let Ok(prepared) = Prepared::new(rt.alloc(), config(number(words.next()))) else {
-            return Ok(());
-        };
-        let count = number(words.next());
-        let nanoseconds = timed_work::<Brand, Brand, Brand, Brand, _>(&rt, prepared, work, count);
-        return println!(rt; "{nanoseconds}");
-    }
-    let threads = number(Some(first)).min(MOST_THREADS);
-    let count = number(words.next());
-    if threads == 0 {
-        return Ok(());
-    }
-    let Ok(prepared) = Prepared::new(rt.alloc(), config(MOST_THREADS)) else {
-        return Ok(());
-    };
-    let (nanoseconds, done) = timed::<Brand, Brand, Brand, Brand, _>(
-        &rt,
-        rt.alloc(),
-        prepared,
-        threads,
-        count,
-    )?;
-    println!(rt; "{nanoseconds} {done}")
+    let second = words.next().unwrap_or(String::new(rt.alloc()));
+    let third = next_number(&mut words);
+    let fourth = next_number(&mut words);
+    print_for(&rt, rt.alloc(), first.as_str(), second.as_str(), third, fourth)
 }

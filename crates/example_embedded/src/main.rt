@@ -5,8 +5,16 @@
 ghost use Rattle.std.specs.Prelude.{◌≤◌, vec_capacity};
 
 use mm_table::{Config, Key, Mode, Refusal, Table};
+use std::alloc::Global;
 use std::io;
 use std::rt::Runtime;
+
+const CONFIG: Config = Config {
+    processes: 2,
+    resources: 2,
+    label_limit: 1_000_000,
+    generation_limit: 9,
+};
 
 /// Two transactions own a resource each, and then each asks for the other's.
 fn lock_crosswise(table: &mut Table) -> Result<(), Refusal> {
@@ -63,22 +71,31 @@ fn break_deadlock<R: Runtime>(rt: &R, table: &mut Table, changed: &mut Vec<u32>)
     Ok(())
 }
 
-fn main(rt: HostRuntime) -> io::Result<()> {
-    let config = Config {
-        processes: 2,
-        resources: 2,
-        label_limit: 1_000_000,
-        generation_limit: 9,
-    };
-    let room = Config::MOST_PROCESSES as usize;
-    let (Ok(mut table), Ok(mut changed)) = (
-        Table::open(rt.alloc(), config),
-        Vec::with_capacity(rt.alloc(), room),
-    ) else {
-        return println!(rt; "no memory");
-    };
-    match lock_crosswise(&mut table) {
-        Ok(()) => break_deadlock(&rt, &mut table, &mut changed),
+/// Locks crosswise, and breaks the deadlock.
+fn lock_and_settle<R: Runtime>(rt: &R, table: &mut Table, changed: &mut Vec<u32>) -> io::Result<()>
+    requires room { 65536 ≤ vec_capacity changed.old }
+{
+    match lock_crosswise(table) {
+        Ok(()) => break_deadlock(rt, table, changed),
         Err(refusal) => println!(rt; "refused: {refusal}"),
     }
+}
+
+/// Opens a table, and does so.
+fn run<R: Runtime>(rt: &R, alloc: Global, changed: &mut Vec<u32>) -> io::Result<()>
+    requires room { 65536 ≤ vec_capacity changed.old }
+{
+    let Ok(mut table) = Table::open(alloc, CONFIG) else {
+        return println!(rt; "no memory");
+    };
+    let done = lock_and_settle(rt, &mut table, changed);
+    drop(table);
+    done
+}
+
+fn main(rt: HostRuntime) -> io::Result<()> {
+    let Ok(mut changed) = Vec::with_capacity(rt.alloc(), Config::MOST_PROCESSES as usize) else {
+        return println!(rt; "no memory");
+    };
+    run(&rt, rt.alloc(), &mut changed)
 }
