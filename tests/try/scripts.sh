@@ -99,3 +99,6 @@ ends 3 "" "" $?
 case_is "a script that is too long"
 head -c 16777217 /dev/zero | tr '\0' '\n' | run > "$work/out" 2> "$work/err"
 ends 3 "" "input too long" $?
+case_is "a script whose last newline is past the limit"
+{ head -c 16777211 /dev/zero | tr '\0' '\n' && echo begin; } | run > "$work/out" 2> "$work/err"
+ends 3 "" "input too long" $?
