@@ -11,6 +11,14 @@ use mm_workload::WorkStep;
 use std::sync::Wait;
 use std::sync::ledger::Ledger;
 
+/// What the thread of a worker does.
+pub trait Job: Drop {
+    /// What it gives back.
+    type Gives: Drop;
+
+    fn run(self) -> Self::Gives;
+}
+
 /// A client whose pass has one part, and has counted no abort.
 #[derive(Drop)]
 pub struct ClientJob<'a, N: Name, A: Ledger, V: Ledger, B: Ledger, R: Wait, G: Gate + Drop> {
@@ -45,9 +53,14 @@ impl<'a, N: Name, A: Ledger, V: Ledger, B: Ledger, R: Wait, G: Gate + Drop> Clie
             client: Client::new(Desk::new(rt, table, part), gate, work, turns),
         }
     }
+}
 
-    /// Runs the client.
-    pub fn run(self) -> Ended<N, A, V, B> {
+/// Runs the client.
+impl<'a, N: Name, A: Ledger, V: Ledger, B: Ledger, R: Wait, G: Gate + Drop> Job
+    for ClientJob<'a, N, A, V, B, R, G> {
+    type Gives = Ended<N, A, V, B>;
+
+    fn run(self) -> Ended<N, A, V, B> {
         let ClientJob { mut client } = self;
         let end = client.run();
         Ended {
@@ -95,9 +108,14 @@ impl<'a, N: Name, A: Ledger, V: Ledger, B: Ledger, R: Wait, G: Gate + Drop> Tran
             ),
         }
     }
+}
 
-    /// Runs the transmitter.
-    pub fn run(self) -> Stopped<N, A, V, B> {
+/// Runs the transmitter.
+impl<'a, N: Name, A: Ledger, V: Ledger, B: Ledger, R: Wait, G: Gate + Drop> Job
+    for TransmitterJob<'a, N, A, V, B, R, G> {
+    type Gives = Stopped<N, A, V, B>;
+
+    fn run(self) -> Stopped<N, A, V, B> {
         let TransmitterJob { mut transmitter } = self;
         transmitter.run();
         Stopped {

@@ -1,7 +1,7 @@
 //! The threads of the workers.
 ghost use Rattle.std.specs.Prelude.{◌≡◌, ◌+◌, ◌<◌, IfOk, length, vec_len, vec_capacity};
 
-use crate::job::{ClientJob, Ended, Stopped, TransmitterJob};
+use crate::job::{ClientJob, Job, TransmitterJob};
 use mm_clients::Gate;
 use mm_shared::{Name, Pass, SharedTable};
 use mm_workload::{WorkStep, Workload};
@@ -62,49 +62,38 @@ pub fn transmitter_jobs<'a, N: Name, A: Ledger, V: Ledger, B: Ledger, R: Wait, G
 /// Runs all jobs at once, each on a thread of its own, and waits for them. The ends stand in the order of the jobs.
 ///
 /// Refused where a thread cannot be started. Those that run have ended then.
-pub fn run_jobs<
-    'a,
-    N: Name + Send + Sync,
-    A: Ledger + Send + Sync,
-    V: Ledger + Send + Sync,
-    B: Ledger + Send + Sync,
-    R: Threads + Wait + Sync,
-    G: Gate + Send + Drop,
->(
+pub fn run_jobs<'a, C: Job + Send + 'a, T: Job + Send + 'a, R: Threads + Wait + Sync>(
     rt: &'a R,
     alloc: Global,
-    clients: Vec<ClientJob<'a, N, A, V, B, R, G>>,
-    transmitters: Vec<TransmitterJob<'a, N, A, V, B, R, G>>,
-) -> Result<(Vec<Ended<N, A, V, B>>, Vec<Stopped<N, A, V, B>>), AllocError>
+    clients: Vec<C>,
+    transmitters: Vec<T>,
+) -> Result<(Vec<C::Gives>, Vec<T::Gives>), AllocError>
+where
+    C::Gives: Send + 'a,
+    T::Gives: Send + 'a,
     ensures ended { IfOk result (λ done. vec_len done.0 ≡ vec_len clients.entry) }
     ensures stopped { IfOk result (λ done. vec_len done.1 ≡ vec_len transmitters.entry) }
 {
     thread::scope(
         thread::scope_env(),
         rt,
-        |scope| -> Result<(Vec<Ended<N, A, V, B>>, Vec<Stopped<N, A, V, B>>), AllocError>
+        |scope| -> Result<(Vec<C::Gives>, Vec<T::Gives>), AllocError>
             ensures { IfOk result (λ done. (vec_len done.0 ≡ vec_len clients.entry) × (vec_len done.1 ≡ vec_len transmitters.entry)) }
         { run_in(scope, rt, alloc, clients, transmitters) },
     )
 }
 
 /// `run_jobs`, in this scope. All memory for what comes back is taken before the first thread starts.
-fn run_in<
-    's,
-    'e,
-    N: Name + Send + Sync + 'e,
-    A: Ledger + Send + Sync + 'e,
-    V: Ledger + Send + Sync + 'e,
-    B: Ledger + Send + Sync + 'e,
-    R: Threads + Wait + Sync,
-    G: Gate + Send + Drop + 'e,
->(
+fn run_in<'s, 'e, C: Job + Send + 'e, T: Job + Send + 'e, R: Threads + Wait + Sync>(
     scope: &'s Scope<'s, &'e ()>,
     rt: &'e R,
     alloc: Global,
-    clients: Vec<ClientJob<'e, N, A, V, B, R, G>>,
-    transmitters: Vec<TransmitterJob<'e, N, A, V, B, R, G>>,
-) -> Result<(Vec<Ended<N, A, V, B>>, Vec<Stopped<N, A, V, B>>), AllocError>
+    clients: Vec<C>,
+    transmitters: Vec<T>,
+) -> Result<(Vec<C::Gives>, Vec<T::Gives>), AllocError>
+where
+    C::Gives: Send + 'e,
+    T::Gives: Send + 'e,
     ensures ended { IfOk result (λ done. vec_len done.0 ≡ vec_len clients.entry) }
     ensures stopped { IfOk result (λ done. vec_len done.1 ≡ vec_len transmitters.entry) }
 {
@@ -169,74 +158,37 @@ fn two_crews<T: Drop, U: Drop>(
 }
 
 /// Starts a thread for each client and then for each transmitter.
-fn start_all<
-    's,
-    'e,
-    N: Name + Send + Sync + 'e,
-    A: Ledger + Send + Sync + 'e,
-    V: Ledger + Send + Sync + 'e,
-    B: Ledger + Send + Sync + 'e,
-    R: Threads + Wait + Sync,
-    G: Gate + Send + Drop + 'e,
->(
+fn start_all<'s, 'e, C: Job + Send + 'e, T: Job + Send + 'e>(
     scope: &'s Scope<'s, &'e ()>,
-    clients: Vec<ClientJob<'e, N, A, V, B, R, G>>,
-    transmitters: Vec<TransmitterJob<'e, N, A, V, B, R, G>>,
-    client_threads: &mut Vec<JoinHandle<Ended<N, A, V, B>>>,
-    transmitter_threads: &mut Vec<JoinHandle<Stopped<N, A, V, B>>>,
+    clients: Vec<C>,
+    transmitters: Vec<T>,
+    client_threads: &mut Vec<JoinHandle<C::Gives>>,
+    transmitter_threads: &mut Vec<JoinHandle<T::Gives>>,
 ) -> Result<(), AllocError>
+where
+    C::Gives: Send + 'e,
+    T::Gives: Send + 'e,
     requires clients { (vec_len client_threads.old ≡ 0) × (vec_capacity client_threads.old ≡ vec_len clients) }
     requires transmitters { (vec_len transmitter_threads.old ≡ 0) × (vec_capacity transmitter_threads.old ≡ vec_len transmitters) }
     ensures clients { IfOk result (λ _. vec_len client_threads.new ≡ vec_len clients.entry) }
     ensures transmitters { IfOk result (λ _. vec_len transmitter_threads.new ≡ vec_len transmitters.entry) }
 {
-    start_clients(scope, clients, client_threads)?;
-    start_transmitters(scope, transmitters, transmitter_threads)
+    start_each(scope, clients, client_threads)?;
+    start_each(scope, transmitters, transmitter_threads)
 }
 
-/// Starts a thread for each client.
-fn start_clients<
-    's,
-    'e,
-    N: Name + Send + Sync + 'e,
-    A: Ledger + Send + Sync + 'e,
-    V: Ledger + Send + Sync + 'e,
-    B: Ledger + Send + Sync + 'e,
-    R: Threads + Wait + Sync,
-    G: Gate + Send + Drop + 'e,
->(
+/// Starts a thread for each job.
+fn start_each<'s, 'e, J: Job + Send + 'e>(
     scope: &'s Scope<'s, &'e ()>,
-    clients: Vec<ClientJob<'e, N, A, V, B, R, G>>,
-    threads: &mut Vec<JoinHandle<Ended<N, A, V, B>>>,
+    jobs: Vec<J>,
+    threads: &mut Vec<JoinHandle<J::Gives>>,
 ) -> Result<(), AllocError>
-    requires room { (vec_len threads.old ≡ 0) × (vec_capacity threads.old ≡ vec_len clients) }
-    ensures each { IfOk result (λ _. vec_len threads.new ≡ vec_len clients.entry) }
+where
+    J::Gives: Send + 'e,
+    requires room { (vec_len threads.old ≡ 0) × (vec_capacity threads.old ≡ vec_len jobs) }
+    ensures each { IfOk result (λ _. vec_len threads.new ≡ vec_len jobs.entry) }
 {
-    for job in clients {
-        threads.push_reserved(scope.spawn(move || job.run())?);
-    }
-    Ok(())
-}
-
-/// Starts a thread for each transmitter.
-fn start_transmitters<
-    's,
-    'e,
-    N: Name + Send + Sync + 'e,
-    A: Ledger + Send + Sync + 'e,
-    V: Ledger + Send + Sync + 'e,
-    B: Ledger + Send + Sync + 'e,
-    R: Threads + Wait + Sync,
-    G: Gate + Send + Drop + 'e,
->(
-    scope: &'s Scope<'s, &'e ()>,
-    transmitters: Vec<TransmitterJob<'e, N, A, V, B, R, G>>,
-    threads: &mut Vec<JoinHandle<Stopped<N, A, V, B>>>,
-) -> Result<(), AllocError>
-    requires room { (vec_len threads.old ≡ 0) × (vec_capacity threads.old ≡ vec_len transmitters) }
-    ensures each { IfOk result (λ _. vec_len threads.new ≡ vec_len transmitters.entry) }
-{
-    for job in transmitters {
+    for job in jobs {
         threads.push_reserved(scope.spawn(move || job.run())?);
     }
     Ok(())
