@@ -97,11 +97,7 @@ fn print_threads<R: Print + Clock + Threads + Wait + Sync>(
         return Ok(());
     };
     let (nanoseconds, done) = timed::<Brand, Brand, Brand, Brand, _>(
-        rt,
-        alloc,
-        prepared,
-        threads,
-        count,
+        rt, alloc, prepared, threads, count,
     )?;
     println!(rt; "{nanoseconds} {done}")
 }
@@ -138,5 +134,12 @@ fn main(rt: HostRuntime) -> io::Result<()> {
     let second = words.next().unwrap_or(String::new(rt.alloc()));
     let third = next_number(&mut words);
     let fourth = next_number(&mut words);
-    print_for(&rt, rt.alloc(), first.as_str(), second.as_str(), third, fourth)
+    print_for(
+        &rt,
+        rt.alloc(),
+        first.as_str(),
+        second.as_str(),
+        third,
+        fourth,
+    )
 }
