@@ -71,14 +71,14 @@ pub fn run_jobs<'a, C: Job + Send + 'a, T: Job + Send + 'a, R: Threads + Wait + 
 where
     C::Gives: Send + 'a,
     T::Gives: Send + 'a,
-    ensures ended { IfOk result (λ done. vec_len done.0 ≡ vec_len clients.entry) }
-    ensures stopped { IfOk result (λ done. vec_len done.1 ≡ vec_len transmitters.entry) }
+    ensures ended { IfOk result (λ done. vec_len done.0 ≡ vec_len clients) }
+    ensures stopped { IfOk result (λ done. vec_len done.1 ≡ vec_len transmitters) }
 {
     thread::scope(
         thread::scope_env(),
         rt,
         |scope| -> Result<(Vec<C::Gives>, Vec<T::Gives>), AllocError>
-            ensures { IfOk result (λ done. (vec_len done.0 ≡ vec_len clients.entry) × (vec_len done.1 ≡ vec_len transmitters.entry)) }
+            ensures { IfOk result (λ done. (vec_len done.0 ≡ vec_len clients) × (vec_len done.1 ≡ vec_len transmitters)) }
         { run_in(scope, rt, alloc, clients, transmitters) },
     )
 }
@@ -94,8 +94,8 @@ fn run_in<'s, 'e, C: Job + Send + 'e, T: Job + Send + 'e, R: Threads + Wait + Sy
 where
     C::Gives: Send + 'e,
     T::Gives: Send + 'e,
-    ensures ended { IfOk result (λ done. vec_len done.0 ≡ vec_len clients.entry) }
-    ensures stopped { IfOk result (λ done. vec_len done.1 ≡ vec_len transmitters.entry) }
+    ensures ended { IfOk result (λ done. vec_len done.0 ≡ vec_len clients) }
+    ensures stopped { IfOk result (λ done. vec_len done.1 ≡ vec_len transmitters) }
 {
     let (mut client_crew, mut transmitter_crew) = two_crews(
         alloc,
@@ -170,8 +170,8 @@ where
     T::Gives: Send + 'e,
     requires clients { (vec_len client_threads.old ≡ 0) × (vec_capacity client_threads.old ≡ vec_len clients) }
     requires transmitters { (vec_len transmitter_threads.old ≡ 0) × (vec_capacity transmitter_threads.old ≡ vec_len transmitters) }
-    ensures clients { IfOk result (λ _. vec_len client_threads.new ≡ vec_len clients.entry) }
-    ensures transmitters { IfOk result (λ _. vec_len transmitter_threads.new ≡ vec_len transmitters.entry) }
+    ensures clients { IfOk result (λ _. vec_len client_threads.new ≡ vec_len clients) }
+    ensures transmitters { IfOk result (λ _. vec_len transmitter_threads.new ≡ vec_len transmitters) }
 {
     start_each(scope, clients, client_threads)?;
     start_each(scope, transmitters, transmitter_threads)
@@ -186,7 +186,7 @@ fn start_each<'s, 'e, J: Job + Send + 'e>(
 where
     J::Gives: Send + 'e,
     requires room { (vec_len threads.old ≡ 0) × (vec_capacity threads.old ≡ vec_len jobs) }
-    ensures each { IfOk result (λ _. vec_len threads.new ≡ vec_len jobs.entry) }
+    ensures each { IfOk result (λ _. vec_len threads.new ≡ vec_len jobs) }
 {
     for job in jobs {
         threads.push_reserved(scope.spawn(move || job.run())?);
