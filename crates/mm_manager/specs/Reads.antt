@@ -1,5 +1,5 @@
 -- What the reads answer.
-use Rattle.std.specs.Prelude.{◌≡◌, ℕ, true, false, List, Option, Some, None, Result, Ok, Err, option_map, option_and_then}
+use Rattle.std.specs.Prelude.{◌≡◌, ℕ, ◌-◌, true, false, List, Option, Some, None, Result, Ok, Err, option_map, option_and_then}
 use Rattle.std.specs.List.{filter_map, range_with_len}
 use Rattle.mm_arena.specs.declared.key.Key.{Key}
 use Rattle.mm_marks.specs.Marks.{has}
@@ -36,6 +36,10 @@ arrow s p n = option_map (λ h. record { key = key_of s p; number = n; holder = 
 abbrev pub wait_at : TableState → ℕ → Option Wait
 wait_at s p = option_and_then (arrow s p) (wait_of s p)
 
--- each who waits, for which number, and whose that is, by rising process
+-- each process from p on that waits, for which number, and whose that is, by rising process
+abbrev pub waits_from : TableState → ℕ → List Wait
+waits_from s p = filter_map (wait_at s) (range_with_len p (s.config.processes - p))
+
+-- the same of all processes
 abbrev pub waits_of : TableState → List Wait
-waits_of s = filter_map (wait_at s) (range_with_len 0 s.config.processes)
+waits_of s = waits_from s 0

@@ -13,12 +13,14 @@
 //! - `manager`: `LockManager`, with one method for each call.
 //! - `request`: a request for a name.
 //! - `reads`: what can be read of a manager.
+//! - `graph`: the wait-for graph.
 #![tactic(auto)]
 
 mod aborts;
 mod cancels;
 mod config;
 mod due;
+mod graph;
 mod hand_over;
 mod lists;
 mod manager;
@@ -32,6 +34,7 @@ mod reply;
 mod request;
 
 pub use config::ManagerConfig;
+pub use graph::Graph;
 pub use manager::LockManager;
 pub use mm_settled::{Grant, Key};
 pub use mm_table::Totals;

@@ -15,8 +15,8 @@ use crate::lists::Lists;
 use crate::numbers::owner_of;
 use crate::open::{open_names, open_table};
 use crate::{
-    Abort, Cancel, Grant, Key, Lock, ManagerConfig, OpenError, Refusal, Status, Totals, TryLock,
-    Wait, parts, reads,
+    Abort, Cancel, Grant, Graph, Key, Lock, ManagerConfig, OpenError, Refusal, Status, Totals,
+    TryLock, parts, reads,
 };
 use mm_names::Names;
 use mm_settled::SettledTable;
@@ -208,14 +208,15 @@ impl LockManager {
         self.table.table().owned_by(key, numbers);
     }
 
-    /// Lists the wait-for graph, in place of what `waits` held: each who waits, for which number, and whose that is, by rising process.
-    /// `waits` has room for each transaction, and no memory is taken. `O(transactions)`.
-    pub fn graph(&self, waits: &mut Vec<Wait>)
-        requires { self.now.table.config.processes ≤ vec_capacity waits.old }
-        ensures waits { waits.new.items ≡ waits_of self.now.table }
-        ensures room { vec_capacity waits.new ≡ vec_capacity waits.old }
+    /// The wait-for graph: each transaction that waits, for which number, and whose that is, by rising process of who waits. The name of the
+    /// number is there (`name`). Constant time; to go through it takes `O(transactions)`.
+    pub fn graph(&self) -> Graph<'_>
+        ensures { result ≡ waits_of self.now.table }
     {
-        reads::list_waits(self.table.table(), waits);
+        Graph {
+            table: self.table.table(),
+            next: 0,
+        }
     }
 
     /// The name of a number; `None` where it has none. Constant time.

@@ -1,7 +1,7 @@
 //! What can be read of a manager.
-ghost use Rattle.std.specs.Prelude.{◌≡◌, ◌≤◌, Some, IsSome, length, vec_capacity};
+ghost use Rattle.std.specs.Prelude.{◌≡◌, Some, IsSome, length};
 ghost use Rattle.mm_rules.specs.TableState.{owner_of};
-ghost use Rattle.mm_manager.specs.Reads.{HasStatus, wait_at, waits_of};
+ghost use Rattle.mm_manager.specs.Reads.{HasStatus, wait_at};
 ghost use Rattle.mm_manager.specs.private.Reads.{marked};
 
 use crate::numbers::owner_of;
@@ -43,22 +43,8 @@ fn holder(table: &Table, number: u32) -> Key
     }
 }
 
-/// Lists each who waits, by rising process.
-pub fn list_waits(table: &Table, waits: &mut Vec<Wait>)
-    requires { table.now.config.processes ≤ vec_capacity waits.old }
-    ensures waits { waits.new.items ≡ waits_of table.now }
-    ensures room { vec_capacity waits.new ≡ vec_capacity waits.old }
-{
-    waits.clear();
-    for process in 0..table.config().processes {
-        if let Some(wait) = wait_at(table, process) {
-            waits.push_reserved(wait);
-        }
-    }
-}
-
 /// For what a process waits, and whose that is.
-fn wait_at(table: &Table, process: u32) -> Option<Wait>
+pub fn wait_at(table: &Table, process: u32) -> Option<Wait>
     ensures { result ≡ wait_at table.now process }
 {
     table.keeps_laws();

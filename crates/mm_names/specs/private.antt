@@ -1,3 +1,4 @@
 pub mod Places
+pub mod Hash
 pub mod Spots
 pub mod Index

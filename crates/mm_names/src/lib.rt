@@ -3,6 +3,7 @@
 //! - `config`: `NamesConfig`, the numbers with which names are opened.
 //! - `error`: why they are not opened, and why a name gets no number.
 //! - `places`: where the bytes of each name stand.
+//! - `hash`: the hash of a name.
 //! - `spots`: where the number of a name stands, by the hash of the name.
 //! - `names`: `Names`.
 //! - `iter`: the names, by rising number.
@@ -10,6 +11,7 @@
 
 mod config;
 mod error;
+mod hash;
 mod iter;
 mod names;
 mod places;

@@ -1,9 +1,9 @@
 //! The names.
-ghost use Rattle.std.specs.Prelude.{◌≡◌, ◌≤◌, ◌<◌, ◌↔◌, ℕ, None, Some, Err, length, IfOk, OnErr, IsTrue, IsSome, MatchOption, option_copied};
+ghost use Rattle.std.specs.Prelude.{◌≡◌, ◌≤◌, ◌<◌, ◌↔◌, ℕ, None, Some, Err, length, IfOk, OnErr, IsTrue, IsSome, MatchOption, option_copied, vec_capacity};
 ghost use Rattle.std.specs.Bool.{OnTrue, OnFalse};
-ghost use Rattle.mm_owned.specs.Owned.{owner_at, given, freed};
-ghost use Rattle.mm_names.specs.Names.{nameless, name_of, named_count, with_name, entries, IsNamed, IsFree, IsFull, IsRefusedAsFull, Interns, IsLawful, IsNamesOut, IsNameBytesOut};
-ghost use Rattle.mm_names.specs.private.Index.{AreAllFree};
+ghost use Rattle.mm_owned.specs.Owned.{owner_at};
+ghost use Rattle.mm_names.specs.Names.{nameless, name_of, named_count, with_name, entries, IsNamed, IsRefusedAsFull, Interns, IsLawful, IsNamesOut, IsNameBytesOut};
+ghost use Rattle.mm_names.specs.private.Index.{AreAll};
 
 use crate::places::Places;
 use crate::spots::Spots;
@@ -19,14 +19,15 @@ use std::marker::Model;
 #[derive(Drop)]
 pub struct Names {
     places: Places,
-    /// The list in which each number stands: that of its name's hash, or the one of the numbers without a name.
+    /// The list in which each number stands that has a name: that of the name's hash.
     index: Owned,
     spots: Spots,
-    /// How many numbers have a name.
-    count: u32,
+    /// The numbers without a name. The last one is the next to get one.
+    free: Vec<u32>,
 }
 
 impl Model for Names {
+    ghost use Rattle.std.specs.Prelude.{◌≤◌, length, vec_capacity};
     ghost use Rattle.mm_names.specs.Names.{NameTable};
     ghost use Rattle.mm_names.specs.private.Index.{AreIndexed};
 
@@ -34,7 +35,7 @@ impl Model for Names {
 
     ghost view = { λ n. n.places };
 
-    ghost invariant = { λ n. AreIndexed n.places n.index n.spots n.count };
+    ghost invariant = { λ n. AreIndexed n.places n.index n.spots n.free.items × (length n.places.names ≤ vec_capacity n.free) };
 }
 
 impl Names {
@@ -42,7 +43,7 @@ impl Names {
     ///
     /// Refused as `Names` or else as `NameBytes` exactly where that number of the configuration is out of its range, and as `Memory`
     /// only where a request for memory was refused. This is the one call that takes memory: for the bytes of the names, for their
-    /// lengths, for the lists, and for the links of each number.
+    /// lengths, for the lists, for the links of each number, and for the numbers without a name.
     pub fn open(alloc: Global, config: NamesConfig) -> Result<Names, OpenError>
         ensures opened { IfOk result (λ names. names ≡ nameless config.names config.name_bytes) }
         ensures names { (result ≡ Err OpenError.Names) ↔ IsNamesOut config }
@@ -86,21 +87,12 @@ impl Names {
         if let Some(number) = find_at(&self.places, &self.index, spot, name) {
             return Ok(number);
         }
-        let Some(number) = self.first_free() else {
+        let Some(number) = self.free.pop() else {
             return Err(NamesError::Full);
         };
-        move_to(&mut self.index, number, spot);
+        self.index.push(spot, number);
         self.places.put(number, name);
-        self.count += 1;
         Ok(number)
-    }
-
-    /// A number without a name, in constant time. `None` exactly where each number has one.
-    #[inline]
-    fn first_free(&self) -> Option<u32>
-        ensures { MatchOption result (IsFull self.now) (λ n. IsFree self.now n) }
-    {
-        self.index.first(self.spots.free().process)
     }
 
     /// The name of a number, in constant time. `None` where it has none, or is not one of the numbers.
@@ -122,9 +114,9 @@ impl Names {
         if self.name(number).is_none() {
             return false;
         }
-        move_to(&mut self.index, number, self.spots.free());
+        self.index.remove(number);
         self.places.clear(number);
-        self.count -= 1;
+        self.free.push_reserved(number);
         true
     }
 
@@ -133,7 +125,7 @@ impl Names {
     pub fn len(&self) -> u32
         ensures { result ≡ named_count self.now }
     {
-        self.count
+        self.capacity() - self.free.len() as u32
     }
 
     /// Whether there is no name, in constant time.
@@ -141,7 +133,7 @@ impl Names {
     pub fn is_empty(&self) -> bool
         ensures { IsTrue result ↔ (named_count self.now ≡ 0) }
     {
-        self.count == 0
+        self.len() == 0
     }
 
     /// How many names there can be at once, in constant time. The numbers are those below it.
@@ -188,37 +180,28 @@ fn no_names(alloc: Global, config: NamesConfig) -> Result<Names, AllocError>
 {
     let places = Places::new(alloc, config.names, config.name_bytes)?;
     let spots = Spots::new(config.seed, config.names);
-    let index = all_free(alloc, spots, config.names)?;
+    let index = Owned::new(alloc, spots.lists(), config.names)?;
+    let free = all_free(alloc, config.names)?;
     Ok(Names {
         places,
         index,
         spots,
-        count: 0,
+        free,
     })
 }
 
-/// This many numbers, all of them in the list of those without a name, by rising number.
-fn all_free(alloc: Global, spots: Spots, numbers: u32) -> Result<Owned, AllocError>
-    ensures { IfOk result (λ index. AreAllFree index spots numbers) }
+/// The numbers below this one, the least one last.
+fn all_free(alloc: Global, numbers: u32) -> Result<Vec<u32>, AllocError>
+    ensures all { IfOk result (λ free. AreAll numbers free.items) }
+    ensures room { IfOk result (λ free. numbers ≤ vec_capacity free) }
 {
-    let free = spots.free();
-    let mut index = Owned::new(alloc, free.process + 1, numbers)?;
+    let mut free = Vec::with_capacity(alloc, numbers as usize)?;
     let mut left = numbers;
     'free: while left > 0 {
         left -= 1;
-        index.push(free, left);
+        free.push_reserved(left);
     }
-    Ok(index)
-}
-
-/// Moves a number from the list in which it stands to this spot, in constant time.
-fn move_to(index: &mut Owned, number: u32, spot: Key)
-    requires number { number < length index.old.owners }
-    requires spot { spot.process < length index.old.lists }
-    ensures { index.new ≡ given (freed index.old number) spot number }
-{
-    index.remove(number);
-    index.push(spot, number);
+    Ok(free)
 }
 
 /// The number of a name that is nowhere but at this spot.

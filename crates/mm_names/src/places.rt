@@ -84,7 +84,7 @@ impl Places {
     {
         match self.get(number) {
             None => false,
-            Some(other) => other == name,
+            Some(other) => are_equal(other, name),
         }
     }
 
@@ -109,6 +109,7 @@ impl Places {
     {
         self.lengths[number as usize] = None;
     }
+
     /// Does nothing. Its contract is what holds of any places.
     #[inline]
     pub(crate) fn keep_range(&self)
@@ -116,4 +117,26 @@ impl Places {
     {
         let _ = &self.name_bytes;
     }
+}
+
+/// Whether two names are one, eight bytes at a time.
+#[inline]
+fn are_equal(first: &[u8], second: &[u8]) -> bool
+    ensures { IsTrue result ↔ (first.now ≡ second.now) }
+{
+    if first.len() != second.len() {
+        return false;
+    }
+    let (mut first, mut second) = (first, second);
+    'words: while let Some((word, rest)) = first.split_first_chunk::<8>() {
+        let Some((other, others)) = second.split_first_chunk::<8>() else {
+            return false;
+        };
+        if word != other {
+            return false;
+        }
+        first = rest;
+        second = others;
+    }
+    first == second
 }

@@ -3,8 +3,8 @@ ghost use Rattle.std.specs.Prelude.{◌≡◌, ◌*◌, ◌<◌, ◌≤◌};
 ghost use Rattle.mm_names.specs.declared.config.TheConstants.NamesConfig.{MOST_NAMES};
 ghost use Rattle.mm_names.specs.declared.spots.TheConstants.{LISTS_A_NAME};
 
+use crate::hash::NameHash;
 use mm_arena::Key;
-use std::hash::{DefaultHasher, Hasher};
 
 /// How many lists there are for each name that there can be. With more of them fewer names share one.
 const LISTS_A_NAME: u32 = 2;
@@ -13,25 +13,22 @@ const LISTS_A_NAME: u32 = 2;
 /// that tells names of one list apart.
 #[derive(Clone, Copy)]
 pub(crate) struct Spots {
-    /// What comes of the seed. The hash of a name goes on from here.
-    hasher: DefaultHasher,
+    hash: NameHash,
     lists: u32,
     ghost some_lists: { 1 ≤ lists },
     ghost few_lists: { lists ≤ LISTS_A_NAME * MOST_NAMES },
 }
 
 impl Spots {
-    ghost use Rattle.mm_names.specs.private.Spots.{spot_of, free_spot};
+    ghost use Rattle.mm_names.specs.private.Spots.{spot_of};
 
-    /// Spots for this many names, by SipHash-1-3 after the seed.
+    /// Spots for this many names, by the hash of this seed.
     pub(crate) fn new(seed: u64, names: u32) -> Spots
         requires some_names { 1 ≤ names }
         requires few_names { names ≤ MOST_NAMES }
     {
-        let mut hasher = DefaultHasher::new();
-        hasher.write_u64(seed);
         Spots {
-            hasher,
+            hash: NameHash::new(seed),
             lists: LISTS_A_NAME * names,
         }
     }
@@ -42,23 +39,18 @@ impl Spots {
         ensures spot { result ≡ spot_of self.now name.now }
         ensures in_range { result.process < self.now.lists }
     {
-        let mut hasher = self.hasher;
-        hasher.write(name);
-        let hash = hasher.finish();
+        let hash = self.hash.of(name);
         Key {
             process: ((hash >> 32) * self.lists as u64 >> 32) as u32,
             generation: (hash % (1 << 32)) as u32,
         }
     }
 
-    /// The spot of the numbers without a name, whose list no name has.
+    /// How many lists there are, in constant time.
     #[inline]
-    pub(crate) fn free(&self) -> Key
-        ensures { result ≡ free_spot self.now }
+    pub(crate) fn lists(&self) -> u32
+        ensures { result ≡ self.now.lists }
     {
-        Key {
-            process: self.lists,
-            generation: 0,
-        }
+        self.lists
     }
 }

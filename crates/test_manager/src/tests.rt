@@ -27,7 +27,7 @@ fn make_chosen(rt: &impl Abort, alloc: Global, both: &mut Both, count: u32) -> R
         both.make(rt, (number >> 32) as u32)?;
         both.look(rt);
         if call % 4_096 == 0 {
-            both.look_at_graph(rt, alloc)?;
+            both.look_at_graph(rt);
             both.look_at_names(rt, alloc)?;
         }
     }

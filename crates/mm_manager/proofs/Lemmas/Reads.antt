@@ -1,14 +1,14 @@
 -- Who waits, and for what.
-use Rattle.std.proofs.Common.{◌≡◌, ◌+◌, ◌++◌, ◌∷◌, ℕ, zero, suc, Bool, true, false, [], Option, Some, None, is_some, option_and_then, slice_index_or, if◌then◌else◌, refl, sym, ap, ◌∙◌, arith, add-one, append-nil}
+use Rattle.std.proofs.Common.{◌≡◌, ◌+◌, ◌-◌, ◌<◌, ◌≤◌, ◌∷◌, ℕ, suc, Bool, true, false, [], Option, Some, None, is_some, option_and_then, slice_index_or, if◌then◌else◌, refl, sym, ap, ◌∙◌, arith}
 use Rattle.std.specs.List.{cons_option, filter_map, range_with_len}
-use Rattle.std.proofs.lemmas.List.Elements.{filter_map-append}
 use Rattle.mm_lists.proofs.Lemmas.Among.{all_at}
 use Rattle.mm_rules.specs.TableState.{TableState, key_of, is_live, owner_of, wait_of}
 use Rattle.mm_rules.specs.Event.{tenant_of}
 use Rattle.mm_rules.specs.Laws.{Laws, IsHeld}
 use Rattle.mm_rules.proofs.States.Lookups.{waits_here}
 use Rattle.mm_rules.proofs.States.Vacate.{live_process}
-use Rattle.mm_manager.specs.Reads.{arrow, wait_at}
+use Rattle.mm_manager.specs.Reads.{arrow, wait_at, waits_from}
+use Rattle.mm_manager.specs.declared.reply.Wait.{Wait}
 use Rattle.mm_manager.proofs.Lemmas.Names.{waited_is_owned}
 
 -- what is waited for is owned
@@ -35,17 +35,21 @@ no_tenant_waits s laws p none =
     let idle = none_by s laws p (wait_of s p) refl (dead_by s p (slice_index_or s.live p false) none) in
     ap (option_and_then (arrow s p)) idle
 
--- ---- the list of them, step by step
+-- ---- those from a process on, step by step
 
-range_more : (a n j : ℕ) → a + n ≡ j → range_with_len a (suc n) ≡ range_with_len a n ++ j ∷ []
-range_more a zero j is = ap (λ i. i ∷ []) (omega (arith, is))
-range_more a (suc n) j is = ap (λ xs. a ∷ xs) (range_more (a + 1) n j (omega (arith, is)))
+waits_step : (s : TableState) (p : ℕ) → p < s.config.processes → waits_from s p ≡ cons_option (wait_at s p) (waits_from s (p + 1))
+waits_step s p below =
+    let more : s.config.processes - p ≡ suc (s.config.processes - (p + 1)) = omega arith in
+    ap (λ n. filter_map (wait_at s) (range_with_len p n)) more
 
-listed_more : {X : Type 0} (h : ℕ → Option X) (p : ℕ) → filter_map h (range_with_len 0 (p + 1)) ≡ filter_map h (range_with_len 0 p) ++ filter_map h (p ∷ [])
-listed_more h p = ap (λ i. filter_map h (range_with_len 0 i)) (add-one p) ∙ ap (filter_map h) (range_more 0 p p (omega arith)) ∙ filter_map-append h (range_with_len 0 p) (p ∷ [])
+-- where process p waits, it comes first
+pub waits_some : (s : TableState) (p : ℕ) (w : Wait) → p < s.config.processes → wait_at s p ≡ Some w → waits_from s p ≡ w ∷ waits_from s (p + 1)
+waits_some s p w below is = waits_step s p below ∙ ap (λ o. cons_option o (waits_from s (p + 1))) is
 
-pub listed_some : {X : Type 0} (h : ℕ → Option X) (p : ℕ) (x : X) → h p ≡ Some x → filter_map h (range_with_len 0 (p + 1)) ≡ filter_map h (range_with_len 0 p) ++ x ∷ []
-listed_some h p x is = listed_more h p ∙ ap (λ o. filter_map h (range_with_len 0 p) ++ cons_option o []) is
+-- and else it is passed
+pub waits_none : (s : TableState) (p : ℕ) → p < s.config.processes → wait_at s p ≡ None → waits_from s p ≡ waits_from s (p + 1)
+waits_none s p below is = waits_step s p below ∙ ap (λ o. cons_option o (waits_from s (p + 1))) is
 
-pub listed_none : {X : Type 0} (h : ℕ → Option X) (p : ℕ) → h p ≡ None → filter_map h (range_with_len 0 (p + 1)) ≡ filter_map h (range_with_len 0 p)
-listed_none h p is = listed_more h p ∙ ap (λ o. filter_map h (range_with_len 0 p) ++ cons_option o []) is ∙ append-nil (filter_map h (range_with_len 0 p))
+-- behind the last process none is left
+pub waits_end : (s : TableState) (p : ℕ) → s.config.processes ≤ p → waits_from s p ≡ []
+waits_end s p past = ap (λ n. filter_map (wait_at s) (range_with_len p n)) (let none : s.config.processes - p ≡ 0 = omega arith in none)

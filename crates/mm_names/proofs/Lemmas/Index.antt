@@ -1,21 +1,20 @@
 -- Which number stands in which list.
-use Rattle.std.proofs.Common.{◌≡◌, ◌≢◌, ℕ, zero, suc, ◌+◌, ◌-◌, ◌*◌, ◌/◌, ◌%◌, ◌^◌, ◌<◌, ◌≤◌, List, [], ◌∷◌, length, set, cond, Option, Some, None, option_map, is_some, IsSome, MatchOption, true, false, count_by, refl, sym, ap, subst, ◌∙◌, inl, inr, arith, length-set, lit<, replicate}
+use Rattle.std.proofs.Common.{◌≡◌, ◌≢◌, ◌↔◌, ℕ, zero, suc, ◌+◌, ◌*◌, ◌/◌, ◌%◌, ◌^◌, ◌<◌, ◌≤◌, List, [], ◌∷◌, ◌++◌, length, set, get_or, cond, Option, Some, None, option_map, is_some, IsSome, true, false, count_by, refl, sym, ap, subst, ◌∙◌, inl, inr, arith, length-set, length-append, append-nil, lit<, replicate}
 use Rattle.std.proofs.lemmas.Bool.{cases_eq, cases_lt}
 use Rattle.std.proofs.lemmas.List.{get_or-set_same, get_or-set_other, get_or_past, length-map, length-replicate}
 use Rattle.std.proofs.lemmas.List.Sums.{sum_by-set}
-use Rattle.std.proofs.lemmas.Option.{same_Some}
 use Rattle.std.proofs.Math.Nat.{mod-lt, div-lt_iff_lt-mul, mul-lt-mul_of_pos_right}
-use Rattle.mm_arena.specs.declared.key.Key.{Key}
-use Rattle.mm_lists.specs.Members.{Among, without}
+use Rattle.mm_lists.specs.Members.{Among, NoRepeat, without}
+use Rattle.mm_lists.proofs.Lemmas.Among.{among_append, among_left, among_right}
+use Rattle.mm_lists.proofs.Lemmas.Cut.{no_repeat_around}
 use Rattle.mm_lists.proofs.Lemmas.Set.{read_replicate}
-use Rattle.mm_owned.specs.Owned.{Ownership, ListsMatchOwners, owner_at, process_at, list_at, head, given, freed}
-use Rattle.mm_owned.proofs.Lemmas.ListsMatchOwners.{in_range}
-use Rattle.mm_owned.proofs.Lemmas.Walk.{Among-head}
+use Rattle.mm_owned.specs.Owned.{Ownership, unowned, owner_at, given, freed}
 use Rattle.mm_names.specs.declared.config.TheConstants.NamesConfig.{MOST_NAMES}
 use Rattle.mm_names.specs.declared.spots.Spots.{Spots}
 use Rattle.mm_names.specs.Names.{NameTable, name_of, named_count, nameless, with_name, IsNamed, IsFree, IsFull}
-use Rattle.mm_names.specs.private.Spots.{hash_of, spot_of, free_spot, spot_for}
-use Rattle.mm_names.specs.private.Index.{AreAllFree, AreIndexed}
+use Rattle.mm_names.specs.private.Hash.{hash_of}
+use Rattle.mm_names.specs.private.Spots.{spot_of}
+use Rattle.mm_names.specs.private.Index.{AreAll, AreIndexed}
 
 -- a name is that of one of the numbers
 pub named_in_range : (t : NameTable) (n : ℕ) (name : List ℕ) → name_of t n ≡ Some name → n < length t.names
@@ -41,66 +40,30 @@ scaled-below x lists some =
     (div-lt_iff_lt-mul (lit< tt)).1 (omega (arith, less))
 
 pub spot_of-below : (s : Spots) (name : List ℕ) → (spot_of s name).process < s.lists
-spot_of-below s name = scaled-below (hash_of s name / 2 ^ 32) s.lists s.some_lists
-
--- a number at the spot of those without a name has none
-no_name : (s : Spots) (o : Option (List ℕ)) → (spot_for s o).process ≡ s.lists → o ≡ None
-no_name s None same = refl
-no_name s (Some name) same = absurd (omega (arith, spot_of-below s name, same))
+spot_of-below s name = scaled-below (hash_of s.hash name / 2 ^ 32) s.lists s.some_lists
 
 -- how many have a name after one was given or taken
 named_count-set : (t : NameTable) (n : ℕ) (name : Option (List ℕ)) → n < length t.names → named_count (with_name t n name) + cond (is_some (name_of t n)) 1 0 ≡ named_count t + cond (is_some name) 1 0
 named_count-set t n name below = sum_by-set (λ o. cond (is_some o) 1 0) t.names n name None below
 
-module _ (t : NameTable) (index : Ownership) (spots : Spots) (count : ℕ) (indexed : AreIndexed t index spots count) where
+module _ (t : NameTable) (index : Ownership) (spots : Spots) (free : List ℕ) (indexed : AreIndexed t index spots free) where
   -- who has a name stands at its spot
   pub at_spot : (n : ℕ) (name : List ℕ) → name_of t n ≡ Some name → owner_at index n ≡ Some (spot_of spots name)
-  at_spot n name is = indexed.spots_of n (named_in_range t n name is) ∙ ap (λ o. Some (spot_for spots o)) is
+  at_spot n name is = indexed.spots_of n ∙ ap (option_map (spot_of spots)) is
 
-  list_of : (n : ℕ) → n < length t.names → process_at index n ≡ Some (spot_for spots (name_of t n)).process
-  list_of n below = ap (option_map (λ (k : Key). k.process)) (indexed.spots_of n below)
+  -- a free number stands nowhere
+  pub at_none : (n : ℕ) → IsFree t n → owner_at index n ≡ None
+  at_none n is_free = indexed.spots_of n ∙ ap (option_map (spot_of spots)) is_free.1
 
-  module _ (matched : ListsMatchOwners index) where
-    -- where the last list is empty, each number has a name
-    none_free : head (list_at index spots.lists) ≡ None → IsFull t
-    none_free none n below = named (name_of t n) refl where
-      nothing : (ns : List ℕ) → head ns ≡ None → Among n ns → ⊥
-      nothing [] is among = among
-      nothing (m ∷ ns) is among = cc
+  -- where no number is listed as free, each has a name
+  pub none_free : free ≡ [] → IsFull t
+  none_free none n below = named (name_of t n) refl where
+    named : (o : Option (List ℕ)) → name_of t n ≡ o → IsSome o
+    named (Some name) is = refl
+    named None is = absurd (let never : Among n [] = subst (Among n) none ((indexed.listed n).1 (below, is)) in never)
 
-      named : (o : Option (List ℕ)) → name_of t n ≡ o → IsSome o
-      named (Some name) is = refl
-      named None is =
-          absurd (nothing (list_at index spots.lists) none
-          ((matched.listed spots.lists n).1 (list_of n below ∙ ap (λ o. Some (spot_for spots o).process) is)))
-
-    -- and its first is free
-    free_at_head : (n : ℕ) → head (list_at index spots.lists) ≡ Some n → IsFree t n
-    free_at_head n is =
-        let among = Among-head (list_at index spots.lists) n is in
-        let below : n < length t.names = omega (arith, in_range index matched spots.lists n among, indexed.size) in (
-          below,
-          no_name spots (name_of t n) (same_Some _ _ (sym (list_of n below) ∙ (matched.listed spots.lists n).0 among)),
-        )
-
-    pub first_free : (spot : Key) → spot ≡ free_spot spots → (first : Option ℕ) → first ≡ head (list_at index spot.process) → MatchOption first (IsFull t) (IsFree t)
-    first_free spot spot_is first first_is =
-        at first (ap (λ (k : Key). head (list_at index k.process)) (sym spot_is) ∙ sym first_is) where
-          at : (o : Option ℕ) → head (list_at index spots.lists) ≡ o → MatchOption o (IsFull t) (IsFree t)
-          at None is = none_free is
-          at (Some n) is = free_at_head n is
-
-  -- a number that gets this name, or loses its own, and moves to its new spot
+  -- a number that gets this name, or loses its own
   module _ (n : ℕ) (below : n < length t.names) (name : Option (List ℕ)) (fresh : (m : ℕ) (x : List ℕ) → name ≡ Some x → name_of t m ≡ Some x → ⊥) where
-    abbrev moved : Ownership
-    moved = given (freed index n) (spot_for spots name) n
-
-    owner-here : owner_at moved n ≡ Some (spot_for spots name)
-    owner-here = get_or-set_same (set index.owners n None) n _ None (omega (arith, length-set index.owners n None, indexed.size))
-
-    owner-elsewhere : (m : ℕ) → m ≢ n → owner_at moved m ≡ owner_at index m
-    owner-elsewhere m apart = get_or-set_other (set index.owners n None) n m _ None apart ∙ get_or-set_other index.owners n m None None apart
-
     name-here : name_of (with_name t n name) n ≡ name
     name-here = get_or-set_same t.names n name None below
 
@@ -119,45 +82,122 @@ module _ (t : NameTable) (index : Ownership) (spots : Spots) (count : ℕ) (inde
       ]
     ]
 
-    AreIndexed-moved : (more : ℕ) → more ≡ named_count (with_name t n name) → AreIndexed (with_name t n name) moved spots more
-    AreIndexed-moved more counted = record {
-      few = omega (arith, length-set t.names n name, indexed.few);
-      size = length-set (set index.owners n None) n _ ∙ length-set index.owners n None ∙ indexed.size ∙ sym (length-set t.names n name);
-      lists = length-set (freed index n).lists _ _ ∙ length-map index.lists (without n) ∙ indexed.lists;
-      spots_of = λ m small. elim (cases_eq m n) [
-        | inl same ↦ subst (λ i. owner_at moved i ≡ Some (spot_for spots (name_of (with_name t n name) i))) (sym same) (owner-here ∙ ap (λ o. Some (spot_for spots o)) (sym name-here))
-        | inr apart ↦ owner-elsewhere m apart ∙ indexed.spots_of m (omega (arith, length-set t.names n name)) ∙ ap (λ o. Some (spot_for spots o)) (sym (name-elsewhere m apart))
-      ];
-      distinct = distinct;
-      counted = counted;
-    }
+    module _ (after : Ownership) (owners : after.owners ≡ set index.owners n (option_map (spot_of spots) name)) where
+      owner-here : owner_at after n ≡ option_map (spot_of spots) name
+      owner-here = ap (λ os. get_or os n None) owners ∙ get_or-set_same index.owners n _ None (omega (arith, indexed.size))
 
-module _ (t : NameTable) (index : Ownership) (spots : Spots) (count : ℕ) (indexed : AreIndexed t index spots count) (n : ℕ) where
-  -- after a free number got a new name
-  pub AreIndexed-given : (name : List ℕ) → IsFree t n → ¬ IsNamed t name → AreIndexed (with_name t n (Some name)) (given (freed index n) (spot_of spots name) n) spots (count + 1)
-  AreIndexed-given name free new =
-      let none : cond {A = ℕ} (is_some (name_of t n)) 1 0 ≡ 0 = ap (λ (o : Option (List ℕ)). cond {A = ℕ} (is_some o) 1 0) free.1 in
-      AreIndexed-moved t index spots count indexed n free.0 (Some name) (λ m x is has. new (m, has ∙ sym is)) (count + 1) (omega (arith, named_count-set t n (Some name) free.0, none, indexed.counted))
+      owner-elsewhere : (m : ℕ) → m ≢ n → owner_at after m ≡ owner_at index m
+      owner-elsewhere m apart = ap (λ os. get_or os m None) owners ∙ get_or-set_other index.owners n m _ None apart
+
+      AreIndexed-set : length after.lists ≡ length index.lists → (left : List ℕ) → ((m : ℕ) → Among m left ↔ IsFree (with_name t n name) m) → NoRepeat left
+          → length left + named_count (with_name t n name) ≡ length t.names → AreIndexed (with_name t n name) after spots left
+      AreIndexed-set lists left is_free once counted =
+          let long = length-set t.names n name in
+          record {
+            few = omega (arith, long, indexed.few);
+            size = ap length owners ∙ length-set index.owners n _ ∙ indexed.size ∙ sym long;
+            lists = lists ∙ indexed.lists;
+            spots_of = λ m. elim (cases_eq m n) [
+              | inl same ↦ subst (λ i. owner_at after i ≡ option_map (spot_of spots) (name_of (with_name t n name) i)) (sym same) (owner-here ∙ ap (option_map (spot_of spots)) (sym name-here))
+              | inr apart ↦ owner-elsewhere m apart ∙ indexed.spots_of m ∙ ap (option_map (spot_of spots)) (sym (name-elsewhere m apart))
+            ];
+            distinct = distinct;
+            listed = is_free;
+            once = once;
+            counted = counted ∙ sym long;
+          }
+
+-- one more, which the list has not yet
+pub NoRepeat-push : (xs : List ℕ) (x : ℕ) → NoRepeat xs → (Among x xs → ⊥) → NoRepeat (xs ++ x ∷ [])
+NoRepeat-push [] x once apart = (λ found. found, tt)
+NoRepeat-push (y ∷ ys) x once apart = (
+  λ again. elim (among_append ys (x ∷ []) y again) [ inl before ↦ once.0 before | inr here ↦ elim here [ inl same ↦ apart (inl (sym same)) | inr never ↦ absurd never ] ],
+  NoRepeat-push ys x once.1 (λ later. apart (inr later)),
+)
+
+module _ (t : NameTable) (index : Ownership) (spots : Spots) (free : List ℕ) (indexed : AreIndexed t index spots free) (n : ℕ) where
+  -- the last of the free numbers is free
+  pub last_is_free : (rest : List ℕ) → free ≡ rest ++ n ∷ [] → IsFree t n
+  last_is_free rest is = (indexed.listed n).0 (subst (Among n) (sym is) (among_right rest (n ∷ []) n (inl refl)))
+
+  -- after it got a new name
+  pub AreIndexed-given : (rest : List ℕ) → free ≡ rest ++ n ∷ [] → (name : List ℕ) → ¬ IsNamed t name → AreIndexed (with_name t n (Some name)) (given index (spot_of spots name) n) spots rest
+  AreIndexed-given rest is name new =
+      let was : IsFree t n = last_is_free rest is in
+      let t' = with_name t n (Some name) in
+      let long = length-set t.names n (Some name) in
+      let once = no_repeat_around n rest [] (subst NoRepeat is indexed.once) in
+      let rest_is : rest ++ [] ≡ rest = append-nil rest in
+      let none : cond {A = ℕ} (is_some (name_of t n)) 1 0 ≡ 0 = ap (λ (o : Option (List ℕ)). cond {A = ℕ} (is_some o) 1 0) was.1 in
+      AreIndexed-set t index spots free indexed n was.0 (Some name) (λ m x same has. new (m, has ∙ sym same)) (given index (spot_of spots name) n) refl
+      (length-set index.lists (spot_of spots name).process _) rest
+      (λ m. (
+        λ among.
+            let old : IsFree t m = (indexed.listed m).0 (subst (Among m) (sym is) (among_left rest (n ∷ []) m among)) in
+            let apart : m ≢ n = λ same. once.1 (subst (λ i. Among i (rest ++ [])) same (subst (Among m) (sym rest_is) among)) in
+            (omega (arith, old.0, long), get_or-set_other t.names n m (Some name) None apart ∙ old.1),
+        λ now. elim (cases_eq m n) [
+          | inl same ↦ (let never : Some name ≡ None = sym (get_or-set_same t.names n (Some name) None was.0) ∙ ap (name_of t') (sym same) ∙ now.1 in absurd (cc))
+          | inr apart ↦ elim (among_append rest (n ∷ []) m (subst (Among m) is ((indexed.listed m).1 (omega (arith, now.0, long), sym (get_or-set_other t.names n m (Some name) None apart) ∙ now.1)))) [
+            | inl left ↦ left
+            | inr here ↦ elim here [ inl same ↦ absurd (apart same) | inr never ↦ absurd never ]
+          ]
+        ],
+      ))
+      (subst NoRepeat rest_is once.0)
+      (omega (arith, named_count-set t n (Some name) was.0, none, indexed.counted, ap length is, length-append rest (n ∷ [])))
 
   -- after a name was taken from its number
-  pub AreIndexed-taken : n < length t.names → IsSome (name_of t n) → AreIndexed (with_name t n None) (given (freed index n) (free_spot spots) n) spots (count - 1)
+  pub AreIndexed-taken : n < length t.names → IsSome (name_of t n) → AreIndexed (with_name t n None) (freed index n) spots (free ++ n ∷ [])
   AreIndexed-taken below some =
+      let long = length-set t.names n None in
       let one : cond {A = ℕ} (is_some (name_of t n)) 1 0 ≡ 1 = ap (λ b. cond {A = ℕ} b 1 0) some in
-      AreIndexed-moved t index spots count indexed n below None (λ m x is has. cc) (count - 1) (omega (arith, named_count-set t n None below, one, indexed.counted))
+      let named : name_of t n ≡ None → ⊥ = λ none. (let never : true ≡ false = sym some ∙ ap is_some none in cc) in
+      AreIndexed-set t index spots free indexed n below None (λ m x is has. cc) (freed index n) refl
+      (length-map index.lists (without n)) (free ++ n ∷ [])
+      (λ m. (
+        λ among. elim (among_append free (n ∷ []) m among) [
+          | inl before ↦
+              let old : IsFree t m = (indexed.listed m).0 before in
+              let apart : m ≢ n = λ same. named (ap (name_of t) (sym same) ∙ old.1) in
+              (omega (arith, old.0, long), get_or-set_other t.names n m None None apart ∙ old.1)
+          | inr here ↦ elim here [
+            | inl same ↦ (omega (arith, below, same, long), ap (λ i. get_or (set t.names n None) i None) same ∙ get_or-set_same t.names n None None below)
+            | inr never ↦ absurd never
+          ]
+        ],
+        λ now. elim (cases_eq m n) [
+          | inl same ↦ among_right free (n ∷ []) m (inl same)
+          | inr apart ↦ among_left free (n ∷ []) m ((indexed.listed m).1 (omega (arith, now.0, long), sym (get_or-set_other t.names n m None None apart) ∙ now.1))
+        ],
+      ))
+      (NoRepeat-push free n indexed.once (λ among. named ((indexed.listed n).0 among).1))
+      (omega (arith, named_count-set t n None below, one, indexed.counted, length-append free (n ∷ [])))
+
+  -- there is room for one more free number
+  pub few_free : IsSome (name_of t n) → length free + 1 ≤ length t.names
+  few_free some =
+      let below = some_in_range t n some in
+      let one : cond {A = ℕ} (is_some (name_of t n)) 1 0 ≡ 1 = ap (λ b. cond {A = ℕ} b 1 0) some in
+      omega (arith, named_count-set t n None below, one, indexed.counted)
 
 -- at the opening
-pub AreIndexed-nameless : (t : NameTable) (index : Ownership) (spots : Spots) (numbers name_bytes : ℕ) → numbers ≤ MOST_NAMES → t ≡ nameless numbers name_bytes → AreAllFree index spots numbers → AreIndexed t index spots 0
-AreIndexed-nameless t index spots numbers name_bytes small is free =
+pub AreIndexed-nameless : (t : NameTable) (index : Ownership) (spots : Spots) (free : List ℕ) (numbers name_bytes : ℕ) → numbers ≤ MOST_NAMES → t ≡ nameless numbers name_bytes
+    → index ≡ unowned spots.lists numbers → AreAll numbers free → AreIndexed t index spots free
+AreIndexed-nameless t index spots free numbers name_bytes small is owned all =
     let long : length t.names ≡ numbers = ap (λ (s : NameTable). length s.names) is ∙ length-replicate numbers None in
     let none : (n : ℕ) → name_of t n ≡ None = λ n. ap (λ s. name_of s n) is ∙ read_replicate None numbers n in
     let nothing : (n : ℕ) (name : List ℕ) → name_of t n ≡ Some name → ⊥ = λ n name has. (let never : None ≡ Some name = sym (none n) ∙ has in cc) in
+    let named : named_count t ≡ 0 = ap named_count is ∙ count_by-none numbers in
     record {
       few = omega (arith, long, small);
-      size = free.size ∙ sym long;
-      lists = free.lists;
-      spots_of = λ n below. free.free n (omega (arith, long)) ∙ ap (λ o. Some (spot_for spots o)) (sym (none n));
+      size = ap (λ (o : Ownership). length o.owners) owned ∙ length-replicate numbers None ∙ sym long;
+      lists = ap (λ (o : Ownership). length o.lists) owned ∙ length-replicate spots.lists [];
+      spots_of = λ n. ap (λ o. owner_at o n) owned ∙ read_replicate None numbers n ∙ ap (option_map (spot_of spots)) (sym (none n));
       distinct = λ m n name has _. absurd (nothing m name has);
-      counted = sym (ap named_count is ∙ count_by-none numbers);
+      listed = λ n. (λ among. (let below : n < numbers = (all.all n).0 among in (omega (arith, below, long), none n)), λ now. (all.all n).1 (omega (arith, now.0, long)));
+      once = all.once;
+      counted = omega (arith, all.count, named, long);
     } where
       count_by-none : (n : ℕ) → count_by {X = Option (List ℕ)} is_some (replicate n None) ≡ 0
       count_by-none zero = refl

@@ -1,22 +1,25 @@
 -- Which number stands in which list.
-use Rattle.std.specs.Prelude.{◌≡◌, ℕ, ◌+◌, ◌<◌, ◌≤◌, length, List, Some}
+use Rattle.std.specs.Prelude.{◌≡◌, ◌↔◌, ℕ, ◌+◌, ◌≤◌, ◌<◌, length, List, Some, option_map}
+use Rattle.mm_lists.specs.Members.{Among, NoRepeat}
 use Rattle.mm_owned.specs.Owned.{Ownership, owner_at}
 use Rattle.mm_names.specs.declared.config.TheConstants.NamesConfig.{MOST_NAMES}
 use Rattle.mm_names.specs.declared.spots.Spots.{Spots}
-use Rattle.mm_names.specs.Names.{NameTable, name_of, named_count}
-use Rattle.mm_names.specs.private.Spots.{free_spot, spot_for}
+use Rattle.mm_names.specs.Names.{NameTable, name_of, named_count, IsFree}
+use Rattle.mm_names.specs.private.Spots.{spot_of}
 
--- so many lists for names, and the last one has all of so many numbers
-pub record AreAllFree (index : Ownership) (spots : Spots) (numbers : ℕ) : Type 0 where
-  pub size : length index.owners ≡ numbers
-  pub lists : length index.lists ≡ spots.lists + 1
-  pub free : (n : ℕ) → n < numbers → owner_at index n ≡ Some (free_spot spots)
+-- all numbers below this one, each once
+pub record AreAll (numbers : ℕ) (free : List ℕ) : Type 0 where
+  pub all : (n : ℕ) → Among n free ↔ (n < numbers)
+  pub once : NoRepeat free
+  pub count : length free ≡ numbers
 
--- each number stands at the spot of its name, no name is that of two numbers, and those that have one are counted
-pub record AreIndexed (t : NameTable) (index : Ownership) (spots : Spots) (count : ℕ) : Type 0 where
+-- each number stands at the spot of its name, no name is that of two numbers, and the free ones are listed
+pub record AreIndexed (t : NameTable) (index : Ownership) (spots : Spots) (free : List ℕ) : Type 0 where
   pub few : length t.names ≤ MOST_NAMES
   pub size : length index.owners ≡ length t.names
-  pub lists : length index.lists ≡ spots.lists + 1
-  pub spots_of : (n : ℕ) → n < length t.names → owner_at index n ≡ Some (spot_for spots (name_of t n))
+  pub lists : length index.lists ≡ spots.lists
+  pub spots_of : (n : ℕ) → owner_at index n ≡ option_map (spot_of spots) (name_of t n)
   pub distinct : (m n : ℕ) (name : List ℕ) → name_of t m ≡ Some name → name_of t n ≡ Some name → m ≡ n
-  pub counted : count ≡ named_count t
+  pub listed : (n : ℕ) → Among n free ↔ IsFree t n
+  pub once : NoRepeat free
+  pub counted : length free + named_count t ≡ length t.names

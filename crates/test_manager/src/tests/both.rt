@@ -404,26 +404,22 @@ impl Both {
         same(rt, owner, Some(self.known(rt, holder)));
     }
 
-    /// The wait-for graph and the names of each transaction.
-    pub fn look_at_graph(&self, rt: &impl Abort, alloc: Global) -> Result<(), AllocError> {
-        let mut waits = Vec::with_capacity(alloc, 65_536)?;
-        self.manager.keeps_laws();
-        self.manager.graph(&mut waits);
-        let mut next = 0;
+    /// The wait-for graph has each who waits, by rising process, and nobody else.
+    pub fn look_at_graph(&self, rt: &impl Abort) {
+        let mut waits = self.manager.graph();
         for process in 0..TRANSACTIONS {
             if self.plain.awaited(process).is_some() {
-                let wait = waits.get(next).copied();
-                next = usize::wrapping_add(next, 1);
+                let wait = waits.next();
                 same(rt, wait.map(|wait| wait.key), self.plain.key(process));
                 if let Some(wait) = wait {
                     self.same_wait(rt, process, wait.number, wait.holder);
                 }
             }
         }
-        same(rt, waits.len(), next);
-        Ok(())
+        same(rt, waits.next(), None);
     }
 
+    /// The names of each transaction.
     pub fn look_at_names(&self, rt: &impl Abort, alloc: Global) -> Result<(), AllocError> {
         let mut numbers = Vec::with_capacity(alloc, 65_536)?;
         self.manager.keeps_laws();

@@ -1,48 +1,55 @@
-use Rattle.std.proofs.Common.{length, is_some, arith, ap, sym, subst, inr, refl, rules}
-use Rattle.std.proofs.lemmas.List.Sums.{count_by-le-length}
-use Rattle.mm_names.specs.Names.{NameTable, IsNamed, IsFree, Interns}
-use Rattle.mm_names.proofs.Lemmas.Index.{free_not_full, AreIndexed-given}
+use Rattle.std.proofs.Common.{◌++◌, Some, length, arith, ap, subst, ◌∙◌, inr, length-set}
+use Rattle.std.specs.Option.{option_to_list}
+use Rattle.mm_names.specs.Names.{NameTable, IsFree, Interns}
+use Rattle.mm_names.proofs.Lemmas.Index.{free_not_full, at_none, last_is_free, AreIndexed-given}
 use Rattle.mm_names.proofs.names.Names.intern.Goals as goal
 
-pub returns-in_default-first_free-clause-full : goal.returns-in_default-first_free-clause-full
-returns-in_default-first_free-clause-full c = (
-  λ _. record {
-    possible = record {
-      some = search (rules, c.is_empty.ensures, c.if-is_empty.false);
-      short = omega (arith, c.if-name-name_bytes.false, c.name_bytes.ensures, ap (λ (t : NameTable). t.name_bytes) c.self.view_is);
-    };
-    new = subst (λ t. ¬ IsNamed t c.args.name.now) c.self.view_is c.in_default.ensures;
-    full = c.in_default-first_free.ensures;
-  },
-  λ _. refl,
-)
-
-pub move_to-requires-clause-number : goal.move_to-requires-clause-number
-move_to-requires-clause-number c =
-    omega (arith, c.in-Some-first_free.ensures, ap (λ (t : NameTable). length t.names) c.self.view_is, c.self.invariant.size)
+pub push-requires-clause-unowned : goal.push-requires-clause-unowned
+push-requires-clause-unowned c =
+    let n = c.self.inside in
+    let rest = c.pop.new.self.items in
+    let is = c.pop.ensures.items ∙ ap (λ o. rest ++ option_to_list o) c.in-Some-pop.is in
+    at_none n.places n.index n.spots n.free.items c.self.invariant.0 c.in-Some-pop.number
+    (last_is_free n.places n.index n.spots n.free.items c.self.invariant.0 c.in-Some-pop.number rest is)
 
 pub put-requires-clause-in_range : goal.put-requires-clause-in_range
 put-requires-clause-in_range c =
-    (subst (λ t. IsFree t c.in-Some-first_free.number) (sym c.self.view_is) c.in-Some-first_free.ensures).0
-
-pub overflow_add-self : goal.overflow_add-self
-overflow_add-self c =
-    omega (arith, count_by-le-length is_some c.self.inside.places.names, c.self.invariant.counted, c.self.invariant.few)
-
-pub invariant_of-self : goal.invariant_of-self
-invariant_of-self c =
     let n = c.self.inside in
-    let free = subst (λ t. IsFree t c.in-Some-first_free.number) (sym c.self.view_is) c.in-Some-first_free.ensures in
-    rw (c.put.ensures, c.move_to.ensures, c.of-spot.ensures.spot)
-    (AreIndexed-given n.places n.index n.spots n.count c.self.invariant c.in-Some-first_free.number c.args.name.now free c.in_default.ensures)
+    let rest = c.pop.new.self.items in
+    let is = c.pop.ensures.items ∙ ap (λ o. rest ++ option_to_list o) c.in-Some-pop.is in
+    (last_is_free n.places n.index n.spots n.free.items c.self.invariant.0 c.in-Some-pop.number rest is).0
+
+pub push-requires-clause-resource_in_range : goal.push-requires-clause-resource_in_range
+push-requires-clause-resource_in_range c =
+    let n = c.self.inside in
+    let rest = c.pop.new.self.items in
+    let is = c.pop.ensures.items ∙ ap (λ o. rest ++ option_to_list o) c.in-Some-pop.is in
+    omega (arith, (last_is_free n.places n.index n.spots n.free.items c.self.invariant.0 c.in-Some-pop.number rest is).0, c.self.invariant.0.size)
+
+pub invariant_of-self-2 : goal.invariant_of-self-2
+invariant_of-self-2 c =
+    let n = c.self.inside in
+    let rest = c.pop.new.self.items in
+    let is = c.pop.ensures.items ∙ ap (λ o. rest ++ option_to_list o) c.in-Some-pop.is in (
+      rw (c.put.ensures, c.push.ensures, c.of-spot.ensures.spot)
+          (AreIndexed-given n.places n.index n.spots n.free.items c.self.invariant.0 c.in-Some-pop.number rest is c.args.name.now c.in_default.ensures),
+      omega (arith, c.self.invariant.1, c.pop.ensures.capacity, ap (λ (t : NameTable). length t.names) c.put.ensures, length-set n.places.names c.in-Some-pop.number (Some c.args.name.now)),
+    )
 
 pub returns-clause-interned : goal.returns-clause-interned
 returns-clause-interned c =
-    let free = subst (λ t. IsFree t c.in-Some-first_free.number) (sym c.self.view_is) c.in-Some-first_free.ensures in
-    subst (λ t. Interns t c.args.name.now c.in-Some-first_free.number c.put.new.self) c.self.view_is (inr (c.in_default.ensures, free, c.put.ensures))
+    let n = c.self.inside in
+    let rest = c.pop.new.self.items in
+    let is = c.pop.ensures.items ∙ ap (λ o. rest ++ option_to_list o) c.in-Some-pop.is in
+    let free = last_is_free n.places n.index n.spots n.free.items c.self.invariant.0 c.in-Some-pop.number rest is in
+    subst (λ t. Interns t c.args.name.now c.in-Some-pop.number c.put.new.self) c.self.view_is (inr (c.in_default.ensures, free, c.put.ensures))
 
 pub returns-clause-full : goal.returns-clause-full
-returns-clause-full c = (
-  λ is. cc,
-  λ refused. absurd (free_not_full c.args.self.now c.in-Some-first_free.number c.in-Some-first_free.ensures refused.full),
-)
+returns-clause-full c =
+    let n = c.self.inside in
+    let rest = c.pop.new.self.items in
+    let is = c.pop.ensures.items ∙ ap (λ o. rest ++ option_to_list o) c.in-Some-pop.is in
+    let free = last_is_free n.places n.index n.spots n.free.items c.self.invariant.0 c.in-Some-pop.number rest is in (
+      λ is. cc,
+      λ refused. absurd (free_not_full c.args.self.now c.in-Some-pop.number (subst (λ t. IsFree t c.in-Some-pop.number) c.self.view_is free) refused.full),
+    )

@@ -4,4 +4,4 @@ use Rattle.mm_names.proofs.names.Names.keeps_laws.Goals as goal
 
 pub returns : goal.returns
 returns c =
-    subst IsLawful c.self.view_is (record { distinct = c.self.invariant.distinct; in_range = c.keep_range.ensures })
+    subst IsLawful c.self.view_is (record { distinct = c.self.invariant.0.distinct; in_range = c.keep_range.ensures })

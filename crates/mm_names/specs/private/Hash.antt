@@ -1,0 +1,21 @@
+-- The hash of a name. All that is proved of it is that it is a function of the bytes.
+use Rattle.std.specs.Prelude.{ℕ, zero, suc, ◌+◌, ◌-◌, ◌*◌, ◌/◌, List, length, drop, if◌then◌else◌, nat_lt, bit_xor}
+use Rattle.std.specs.Hash.FoldHasher.{folded_multiply, read_u64, read_short}
+use Rattle.mm_names.specs.declared.hash.NameHash.{NameHash}
+
+-- the state after the words at i and at j
+abbrev pub step : NameHash → List ℕ → ℕ → ℕ → ℕ → ℕ
+step h name state i j = folded_multiply (bit_xor (read_u64 name i) state) (bit_xor (read_u64 name j) h.second)
+
+-- the state after the first n blocks of 16 bytes
+unfoldable pub after_blocks : NameHash → List ℕ → ℕ → ℕ
+after_blocks h name zero = bit_xor h.first (length name)
+after_blocks h name (suc n) = step h name (after_blocks h name n) (16 * n) (16 * n + 8)
+
+-- the state after the last one to sixteen bytes
+unfoldable pub last_step : NameHash → ℕ → List ℕ → ℕ
+last_step h state rest =
+    if nat_lt 8 (length rest) then step h rest state 0 (length rest - 8) else folded_multiply (bit_xor (read_short rest) state) h.second
+
+unfoldable pub hash_of : NameHash → List ℕ → ℕ
+hash_of h name = let n = (length name - 1) / 16 in last_step h (after_blocks h name n) (drop (16 * n) name)
