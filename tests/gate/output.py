@@ -8,7 +8,7 @@ KEPT = re.compile(r"^rt: (\w+) is kept: ", re.M)
 TRYING = re.compile(r"^rt: (\w+): trying its must-fail edits \((\d+)\)$", re.M)
 KEPT_EDITS = re.compile(r"^rt: (\w+): (\d+) of its \d+ must-fail edits were tried by an earlier run", re.M)
 PASSED = re.compile(r"^rt: (\w+): its tests passed$", re.M)
-OVER = re.compile(r"^((?:rt ci|tests/\w+)(?: --[\w-]+)*): (\d+ passed, \d+ failed)$", re.M)
+OVER = re.compile(r"^((?:rt ci|(?:tests|docs)/\w+)(?: --[\w-]+)*): (\d+ passed, \d+ failed)$", re.M)
 
 
 class Output:

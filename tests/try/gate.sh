@@ -8,7 +8,7 @@ printf 'mm_low:\nmm_detect: mm_low # the program\n' > "$gate/top/crates.txt"
 echo '#[test]' > "$gate/top/crates/mm_low/src/lib.rt"
 touch "$gate/top/crates/mm_low/must-fail/one.edit" "$gate/top/crates/mm_low/must-fail/two.edit"
 mkdir "$gate/top/docs"
-for script in tests/no_lock tests/no_loops docs/contracts tests/try_program tests/refuse_memory; do
+for script in tests/no_lock tests/no_loops docs/contracts docs/commands tests/try_program tests/refuse_memory; do
   printf '#!/bin/sh\necho "1 passed, 0 failed"\n' > "$gate/top/$script"
 done
 
@@ -44,7 +44,7 @@ echo "rt: mm_low: 1 of its 2 must-fail edits were tried by an earlier run on thi
 echo "rt: mm_low: its tests passed"
 echo "4 passed, 0 failed"
 RT
-chmod +x "$gate/bin/rattle" "$gate/bin/rt" "$gate"/top/tests/*_* "$gate/top/docs/contracts"
+chmod +x "$gate/bin/rattle" "$gate/bin/rt" "$gate"/top/tests/*_* "$gate"/top/docs/*
 
 # gated COMMAND..: the command at the top of that checkout, with that toolchain
 gated() {
@@ -88,9 +88,10 @@ tests/no_lock: 1 passed, 0 failed
 tests/no_loops: 1 passed, 0 failed
 tests/no_loops --self-test: 1 passed, 0 failed
 docs/contracts: 1 passed, 0 failed
+docs/commands: 1 passed, 0 failed
 tests/try_program --built: 1 passed, 0 failed
 tests/refuse_memory: 1 passed, 0 failed
-10 passed, 0 failed" "" $?
+11 passed, 0 failed" "" $?
 gated ./run_tests --times
 same status 0 $?
 says "The last run: commit unknown, begun 20"
@@ -111,7 +112,7 @@ echo 0 > "$gate/takes"
 printf '#!/bin/sh\nexit 3\n' > "$gate/top/tests/gate/watch"
 gated ./run_tests
 same status 0 $?
-same "the last line" "10 passed, 0 failed" "$(tail -n 1 "$work/out")"
+same "the last line" "11 passed, 0 failed" "$(tail -n 1 "$work/out")"
 cp tests/gate/watch "$gate/top/tests/gate/watch"
 
 # watch_of RUN: the process that watches this run
