@@ -1,5 +1,5 @@
 //! Eight threads transfer money between four accounts, each transfer under the locks of its two accounts. Transfers that meet crosswise
-//! close a cycle of waits: the one that is told of the deadlock is rolled back, and tries again. The sum of all accounts stays the same.
+//! close a cycle of waits: the one that is told of the deadlock is rolled back, and made again. The sum of all accounts stays the same.
 #![tactic(auto)]
 
 use mm_blocking::{LockError, Locks, ManagerConfig};
@@ -13,6 +13,9 @@ use std::{io, thread};
 const THREADS: usize = 8;
 
 const TRANSFERS: usize = 500;
+
+/// How often a transfer is made again at the most.
+const ATTEMPTS: u32 = 10_000;
 
 /// Money under a name. Whoever owns the name reads and writes the balance.
 #[derive(Drop)]
@@ -28,7 +31,17 @@ fn open_account(name: &'static [u8]) -> Account {
     }
 }
 
-/// Moves this amount, if it is there. A transaction that is refused a lock is dropped, and so gives back what it owns.
+/// Moves this amount, if it is there. Whoever calls this owns both names.
+fn move_money(from: &Account, to: &Account, amount: u64) {
+    let balance = from.balance.load(SeqCst);
+    if balance >= amount {
+        from.balance.store(balance - amount, SeqCst);
+        let other = to.balance.load(SeqCst);
+        to.balance.store(other.wrapping_add(amount), SeqCst);
+    }
+}
+
+/// A transfer under the locks of both accounts, made again after a deadlock.
 fn transfer<R: Wait>(
     rt: &R,
     locks: &Locks,
@@ -36,33 +49,11 @@ fn transfer<R: Wait>(
     to: &Account,
     amount: u64,
 ) -> Result<(), LockError> {
-    let mut transaction = locks.begin(rt)?;
-    transaction.lock(from.name)?;
-    transaction.lock(to.name)?;
-    let balance = from.balance.load(SeqCst);
-    if balance >= amount {
-        from.balance.store(balance - amount, SeqCst);
-        let other = to.balance.load(SeqCst);
-        to.balance.store(other.wrapping_add(amount), SeqCst);
-    }
-    transaction.commit()
-}
-
-/// Tries a transfer again, as long as it is told of a deadlock.
-fn transfer_at_last<R: Wait>(
-    rt: &R,
-    locks: &Locks,
-    from: &Account,
-    to: &Account,
-    amount: u64,
-) -> Result<(), LockError> {
-    for _ in rt.forever() {
-        match transfer(rt, locks, from, to, amount) {
-            Err(LockError::Deadlock) => thread::yield_now(),
-            outcome => return outcome,
-        }
-    }
-    unreachable!()
+    locks.run(rt, ATTEMPTS, |transaction| {
+        transaction.lock_all(&[from.name, to.name])?;
+        move_money(from, to, amount);
+        Ok(())
+    })
 }
 
 /// Makes the transfers of one thread, and returns how many were made.
@@ -76,7 +67,7 @@ fn make_transfers<R: Wait>(
     for round in 0..TRANSFERS {
         let from = (number % THREADS + round) % 4;
         let to = (from + 1 + round % 3) % 4;
-        transfer_at_last(rt, locks, &accounts[from], &accounts[to], 7)?;
+        transfer(rt, locks, &accounts[from], &accounts[to], 7)?;
         made = made.saturating_add(1);
     }
     Ok(made)

@@ -9,3 +9,6 @@ same_key j k is =
     let process : j.process ≡ k.process = grind (arith, nat_tests) in
     let generation : j.generation ≡ k.generation = grind (arith, nat_tests) in
     λ i. record { process = process i; generation = generation i }
+
+pub key_itself : (k : Key) → key_eq k k ≡ true
+key_itself k = grind (arith, nat_tests)

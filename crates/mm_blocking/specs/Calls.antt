@@ -1,23 +1,32 @@
 -- What the calls do to the manager behind the lock, by their answers.
-use Rattle.std.specs.Prelude.{◌≡◌, ◌≢◌, ◌⊎◌, ℕ, Bool, true, false, List, Result, Ok, Err}
+use Rattle.std.specs.Prelude.{◌≡◌, ◌≢◌, ◌⊎◌, ℕ, Bool, true, false, List, [], ◌∷◌, Result, Ok, Err, map, drop}
+use Rattle.std.specs.Borrow.{Bor}
 use Rattle.mm_arena.specs.declared.key.Key.{Key}
-use Rattle.mm_rules.specs.TableState.{has_verdict}
 use Rattle.mm_rules.specs.Victims.{IsOnCycle}
 use Rattle.mm_manager.specs.LockState.{LockState, Owns, untold}
-use Rattle.mm_manager.specs.Calls.{Gets, Queues, Aborts}
-use Rattle.mm_manager.specs.Reads.{IsHeldUp}
-use Rattle.mm_manager.specs.Refused.{NameRefused}
+use Rattle.mm_manager.specs.Calls.{Begins, Gets, Queues, UnlocksName, Commits, Aborts, Cancels}
+use Rattle.mm_manager.specs.Reads.{HasStatus}
+use Rattle.mm_manager.specs.Refused.{NameRefused, CommitRefused}
 use Rattle.mm_manager.specs.declared.refusal.Refusal.{Refusal}
 use Rattle.mm_manager.specs.declared.reply.Abort.{Abort}
-use Rattle.mm_blocking.specs.Errors.{error_of}
+use Rattle.mm_manager.specs.declared.reply.Cancel.{Cancel}
+use Rattle.mm_manager.specs.declared.reply.Cancel.TheVariants as cancel
+use Rattle.mm_manager.specs.declared.reply.Status.{Status}
+use Rattle.mm_manager.specs.declared.reply.Status.TheVariants as status
+use Rattle.mm_blocking.specs.Errors.{Because}
 use Rattle.mm_blocking.specs.declared.desk.Asked.{Asked}
 use Rattle.mm_blocking.specs.declared.desk.Asked.TheVariants as asked
 use Rattle.mm_blocking.specs.declared.error.LockError.{LockError}
-use Rattle.mm_blocking.specs.declared.error.LockError.TheVariants.{Deadlock}
+use Rattle.mm_blocking.specs.declared.error.LockError.TheVariants.{Deadlock, TimedOut, NotActive}
+
+-- a transaction starts, or that is refused
+abbrev pub Starts : LockState → Result Key LockError → LockState → Type 0
+Starts old (Ok key) new = Begins old (Ok key) new
+Starts old (Err error) new = Because (λ refusal. Begins old (Err refusal) new) error
 
 -- the manager refuses the request, and nothing changes
 abbrev pub IsRefused : LockState → Key → List ℕ → LockError → LockState → Type 0
-IsRefused old k name error new = (new ≡ untold old) × ((refusal : Refusal) × NameRefused old k name refusal × (error ≡ error_of refusal))
+IsRefused old k name error new = (new ≡ untold old) × Because (NameRefused old k name) error
 
 -- a request: k owns the name; or it waits, on no cycle of waits; or it closed a cycle, or is refused
 abbrev pub Asks : LockState → Key → List ℕ → Result Asked LockError → LockState → Type 0
@@ -25,17 +34,70 @@ Asks old k name (Ok asked.Owns) new = Gets old k name new ⊎ (Owns old k name �
 Asks old k name (Ok asked.Waits) new = (h : Key) × Queues old k name h new × ¬ IsOnCycle new.table k.process
 Asks old k name (Err error) new = ((error ≡ Deadlock) × ((h : Key) × Queues old k name h new × IsOnCycle new.table k.process)) ⊎ IsRefused old k name error new
 
+-- what a request has come to by what the transaction does, where it does not own the name
+abbrev pub found_by : Result Status Refusal → Result Asked LockError
+found_by (Ok (status.Waiting n h aborting)) = Ok asked.Waits
+found_by (Ok (status.Deadlock n h)) = Err Deadlock
+found_by (Ok status.Active) = Err NotActive
+found_by (Err refusal) = Err NotActive
+
+-- a look at what a request has come to: k owns the name; or it does not, and waits, or does not wait any more
+abbrev pub Finds : LockState → Key → List ℕ → Result Asked LockError → Type 0
+Finds m k name (Ok asked.Owns) = Owns m k name
+Finds m k name found = ¬ Owns m k name × ((does : Result Status Refusal) × HasStatus m k does × (found ≡ found_by does))
+
+-- whether what a transaction does is to be in a deadlock
+abbrev pub is_deadlock : Result Status Refusal → Bool
+is_deadlock (Ok (status.Deadlock n h)) = true
+is_deadlock does = false
+
+-- requests for these names in their order: k gets the first one, and so on with the others; or it waits for the first one, and all are left; or that one is refused
+abbrev pub AsksEach : LockState → Key → List (List ℕ) → Result (List (List ℕ)) LockError → LockState → Type 0
+AsksEach old k [] answer new = (answer ≡ Ok []) × (new ≡ old)
+AsksEach old k (name ∷ names) answer new =
+    ((mid : LockState) × Asks old k name (Ok asked.Owns) mid × AsksEach mid k names answer new)
+    ⊎ ((answer ≡ Ok (name ∷ names)) × Asks old k name (Ok asked.Waits) new)
+    ⊎ ((error : LockError) × (answer ≡ Err error) × Asks old k name (Err error) new)
+
+-- the same by one who waited for the first of these names: k owns it now, and so on with the others; or it waits still; or its wait has ended otherwise
+abbrev pub GoesOn : LockState → Key → List (List ℕ) → Result (List (List ℕ)) LockError → LockState → Type 0
+GoesOn old k [] answer new = (answer ≡ Ok []) × (new ≡ old)
+GoesOn old k (name ∷ names) answer new =
+    (Owns old k name × AsksEach old k names answer new)
+    ⊎ ((answer ≡ Ok (name ∷ names)) × Finds old k name (Ok asked.Waits) × (new ≡ old))
+    ⊎ ((error : LockError) × (answer ≡ Err error) × Finds old k name (Err error) × (new ≡ old))
+
+-- the bytes of each name
+abbrev pub bytes_of : List (Bor (List ℕ)) → List (List ℕ)
+bytes_of names = map (λ name. name.now) names
+
+-- which names are left, by the place of the first one of them
+abbrev pub left : List (List ℕ) → Result ℕ LockError → Result (List (List ℕ)) LockError
+left names (Ok place) = Ok (drop place names)
+left names (Err error) = Err error
+
 -- a try: k owns the name, or another one does, or it is refused
 abbrev pub Tries : LockState → Key → List ℕ → Result Bool LockError → LockState → Type 0
 Tries old k name (Ok true) new = Gets old k name new ⊎ (Owns old k name × (new ≡ untold old))
 Tries old k name (Ok false) new = ((h : Key) × Owns old h name × (h ≢ k)) × (new ≡ untold old)
 Tries old k name (Err error) new = IsRefused old k name error new
 
--- a look at what a request has come to: k owns the name, or it waits, and has no verdict
-abbrev pub Finds : LockState → Key → List ℕ → Asked → Type 0
-Finds m k name asked.Owns = Owns m k name
-Finds m k name asked.Waits = (n : ℕ) × (h : Key) × IsHeldUp m k.process n h × (has_verdict m.table k.process ≡ false)
+-- the request of k is taken back; or it is not, since k carries another's label or a count is at its limit, and this is what it has come to
+abbrev pub TimesOut : LockState → Key → List ℕ → Result Asked LockError → LockState → Type 0
+TimesOut old k name found new =
+    ((found ≡ Err TimedOut) × Cancels old k (Ok cancel.Withdrawn) new)
+    ⊎ (((answer : Result Cancel Refusal) × (answer ≢ Ok cancel.Withdrawn) × Cancels old k answer new) × Finds new k name found)
+
+-- k gives the name back, or that is refused
+abbrev pub GivesBack : LockState → Key → List ℕ → Result (Unit {0}) LockError → LockState → Type 0
+GivesBack old k name (Ok done) new = UnlocksName old k name (Ok tt) new
+GivesBack old k name (Err error) new = Because (λ refusal. UnlocksName old k name (Err refusal) new) error
 
 -- k is aborted, or that is refused since a label or a count is at its limit
 abbrev pub RollsBack : LockState → Key → LockState → Type 0
 RollsBack old k new = (answer : Result Abort Refusal) × Aborts old k answer new
+
+-- k ends; or that is refused, and it is rolled back
+abbrev pub Ends : LockState → Key → Result (Unit {0}) LockError → LockState → Type 0
+Ends old k (Ok done) new = Commits old k (Ok tt) new
+Ends old k (Err error) new = Because (CommitRefused old k) error × RollsBack (untold old) k new

@@ -1,9 +1,12 @@
 //! The manager behind the lock.
-ghost use Rattle.std.specs.Prelude.{◌≡◌, ◌≢◌, ◌↔◌, [], ℕ, Ok, Err, OnOk, OnErr, IfOk};
-ghost use Rattle.mm_manager.specs.LockState.{untold};
-ghost use Rattle.mm_manager.specs.Calls.{UnlocksName, Commits, Aborts, Cancels};
-ghost use Rattle.mm_manager.specs.declared.reply.Cancel.TheVariants.{Withdrawn};
-ghost use Rattle.mm_blocking.specs.Calls.{Asks, Tries, Finds, RollsBack};
+ghost use Rattle.std.specs.Prelude.{◌≡◌, ◌⊎◌, ◌↔◌, [], ℕ, IfErr, IsTrue, true, drop, Result};
+ghost use Rattle.mm_manager.specs.LockState.{Owns};
+ghost use Rattle.mm_manager.specs.Calls.{Aborts, Cancels};
+ghost use Rattle.mm_manager.specs.Reads.{HasStatus};
+ghost use Rattle.mm_manager.specs.declared.refusal.Refusal.{Refusal as RefusalValue};
+ghost use Rattle.mm_manager.specs.declared.reply.Status.{Status as StatusValue};
+ghost use Rattle.mm_blocking.specs.Calls.{Starts, Asks, AsksEach, GoesOn, Tries, Finds, TimesOut, GivesBack, Ends, bytes_of, left, is_deadlock};
+ghost use Rattle.mm_blocking.specs.Errors.{of_begin, of_lock, of_unlock, of_commit};
 ghost use Rattle.mm_blocking.specs.Wakes.{IsToWake, Notes, told};
 
 use crate::error::LockError;
@@ -31,8 +34,10 @@ impl Desk {
         Desk { manager, unwoken }
     }
 
+    /// Starts a transaction.
     pub fn begin(&mut self) -> Result<Key, LockError>
-        ensures in_time { result ≢ Err LockError.TimedOut }
+        ensures starts { Starts self.old.manager result self.new.manager }
+        ensures refused { IfErr result (λ error. of_begin error ≡ true) }
     {
         self.manager.begin().map_err(LockError::of_refusal)
     }
@@ -40,7 +45,7 @@ impl Desk {
     /// Asks for a name.
     pub fn lock(&mut self, key: Key, name: &[u8]) -> Result<Asked, LockError>
         ensures asks { Asks self.old.manager key name.now result self.new.manager }
-        ensures in_time { result ≢ Err LockError.TimedOut }
+        ensures refused { IfErr result (λ error. of_lock error ≡ true) }
     {
         match self.manager.lock(key, name) {
             Ok(Lock::Granted | Lock::Held) => Ok(Asked::Owns),
@@ -50,10 +55,39 @@ impl Desk {
         }
     }
 
+    /// Asks for the names from `start` on in their order, until one is to be waited for or is refused. Returns the place of the one that the
+    /// transaction waits for; or how many names there are, where it owns all.
+    pub fn lock_each(&mut self, key: Key, names: &[&[u8]], start: usize) -> Result<usize, LockError>
+        ensures asks { AsksEach self.old.manager key (drop start (bytes_of names.now)) (left (bytes_of names.now) result) self.new.manager }
+        ensures refused { IfErr result (λ error. of_lock error ≡ true) }
+    {
+        for place in start..names.len() {
+            if let Asked::Waits = self.lock(key, names[place])? {
+                return Ok(place);
+            }
+        }
+        Ok(names.len())
+    }
+
+    /// Looks what the request for the name at this place has come to. Where the transaction owns it, asks for those behind it, as
+    /// `lock_each`.
+    pub fn go_on(&mut self, key: Key, names: &[&[u8]], place: usize) -> Result<usize, LockError>
+        ensures goes_on { GoesOn self.old.manager key (drop place (bytes_of names.now)) (left (bytes_of names.now) result) self.new.manager }
+        ensures refused { IfErr result (λ error. of_lock error ≡ true) }
+    {
+        if place >= names.len() {
+            return Ok(names.len());
+        }
+        match self.asked(key, names[place])? {
+            Asked::Owns => self.lock_each(key, names, place + 1),
+            Asked::Waits => Ok(place),
+        }
+    }
+
     /// Asks for a name, and never waits. Returns whether the transaction owns it.
     pub fn try_lock(&mut self, key: Key, name: &[u8]) -> Result<bool, LockError>
         ensures tries { Tries self.old.manager key name.now result self.new.manager }
-        ensures in_time { result ≢ Err LockError.TimedOut }
+        ensures refused { IfErr result (λ error. of_lock error ≡ true) }
     {
         match self.manager.try_lock(key, name) {
             Ok(TryLock::Granted | TryLock::Held) => Ok(true),
@@ -62,20 +96,38 @@ impl Desk {
         }
     }
 
+    /// Whether the transaction owns the name.
+    fn owns(&self, key: Key, name: &[u8]) -> bool
+        ensures { IsTrue result ↔ Owns self.now.manager key name.now }
+    {
+        match self.manager.owner(name) {
+            Some(owner) => owner == key,
+            None => false,
+        }
+    }
+
     /// What a request has come to that was told to wait. `Owns` only where the transaction owns the name at this moment.
     pub fn asked(&self, key: Key, name: &[u8]) -> Result<Asked, LockError>
-        ensures finds { IfOk result (Finds self.now.manager key name.now) }
-        ensures in_time { result ≢ Err LockError.TimedOut }
+        ensures finds { Finds self.now.manager key name.now result }
+        ensures refused { IfErr result (λ error. of_lock error ≡ true) }
     {
-        if let Some(owner) = self.manager.owner(name)
-            && owner == key
-        {
+        if self.owns(key, name) {
             return Ok(Asked::Owns);
         }
         match self.manager.status(key) {
             Ok(Status::Waiting { .. }) => Ok(Asked::Waits),
             Ok(Status::Deadlock { .. }) => Err(LockError::Deadlock),
             Ok(Status::Active) | Err(_) => Err(LockError::NotActive),
+        }
+    }
+
+    /// Whether the transaction is in a deadlock.
+    pub fn is_in_deadlock(&self, key: Key) -> bool
+        ensures { (does : Result StatusValue RefusalValue) × HasStatus self.now.manager key does × (result ≡ is_deadlock does) }
+    {
+        match self.manager.status(key) {
+            Ok(Status::Deadlock { .. }) => true,
+            Ok(Status::Active | Status::Waiting { .. }) | Err(_) => false,
         }
     }
 
@@ -87,8 +139,8 @@ impl Desk {
         name: &[u8],
         wakes: &mut Wakes,
     ) -> Result<Asked, LockError>
-        ensures finds { IfOk result (Finds self.new.manager key name.now) }
-        ensures timed_out { result ≡ Err LockError.TimedOut → Cancels self.old.manager key (Ok Withdrawn) self.new.manager }
+        ensures times_out { TimesOut self.old.manager key name.now result self.new.manager }
+        ensures refused { IfErr result (λ error. (error ≡ LockError.TimedOut) ⊎ (of_lock error ≡ true)) }
         ensures noted { Notes (told self.new.manager) wakes.old.processes.items self.old.unwoken.set wakes.new.processes.items self.new.unwoken.set }
     {
         if let Ok(Cancel::Withdrawn) = self.cancel(key, wakes) {
@@ -109,9 +161,9 @@ impl Desk {
 
     /// Gives a name back.
     pub fn unlock(&mut self, key: Key, name: &[u8], wakes: &mut Wakes) -> Result<(), LockError>
-        ensures unlocks { OnOk result (UnlocksName self.old.manager key name.now (Ok tt) self.new.manager) }
+        ensures unlocks { GivesBack self.old.manager key name.now result self.new.manager }
         ensures noted { Notes (told self.new.manager) wakes.old.processes.items self.old.unwoken.set wakes.new.processes.items self.new.unwoken.set }
-        ensures in_time { result ≢ Err LockError.TimedOut }
+        ensures refused { IfErr result (λ error. of_unlock error ≡ true) }
     {
         let answer = self.manager.unlock(key, name);
         self.note(wakes);
@@ -120,10 +172,9 @@ impl Desk {
 
     /// Ends a transaction. One whose end is refused is rolled back.
     pub fn commit(&mut self, key: Key, wakes: &mut Wakes) -> Result<(), LockError>
-        ensures commits { OnOk result (Commits self.old.manager key (Ok tt) self.new.manager) }
-        ensures rolls_back { OnErr result (RollsBack (untold self.old.manager) key self.new.manager) }
+        ensures ends { Ends self.old.manager key result self.new.manager }
         ensures noted { Notes (told self.new.manager) wakes.old.processes.items self.old.unwoken.set wakes.new.processes.items self.new.unwoken.set }
-        ensures in_time { result ≢ Err LockError.TimedOut }
+        ensures refused { IfErr result (λ error. of_commit error ≡ true) }
     {
         match self.manager.commit(key) {
             Ok(()) => {

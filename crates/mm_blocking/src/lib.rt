@@ -2,6 +2,7 @@
 //!
 //! - `locks`: `Locks`, what threads share.
 //! - `transaction`: `Transaction`, which locks names, and gives all back at its end.
+//! - `run`: work that is done again after a deadlock, and `backoff`: the pauses before that.
 //! - `error`: why a call is refused.
 //! - `desk`: the manager behind the lock, with whom it is to wake.
 //! - `wakes`: whom a call is to wake once the lock is free.
@@ -9,11 +10,13 @@
 //! - `patience`: how long a thread is to wait.
 #![tactic(auto)]
 
+mod backoff;
 mod desk;
 mod error;
 mod locks;
 mod parkers;
 mod patience;
+mod run;
 mod transaction;
 mod wakes;
 

@@ -1,5 +1,6 @@
 //! What threads share.
-ghost use Rattle.std.specs.Prelude.{◌≡◌, ◌≢◌, ◌↔◌, Err, IfErr};
+ghost use Rattle.std.specs.Prelude.{◌≡◌, ◌⊎◌, ◌↔◌, true, Err, IfErr};
+ghost use Rattle.mm_blocking.specs.Errors.{of_begin, of_lock, of_unlock, of_commit};
 ghost use Rattle.mm_manager.specs.Opening.{IsTransactionsOut, IsNamesOut, IsNameBytesOut};
 
 use crate::desk::{Asked, Desk};
@@ -107,7 +108,7 @@ impl Locks {
     ///
     /// Refused as `TransactionsFull` or `CountsFull`. Constant time.
     pub fn begin<'m, R: Wait>(&'m self, rt: &'m R) -> Result<Transaction<'m, R>, LockError>
-        ensures in_time { result ≢ Err LockError.TimedOut }
+        ensures refused { IfErr result (λ error. of_begin error ≡ true) }
     {
         let key = self.begin_key(rt)?;
         match self.parkers.of(key.process) {
@@ -121,30 +122,61 @@ impl Locks {
     }
 
     fn begin_key<R: Wait>(&self, rt: &R) -> Result<Key, LockError>
-        ensures in_time { result ≢ Err LockError.TimedOut }
+        ensures refused { IfErr result (λ error. of_begin error ≡ true) }
     {
         self.locked(rt).begin()
     }
 
     /// `Desk::lock`.
     pub(crate) fn lock<R: Wait>(&self, rt: &R, key: Key, name: &[u8]) -> Result<Asked, LockError>
-        ensures in_time { result ≢ Err LockError.TimedOut }
+        ensures refused { IfErr result (λ error. of_lock error ≡ true) }
     {
         self.locked(rt).lock(key, name)
     }
 
+    /// `Desk::lock_each`.
+    pub(crate) fn lock_each<R: Wait>(
+        &self,
+        rt: &R,
+        key: Key,
+        names: &[&[u8]],
+        start: usize,
+    ) -> Result<usize, LockError>
+        ensures refused { IfErr result (λ error. of_lock error ≡ true) }
+    {
+        self.locked(rt).lock_each(key, names, start)
+    }
+
+    /// `Desk::go_on`.
+    pub(crate) fn go_on<R: Wait>(
+        &self,
+        rt: &R,
+        key: Key,
+        names: &[&[u8]],
+        place: usize,
+    ) -> Result<usize, LockError>
+        ensures refused { IfErr result (λ error. of_lock error ≡ true) }
+    {
+        self.locked(rt).go_on(key, names, place)
+    }
+
     /// `Desk::try_lock`.
     pub(crate) fn try_lock<R: Wait>(&self, rt: &R, key: Key, name: &[u8]) -> Result<bool, LockError>
-        ensures in_time { result ≢ Err LockError.TimedOut }
+        ensures refused { IfErr result (λ error. of_lock error ≡ true) }
     {
         self.locked(rt).try_lock(key, name)
     }
 
     /// `Desk::asked`.
     pub(crate) fn asked<R: Wait>(&self, rt: &R, key: Key, name: &[u8]) -> Result<Asked, LockError>
-        ensures in_time { result ≢ Err LockError.TimedOut }
+        ensures refused { IfErr result (λ error. of_lock error ≡ true) }
     {
         self.locked(rt).asked(key, name)
+    }
+
+    /// `Desk::is_in_deadlock`.
+    pub(crate) fn is_in_deadlock<R: Wait>(&self, rt: &R, key: Key) -> bool {
+        self.locked(rt).is_in_deadlock(key)
     }
 
     /// `Desk::take_back`.
@@ -153,7 +185,9 @@ impl Locks {
         rt: &R,
         key: Key,
         name: &[u8],
-    ) -> Result<Asked, LockError> {
+    ) -> Result<Asked, LockError>
+        ensures refused { IfErr result (λ error. (error ≡ LockError.TimedOut) ⊎ (of_lock error ≡ true)) }
+    {
         let mut wakes = Wakes::new();
         let mut desk = self.locked(rt);
         let answer = desk.take_back(key, name, &mut wakes);
@@ -164,7 +198,7 @@ impl Locks {
 
     /// `Desk::unlock`, and wakes whom it told something.
     pub(crate) fn unlock<R: Wait>(&self, rt: &R, key: Key, name: &[u8]) -> Result<(), LockError>
-        ensures in_time { result ≢ Err LockError.TimedOut }
+        ensures refused { IfErr result (λ error. of_unlock error ≡ true) }
     {
         let mut wakes = Wakes::new();
         let mut desk = self.locked(rt);
@@ -176,7 +210,7 @@ impl Locks {
 
     /// `Desk::commit`, and wakes whom it told something.
     pub(crate) fn commit<R: Wait>(&self, rt: &R, key: Key) -> Result<(), LockError>
-        ensures in_time { result ≢ Err LockError.TimedOut }
+        ensures refused { IfErr result (λ error. of_commit error ≡ true) }
     {
         let mut wakes = Wakes::new();
         let mut desk = self.locked(rt);

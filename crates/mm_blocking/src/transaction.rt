@@ -1,5 +1,6 @@
 //! A transaction.
-ghost use Rattle.std.specs.Prelude.{◌≡◌, ◌≢◌, Err};
+ghost use Rattle.std.specs.Prelude.{◌≡◌, ◌⊎◌, true, IfErr};
+ghost use Rattle.mm_blocking.specs.Errors.{of_lock, of_unlock, of_commit};
 
 use crate::desk::Asked;
 use crate::error::LockError;
@@ -47,6 +48,15 @@ impl<'m, R: Wait> Transaction<'m, R> {
         }
     }
 
+    pub(crate) fn key(&self) -> Key {
+        self.key
+    }
+
+    /// `Desk::is_in_deadlock`.
+    pub(crate) fn is_in_deadlock(&self) -> bool {
+        self.locks.is_in_deadlock(self.rt, self.key)
+    }
+
     /// Locks the name: returns when the transaction owns it, at once where nobody else does, and else it sleeps until it was granted.
     ///
     /// `Deadlock` comes at once too, where the wait would close a cycle of waits; no other call makes a victim of one that sleeps. The
@@ -55,7 +65,7 @@ impl<'m, R: Wait> Transaction<'m, R> {
     /// `NameTooLong`, `NamesFull`, `CountsFull` or `LabelsFull`, and then nothing changes but for a deadlock. What it costs without the
     /// sleep, `LockManager::lock` says; one who slept looks the name up once more.
     pub fn lock(&mut self, name: &[u8]) -> Result<(), LockError>
-        ensures in_time { result ≢ Err LockError.TimedOut }
+        ensures refused { IfErr result (λ error. of_lock error ≡ true) }
     {
         match self.locks.lock(self.rt, self.key, name)? {
             Asked::Owns => Ok(()),
@@ -66,7 +76,7 @@ impl<'m, R: Wait> Transaction<'m, R> {
     /// Sleeps until the transaction owns what it waits for.
     #[inline(never)]
     fn sleep(&self, name: &[u8]) -> Result<(), LockError>
-        ensures in_time { result ≢ Err LockError.TimedOut }
+        ensures refused { IfErr result (λ error. of_lock error ≡ true) }
     {
         for _ in self.rt.forever() {
             self.parker.park(self.rt);
@@ -78,11 +88,42 @@ impl<'m, R: Wait> Transaction<'m, R> {
         unreachable!()
     }
 
+    /// Locks these names in the order given, as `lock` does one after the other, but takes the manager's lock only once, and once more after
+    /// each sleep.
+    ///
+    /// Where one of them is refused, those before it stay locked, and those behind it were not asked for. Refused as `lock` is. It costs what
+    /// the locks cost, all that are granted without a sleep between them under one taking of the manager's lock.
+    pub fn lock_all(&mut self, names: &[&[u8]]) -> Result<(), LockError>
+        ensures refused { IfErr result (λ error. of_lock error ≡ true) }
+    {
+        let place = self.locks.lock_each(self.rt, self.key, names, 0)?;
+        if place >= names.len() {
+            return Ok(());
+        }
+        self.sleep_for_each(names, place)
+    }
+
+    /// Sleeps until the transaction owns the name at this place, which it waits for, and goes on with those behind it.
+    #[inline(never)]
+    fn sleep_for_each(&self, names: &[&[u8]], first: usize) -> Result<(), LockError>
+        ensures refused { IfErr result (λ error. of_lock error ≡ true) }
+    {
+        let mut place = first;
+        for _ in self.rt.forever() {
+            self.parker.park(self.rt);
+            place = self.locks.go_on(self.rt, self.key, names, place)?;
+            if place >= names.len() {
+                return Ok(());
+            }
+        }
+        unreachable!()
+    }
+
     /// Locks the name where nobody else owns it, and never sleeps for it. Returns whether the transaction owns it.
     ///
     /// Refused as `Deadlock`, `NameEmpty`, `NameTooLong`, `NamesFull` or `CountsFull`. `O(length)`.
     pub fn try_lock(&mut self, name: &[u8]) -> Result<bool, LockError>
-        ensures in_time { result ≢ Err LockError.TimedOut }
+        ensures refused { IfErr result (λ error. of_lock error ≡ true) }
     {
         self.locks.try_lock(self.rt, self.key, name)
     }
@@ -92,7 +133,7 @@ impl<'m, R: Wait> Transaction<'m, R> {
     /// Refused as `Deadlock`, `NameEmpty`, `NameTooLong`, `NotOwner`, `CountsFull` or `LabelsFull`. It costs what `LockManager::unlock`
     /// costs.
     pub fn unlock(&mut self, name: &[u8]) -> Result<(), LockError>
-        ensures in_time { result ≢ Err LockError.TimedOut }
+        ensures refused { IfErr result (λ error. of_unlock error ≡ true) }
     {
         self.locks.unlock(self.rt, self.key, name)
     }
@@ -103,7 +144,7 @@ impl<'m, R: Wait> Transaction<'m, R> {
     /// be refused as `LabelsFull` or `CountsFull`, and the same for a transaction that is dropped: then it stays as it was, and nobody has
     /// it any more. It costs what `LockManager::commit` costs.
     pub fn commit(self) -> Result<(), LockError>
-        ensures in_time { result ≢ Err LockError.TimedOut }
+        ensures refused { IfErr result (λ error. of_commit error ≡ true) }
     {
         let Self {
             rt,
@@ -121,7 +162,9 @@ impl<'m, R: Wait + Clock> Transaction<'m, R> {
     /// The time is a lower bound. A transaction that carries another's label may not take its request back as yet:
     /// it then asks for that again, first after a millisecond, and after pauses that grow to a tenth of a second, until it may, or is
     /// granted the name. A clock that cannot be read counts as a time that is up. Else refused as `lock` is.
-    pub fn lock_for(&mut self, name: &[u8], limit: Duration) -> Result<(), LockError> {
+    pub fn lock_for(&mut self, name: &[u8], limit: Duration) -> Result<(), LockError>
+        ensures refused { IfErr result (λ error. (error ≡ LockError.TimedOut) ⊎ (of_lock error ≡ true)) }
+    {
         match self.locks.lock(self.rt, self.key, name)? {
             Asked::Owns => Ok(()),
             Asked::Waits => self.sleep_for(name, limit),
@@ -130,7 +173,9 @@ impl<'m, R: Wait + Clock> Transaction<'m, R> {
 
     /// Sleeps until the transaction owns what it waits for, or the time is up and the request taken back.
     #[inline(never)]
-    fn sleep_for(&self, name: &[u8], limit: Duration) -> Result<(), LockError> {
+    fn sleep_for(&self, name: &[u8], limit: Duration) -> Result<(), LockError>
+        ensures refused { IfErr result (λ error. (error ≡ LockError.TimedOut) ⊎ (of_lock error ≡ true)) }
+    {
         let patience = Patience::new(self.rt, limit);
         for _ in self.rt.forever() {
             let Some(left) = patience.left(self.rt) else {
@@ -146,7 +191,9 @@ impl<'m, R: Wait + Clock> Transaction<'m, R> {
     }
 
     /// Takes the request back as soon as that is allowed.
-    fn take_back(&self, name: &[u8]) -> Result<(), LockError> {
+    fn take_back(&self, name: &[u8]) -> Result<(), LockError>
+        ensures refused { IfErr result (λ error. (error ≡ LockError.TimedOut) ⊎ (of_lock error ≡ true)) }
+    {
         let mut pause = Pause::first();
         for _ in self.rt.forever() {
             match self.locks.take_back(self.rt, self.key, name)? {
