@@ -58,14 +58,14 @@ fn config(processes: u32) -> Config {
     }
 }
 
-/// The storms of seeds 1 to `count` with so many clients, one after another.
+/// The storms of seeds 1 to `count` with so many clients, 1 to 64, one after another.
 fn print_storms<R: Print + Clock + Threads + Wait + Sync>(
     rt: &R,
     alloc: Global,
     clients: u32,
     count: u32,
 ) -> io::Result<()> {
-    let Some(done) = run_storms(rt, alloc, clients, count) else {
+    let Some(done) = run_storms(rt, alloc, clients.clamp(1, MOST_THREADS), count) else {
         return Ok(());
     };
     println!(rt; "{} {} {}", done.nanoseconds, done.finished, done.aborted)
@@ -112,7 +112,7 @@ fn print_for<R: Print + Clock + Threads + Wait + Sync>(
     fourth: u32,
 ) -> io::Result<()> {
     match first {
-        "storm" => print_storms(rt, alloc, number(second).clamp(1, MOST_THREADS), third),
+        "storm" => print_storms(rt, alloc, number(second), third),
         "board" => match Work::named(second) {
             Some(work) => print_work(rt, alloc, work, third, fourth),
             None => Ok(()),
