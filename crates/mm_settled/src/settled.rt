@@ -23,6 +23,9 @@ use std::marker::Model;
 pub struct SettledTable {
     table: Table,
     lists: Lists,
+    /// Whether the last call told of anybody by the lists. Where it did not, what these have means nothing: so a call that tells of nobody
+    /// need not empty them.
+    has_told: bool,
 }
 
 impl Model for SettledTable {
@@ -47,7 +50,11 @@ impl SettledTable {
     {
         let table = Table::open(alloc, config)?;
         let lists = Lists::open(alloc, config)?;
-        Ok(SettledTable { table, lists })
+        Ok(SettledTable {
+            table,
+            lists,
+            has_told: false,
+        })
     }
 
     /// Starts a transaction in the first free process, and returns its key. It changes nobody else, and grants nobody anything.
@@ -60,7 +67,7 @@ impl SettledTable {
         ensures told { Tells self.old.table self.new }
     {
         self.table.keeps_laws();
-        self.lists.clear();
+        self.has_told = false;
         self.table.begin()
     }
 
@@ -75,7 +82,8 @@ impl SettledTable {
     /// Refused as `CountsExhausted` where somebody owns the resource and an event and a settle can no longer be counted, and else as
     /// `Table::acquire` is: `CountsExhausted`, `Stale`, `NoResource`, `Waiting`, `AlreadyOwns` or `LabelsExhausted`. Constant time where it is granted; a wait costs the settle that
     /// follows, as `Table::settle` says: those that wait for the transaction, and those whose labels it raises.
-    #[inline]
+    // In place: a granted lock does less than a call from here would cost.
+    #[inline(always)]
     pub fn lock(&mut self, key: Key, resource: u32) -> Result<Locked, Refusal>
         ensures locks { Locks self.old.table key resource result self.new.table }
         ensures deadlock { OnOk result (IsTrue (IsDeadlock result) ↔ IsOnCycle self.new.table key.process) }
@@ -83,9 +91,13 @@ impl SettledTable {
         ensures told { Tells self.old.table self.new }
     {
         self.table.keeps_laws();
-        let answer = lock(&mut self.table, &mut self.lists, key, resource);
-        self.table.keeps_laws();
-        answer
+        lock(
+            &mut self.table,
+            &mut self.lists,
+            &mut self.has_told,
+            key,
+            resource,
+        )
     }
 
     /// Hands the resource over: the longest waiter owns it from now on and is listed in `granted`, and each other waiter keeps its
@@ -99,10 +111,8 @@ impl SettledTable {
         ensures told { Tells self.old.table self.new }
         ensures ended { EndsWaits self.old.table self.new.table key.process self.new.granted }
     {
-        self.table.keeps_laws();
-        let answer = release(&mut self.table, &mut self.lists, key, resource);
-        self.table.keeps_laws();
-        answer
+        self.has_told = true;
+        release(&mut self.table, &mut self.lists, key, resource)
     }
 
     /// Ends an active transaction: hands over all that it owns, by rising number, each resource as `release` does, and frees its slot.
@@ -116,10 +126,8 @@ impl SettledTable {
         ensures told { Tells self.old.table self.new }
         ensures ended { EndsWaits self.old.table self.new.table key.process self.new.granted }
     {
-        self.table.keeps_laws();
-        let answer = finish(&mut self.table, &mut self.lists, key);
-        self.table.keeps_laws();
-        answer
+        self.has_told = true;
+        finish(&mut self.table, &mut self.lists, key)
     }
 
     /// Ends a transaction that was told of a deadlock: takes back its wait, and goes on as `finish`. Nobody gets a verdict.
@@ -132,10 +140,8 @@ impl SettledTable {
         ensures told { Tells self.old.table self.new }
         ensures ended { EndsWaits self.old.table self.new.table key.process self.new.granted }
     {
-        self.table.keeps_laws();
-        let answer = abort(&mut self.table, &mut self.lists, key);
-        self.table.keeps_laws();
-        answer
+        self.has_told = true;
+        abort(&mut self.table, &mut self.lists, key)
     }
 
     /// Takes back the wait of a transaction that has no verdict and whose two labels are equal: it is active from now on, and keeps what
@@ -147,16 +153,17 @@ impl SettledTable {
         ensures others { (v : ℕ) → has_verdict self.new.table v ≡ has_verdict self.old.table v }
         ensures told { Tells self.old.table self.new }
     {
-        self.table.keeps_laws();
-        let answer = give_up(&mut self.table, &mut self.lists, key);
-        self.table.keeps_laws();
-        answer
+        self.has_told = true;
+        give_up(&mut self.table, &mut self.lists, key)
     }
 
     /// Whom the last call granted what, in the order of the hand-overs. Constant time.
     pub fn granted(&self) -> &[Grant]
         ensures { result.now ≡ self.now.granted }
     {
+        if !self.has_told {
+            return &[];
+        }
         &self.lists.granted
     }
 
@@ -165,6 +172,9 @@ impl SettledTable {
     pub fn changed(&self) -> &[u32]
         ensures { result.now ≡ self.now.changed }
     {
+        if !self.has_told {
+            return &[];
+        }
         &self.lists.changed
     }
 

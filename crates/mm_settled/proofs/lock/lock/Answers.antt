@@ -1,4 +1,4 @@
-use Rattle.std.proofs.Common.{◌≡◌, Ok, Err, true, vec_capacity, inr, refl, sym, ap, subst, ◌∙◌}
+use Rattle.std.proofs.Common.{◌≡◌, Ok, Err, true, inr, refl, sym, subst, ◌∙◌}
 use Rattle.mm_rules.specs.declared.config.Config.{Config}
 use Rattle.mm_rules.specs.declared.reply.Acquired.TheVariants.{Granted, Waits}
 use Rattle.mm_rules.specs.TableState.{TableState}
@@ -7,7 +7,6 @@ use Rattle.mm_rules.specs.Laws.{AtRest}
 use Rattle.mm_rules.proofs.States.Config.{event_config}
 use Rattle.mm_settled.specs.Calls.{has_room, Locks}
 use Rattle.mm_settled.specs.private.Lists.{Fits}
-use Rattle.mm_settled.proofs.Lemmas.Fits.{fits_again}
 use Rattle.mm_settled.proofs.Lemmas.Lock.{waiter_rests, waiter_config, waiter_alone, waiter_locks, waiter_changed, waiter_grants, waits_with_room, lacks_room_both, lock_refuses}
 use Rattle.mm_settled.proofs.Lemmas.Quiet.{GrantsNow, granted_quiet, quiet_rests, same_is_quiet, same_changes_nobody}
 use Rattle.mm_settled.proofs.Lemmas.Refused.{acquire_refused}
@@ -21,10 +20,7 @@ returns-then-lacks_room-clause-locks c = (refl, inr (refl, lacks_room_both _ _ (
 pub returns-then-lacks_room-clause-told : goal.returns-then-lacks_room-clause-told
 returns-then-lacks_room-clause-told c =
     let s = c.args.table.now in
-    record {
-      granted = c.clear.ensures.granted ∙ sym (same_is_quiet s s c.keeps_laws.ensures (λ i. s)).granted;
-      changed = c.clear.ensures.changed ∙ sym (same_changes_nobody s s (λ i. s));
-    }
+    ((same_is_quiet s s c.keeps_laws.ensures (λ i. s)).granted, same_changes_nobody s s (λ i. s))
 
 -- ---- the table refuses
 
@@ -42,19 +38,16 @@ pub returns-in_err-acquire-clause-others : goal.returns-in_err-acquire-clause-ot
 returns-in_err-acquire-clause-others c = λ v apart. (same_is_quiet c.args.table.now c.acquire.new.self c.keeps_laws.ensures (same c)).verdicts v
 
 pub returns-in_err-acquire-clause-told : goal.returns-in_err-acquire-clause-told
-returns-in_err-acquire-clause-told c = record {
-  granted = c.clear.ensures.granted ∙ sym (same_is_quiet c.args.table.now c.acquire.new.self c.keeps_laws.ensures (same c)).granted;
-  changed = c.clear.ensures.changed ∙ sym (same_changes_nobody c.args.table.now c.acquire.new.self (same c));
-}
+returns-in_err-acquire-clause-told c = (
+  (same_is_quiet c.args.table.now c.acquire.new.self c.keeps_laws.ensures (same c)).granted,
+  same_changes_nobody c.args.table.now c.acquire.new.self (same c),
+)
 
 pub returns-in_err-acquire-clause-rest : goal.returns-in_err-acquire-clause-rest
 returns-in_err-acquire-clause-rest c = subst (λ (t : TableState). AtRest t) (sym (same c)) c.requires.rest
 
 pub returns-in_err-acquire-clause-fits : goal.returns-in_err-acquire-clause-fits
-returns-in_err-acquire-clause-fits c =
-    let cleared = c.clear.ensures in
-    fits_again c.args.table.now.config c.acquire.new.self.config c.args.lists.now c.clear.new.self (ap (λ (t : TableState). t.config) (same c)) c.requires.fits
-    record { granted = cleared.room_to_grant; changed = cleared.room_to_change; owned = ap vec_capacity cleared.owned; resources = cleared.resources; processes = cleared.processes }
+returns-in_err-acquire-clause-fits c = subst (λ (t : TableState). Fits t.config c.args.lists.now) (sym (same c)) c.requires.fits
 
 -- ---- it is granted
 
@@ -64,7 +57,7 @@ grants c =
     granted_quiet c.args.table.now c.acquire.new.self c.args.key c.args.resource c.keeps_laws.ensures is
 
 pub returns-in-Granted-clause-told : goal.returns-in-Granted-clause-told
-returns-in-Granted-clause-told c = record { granted = c.clear.ensures.granted ∙ sym (grants c).quiet.granted; changed = c.clear.ensures.changed ∙ sym (grants c).changed }
+returns-in-Granted-clause-told c = ((grants c).quiet.granted, (grants c).changed)
 
 pub returns-in-Granted-clause-rest : goal.returns-in-Granted-clause-rest
 returns-in-Granted-clause-rest c =

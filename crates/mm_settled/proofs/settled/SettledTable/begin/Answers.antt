@@ -1,4 +1,4 @@
-use Rattle.std.proofs.Common.{sym, subst, ◌∙◌}
+use Rattle.std.proofs.Common.{[], sym, subst}
 use Rattle.mm_rules.specs.declared.config.Config.{Config}
 use Rattle.mm_rules.specs.Event.{Begin}
 use Rattle.mm_rules.proofs.States.Config.{event_config}
@@ -12,23 +12,13 @@ pub invariant_of-self : goal.invariant_of-self
 invariant_of-self c =
     let s = c.self.inside.table in
     let quiet = begin_quiet s c.begin.new.self c.begin.result c.keeps_laws.ensures c.begin.ensures in
-    let cleared = c.clear.ensures in
-    let was : Fits s.config c.self.inside.lists = c.self.invariant.fits in
     record {
       rest = quiet_rests Begin s c.begin.new.self c.begin.result c.begin.ensures c.keeps_laws.ensures c.self.invariant.rest quiet.0;
-      fits = subst (λ (f : Config). Fits f c.clear.new.self) (sym (event_config Begin s c.begin.new.self c.begin.result c.begin.ensures)) record {
-        granted = rw cleared.room_to_grant was.granted;
-        changed = rw cleared.room_to_change was.changed;
-        owned = rw cleared.owned was.owned;
-        resources = cleared.resources ∙ was.resources;
-        processes = cleared.processes ∙ was.processes;
-      };
-      grants = λ none. cleared.granted;
+      fits = subst (λ (f : Config). Fits f c.self.inside.lists) (sym (event_config Begin s c.begin.new.self c.begin.result c.begin.ensures)) c.self.invariant.fits;
     }
 
 pub returns-clause-told : goal.returns-clause-told
 returns-clause-told c =
     let s = c.self.inside.table in
     let quiet = begin_quiet s c.begin.new.self c.begin.result c.keeps_laws.ensures c.begin.ensures in
-    subst (λ (old : SettledState). Tells old.table record { table = c.begin.new.self; granted = c.clear.new.self.granted.items; changed = c.clear.new.self.changed.items }) c.self.view_is
-    record { granted = c.clear.ensures.granted ∙ sym quiet.0.granted; changed = c.clear.ensures.changed ∙ sym quiet.1 }
+    subst (λ (old : SettledState). Tells old.table record { table = c.begin.new.self; granted = []; changed = [] }) c.self.view_is record { granted = sym quiet.0.granted; changed = sym quiet.1 }
