@@ -4,7 +4,7 @@ ghost use Rattle.mm_rules.specs.Event.{Step, Settle, counts_exhausted};
 ghost use Rattle.mm_rules.specs.Laws.{AtRest};
 ghost use Rattle.mm_settled.specs.Calls.{has_room, Locks, OthersKeepVerdicts};
 ghost use Rattle.mm_settled.specs.private.Lists.{Fits, joined};
-ghost use Rattle.mm_settled.specs.private.Told.{TellsIf, told_by, is_owned};
+ghost use Rattle.mm_settled.specs.private.Told.{TellsIf, is_told, told_by, is_owned};
 
 use crate::lists::Lists;
 use crate::settle::{has_room, settle_listing};
@@ -14,34 +14,41 @@ use mm_table::Acquired;
 /// Where no count is this or more, many more events can be counted.
 const FAR_BELOW_LIMIT: u64 = 1 << 61;
 
-/// Asks for the resource. Where the transaction waits, the table is settled, and the lists tell of whom that changed; else there is nothing
-/// to tell, and they stay as they were.
+/// Asks for the resource. Where the transaction waits, the table is settled, and the lists tell of whom that changed. Where it is granted,
+/// the lists stay as they were: the table has then accepted more events than `told_at` says, so they mean nothing.
 #[inline(always)]
 pub fn lock(
     table: &mut Table,
     lists: &mut Lists,
-    has_told: &mut bool,
+    told_at: &mut u64,
     key: Key,
     resource: u32,
 ) -> Result<Locked, Refusal>
     requires rest { AtRest table.old }
     requires fits { Fits table.old.config lists.old }
+    requires stamp { told_at.old ≤ table.old.totals.accepted }
     ensures locks { Locks table.old key resource result table.new }
     ensures others { OthersKeepVerdicts table.old table.new key.process }
-    ensures told { TellsIf has_told.new table.old table.new lists.new }
+    ensures told { TellsIf (is_told told_at.new table.new) table.old table.new lists.new }
+    ensures stamp { told_at.new ≤ table.new.totals.accepted }
     ensures rest { AtRest table.new }
     ensures fits { Fits table.new.config lists.new }
 {
     table.keeps_laws();
-    *has_told = false;
     if lacks_room(table, resource) {
+        lists.clear();
         return Err(Refusal::CountsExhausted);
     }
-    match table.acquire(key, resource)? {
-        Acquired::Granted => Ok(Locked::Granted),
-        Acquired::Waits { holder, .. } => {
-            *has_told = true;
-            Ok(settle_waiter(table, lists, key, holder))
+    match table.acquire(key, resource) {
+        Ok(Acquired::Granted) => Ok(Locked::Granted),
+        Ok(Acquired::Waits { holder, .. }) => {
+            let locked = settle_waiter(table, lists, key, holder);
+            *told_at = table.totals().accepted;
+            Ok(locked)
+        }
+        Err(refusal) => {
+            lists.clear();
+            Err(refusal)
         }
     }
 }

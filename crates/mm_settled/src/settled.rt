@@ -8,7 +8,7 @@ ghost use Rattle.mm_settled.specs.Grants.{Tells, EndsWaits};
 
 use crate::ends::{abort, finish, release};
 use crate::give_up::give_up;
-use crate::lists::Lists;
+use crate::lists::{Lists, is_told};
 use crate::lock::lock;
 use crate::{Config, Grant, Key, Locked, Refusal, Released, Table};
 use std::alloc::Global;
@@ -23,9 +23,9 @@ use std::marker::Model;
 pub struct SettledTable {
     table: Table,
     lists: Lists,
-    /// Whether the last call told of anybody by the lists. Where it did not, what these have means nothing: so a call that tells of nobody
-    /// need not empty them.
-    has_told: bool,
+    /// How many events the table had accepted right after the last call that filled the lists. Once it accepts one more, what they have
+    /// means nothing: so an accepted call that tells of nobody need not touch them.
+    told_at: u64,
 }
 
 impl Model for SettledTable {
@@ -53,7 +53,7 @@ impl SettledTable {
         Ok(SettledTable {
             table,
             lists,
-            has_told: false,
+            told_at: 0,
         })
     }
 
@@ -67,8 +67,13 @@ impl SettledTable {
         ensures told { Tells self.old.table self.new }
     {
         self.table.keeps_laws();
-        self.has_told = false;
-        self.table.begin()
+        match self.table.begin() {
+            Ok(key) => Ok(key),
+            Err(refusal) => {
+                self.lists.clear();
+                Err(refusal)
+            }
+        }
     }
 
     /// Asks for a resource, and is told at once what comes of it.
@@ -94,7 +99,7 @@ impl SettledTable {
         lock(
             &mut self.table,
             &mut self.lists,
-            &mut self.has_told,
+            &mut self.told_at,
             key,
             resource,
         )
@@ -111,8 +116,9 @@ impl SettledTable {
         ensures told { Tells self.old.table self.new }
         ensures ended { EndsWaits self.old.table self.new.table key.process self.new.granted }
     {
-        self.has_told = true;
-        release(&mut self.table, &mut self.lists, key, resource)
+        let answer = release(&mut self.table, &mut self.lists, key, resource);
+        self.told_at = self.table.totals().accepted;
+        answer
     }
 
     /// Ends an active transaction: hands over all that it owns, by rising number, each resource as `release` does, and frees its slot.
@@ -126,8 +132,9 @@ impl SettledTable {
         ensures told { Tells self.old.table self.new }
         ensures ended { EndsWaits self.old.table self.new.table key.process self.new.granted }
     {
-        self.has_told = true;
-        finish(&mut self.table, &mut self.lists, key)
+        let answer = finish(&mut self.table, &mut self.lists, key);
+        self.told_at = self.table.totals().accepted;
+        answer
     }
 
     /// Ends a transaction that was told of a deadlock: takes back its wait, and goes on as `finish`. Nobody gets a verdict.
@@ -140,8 +147,9 @@ impl SettledTable {
         ensures told { Tells self.old.table self.new }
         ensures ended { EndsWaits self.old.table self.new.table key.process self.new.granted }
     {
-        self.has_told = true;
-        abort(&mut self.table, &mut self.lists, key)
+        let answer = abort(&mut self.table, &mut self.lists, key);
+        self.told_at = self.table.totals().accepted;
+        answer
     }
 
     /// Takes back the wait of a transaction that has no verdict and whose two labels are equal: it is active from now on, and keeps what
@@ -153,15 +161,16 @@ impl SettledTable {
         ensures others { (v : ℕ) → has_verdict self.new.table v ≡ has_verdict self.old.table v }
         ensures told { Tells self.old.table self.new }
     {
-        self.has_told = true;
-        give_up(&mut self.table, &mut self.lists, key)
+        let answer = give_up(&mut self.table, &mut self.lists, key);
+        self.told_at = self.table.totals().accepted;
+        answer
     }
 
     /// Whom the last call granted what, in the order of the hand-overs. Constant time.
     pub fn granted(&self) -> &[Grant]
         ensures { result.now ≡ self.now.granted }
     {
-        if !self.has_told {
+        if !is_told(self.told_at, &self.table) {
             return &[];
         }
         &self.lists.granted
@@ -172,7 +181,7 @@ impl SettledTable {
     pub fn changed(&self) -> &[u32]
         ensures { result.now ≡ self.now.changed }
     {
-        if !self.has_told {
+        if !is_told(self.told_at, &self.table) {
             return &[];
         }
         &self.lists.changed

@@ -19,6 +19,10 @@ pub record TellsOf (old new : TableState) (lists : Lists) : Type 0 where
 abbrev pub told_by : Settled → Key → Locked
 told_by answer h = if nat_eq answer.verdicts 0 then Waits h else Deadlock h
 
+-- lists that were filled once so many events had been accepted tell of the last call where no event has been accepted since
+abbrev pub is_told : ℕ → TableState → Bool
+is_told at s = nat_eq at s.totals.accepted
+
 -- the lists tell it; or there is nothing to tell
 abbrev pub TellsIf : Bool → TableState → TableState → Lists → Type 0
 TellsIf true old new lists = TellsOf old new lists

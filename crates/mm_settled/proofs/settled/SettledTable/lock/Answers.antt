@@ -1,6 +1,7 @@
 use Rattle.std.proofs.Common.{[], if◌then◌else◌, subst}
 use Rattle.mm_settled.specs.Grants.{Tells}
 use Rattle.mm_settled.specs.SettledState.{SettledState}
+use Rattle.mm_settled.specs.private.Told.{is_told}
 use Rattle.mm_settled.proofs.Lemmas.Lock.{deadlock_iff}
 use Rattle.mm_settled.proofs.Lemmas.Told.{tells_if}
 use Rattle.mm_settled.proofs.settled.SettledTable.lock.Goals as goal
@@ -10,7 +11,8 @@ returns-clause-deadlock c = deadlock_iff c.self.inside.table c.lock.new.table c.
 
 pub returns-clause-told : goal.returns-clause-told
 returns-clause-told c =
-    let told = c.lock.new.has_told in
+    let t = c.lock.new.table in
+    let told = is_told c.lock.new.told_at t in
     let lists = c.lock.new.lists in
-    subst (λ (old : SettledState). Tells old.table record { table = c.lock.new.table; granted = if told then lists.granted.items else []; changed = if told then lists.changed.items else [] }) c.self.view_is
-    (tells_if told c.self.inside.table c.lock.new.table lists c.lock.ensures.told)
+    subst (λ (old : SettledState). Tells old.table record { table = t; granted = if told then lists.granted.items else []; changed = if told then lists.changed.items else [] }) c.self.view_is
+    (tells_if told c.self.inside.table t lists c.lock.ensures.told)
