@@ -14,4 +14,5 @@ pub mod Fits
 pub mod Quiet
 pub mod Refused
 pub mod Rest
+pub mod EndsAs
 pub mod Lock

@@ -4,5 +4,7 @@
 pub mod Lists
 -- what a call tells of them
 pub mod Told
+-- what a call does by which resources are handed over
+pub mod Ends
 -- what holds of every settled table
 pub mod Settled

@@ -2,9 +2,8 @@
 ghost use Rattle.std.specs.Prelude.{◌≡◌, IfOk, ℕ};
 ghost use Rattle.mm_rules.specs.Event.{Step, Release, Finish, Abort};
 ghost use Rattle.mm_rules.specs.Laws.{AtRest, Laws};
-ghost use Rattle.mm_settled.specs.Calls.{Makes, OthersKeepVerdicts};
-ghost use Rattle.mm_settled.specs.Grants.{EndsWaits};
-ghost use Rattle.mm_settled.specs.private.Lists.{Fits, GrantsAreChanges};
+ghost use Rattle.mm_settled.specs.private.Ends.{Ends};
+ghost use Rattle.mm_settled.specs.private.Lists.{Fits};
 ghost use Rattle.mm_settled.specs.private.Told.{TellsOf};
 
 use crate::lists::{Lists, list_given, list_owned};
@@ -20,13 +19,7 @@ pub fn release(
 ) -> Result<Released, Refusal>
     requires rest { AtRest table.old }
     requires fits { Fits table.old.config lists.old }
-    requires grants { GrantsAreChanges lists.old }
-    ensures makes { Makes (Release key resource) table.old result table.new }
-    ensures others { OthersKeepVerdicts table.old table.new key.process }
-    ensures told { TellsOf table.old table.new lists.new }
-    ensures ended { EndsWaits table.old table.new key.process lists.new.granted.items }
-    ensures rest { AtRest table.new }
-    ensures fits { Fits table.new.config lists.new }
+    ensures { Ends (Release key resource) table.old result table.new key.process lists.new }
 {
     table.keeps_laws();
     if !has_room(table) {
@@ -42,13 +35,7 @@ pub fn release(
 pub fn finish(table: &mut Table, lists: &mut Lists, key: Key) -> Result<(), Refusal>
     requires rest { AtRest table.old }
     requires fits { Fits table.old.config lists.old }
-    requires grants { GrantsAreChanges lists.old }
-    ensures makes { Makes (Finish key) table.old result table.new }
-    ensures others { OthersKeepVerdicts table.old table.new key.process }
-    ensures told { TellsOf table.old table.new lists.new }
-    ensures ended { EndsWaits table.old table.new key.process lists.new.granted.items }
-    ensures rest { AtRest table.new }
-    ensures fits { Fits table.new.config lists.new }
+    ensures { Ends (Finish key) table.old result table.new key.process lists.new }
 {
     table.keeps_laws();
     if !has_room(table) {
@@ -64,13 +51,7 @@ pub fn finish(table: &mut Table, lists: &mut Lists, key: Key) -> Result<(), Refu
 pub fn abort(table: &mut Table, lists: &mut Lists, key: Key) -> Result<(), Refusal>
     requires rest { AtRest table.old }
     requires fits { Fits table.old.config lists.old }
-    requires grants { GrantsAreChanges lists.old }
-    ensures makes { Makes (Abort key) table.old result table.new }
-    ensures others { OthersKeepVerdicts table.old table.new key.process }
-    ensures told { TellsOf table.old table.new lists.new }
-    ensures ended { EndsWaits table.old table.new key.process lists.new.granted.items }
-    ensures rest { AtRest table.new }
-    ensures fits { Fits table.new.config lists.new }
+    ensures { Ends (Abort key) table.old result table.new key.process lists.new }
 {
     table.keeps_laws();
     if !has_room(table) {

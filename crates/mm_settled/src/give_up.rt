@@ -3,7 +3,7 @@ ghost use Rattle.std.specs.Prelude.{◌≡◌, ℕ};
 ghost use Rattle.mm_rules.specs.TableState.{has_verdict};
 ghost use Rattle.mm_rules.specs.Event.{Step, GiveUp};
 ghost use Rattle.mm_rules.specs.Laws.{AtRest};
-ghost use Rattle.mm_settled.specs.private.Lists.{Fits, GrantsAreChanges};
+ghost use Rattle.mm_settled.specs.private.Lists.{Fits};
 ghost use Rattle.mm_settled.specs.private.Told.{TellsOf};
 
 use crate::lists::Lists;
@@ -13,7 +13,6 @@ use crate::{Key, Refusal, Table};
 pub fn give_up(table: &mut Table, lists: &mut Lists, key: Key) -> Result<(), Refusal>
     requires rest { AtRest table.old }
     requires fits { Fits table.old.config lists.old }
-    requires grants { GrantsAreChanges lists.old }
     ensures step { Step (GiveUp key) table.old result table.new }
     ensures others { (v : ℕ) → has_verdict table.new v ≡ has_verdict table.old v }
     ensures told { TellsOf table.old table.new lists.new }

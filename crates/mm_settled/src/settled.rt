@@ -8,7 +8,7 @@ ghost use Rattle.mm_settled.specs.Grants.{Tells, EndsWaits};
 
 use crate::ends::{abort, finish, release};
 use crate::give_up::give_up;
-use crate::lists::Lists;
+use crate::lists::{Lists, is_told};
 use crate::lock::lock;
 use crate::{Config, Grant, Key, Locked, Refusal, Released, Table};
 use std::alloc::Global;
@@ -23,6 +23,9 @@ use std::marker::Model;
 pub struct SettledTable {
     table: Table,
     lists: Lists,
+    /// How many events the table had accepted right after the last call that filled the lists. Once it accepts one more, what they have
+    /// means nothing: so an accepted call that tells of nobody need not touch them.
+    told_at: u64,
 }
 
 impl Model for SettledTable {
@@ -47,7 +50,11 @@ impl SettledTable {
     {
         let table = Table::open(alloc, config)?;
         let lists = Lists::open(alloc, config)?;
-        Ok(SettledTable { table, lists })
+        Ok(SettledTable {
+            table,
+            lists,
+            told_at: 0,
+        })
     }
 
     /// Starts a transaction in the first free process, and returns its key. It changes nobody else, and grants nobody anything.
@@ -60,8 +67,13 @@ impl SettledTable {
         ensures told { Tells self.old.table self.new }
     {
         self.table.keeps_laws();
-        self.lists.clear();
-        self.table.begin()
+        match self.table.begin() {
+            Ok(key) => Ok(key),
+            Err(refusal) => {
+                self.lists.clear();
+                Err(refusal)
+            }
+        }
     }
 
     /// Asks for a resource, and is told at once what comes of it.
@@ -75,7 +87,8 @@ impl SettledTable {
     /// Refused as `CountsExhausted` where somebody owns the resource and an event and a settle can no longer be counted, and else as
     /// `Table::acquire` is: `CountsExhausted`, `Stale`, `NoResource`, `Waiting`, `AlreadyOwns` or `LabelsExhausted`. Constant time where it is granted; a wait costs the settle that
     /// follows, as `Table::settle` says: those that wait for the transaction, and those whose labels it raises.
-    #[inline]
+    // In place: a granted lock does less than a call from here would cost.
+    #[inline(always)]
     pub fn lock(&mut self, key: Key, resource: u32) -> Result<Locked, Refusal>
         ensures locks { Locks self.old.table key resource result self.new.table }
         ensures deadlock { OnOk result (IsTrue (IsDeadlock result) ↔ IsOnCycle self.new.table key.process) }
@@ -83,9 +96,13 @@ impl SettledTable {
         ensures told { Tells self.old.table self.new }
     {
         self.table.keeps_laws();
-        let answer = lock(&mut self.table, &mut self.lists, key, resource);
-        self.table.keeps_laws();
-        answer
+        lock(
+            &mut self.table,
+            &mut self.lists,
+            &mut self.told_at,
+            key,
+            resource,
+        )
     }
 
     /// Hands the resource over: the longest waiter owns it from now on and is listed in `granted`, and each other waiter keeps its
@@ -99,9 +116,8 @@ impl SettledTable {
         ensures told { Tells self.old.table self.new }
         ensures ended { EndsWaits self.old.table self.new.table key.process self.new.granted }
     {
-        self.table.keeps_laws();
         let answer = release(&mut self.table, &mut self.lists, key, resource);
-        self.table.keeps_laws();
+        self.told_at = self.table.totals().accepted;
         answer
     }
 
@@ -116,9 +132,8 @@ impl SettledTable {
         ensures told { Tells self.old.table self.new }
         ensures ended { EndsWaits self.old.table self.new.table key.process self.new.granted }
     {
-        self.table.keeps_laws();
         let answer = finish(&mut self.table, &mut self.lists, key);
-        self.table.keeps_laws();
+        self.told_at = self.table.totals().accepted;
         answer
     }
 
@@ -132,9 +147,8 @@ impl SettledTable {
         ensures told { Tells self.old.table self.new }
         ensures ended { EndsWaits self.old.table self.new.table key.process self.new.granted }
     {
-        self.table.keeps_laws();
         let answer = abort(&mut self.table, &mut self.lists, key);
-        self.table.keeps_laws();
+        self.told_at = self.table.totals().accepted;
         answer
     }
 
@@ -147,9 +161,8 @@ impl SettledTable {
         ensures others { (v : ℕ) → has_verdict self.new.table v ≡ has_verdict self.old.table v }
         ensures told { Tells self.old.table self.new }
     {
-        self.table.keeps_laws();
         let answer = give_up(&mut self.table, &mut self.lists, key);
-        self.table.keeps_laws();
+        self.told_at = self.table.totals().accepted;
         answer
     }
 
@@ -157,6 +170,9 @@ impl SettledTable {
     pub fn granted(&self) -> &[Grant]
         ensures { result.now ≡ self.now.granted }
     {
+        if !is_told(self.told_at, &self.table) {
+            return &[];
+        }
         &self.lists.granted
     }
 
@@ -165,6 +181,9 @@ impl SettledTable {
     pub fn changed(&self) -> &[u32]
         ensures { result.now ≡ self.now.changed }
     {
+        if !is_told(self.told_at, &self.table) {
+            return &[];
+        }
         &self.lists.changed
     }
 

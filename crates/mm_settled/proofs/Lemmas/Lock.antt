@@ -1,7 +1,6 @@
 -- A request that waits, and the settle that follows: whoever closed a cycle of waits has its verdict, and nobody else has a new one.
 use Rattle.std.proofs.Common.{◌≡◌, ◌≢◌, ◌<◌, ◌+◌, ◌++◌, ℕ, [], ◌∷◌, Option, Some, None, Result, Ok, Err, Bool, true, false, not, ◌&&◌, IsTrue, nat_eq, nat_lt, if◌then◌else◌, slice_index_or, inl, inr, refl, sym, ap, subst, ◌∙◌, arith}
 use Rattle.std.specs.Prelude.{OnOk, ◌↔◌}
-use Rattle.std.specs.Result.{IsErr, IsErrAnd}
 use Rattle.std.proofs.lemmas.Bool.{cases_Bool, eqb-true, eqb-false, not-false, lt-ltb, leb-false}
 use Rattle.mm_label.specs.Label.{Label}
 use Rattle.mm_arena.specs.declared.key.Key.{Key}
@@ -116,11 +115,6 @@ waits_with_room s t k h r l room step = elim (cases_Bool (has_room s)) [
 pub lacks_room_both : (room owned : Bool) → (not room && owned) ≡ true → room ≡ false
 lacks_room_both true owned lacks = absurd (cc)
 lacks_room_both false owned lacks = refl
-
-pub lock_refuses : (s t : TableState) (k : Key) (r : ℕ) (reply : Result Locked Refusal) (refusal : Refusal) → IsErr reply × IsErrAnd reply (λ x. x ≡ refusal)
-    → Step (Acquire k r) s (Err refusal) t → t ≡ s → Locks s k r reply t
-lock_refuses s t k r (Ok answer) refusal is step same = absurd is.1
-lock_refuses s t k r (Err x) refusal is step same = rw is.1 (same, inl (subst (λ u. Step (Acquire k r) s (Err refusal) u) same step))
 
 module _ (old mid new : TableState) (k h : Key) (r : ℕ) (l : Label) (answer : Settled) (laws : Laws old) (rest : AtRest old)
     (asks : Step (Acquire k r) old (Ok (acquired.Waits h l)) mid) (settles : Step Settle mid (Ok answer) new) where

@@ -1,19 +1,22 @@
 -- A refused call changes nothing, and tells of nobody.
-use Rattle.std.proofs.Common.{◌≡◌, ℕ, List, [], true, Some, None, Result, Ok, Err, MatchBool, sym, ap, subst, ◌∙◌}
-use Rattle.std.specs.Result.{IsErr, IsErrAnd}
+use Rattle.std.proofs.Common.{◌≡◌, ℕ, List, [], true, Some, None, Err, MatchBool, drop, slice_set, slice_index, sym, ap, subst, ◌∙◌}
 use Rattle.mm_arena.specs.declared.key.Key.{Key}
 use Rattle.mm_rules.specs.declared.refusal.Refusal.{Refusal}
 use Rattle.mm_rules.specs.declared.refusal.Refusal.TheVariants.{CountsExhausted}
-use Rattle.mm_rules.specs.declared.reply.Released.{Released}
-use Rattle.mm_rules.specs.TableState.{TableState, owner_of, wait_of, waiters_of}
+use Rattle.mm_rules.specs.TableState.{TableState, key_of, owner_of, wait_of, waiters_of}
 use Rattle.mm_rules.specs.Change.{hand_over, vacate, abort, activate}
-use Rattle.mm_rules.specs.Event.{Event, Acquire, Release, Finish, Abort, GiveUp, Step, acquire_tests, acquire_answer, acquire_change, release_tests, release_answer, finish_tests, abort_tests, give_up_tests}
+use Rattle.mm_rules.specs.Event.{Event, Begin, Acquire, Release, Finish, Abort, GiveUp, Step, begin_tests, acquire_tests, acquire_answer, acquire_change, release_tests, release_answer, finish_tests, abort_tests, give_up_tests}
 use Rattle.mm_rules.specs.Laws.{Laws}
 use Rattle.mm_settled.specs.declared.reply.Grant.{Grant}
-use Rattle.mm_settled.specs.Calls.{has_room, Refuses, Makes}
+use Rattle.mm_settled.specs.Calls.{has_room, Refuses}
 use Rattle.mm_settled.specs.Grants.{grants, EndsWaits}
 use Rattle.mm_settled.proofs.Lemmas.Accepted.{refused}
 use Rattle.mm_settled.proofs.Lemmas.Quiet.{same_is_quiet}
+
+pub begin_refused : (s t : TableState) (refusal : Refusal) → Step Begin s (Err refusal) t → t ≡ s
+begin_refused s t refusal step =
+    let n = slice_index s.free 0 in
+    refused (begin_tests s) s (key_of s n) (record s { free = drop 1 s.free; live = slice_set s.live n true }) refusal t step
 
 pub acquire_refused : (s t : TableState) (k : Key) (r : ℕ) (refusal : Refusal) → Step (Acquire k r) s (Err refusal) t → t ≡ s
 acquire_refused s t k r refusal step = refused (acquire_tests s k r) s (acquire_answer s k (owner_of s r)) (acquire_change s k r (owner_of s r)) refusal t step
@@ -36,11 +39,6 @@ refuses e s t refusal room step same = (
   same,
   subst (λ b. MatchBool b (Step e s (Err refusal) s) (refusal ≡ CountsExhausted)) (sym room) (subst (λ u. Step e s (Err refusal) u) same step),
 )
-
-pub release_refuses : (s t : TableState) (k : Key) (r : ℕ) (reply : Result Released Refusal) (refusal : Refusal) → IsErr reply × IsErrAnd reply (λ x. x ≡ refusal)
-    → Refuses (Release k r) s refusal t → Makes (Release k r) s reply t
-release_refuses s t k r (Ok answer) refusal is why = absurd is.1
-release_refuses s t k r (Err x) refusal is why = rw is.1 why
 
 -- no wait ended
 pub ends_none : (s t : TableState) (n : ℕ) (granted : List Grant) → Laws s → t ≡ s → granted ≡ grants s t → EndsWaits s t n granted

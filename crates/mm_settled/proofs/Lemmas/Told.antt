@@ -1,38 +1,55 @@
--- Whoever was granted something is listed as changed.
-use Rattle.std.proofs.Common.{◌≡◌, ◌<◌, ℕ, true, false, List, [], Some, inl, inr, sym, ap, subst, ◌∙◌, nat_eq, arith}
-use Rattle.std.specs.Option.{option_map_or}
-use Rattle.std.proofs.lemmas.Bool.{cases_Bool}
+-- What a call tells, as a contract sees it.
+use Rattle.std.proofs.Common.{◌≡◌, ◌≤◌, ◌+◌, ℕ, Bool, true, false, [], Option, Some, None, Ok, drop, slice_set, slice_index, if◌then◌else◌, sym, ap, subst, ◌∙◌, arith}
+use Rattle.std.proofs.lemmas.Bool.{eq-eqb, ne_eqb}
 use Rattle.mm_arena.specs.declared.key.Key.{Key}
-use Rattle.mm_lists.specs.Members.{Among}
-use Rattle.mm_rules.specs.TableState.{TableState, owner_of, wait_of}
-use Rattle.mm_rules.specs.Laws.{Laws}
-use Rattle.mm_rules.proofs.States.Lookups.{WaitsHere, waits_here, waiter_within}
-use Rattle.mm_settle.specs.Touched.{is_changed, changed_processes}
-use Rattle.mm_settle.proofs.Lemmas.Told.{unchanged_is}
-use Rattle.mm_settled.specs.Grants.{waits_for}
+use Rattle.mm_rules.specs.declared.reply.Acquired.{Acquired}
+use Rattle.mm_rules.specs.TableState.{TableState, key_of, owner_of}
+use Rattle.mm_rules.specs.Event.{Begin, Acquire, Step, begin_tests, acquire_tests, acquire_answer, acquire_change}
+use Rattle.mm_rules.proofs.States.Outcome.{counting}
+use Rattle.mm_settle.specs.Touched.{changed_processes}
+use Rattle.mm_settled.specs.Grants.{grants, Tells, EndsWaits}
 use Rattle.mm_settled.specs.declared.lists.Lists.{Lists}
-use Rattle.mm_settled.specs.private.Lists.{GrantsAreChanges}
-use Rattle.mm_settled.specs.private.Told.{TellsOf}
-use Rattle.mm_settled.proofs.Lemmas.Changed.{listed_changed}
-use Rattle.mm_settled.proofs.Lemmas.Grants.{no_grants, owner_waits_not, waits_by}
+use Rattle.mm_settled.specs.private.Told.{TellsOf, TellsIf, is_told}
+use Rattle.mm_settled.proofs.Lemmas.Accepted.{accepted}
 
--- whoever waits for r before and owns it after is other than before
-granted_is_changed : (old new : TableState) → Laws old → Laws new → (r : ℕ) (k : Key) → owner_of new r ≡ Some k → waits_for old k.process r ≡ true → Among k.process (changed_processes old new)
-granted_is_changed old new laws now r k owned waits =
-    let here : WaitsHere old k.process r = waits_here old k.process r (waits_by r (wait_of old k.process) waits) in
-    let inside : here.wait.key.process < old.config.processes = waiter_within old laws.lawful.well_formed here.wait here.among in
-    elim (cases_Bool (is_changed old new k.process)) [
-      | inl changed ↦ listed_changed old new k.process (omega (arith, here.process, inside)) changed
-      | inr still ↦
-          let waits_on : waits_for new k.process r ≡ true = ap (λ o. option_map_or (nat_eq r) o false) (unchanged_is old new k.process still).wait ∙ waits in
-          let not_waiting : waits_for new k.process r ≡ false = owner_waits_not new now r k owned in
-          absurd (cc)
-    ]
+pub tells_if : (told : Bool) (old new : TableState) (lists : Lists) → TellsIf told old new lists
+    → Tells old record { table = new; granted = if told then lists.granted.items else []; changed = if told then lists.changed.items else [] }
+tells_if true old new lists told = record { granted = told.granted; changed = told.changed }
+tells_if false old new lists none = record { granted = sym none.0; changed = sym none.1 }
 
-pub grants_are_changes : (old new : TableState) (lists : Lists) → Laws old → Laws new → TellsOf old new lists → GrantsAreChanges lists
-grants_are_changes old new lists laws now told none =
-    let nobody : changed_processes old new ≡ [] = sym told.changed ∙ none in
-    told.granted ∙ no_grants old new (λ r k owned. elim (cases_Bool (waits_for old k.process r)) [
-      | inr fails ↦ fails
-      | inl waits ↦ absurd (subst (λ (ns : List ℕ). Among k.process ns) nobody (granted_is_changed old new laws now r k owned waits))
-    ])
+-- where there is nothing to tell, lists that have nothing tell it, whether they are looked at or not
+pub tells_nothing : (told : Bool) (old new : TableState) (lists : Lists) → lists.granted.items ≡ [] → lists.changed.items ≡ [] → grants old new ≡ [] → changed_processes old new ≡ [] → TellsIf told old new lists
+tells_nothing true old new lists granted changed none nobody = record { granted = granted ∙ sym none; changed = changed ∙ sym nobody }
+tells_nothing false old new lists granted changed none nobody = (none, nobody)
+
+-- ---- the lists were filled by the last call
+
+pub told_now : (at : ℕ) (s : TableState) → at ≡ s.totals.accepted → is_told at s ≡ true
+told_now at s is = eq-eqb at s.totals.accepted is
+
+pub tells_now : (at : ℕ) (old new : TableState) (lists : Lists) → at ≡ new.totals.accepted → TellsOf old new lists
+    → Tells old record { table = new; granted = if is_told at new then lists.granted.items else []; changed = if is_told at new then lists.changed.items else [] }
+tells_now at old new lists is told = tells_if (is_told at new) old new lists (subst (λ b. TellsIf b old new lists) (sym (told_now at new is)) told)
+
+pub ends_now : (at : ℕ) (old new : TableState) (n : ℕ) (lists : Lists) → at ≡ new.totals.accepted → EndsWaits old new n lists.granted.items
+    → EndsWaits old new n (if is_told at new then lists.granted.items else [])
+ends_now at old new n lists is ended = subst (λ b. EndsWaits old new n (if b then lists.granted.items else [])) (sym (told_now at new is)) ended
+
+-- ---- an event was accepted since
+
+-- a begin and an acquire that are accepted are counted
+pub begin_counts : (s t : TableState) (k : Key) → Step Begin s (Ok k) t → t.totals.accepted ≡ s.totals.accepted + 1
+begin_counts s t k step =
+    let n = slice_index s.free 0 in
+    ap (λ (u : TableState). u.totals.accepted) (accepted (begin_tests s) s (key_of s n) (record s { free = drop 1 s.free; live = slice_set s.live n true }) k t step).state
+
+acquire_counts_by : (s t : TableState) (k : Key) (r : ℕ) (o : Option Key) → t ≡ counting (acquire_change s k r o) ((acquire_change s k r o).totals.accepted + 1) → t.totals.accepted ≡ s.totals.accepted + 1
+acquire_counts_by s t k r None is = ap (λ (u : TableState). u.totals.accepted) is
+acquire_counts_by s t k r (Some h) is = ap (λ (u : TableState). u.totals.accepted) is
+
+pub acquire_counts : (s t : TableState) (k : Key) (r : ℕ) (answer : Acquired) → Step (Acquire k r) s (Ok answer) t → t.totals.accepted ≡ s.totals.accepted + 1
+acquire_counts s t k r answer step =
+    acquire_counts_by s t k r (owner_of s r) (accepted (acquire_tests s k r) s (acquire_answer s k (owner_of s r)) (acquire_change s k r (owner_of s r)) answer t step).state
+
+pub told_before : (at : ℕ) (s t : TableState) → at ≤ s.totals.accepted → t.totals.accepted ≡ s.totals.accepted + 1 → is_told at t ≡ false
+told_before at s t before counted = ne_eqb at t.totals.accepted (λ same. omega (arith, before, counted, same))

@@ -1,15 +1,21 @@
 -- What holds of every settled table.
+use Rattle.std.specs.Prelude.{◌≤◌, [], if◌then◌else◌}
 use Rattle.mm_rules.specs.Laws.{AtRest}
 use Rattle.mm_settled.specs.declared.settled.SettledTable.TheInside.{Inside}
-use Rattle.mm_settled.specs.private.Lists.{Fits, GrantsAreChanges}
+use Rattle.mm_settled.specs.private.Lists.{Fits}
+use Rattle.mm_settled.specs.private.Told.{is_told}
 use Rattle.mm_settled.specs.SettledState.{SettledState}
 
--- what a contract sees
+-- what a contract sees: where an event has been accepted since the lists were filled, what they have means nothing
 abbrev pub state_of : Inside → SettledState
-state_of t = record { table = t.table; granted = t.lists.granted.items; changed = t.lists.changed.items }
+state_of t = record {
+  table = t.table;
+  granted = if is_told t.told_at t.table then t.lists.granted.items else [];
+  changed = if is_told t.told_at t.table then t.lists.changed.items else [];
+}
 
--- the table is at rest, there is room for its lists, and whoever was granted something is listed as changed
+-- the table is at rest, there is room for its lists, and these were filled once as many events had been accepted as now, or fewer
 pub record IsSettledTable (t : Inside) : Type 0 where
   pub rest : AtRest t.table
   pub fits : Fits t.table.config t.lists
-  pub grants : GrantsAreChanges t.lists
+  pub told_at : t.told_at ≤ t.table.totals.accepted

@@ -1,5 +1,5 @@
 -- What a call tells, in the fields of its lists.
-use Rattle.std.specs.Prelude.{◌≡◌, ℕ, Bool, true, false, Option, Some, None, Result, Ok, Err, if◌then◌else◌, nat_eq}
+use Rattle.std.specs.Prelude.{◌≡◌, [], ℕ, Bool, true, false, Option, Some, None, Result, Ok, Err, if◌then◌else◌, nat_eq}
 use Rattle.mm_arena.specs.declared.key.Key.{Key}
 use Rattle.mm_rules.specs.declared.refusal.Refusal.{Refusal}
 use Rattle.mm_rules.specs.declared.reply.Settled.{Settled}
@@ -18,6 +18,15 @@ pub record TellsOf (old new : TableState) (lists : Lists) : Type 0 where
 -- what one who waits for h is told after this settle
 abbrev pub told_by : Settled → Key → Locked
 told_by answer h = if nat_eq answer.verdicts 0 then Waits h else Deadlock h
+
+-- lists that were filled once so many events had been accepted tell of the last call where no event has been accepted since
+abbrev pub is_told : ℕ → TableState → Bool
+is_told at s = nat_eq at s.totals.accepted
+
+-- the lists tell it; or there is nothing to tell
+abbrev pub TellsIf : Bool → TableState → TableState → Lists → Type 0
+TellsIf true old new lists = TellsOf old new lists
+TellsIf false old new lists = (grants old new ≡ []) × (changed_processes old new ≡ [])
 
 abbrev pub has_owner : Result (Option Key) Refusal → Bool
 has_owner (Ok (Some k)) = true

@@ -1,8 +1,8 @@
-use Rattle.std.proofs.Common.{◌≡◌, Ok, Err, false, replicate, vec_capacity, sym, ap, subst, ◌∙◌, arith}
+use Rattle.std.proofs.Common.{◌≡◌, Ok, Err, false, replicate, vec_capacity, sym, ap, ◌∙◌, arith}
 use Rattle.mm_rules.specs.declared.config.Config.{Config}
-use Rattle.mm_rules.specs.TableState.{TableState, owns}
+use Rattle.mm_rules.specs.declared.refusal.Refusal.TheVariants.{CountsExhausted}
+use Rattle.mm_rules.specs.TableState.{owns}
 use Rattle.mm_rules.specs.Event.{Abort, Step}
-use Rattle.mm_rules.specs.Laws.{AtRest}
 use Rattle.mm_rules.proofs.States.Config.{event_config}
 use Rattle.mm_settle.specs.Shown.{IdleShowTheSame}
 use Rattle.mm_settle.proofs.Lemmas.Shown.{shown_changes_are_told}
@@ -10,17 +10,20 @@ use Rattle.mm_settled.proofs.Lemmas.Changed.{changed_within_after}
 use Rattle.mm_settled.proofs.Lemmas.Ends.{abort_hands_on}
 use Rattle.mm_settled.proofs.Lemmas.Fits.{fits_again}
 use Rattle.mm_settled.proofs.Lemmas.Quiet.{same_is_quiet, same_changes_nobody}
-use Rattle.mm_settled.proofs.Lemmas.Refused.{abort_refused, ends_none}
+use Rattle.mm_settled.proofs.Lemmas.Refused.{abort_refused, refuses}
+use Rattle.mm_settled.proofs.Lemmas.EndsAs.{refused_for_room, ends_refused, ends_as, ends_accepted}
 use Rattle.mm_settled.proofs.Lemmas.Rest.{EndsAtRest, ends_at_rest, room_left}
 use Rattle.mm_settled.proofs.ends.abort.Goals as goal
 
-pub returns-then-not-has_room-clause-told : goal.returns-then-not-has_room-clause-told
-returns-then-not-has_room-clause-told c =
+pub returns-then-not-has_room : goal.returns-then-not-has_room
+returns-then-not-has_room c =
     let s = c.args.table.now in
-    record {
-      granted = c.clear.ensures.granted ∙ sym (same_is_quiet s s c.keeps_laws.ensures (λ i. s)).granted;
-      changed = c.clear.ensures.changed ∙ sym (same_changes_nobody s s (λ i. s));
-    }
+    let cleared = c.clear.ensures in
+    ends_refused (Abort c.args.key) s s CountsExhausted c.args.key.process c.clear.new.self c.keeps_laws.ensures c.requires.rest (λ i. s)
+    (refused_for_room (Abort c.args.key) s (sym c.has_room.ensures ∙ c.if-not-has_room.true))
+    record { granted = cleared.granted ∙ sym (same_is_quiet s s c.keeps_laws.ensures (λ i. s)).granted; changed = cleared.changed ∙ sym (same_changes_nobody s s (λ i. s)) }
+    (fits_again s.config s.config c.args.lists.now c.clear.new.self (λ i. s.config) c.requires.fits
+    record { granted = cleared.room_to_grant; changed = cleared.room_to_change; owned = ap vec_capacity cleared.owned; resources = cleared.resources; processes = cleared.processes })
 
 -- ---- the table refuses
 
@@ -30,21 +33,14 @@ is_refused c = rw c.in_err-abort_listing.was at c.abort_listing.ensures.step
 same : (c : goal.After-from_residual) → c.abort_listing.new.table ≡ c.args.table.now
 same c = abort_refused c.args.table.now c.abort_listing.new.table c.args.key c.in_err-abort_listing.field-0.0 (is_refused c)
 
-pub returns-in_err-abort_listing-clause-others : goal.returns-in_err-abort_listing-clause-others
-returns-in_err-abort_listing-clause-others c = λ v apart. (same_is_quiet c.args.table.now c.abort_listing.new.table c.keeps_laws.ensures (same c)).verdicts v
-
-pub returns-in_err-abort_listing-clause-ended : goal.returns-in_err-abort_listing-clause-ended
-returns-in_err-abort_listing-clause-ended c =
-    ends_none c.args.table.now c.abort_listing.new.table c.args.key.process c.abort_listing.new.lists.granted.items c.keeps_laws.ensures (same c) c.abort_listing.ensures.told.granted
-
-pub returns-in_err-abort_listing-clause-rest : goal.returns-in_err-abort_listing-clause-rest
-returns-in_err-abort_listing-clause-rest c = subst (λ (t : TableState). AtRest t) (sym (same c)) c.requires.rest
-
-pub returns-in_err-abort_listing-clause-fits : goal.returns-in_err-abort_listing-clause-fits
-returns-in_err-abort_listing-clause-fits c =
+pub returns-in_err-abort_listing : goal.returns-in_err-abort_listing
+returns-in_err-abort_listing c =
+    let s = c.args.table.now in
+    let t = c.abort_listing.new.table in
     let lists = c.abort_listing.new.lists in
-    fits_again c.args.table.now.config c.abort_listing.new.table.config lists lists (ap (λ (t : TableState). t.config) (same c)) c.abort_listing.ensures.fits
-    record { granted = λ i. vec_capacity lists.granted; changed = λ i. vec_capacity lists.changed; owned = λ i. vec_capacity lists.owned; resources = λ i. lists.resources; processes = λ i. lists.processes }
+    ends_as (Abort c.args.key) s t c.args.key.process lists c.from_residual.result c.in_err-abort_listing.field-0.0 c.from_residual.ensures
+    (ends_refused (Abort c.args.key) s t c.in_err-abort_listing.field-0.0 c.args.key.process lists c.keeps_laws.ensures c.requires.rest (same c)
+    (refuses (Abort c.args.key) s t c.in_err-abort_listing.field-0.0 (sym c.has_room.ensures ∙ c.if-not-has_room.false) (is_refused c) (same c)) c.abort_listing.ensures.told c.abort_listing.ensures.fits)
 
 -- ---- it is accepted
 
@@ -79,29 +75,16 @@ ends c =
     c.abort_listing.new.lists.changed.items c.come_to_rest.new.changed.items c.abort_listing.ensures.told.changed c.come_to_rest.ensures.rests c.args.key.process (owns s c.args.key.process) (abort_hands_on s mid c.args.key c.keeps_laws.ensures step)
     (sym c.has_room.ensures ∙ c.if-not-has_room.false) c.abort_listing.new.lists.granted.items c.abort_listing.ensures.told.granted
 
-pub returns-clause-makes : goal.returns-clause-makes
-returns-clause-makes c = (ends c).made
-
-pub returns-clause-others : goal.returns-clause-others
-returns-clause-others c = (ends c).others
-
-pub returns-clause-told : goal.returns-clause-told
-returns-clause-told c = record { granted = (ends c).are_granted; changed = (ends c).are_changed }
-
-pub returns-clause-ended : goal.returns-clause-ended
-returns-clause-ended c = (ends c).ended
-
-pub returns-clause-rest : goal.returns-clause-rest
-returns-clause-rest c = (ends c).rest
-
-pub returns-clause-fits : goal.returns-clause-fits
-returns-clause-fits c =
-    let lists = c.abort_listing.new.lists in
-    fits_again c.args.table.now.config c.come_to_rest.new.table.config lists (record lists { changed = c.come_to_rest.new.changed; processes = c.come_to_rest.new.set }) (ends c).config c.abort_listing.ensures.fits
+pub returns : goal.returns
+returns c =
+    let was = c.abort_listing.new.lists in
+    let lists = record was { changed = c.come_to_rest.new.changed; processes = c.come_to_rest.new.set } in
+    ends_accepted (Abort c.args.key) c.args.table.now c.come_to_rest.new.table tt c.args.key.process lists (ends c)
+    (fits_again c.args.table.now.config c.come_to_rest.new.table.config was lists (ends c).config c.abort_listing.ensures.fits
     record {
-      granted = λ i. vec_capacity lists.granted;
+      granted = λ i. vec_capacity was.granted;
       changed = c.come_to_rest.ensures.room;
-      owned = λ i. vec_capacity lists.owned;
-      resources = λ i. lists.resources;
+      owned = λ i. vec_capacity was.owned;
+      resources = λ i. was.resources;
       processes = c.come_to_rest.ensures.none;
-    }
+    })

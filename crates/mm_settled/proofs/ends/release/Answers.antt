@@ -1,8 +1,7 @@
-use Rattle.std.proofs.Common.{◌≡◌, Ok, Err, false, replicate, nat_eq, vec_capacity, sym, ap, subst, ◌∙◌, arith}
+use Rattle.std.proofs.Common.{◌≡◌, Ok, Err, false, replicate, nat_eq, vec_capacity, sym, ap, ◌∙◌, arith}
 use Rattle.mm_rules.specs.declared.config.Config.{Config}
-use Rattle.mm_rules.specs.TableState.{TableState}
+use Rattle.mm_rules.specs.declared.refusal.Refusal.TheVariants.{CountsExhausted}
 use Rattle.mm_rules.specs.Event.{Release, Step}
-use Rattle.mm_rules.specs.Laws.{AtRest}
 use Rattle.mm_rules.proofs.States.Config.{event_config}
 use Rattle.mm_settle.specs.Shown.{IdleShowTheSame}
 use Rattle.mm_settle.proofs.Lemmas.Shown.{shown_changes_are_told}
@@ -10,17 +9,20 @@ use Rattle.mm_settled.proofs.Lemmas.Changed.{changed_within_after}
 use Rattle.mm_settled.proofs.Lemmas.Ends.{release_hands_on}
 use Rattle.mm_settled.proofs.Lemmas.Fits.{fits_again}
 use Rattle.mm_settled.proofs.Lemmas.Quiet.{same_is_quiet, same_changes_nobody}
-use Rattle.mm_settled.proofs.Lemmas.Refused.{release_refused, ends_none, refuses, release_refuses}
+use Rattle.mm_settled.proofs.Lemmas.Refused.{release_refused, refuses}
+use Rattle.mm_settled.proofs.Lemmas.EndsAs.{refused_for_room, ends_refused, ends_as, ends_accepted}
 use Rattle.mm_settled.proofs.Lemmas.Rest.{EndsAtRest, ends_at_rest, room_left}
 use Rattle.mm_settled.proofs.ends.release.Goals as goal
 
-pub returns-then-not-has_room-clause-told : goal.returns-then-not-has_room-clause-told
-returns-then-not-has_room-clause-told c =
+pub returns-then-not-has_room : goal.returns-then-not-has_room
+returns-then-not-has_room c =
     let s = c.args.table.now in
-    record {
-      granted = c.clear.ensures.granted ∙ sym (same_is_quiet s s c.keeps_laws.ensures (λ i. s)).granted;
-      changed = c.clear.ensures.changed ∙ sym (same_changes_nobody s s (λ i. s));
-    }
+    let cleared = c.clear.ensures in
+    ends_refused (Release c.args.key c.args.resource) s s CountsExhausted c.args.key.process c.clear.new.self c.keeps_laws.ensures c.requires.rest (λ i. s)
+    (refused_for_room (Release c.args.key c.args.resource) s (sym c.has_room.ensures ∙ c.if-not-has_room.true))
+    record { granted = cleared.granted ∙ sym (same_is_quiet s s c.keeps_laws.ensures (λ i. s)).granted; changed = cleared.changed ∙ sym (same_changes_nobody s s (λ i. s)) }
+    (fits_again s.config s.config c.args.lists.now c.clear.new.self (λ i. s.config) c.requires.fits
+    record { granted = cleared.room_to_grant; changed = cleared.room_to_change; owned = ap vec_capacity cleared.owned; resources = cleared.resources; processes = cleared.processes })
 
 -- ---- the table refuses
 
@@ -30,28 +32,14 @@ is_refused c = rw c.in_err-answer.was at c.release_listing.ensures.step
 same : (c : goal.After-from_residual) → c.release_listing.new.table ≡ c.args.table.now
 same c = release_refused c.args.table.now c.release_listing.new.table c.args.key c.args.resource c.in_err-answer.field-0.0 (is_refused c)
 
-pub returns-in_err-answer-clause-makes : goal.returns-in_err-answer-clause-makes
-returns-in_err-answer-clause-makes c =
+pub returns-in_err-answer : goal.returns-in_err-answer
+returns-in_err-answer c =
     let s = c.args.table.now in
     let t = c.release_listing.new.table in
-    release_refuses s t c.args.key c.args.resource c.from_residual.result c.in_err-answer.field-0.0 c.from_residual.ensures
-    (refuses (Release c.args.key c.args.resource) s t c.in_err-answer.field-0.0 (sym c.has_room.ensures ∙ c.if-not-has_room.false) (is_refused c) (same c))
-
-pub returns-in_err-answer-clause-others : goal.returns-in_err-answer-clause-others
-returns-in_err-answer-clause-others c = λ v apart. (same_is_quiet c.args.table.now c.release_listing.new.table c.keeps_laws.ensures (same c)).verdicts v
-
-pub returns-in_err-answer-clause-ended : goal.returns-in_err-answer-clause-ended
-returns-in_err-answer-clause-ended c =
-    ends_none c.args.table.now c.release_listing.new.table c.args.key.process c.release_listing.new.lists.granted.items c.keeps_laws.ensures (same c) c.release_listing.ensures.told.granted
-
-pub returns-in_err-answer-clause-rest : goal.returns-in_err-answer-clause-rest
-returns-in_err-answer-clause-rest c = subst (λ (t : TableState). AtRest t) (sym (same c)) c.requires.rest
-
-pub returns-in_err-answer-clause-fits : goal.returns-in_err-answer-clause-fits
-returns-in_err-answer-clause-fits c =
     let lists = c.release_listing.new.lists in
-    fits_again c.args.table.now.config c.release_listing.new.table.config lists lists (ap (λ (t : TableState). t.config) (same c)) c.release_listing.ensures.fits
-    record { granted = λ i. vec_capacity lists.granted; changed = λ i. vec_capacity lists.changed; owned = λ i. vec_capacity lists.owned; resources = λ i. lists.resources; processes = λ i. lists.processes }
+    ends_as (Release c.args.key c.args.resource) s t c.args.key.process lists c.from_residual.result c.in_err-answer.field-0.0 c.from_residual.ensures
+    (ends_refused (Release c.args.key c.args.resource) s t c.in_err-answer.field-0.0 c.args.key.process lists c.keeps_laws.ensures c.requires.rest (same c)
+    (refuses (Release c.args.key c.args.resource) s t c.in_err-answer.field-0.0 (sym c.has_room.ensures ∙ c.if-not-has_room.false) (is_refused c) (same c)) c.release_listing.ensures.told c.release_listing.ensures.fits)
 
 -- ---- it is accepted
 
@@ -86,29 +74,16 @@ ends c =
     c.release_listing.new.lists.changed.items c.come_to_rest.new.changed.items c.release_listing.ensures.told.changed c.come_to_rest.ensures.rests c.args.key.process (λ q. nat_eq q c.args.resource) (release_hands_on s mid c.args.key c.args.resource c.in_ok-answer.answer c.keeps_laws.ensures step)
     (sym c.has_room.ensures ∙ c.if-not-has_room.false) c.release_listing.new.lists.granted.items c.release_listing.ensures.told.granted
 
-pub returns-clause-makes : goal.returns-clause-makes
-returns-clause-makes c = (ends c).made
-
-pub returns-clause-others : goal.returns-clause-others
-returns-clause-others c = (ends c).others
-
-pub returns-clause-told : goal.returns-clause-told
-returns-clause-told c = record { granted = (ends c).are_granted; changed = (ends c).are_changed }
-
-pub returns-clause-ended : goal.returns-clause-ended
-returns-clause-ended c = (ends c).ended
-
-pub returns-clause-rest : goal.returns-clause-rest
-returns-clause-rest c = (ends c).rest
-
-pub returns-clause-fits : goal.returns-clause-fits
-returns-clause-fits c =
-    let lists = c.release_listing.new.lists in
-    fits_again c.args.table.now.config c.come_to_rest.new.table.config lists (record lists { changed = c.come_to_rest.new.changed; processes = c.come_to_rest.new.set }) (ends c).config c.release_listing.ensures.fits
+pub returns : goal.returns
+returns c =
+    let was = c.release_listing.new.lists in
+    let lists = record was { changed = c.come_to_rest.new.changed; processes = c.come_to_rest.new.set } in
+    ends_accepted (Release c.args.key c.args.resource) c.args.table.now c.come_to_rest.new.table c.in_ok-answer.answer c.args.key.process lists (ends c)
+    (fits_again c.args.table.now.config c.come_to_rest.new.table.config was lists (ends c).config c.release_listing.ensures.fits
     record {
-      granted = λ i. vec_capacity lists.granted;
+      granted = λ i. vec_capacity was.granted;
       changed = c.come_to_rest.ensures.room;
-      owned = λ i. vec_capacity lists.owned;
-      resources = λ i. lists.resources;
+      owned = λ i. vec_capacity was.owned;
+      resources = λ i. was.resources;
       processes = c.come_to_rest.ensures.none;
-    }
+    })

@@ -1,16 +1,19 @@
-use Rattle.std.proofs.Common.{◌≡◌, Ok, Err, true, vec_capacity, inr, refl, sym, ap, subst, ◌∙◌}
+use Rattle.std.proofs.Common.{◌≡◌, ◌≤◌, Ok, Err, true, vec_capacity, inl, inr, refl, sym, ap, subst, ◌∙◌}
 use Rattle.mm_rules.specs.declared.config.Config.{Config}
 use Rattle.mm_rules.specs.declared.reply.Acquired.TheVariants.{Granted, Waits}
+use Rattle.mm_rules.specs.declared.reply.Totals.{Totals}
 use Rattle.mm_rules.specs.TableState.{TableState}
 use Rattle.mm_rules.specs.Event.{Acquire, Step}
 use Rattle.mm_rules.specs.Laws.{AtRest}
 use Rattle.mm_rules.proofs.States.Config.{event_config}
 use Rattle.mm_settled.specs.Calls.{has_room, Locks}
 use Rattle.mm_settled.specs.private.Lists.{Fits}
+use Rattle.mm_settled.specs.private.Told.{TellsOf, TellsIf, is_told}
 use Rattle.mm_settled.proofs.Lemmas.Fits.{fits_again}
-use Rattle.mm_settled.proofs.Lemmas.Lock.{waiter_rests, waiter_config, waiter_alone, waiter_locks, waiter_changed, waiter_grants, waits_with_room, lacks_room_both, lock_refuses}
+use Rattle.mm_settled.proofs.Lemmas.Lock.{waiter_rests, waiter_config, waiter_alone, waiter_locks, waiter_changed, waiter_grants, waits_with_room, lacks_room_both}
 use Rattle.mm_settled.proofs.Lemmas.Quiet.{GrantsNow, granted_quiet, quiet_rests, same_is_quiet, same_changes_nobody}
 use Rattle.mm_settled.proofs.Lemmas.Refused.{acquire_refused}
+use Rattle.mm_settled.proofs.Lemmas.Told.{tells_nothing, told_now, acquire_counts, told_before}
 use Rattle.mm_settled.proofs.lock.lock.Goals as goal
 
 -- ---- there is no room to count it with a settle
@@ -21,100 +24,108 @@ returns-then-lacks_room-clause-locks c = (refl, inr (refl, lacks_room_both _ _ (
 pub returns-then-lacks_room-clause-told : goal.returns-then-lacks_room-clause-told
 returns-then-lacks_room-clause-told c =
     let s = c.args.table.now in
-    record {
-      granted = c.clear.ensures.granted ∙ sym (same_is_quiet s s c.keeps_laws.ensures (λ i. s)).granted;
-      changed = c.clear.ensures.changed ∙ sym (same_changes_nobody s s (λ i. s));
-    }
+    tells_nothing (is_told c.args.told_at.now s) s s c.clear.new.self c.clear.ensures.granted c.clear.ensures.changed (same_is_quiet s s c.keeps_laws.ensures (λ i. s)).granted (same_changes_nobody s s (λ i. s))
 
 -- ---- the table refuses
 
-same : (c : goal.After-from_residual) → c.acquire.new.self ≡ c.args.table.now
-same c =
-    let is : Step (Acquire c.args.key c.args.resource) c.args.table.now (Err c.in_err-acquire.field-0.0) c.acquire.new.self = rw c.in_err-acquire.was at c.acquire.ensures in
-    acquire_refused c.args.table.now c.acquire.new.self c.args.key c.args.resource c.in_err-acquire.field-0.0 is
+is_refused : (c : goal.After-clear-in-Err) → Step (Acquire c.args.key c.args.resource) c.args.table.now (Err c.in-Err.refusal) c.acquire.new.self
+is_refused c = rw c.in-Err.is at c.acquire.ensures
 
-pub returns-in_err-acquire-clause-locks : goal.returns-in_err-acquire-clause-locks
-returns-in_err-acquire-clause-locks c =
-    let is : Step (Acquire c.args.key c.args.resource) c.args.table.now (Err c.in_err-acquire.field-0.0) c.acquire.new.self = rw c.in_err-acquire.was at c.acquire.ensures in
-    lock_refuses c.args.table.now c.acquire.new.self c.args.key c.args.resource c.from_residual.result c.in_err-acquire.field-0.0 c.from_residual.ensures is (same c)
+same : (c : goal.After-clear-in-Err) → c.acquire.new.self ≡ c.args.table.now
+same c = acquire_refused c.args.table.now c.acquire.new.self c.args.key c.args.resource c.in-Err.refusal (is_refused c)
 
-pub returns-in_err-acquire-clause-others : goal.returns-in_err-acquire-clause-others
-returns-in_err-acquire-clause-others c = λ v apart. (same_is_quiet c.args.table.now c.acquire.new.self c.keeps_laws.ensures (same c)).verdicts v
+pub returns-in-Err-clause-locks : goal.returns-in-Err-clause-locks
+returns-in-Err-clause-locks c =
+    (same c, inl (subst (λ (t : TableState). Step (Acquire c.args.key c.args.resource) c.args.table.now (Err c.in-Err.refusal) t) (same c) (is_refused c)))
 
-pub returns-in_err-acquire-clause-told : goal.returns-in_err-acquire-clause-told
-returns-in_err-acquire-clause-told c = record {
-  granted = c.clear.ensures.granted ∙ sym (same_is_quiet c.args.table.now c.acquire.new.self c.keeps_laws.ensures (same c)).granted;
-  changed = c.clear.ensures.changed ∙ sym (same_changes_nobody c.args.table.now c.acquire.new.self (same c));
-}
+pub returns-in-Err-clause-others : goal.returns-in-Err-clause-others
+returns-in-Err-clause-others c = λ v apart. (same_is_quiet c.args.table.now c.acquire.new.self c.keeps_laws.ensures (same c)).verdicts v
 
-pub returns-in_err-acquire-clause-rest : goal.returns-in_err-acquire-clause-rest
-returns-in_err-acquire-clause-rest c = subst (λ (t : TableState). AtRest t) (sym (same c)) c.requires.rest
+pub returns-in-Err-clause-told : goal.returns-in-Err-clause-told
+returns-in-Err-clause-told c =
+    let s = c.args.table.now in
+    let t = c.acquire.new.self in
+    tells_nothing (is_told c.args.told_at.now t) s t c.clear-in-Err.new.self c.clear-in-Err.ensures.granted c.clear-in-Err.ensures.changed
+    (same_is_quiet s t c.keeps_laws.ensures (same c)).granted (same_changes_nobody s t (same c))
 
-pub returns-in_err-acquire-clause-fits : goal.returns-in_err-acquire-clause-fits
-returns-in_err-acquire-clause-fits c =
-    let cleared = c.clear.ensures in
-    fits_again c.args.table.now.config c.acquire.new.self.config c.args.lists.now c.clear.new.self (ap (λ (t : TableState). t.config) (same c)) c.requires.fits
+pub returns-in-Err-clause-stamp : goal.returns-in-Err-clause-stamp
+returns-in-Err-clause-stamp c = subst (λ (t : TableState). c.args.told_at.now ≤ t.totals.accepted) (sym (same c)) c.requires.stamp
+
+pub returns-in-Err-clause-rest : goal.returns-in-Err-clause-rest
+returns-in-Err-clause-rest c = subst (λ (t : TableState). AtRest t) (sym (same c)) c.requires.rest
+
+pub returns-in-Err-clause-fits : goal.returns-in-Err-clause-fits
+returns-in-Err-clause-fits c =
+    let cleared = c.clear-in-Err.ensures in
+    fits_again c.args.table.now.config c.acquire.new.self.config c.args.lists.now c.clear-in-Err.new.self (ap (λ (t : TableState). t.config) (same c)) c.requires.fits
     record { granted = cleared.room_to_grant; changed = cleared.room_to_change; owned = ap vec_capacity cleared.owned; resources = cleared.resources; processes = cleared.processes }
 
 -- ---- it is granted
 
-grants : (c : goal.In-Granted) → GrantsNow c.args.table.now c.args.key c.acquire.new.self
-grants c =
-    let is : Step (Acquire c.args.key c.args.resource) c.args.table.now (Ok Granted) c.acquire.new.self = rw (c.in_ok-acquire.was, c.in-Granted.is) at c.acquire.ensures in
-    granted_quiet c.args.table.now c.acquire.new.self c.args.key c.args.resource c.keeps_laws.ensures is
+is_granted : (c : goal.In-Ok-Granted) → Step (Acquire c.args.key c.args.resource) c.args.table.now (Ok Granted) c.acquire.new.self
+is_granted c = rw (c.in-Ok-Granted.is, c.in-Ok-Granted.field-0-is) at c.acquire.ensures
 
-pub returns-in-Granted-clause-told : goal.returns-in-Granted-clause-told
-returns-in-Granted-clause-told c = record { granted = c.clear.ensures.granted ∙ sym (grants c).quiet.granted; changed = c.clear.ensures.changed ∙ sym (grants c).changed }
+grants : (c : goal.In-Ok-Granted) → GrantsNow c.args.table.now c.args.key c.acquire.new.self
+grants c = granted_quiet c.args.table.now c.acquire.new.self c.args.key c.args.resource c.keeps_laws.ensures (is_granted c)
 
-pub returns-in-Granted-clause-rest : goal.returns-in-Granted-clause-rest
-returns-in-Granted-clause-rest c =
+pub returns-in-Ok-Granted-clause-told : goal.returns-in-Ok-Granted-clause-told
+returns-in-Ok-Granted-clause-told c =
+    let s = c.args.table.now in
+    let t = c.acquire.new.self in
+    subst (λ b. TellsIf b s t c.args.lists.now) (sym (told_before c.args.told_at.now s t c.requires.stamp (acquire_counts s t c.args.key c.args.resource Granted (is_granted c))))
+    ((grants c).quiet.granted, (grants c).changed)
+
+pub returns-in-Ok-Granted-clause-rest : goal.returns-in-Ok-Granted-clause-rest
+returns-in-Ok-Granted-clause-rest c =
     quiet_rests (Acquire c.args.key c.args.resource) c.args.table.now c.acquire.new.self c.acquire.result c.acquire.ensures c.keeps_laws.ensures c.requires.rest (grants c).quiet
 
 -- ---- it waits
 
-asks : (c : goal.After-settle_waiter) → Step (Acquire c.args.key c.args.resource) c.args.table.now (Ok (Waits c.in-Waits.holder c.in-Waits.label)) c.acquire.new.self
-asks c = rw (c.in_ok-acquire.was, c.in-Waits.is) at c.acquire.ensures
+asks : (c : goal.After-totals) → Step (Acquire c.args.key c.args.resource) c.args.table.now (Ok (Waits c.in-Ok-Waits.holder c.in-Ok-Waits.field-0-1)) c.acquire.new.self
+asks c = rw (c.in-Ok-Waits.is, c.in-Ok-Waits.field-0-is) at c.acquire.ensures
 
-room : (c : goal.After-settle_waiter) → has_room c.args.table.now ≡ true
+room : (c : goal.After-totals) → has_room c.args.table.now ≡ true
 room c =
-    waits_with_room c.args.table.now c.acquire.new.self c.args.key c.in-Waits.holder c.args.resource c.in-Waits.label (sym c.lacks_room.ensures ∙ c.if-lacks_room.false) (asks c)
+    waits_with_room c.args.table.now c.acquire.new.self c.args.key c.in-Ok-Waits.holder c.args.resource c.in-Ok-Waits.field-0-1 (sym c.lacks_room.ensures ∙ c.if-lacks_room.false) (asks c)
 
-pub returns-in-Waits-clause-locks : goal.returns-in-Waits-clause-locks
-returns-in-Waits-clause-locks c =
+pub returns-in-Ok-Waits-clause-locks : goal.returns-in-Ok-Waits-clause-locks
+returns-in-Ok-Waits-clause-locks c =
     let s = c.args.table.now in
-    let settled = c.settle_waiter.ensures.settled in
-    subst (λ told. Locks s c.args.key c.args.resource (Ok told) c.settle_waiter.new.table) (sym settled.2)
-    (waiter_locks s c.acquire.new.self c.settle_waiter.new.table c.args.key c.in-Waits.holder c.args.resource c.in-Waits.label settled.0 c.keeps_laws.ensures c.requires.rest (asks c) settled.1 (room c))
+    let settled = c.settle_waiter-locked.ensures.settled in
+    subst (λ told. Locks s c.args.key c.args.resource (Ok told) c.settle_waiter-locked.new.table) (sym settled.2)
+    (waiter_locks s c.acquire.new.self c.settle_waiter-locked.new.table c.args.key c.in-Ok-Waits.holder c.args.resource c.in-Ok-Waits.field-0-1 settled.0 c.keeps_laws.ensures c.requires.rest (asks c) settled.1 (room c))
 
-pub returns-in-Waits-clause-others : goal.returns-in-Waits-clause-others
-returns-in-Waits-clause-others c =
-    let settled = c.settle_waiter.ensures.settled in
-    waiter_alone c.args.table.now c.acquire.new.self c.settle_waiter.new.table c.args.key c.in-Waits.holder c.args.resource c.in-Waits.label settled.0 c.keeps_laws.ensures c.requires.rest (asks c) settled.1
+pub returns-in-Ok-Waits-clause-others : goal.returns-in-Ok-Waits-clause-others
+returns-in-Ok-Waits-clause-others c =
+    let settled = c.settle_waiter-locked.ensures.settled in
+    waiter_alone c.args.table.now c.acquire.new.self c.settle_waiter-locked.new.table c.args.key c.in-Ok-Waits.holder c.args.resource c.in-Ok-Waits.field-0-1 settled.0 c.keeps_laws.ensures c.requires.rest (asks c) settled.1
 
-pub returns-in-Waits-clause-told : goal.returns-in-Waits-clause-told
-returns-in-Waits-clause-told c =
-    let settled = c.settle_waiter.ensures.settled in
+pub returns-in-Ok-Waits-clause-told : goal.returns-in-Ok-Waits-clause-told
+returns-in-Ok-Waits-clause-told c =
+    let settled = c.settle_waiter-locked.ensures.settled in
     let s = c.args.table.now in
     let mid = c.acquire.new.self in
-    let new = c.settle_waiter.new.table in
+    let new = c.settle_waiter-locked.new.table in
+    let told : TellsOf s new c.settle_waiter-locked.new.lists =
     record {
-      granted = c.settle_waiter.ensures.granted
-          ∙ sym (waiter_grants s mid new c.args.key c.in-Waits.holder c.args.resource c.in-Waits.label settled.0 c.keeps_laws.ensures c.requires.rest (asks c) settled.1);
-      changed = c.settle_waiter.ensures.changed
-          ∙ waiter_changed s mid new c.args.key c.in-Waits.holder c.args.resource c.in-Waits.label settled.0 c.keeps_laws.ensures c.requires.rest (asks c) settled.1;
-    }
+      granted = c.settle_waiter-locked.ensures.granted
+          ∙ sym (waiter_grants s mid new c.args.key c.in-Ok-Waits.holder c.args.resource c.in-Ok-Waits.field-0-1 settled.0 c.keeps_laws.ensures c.requires.rest (asks c) settled.1);
+      changed = c.settle_waiter-locked.ensures.changed
+          ∙ waiter_changed s mid new c.args.key c.in-Ok-Waits.holder c.args.resource c.in-Ok-Waits.field-0-1 settled.0 c.keeps_laws.ensures c.requires.rest (asks c) settled.1;
+    } in
+    subst (λ b. TellsIf b s new c.settle_waiter-locked.new.lists) (sym (told_now c.totals.result.accepted new (ap (λ (n : Totals). n.accepted) c.totals.ensures))) told
 
-pub returns-in-Waits-clause-rest : goal.returns-in-Waits-clause-rest
-returns-in-Waits-clause-rest c =
-    let settled = c.settle_waiter.ensures.settled in
-    waiter_rests c.args.table.now c.acquire.new.self c.settle_waiter.new.table c.args.key c.in-Waits.holder c.args.resource c.in-Waits.label settled.0 c.keeps_laws.ensures c.requires.rest (asks c) settled.1
+pub returns-in-Ok-Waits-clause-rest : goal.returns-in-Ok-Waits-clause-rest
+returns-in-Ok-Waits-clause-rest c =
+    let settled = c.settle_waiter-locked.ensures.settled in
+    waiter_rests c.args.table.now c.acquire.new.self c.settle_waiter-locked.new.table c.args.key c.in-Ok-Waits.holder c.args.resource c.in-Ok-Waits.field-0-1 settled.0 c.keeps_laws.ensures c.requires.rest (asks c) settled.1
 
-pub returns-in-Waits-clause-fits : goal.returns-in-Waits-clause-fits
-returns-in-Waits-clause-fits c =
-    let settled = c.settle_waiter.ensures.settled in
+pub returns-in-Ok-Waits-clause-fits : goal.returns-in-Ok-Waits-clause-fits
+returns-in-Ok-Waits-clause-fits c =
+    let settled = c.settle_waiter-locked.ensures.settled in
     let s = c.args.table.now in
     let mid = c.acquire.new.self in
-    let new = c.settle_waiter.new.table in
-    let now : new.config ≡ s.config = waiter_config s mid new c.args.key c.in-Waits.holder c.args.resource c.in-Waits.label settled.0 c.keeps_laws.ensures c.requires.rest (asks c) settled.1 in
-    let was : mid.config ≡ s.config = event_config (Acquire c.args.key c.args.resource) s mid (Ok (Waits c.in-Waits.holder c.in-Waits.label)) (asks c) in
-    subst (λ (f : Config). Fits f c.settle_waiter.new.lists) (was ∙ sym now) c.settle_waiter.ensures.fits
+    let new = c.settle_waiter-locked.new.table in
+    let now : new.config ≡ s.config = waiter_config s mid new c.args.key c.in-Ok-Waits.holder c.args.resource c.in-Ok-Waits.field-0-1 settled.0 c.keeps_laws.ensures c.requires.rest (asks c) settled.1 in
+    let was : mid.config ≡ s.config = event_config (Acquire c.args.key c.args.resource) s mid (Ok (Waits c.in-Ok-Waits.holder c.in-Ok-Waits.field-0-1)) (asks c) in
+    subst (λ (f : Config). Fits f c.settle_waiter-locked.new.lists) (was ∙ sym now) c.settle_waiter-locked.ensures.fits

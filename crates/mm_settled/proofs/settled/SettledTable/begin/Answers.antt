@@ -1,34 +1,56 @@
-use Rattle.std.proofs.Common.{sym, subst, ◌∙◌}
+use Rattle.std.proofs.Common.{◌≡◌, Ok, Err, [], if◌then◌else◌, sym, subst, arith}
 use Rattle.mm_rules.specs.declared.config.Config.{Config}
-use Rattle.mm_rules.specs.Event.{Begin}
+use Rattle.mm_rules.specs.Event.{Begin, Step}
 use Rattle.mm_rules.proofs.States.Config.{event_config}
 use Rattle.mm_settled.specs.Grants.{Tells}
 use Rattle.mm_settled.specs.SettledState.{SettledState}
 use Rattle.mm_settled.specs.private.Lists.{Fits}
-use Rattle.mm_settled.proofs.Lemmas.Quiet.{begin_quiet, quiet_rests}
+use Rattle.mm_settled.specs.private.Told.{TellsIf, is_told}
+use Rattle.mm_settled.proofs.Lemmas.Quiet.{begin_quiet, quiet_rests, same_is_quiet, same_changes_nobody}
+use Rattle.mm_settled.proofs.Lemmas.Refused.{begin_refused}
+use Rattle.mm_settled.proofs.Lemmas.Told.{tells_if, tells_nothing, begin_counts, told_before}
 use Rattle.mm_settled.proofs.settled.SettledTable.begin.Goals as goal
+
+-- ---- it is accepted
+
+is_accepted : (c : goal.In-Ok) → Step Begin c.self.inside.table (Ok c.in-Ok.key) c.begin.new.self
+is_accepted c = rw c.in-Ok.is at c.begin.ensures
 
 pub invariant_of-self : goal.invariant_of-self
 invariant_of-self c =
     let s = c.self.inside.table in
     let quiet = begin_quiet s c.begin.new.self c.begin.result c.keeps_laws.ensures c.begin.ensures in
-    let cleared = c.clear.ensures in
-    let was : Fits s.config c.self.inside.lists = c.self.invariant.fits in
     record {
       rest = quiet_rests Begin s c.begin.new.self c.begin.result c.begin.ensures c.keeps_laws.ensures c.self.invariant.rest quiet.0;
-      fits = subst (λ (f : Config). Fits f c.clear.new.self) (sym (event_config Begin s c.begin.new.self c.begin.result c.begin.ensures)) record {
-        granted = rw cleared.room_to_grant was.granted;
-        changed = rw cleared.room_to_change was.changed;
-        owned = rw cleared.owned was.owned;
-        resources = cleared.resources ∙ was.resources;
-        processes = cleared.processes ∙ was.processes;
-      };
-      grants = λ none. cleared.granted;
+      fits = subst (λ (f : Config). Fits f c.self.inside.lists) (sym (event_config Begin s c.begin.new.self c.begin.result c.begin.ensures)) c.self.invariant.fits;
+      told_at = omega (arith, c.self.invariant.told_at, begin_counts s c.begin.new.self c.in-Ok.key (is_accepted c));
     }
 
-pub returns-clause-told : goal.returns-clause-told
-returns-clause-told c =
+pub returns-in-Ok-clause-told : goal.returns-in-Ok-clause-told
+returns-in-Ok-clause-told c =
     let s = c.self.inside.table in
-    let quiet = begin_quiet s c.begin.new.self c.begin.result c.keeps_laws.ensures c.begin.ensures in
-    subst (λ (old : SettledState). Tells old.table record { table = c.begin.new.self; granted = c.clear.new.self.granted.items; changed = c.clear.new.self.changed.items }) c.self.view_is
-    record { granted = c.clear.ensures.granted ∙ sym quiet.0.granted; changed = c.clear.ensures.changed ∙ sym quiet.1 }
+    let t = c.begin.new.self in
+    let at = c.self.inside.told_at in
+    let lists = c.self.inside.lists in
+    let quiet = begin_quiet s t c.begin.result c.keeps_laws.ensures c.begin.ensures in
+    let told : TellsIf (is_told at t) s t lists = subst (λ b. TellsIf b s t lists) (sym (told_before at s t c.self.invariant.told_at (begin_counts s t c.in-Ok.key (is_accepted c)))) (quiet.0.granted, quiet.1) in
+    subst (λ (old : SettledState). Tells old.table record { table = t; granted = if is_told at t then lists.granted.items else []; changed = if is_told at t then lists.changed.items else [] }) c.self.view_is
+    (tells_if (is_told at t) s t lists told)
+
+-- ---- it is refused
+
+same : (c : goal.After-clear) → c.begin.new.self ≡ c.self.inside.table
+same c =
+    let is : Step Begin c.self.inside.table (Err c.in-Err.refusal) c.begin.new.self = rw c.in-Err.is at c.begin.ensures in
+    begin_refused c.self.inside.table c.begin.new.self c.in-Err.refusal is
+
+pub returns-in-Err-clause-told : goal.returns-in-Err-clause-told
+returns-in-Err-clause-told c =
+    let s = c.self.inside.table in
+    let t = c.begin.new.self in
+    let at = c.self.inside.told_at in
+    let lists = c.clear.new.self in
+    let told : TellsIf (is_told at t) s t lists
+    = tells_nothing (is_told at t) s t lists c.clear.ensures.granted c.clear.ensures.changed (same_is_quiet s t c.keeps_laws.ensures (same c)).granted (same_changes_nobody s t (same c)) in
+    subst (λ (old : SettledState). Tells old.table record { table = t; granted = if is_told at t then lists.granted.items else []; changed = if is_told at t then lists.changed.items else [] }) c.self.view_is
+    (tells_if (is_told at t) s t lists told)

@@ -1,4 +1,4 @@
-use Rattle.std.proofs.Common.{sym, ap, subst}
+use Rattle.std.proofs.Common.{sym, ap, subst, arith}
 use Rattle.mm_rules.specs.declared.config.Config.{Config}
 use Rattle.mm_rules.specs.TableState.{TableState}
 use Rattle.mm_rules.specs.Laws.{AtRest}
@@ -12,5 +12,5 @@ invariant_of-result c =
     record {
       rest = subst (λ (s : TableState). AtRest s) (sym opened.1) (opening_at_rest c.args.config opened.0);
       fits = subst (λ (f : Config). Fits f c.in_ok-lists.lists) (sym (ap (λ (s : TableState). s.config) opened.1)) c.in_ok-lists.ensures.fits;
-      grants = λ none. c.in_ok-lists.ensures.granted;
+      told_at = omega (arith);
     }
