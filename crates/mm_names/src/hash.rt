@@ -34,7 +34,8 @@ impl NameHash {
     }
 
     /// The hash of a name, in `O(length)`.
-    #[inline]
+    // In place: most names are short, and cost little more than a call.
+    #[inline(always)]
     pub(crate) fn of(&self, name: &[u8]) -> u64
         ensures { result ≡ hash_of self.now name.now }
     {

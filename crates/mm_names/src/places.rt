@@ -138,5 +138,8 @@ fn are_equal(first: &[u8], second: &[u8]) -> bool
         first = rest;
         second = others;
     }
+    if first.is_empty() {
+        return second.is_empty();
+    }
     first == second
 }
