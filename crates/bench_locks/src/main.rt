@@ -1,0 +1,108 @@
+//! `bench_locks WAY THREADS NAMES MILLISECONDS`: so many threads make transactions for so long, at one `Locks`, on so many names. It prints
+//! how many nanoseconds that took, how many transactions were committed, how often one was aborted after a deadlock, and how often a name was
+//! found with two owners at a time. The ways:
+//!
+//! - `one`: four locks, one after the other. `all`: four locks by `lock_all`. `run`: the same by `run`.
+//! - `crowd`: one to six locks, in each of these ways, and each looks whether it is the only owner of its names.
+//! - `sleep`: one owns a name until the end, and all others wait for it.
+//!
+//! The modules:
+//!
+//! - `names`: the names, and which of them a transaction locks.
+//! - `shared`: what all threads share, and what each has done.
+//! - `transfers`: transactions of four locks.
+//! - `crowd`: transactions that look who else owns their names.
+//! - `threads`: threads that are at work at once.
+#![tactic(auto)]
+
+mod crowd;
+mod names;
+mod shared;
+mod threads;
+mod transfers;
+
+use mm_blocking::{Locks, ManagerConfig};
+use names::{Name, all_names};
+use shared::{Done, Way};
+use std::alloc::{AllocError, Global};
+use std::sync::Wait;
+use std::sync::atomic::AtomicU64;
+use std::thread::Threads;
+use std::time::Clock;
+use std::{env, io};
+use threads::timed;
+
+const MOST_THREADS: u32 = 64;
+
+const MOST_NAMES: u32 = 65_536;
+
+/// The number that a word of the command line is; 0 where it is none.
+fn number(word: Option<String>) -> u32 {
+    match word {
+        Some(word) => word.as_str().parse::<u32>().unwrap_or(0),
+        None => 0,
+    }
+}
+
+/// Opens locks and runs the threads.
+fn run<R: Threads + Wait + Clock + Sync>(
+    rt: &R,
+    alloc: Global,
+    way: Way,
+    threads: u32,
+    names: &[Name],
+    milliseconds: u32,
+) -> Result<Option<Done>, AllocError> {
+    let config = ManagerConfig {
+        transactions: MOST_THREADS + 1,
+        names: MOST_NAMES,
+        name_bytes: 16,
+        seed: 7,
+    };
+    let mut owners = Vec::with_capacity(alloc, names.len())?;
+    for _ in names {
+        owners.push(AtomicU64::new(0))?;
+    }
+    let Ok(locks) = Locks::open(alloc, config) else {
+        return Ok(None);
+    };
+    let done = timed(
+        rt,
+        alloc,
+        &locks,
+        names,
+        owners.as_slice(),
+        way,
+        threads,
+        milliseconds,
+    );
+    drop(locks);
+    done.map(Some)
+}
+
+fn main(rt: HostRuntime) -> io::Result<()> {
+    let mut words = env::args(&rt)?;
+    let _ = words.next();
+    // Without words it prints nothing, so that its run can be compared.
+    let Some(way) = words.next().and_then(|name| Way::named(name.as_str())) else {
+        return Ok(());
+    };
+    let threads = number(words.next()).clamp(1, MOST_THREADS);
+    let names = all_names(rt.alloc(), number(words.next()).clamp(8, MOST_NAMES))?;
+    let milliseconds = number(words.next());
+    let Some(done) = run(
+        &rt,
+        rt.alloc(),
+        way,
+        threads,
+        names.as_slice(),
+        milliseconds,
+    )?
+    else {
+        return println!(rt; "no memory");
+    };
+    println!(rt;
+        "{} {} {} {}",
+        done.nanoseconds, done.commits, done.aborts, done.shared
+    )
+}

@@ -1,0 +1,59 @@
+//! Transactions of four locks, each of which is made again after a deadlock.
+
+use crate::names::{chosen, names_of};
+use crate::shared::{Done, Shared, Way};
+use mm_blocking::{LockError, Locks};
+use rand_pcg::Lcg64Xsh32;
+use std::sync::Wait;
+
+/// How many names a transaction locks.
+const COUNT: usize = 4;
+
+/// A transaction that locks these names one after the other.
+pub fn one_by_one<R: Wait>(rt: &R, locks: &Locks, names: &[&[u8]]) -> Result<(), LockError> {
+    let mut transaction = locks.begin(rt)?;
+    for name in names {
+        transaction.lock(name)?;
+    }
+    transaction.commit()
+}
+
+/// A transaction that locks these names by one call.
+fn all_at_once<R: Wait>(rt: &R, locks: &Locks, names: &[&[u8]]) -> Result<(), LockError> {
+    let mut transaction = locks.begin(rt)?;
+    transaction.lock_all(names)?;
+    transaction.commit()
+}
+
+/// The same by `run`.
+fn run<R: Wait>(rt: &R, locks: &Locks, names: &[&[u8]]) -> Result<(), LockError> {
+    locks.run(rt, u32::MAX, |transaction| transaction.lock_all(names))
+}
+
+/// One transaction, be it committed or not.
+fn transfer<R: Wait>(rt: &R, shared: &Shared<'_>, names: &[&[u8]]) -> Result<(), LockError> {
+    match shared.way {
+        Way::One => one_by_one(rt, shared.locks, names),
+        Way::All => all_at_once(rt, shared.locks, names),
+        _ => run(rt, shared.locks, names),
+    }
+}
+
+/// Makes a transaction of four names by chance until it is committed.
+pub fn transfer_at_last<R: Wait>(rt: &R, shared: &Shared<'_>, random: &mut Lcg64Xsh32) -> Done {
+    let mut done = Done::NOTHING;
+    let bound = shared.names.len().min(65_536) as u32;
+    if bound == 0 {
+        return done;
+    }
+    let numbers = chosen(random, bound, COUNT);
+    let names = names_of(shared.names, &numbers);
+    for _ in 0..u64::MAX {
+        if transfer(rt, shared, &names[..COUNT]).is_ok() {
+            break;
+        }
+        done.aborts = done.aborts.saturating_add(1);
+    }
+    done.commits = 1;
+    done
+}

@@ -1,0 +1,156 @@
+//! Work that is done again after a deadlock.
+use crate::tests::helpers::{await_events, open, same};
+use mm_blocking::{LockError, Locks, Transaction};
+use std::process::Abort;
+use std::sync::{Barrier, Wait};
+use std::test::Fail;
+use std::thread::join;
+
+/// What the work of a test fails with.
+#[derive(Clone, Copy, Debug, PartialEq, Eq)]
+enum WorkError {
+    Poor,
+    Refused(LockError),
+}
+
+impl From<LockError> for WorkError {
+    fn from(error: LockError) -> WorkError {
+        WorkError::Refused(error)
+    }
+}
+
+fn poor<R: Wait>(transaction: &mut Transaction<'_, R>) -> Result<u32, WorkError> {
+    transaction.lock(b"a")?;
+    Err(WorkError::Poor)
+}
+
+fn refused<R: Wait>(transaction: &mut Transaction<'_, R>) -> Result<u32, WorkError> {
+    transaction.lock(b"a")?;
+    transaction.lock(b"")?;
+    Ok(7)
+}
+
+fn rich<R: Wait>(transaction: &mut Transaction<'_, R>) -> Result<u32, WorkError> {
+    transaction.lock(b"a")?;
+    Ok(7)
+}
+
+/// A value is returned once its transaction is committed; an error of the work is returned, and its transaction rolled back.
+fn outcomes<R: Wait + Abort>(rt: &R, locks: &Locks) {
+    same(rt, locks.run(rt, 3, |one| poor(one)), Err(WorkError::Poor));
+    same(
+        rt,
+        locks.run(rt, 3, |one| refused(one)),
+        Err(WorkError::Refused(LockError::NameEmpty)),
+    );
+    same(rt, locks.run(rt, 3, |one| rich(one)), Ok(7));
+    same(rt, locks.run(rt, 0, |one| rich(one)), Ok(7));
+    let totals = locks.totals(rt);
+    // Four begins and locks, four ends.
+    same(rt, totals.accepted, 12);
+    same(rt, totals.verdicts, 0);
+}
+
+#[test]
+fn returns_what_came(rt: HostRuntime) -> Result<(), Fail> {
+    let locks = open(rt.alloc(), 1, 1)?;
+    outcomes(&rt, &locks);
+    Ok(())
+}
+
+const ROUNDS: u32 = 1_000;
+
+/// Locks two names, and meets the other thread between them the first time.
+fn crosses<R: Wait + Abort>(
+    rt: &R,
+    locks: &Locks,
+    gate: &Barrier,
+    names: [&[u8]; 2],
+) -> Result<u32, LockError> {
+    let mut attempts: u32 = 0;
+    locks.run(rt, 1_000, |transaction| {
+        transaction.lock(names[0])?;
+        if attempts == 0 {
+            gate.wait(rt);
+        }
+        attempts = attempts.saturating_add(1);
+        transaction.lock(names[1])?;
+        Ok(attempts)
+    })
+}
+
+/// How often this thread was to try again.
+fn cross_often<R: Wait + Abort>(rt: &R, locks: &Locks, gate: &Barrier, names: [&[u8]; 2]) -> u64 {
+    let mut again: u64 = 0;
+    for _ in 0..ROUNDS {
+        let attempts = crosses(rt, locks, gate, names).expect(
+            rt,
+            "one of a thousand attempts commits",
+        );
+        again = again.saturating_add(u64::from(attempts).saturating_sub(1));
+        gate.wait(rt);
+    }
+    again
+}
+
+/// Each of a thousand times both commit in the end, and each deadlock was one more attempt.
+#[test]
+fn both_commit(rt: HostRuntime) -> Result<(), Fail> {
+    let locks = open(rt.alloc(), 2, 2)?;
+    let gate = Barrier::new(2);
+    let (one, two) = join(
+        &rt,
+        || cross_often(&rt, &locks, &gate, [b"a", b"b"]),
+        || cross_often(&rt, &locks, &gate, [b"b", b"a"]),
+    );
+    let totals = locks.totals(&rt);
+    same(&rt, one.saturating_add(two), totals.verdicts);
+    same(&rt, totals.verdicts >= u64::from(ROUNDS), true);
+    same(&rt, totals.aborts, totals.verdicts);
+    Ok(())
+}
+
+const ATTEMPTS: u32 = 3;
+
+/// Owns `b` and waits for `a` before each attempt of the other one closes the cycle.
+fn stands_in_the_way<R: Wait + Abort>(rt: &R, locks: &Locks, gate: &Barrier) {
+    for _ in 0..ATTEMPTS {
+        let mut transaction = locks.begin(rt).expect(rt, "there is room");
+        same(rt, transaction.lock(b"b"), Ok(()));
+        gate.wait(rt);
+        gate.wait(rt);
+        same(rt, transaction.lock(b"a"), Ok(()));
+        same(rt, transaction.commit(), Ok(()));
+    }
+}
+
+/// Closes a cycle in each attempt. Returns how many there were.
+fn gives_up<R: Wait + Abort>(rt: &R, locks: &Locks, gate: &Barrier) -> u32 {
+    let mut attempts: u32 = 0;
+    let outcome = locks.run(rt, ATTEMPTS, |transaction| {
+        attempts = attempts.saturating_add(1);
+        transaction.lock(b"a")?;
+        gate.wait(rt);
+        let events = locks.totals(rt).accepted;
+        gate.wait(rt);
+        await_events(rt, locks, events.saturating_add(2));
+        transaction.lock(b"b")
+    });
+    same(rt, outcome, Err(LockError::Deadlock));
+    attempts
+}
+
+/// Where each attempt meets a deadlock, the last one's error is returned.
+#[test]
+fn ends_after_so_many_attempts(rt: HostRuntime) -> Result<(), Fail> {
+    let locks = open(rt.alloc(), 2, 2)?;
+    let gate = Barrier::new(2);
+    let (_, attempts) = join(
+        &rt,
+        || stands_in_the_way(&rt, &locks, &gate),
+        || gives_up(&rt, &locks, &gate),
+    );
+    same(&rt, attempts, ATTEMPTS);
+    same(&rt, locks.totals(&rt).aborts, u64::from(ATTEMPTS));
+    Ok(())
+}

@@ -1,0 +1,62 @@
+//! Threads that wait use next to no processor time.
+use crate::tests::helpers::{await_events, open, same};
+use mm_blocking::Locks;
+use std::process::Abort;
+use std::sync::{Barrier, Wait};
+use std::test::Fail;
+use std::thread;
+use std::time::{Clock, CpuClock, Duration};
+
+const THREADS: usize = 9;
+
+/// The processor time that all who wait may use, in microseconds. They wait for half a second.
+const MOST: u64 = 20_000;
+
+/// Waits for the name. Returns the processor time that this took, in microseconds.
+fn wait<R: Wait + CpuClock + Abort>(rt: &R, locks: &Locks) -> u64 {
+    let start = rt.thread_cpu_time().expect(rt, "the clock can be read");
+    let mut transaction = locks.begin(rt).expect(rt, "there is room");
+    same(rt, transaction.lock(b"a"), Ok(()));
+    same(rt, transaction.commit(), Ok(()));
+    let end = rt.thread_cpu_time().expect(rt, "the clock can be read");
+    let took = end.saturating_sub(start);
+    took.as_secs()
+        .wrapping_mul(1_000_000)
+        .wrapping_add(u64::from(took.subsec_micros()))
+}
+
+/// Owns the name until all others have waited for half a second.
+fn own<R: Wait + Clock + Abort>(rt: &R, locks: &Locks, gate: &Barrier) {
+    let mut transaction = locks.begin(rt).expect(rt, "there is room");
+    same(rt, transaction.lock(b"a"), Ok(()));
+    gate.wait(rt);
+    // A begin and a lock, and for each of the eight a begin and a wait.
+    await_events(rt, locks, 2 + 8 * 3);
+    thread::sleep(rt, Duration::from_millis(500));
+    same(rt, transaction.commit(), Ok(()));
+}
+
+#[test]
+fn sleeps(rt: HostRuntime) -> Result<(), Fail> {
+    let locks = open(rt.alloc(), 9, 1)?;
+    let gate = Barrier::new(THREADS);
+    let times = thread::map_indices(
+        &rt,
+        rt.alloc(),
+        THREADS,
+        &|number| -> u64 {
+            if number == 0 {
+                own(&rt, &locks, &gate);
+                return 0;
+            }
+            gate.wait(&rt);
+            wait(&rt, &locks)
+        },
+    )?;
+    let mut sum: u64 = 0;
+    for time in times.as_slice() {
+        sum = sum.wrapping_add(*time);
+    }
+    same(&rt, sum < MOST, true);
+    Ok(())
+}
