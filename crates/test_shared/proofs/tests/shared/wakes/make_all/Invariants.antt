@@ -3,4 +3,4 @@ use Rattle.test_shared.proofs.tests.shared.wakes.make_all.Given as goal
 
 -- the list keeps room for each process
 abbrev pub invariant-loop-line : goal.invariant-loop-line
-invariant-loop-line g l = l.table.now ≤ vec_capacity l.wake
+invariant-loop-line g l = l.table ≤ vec_capacity l.wake
