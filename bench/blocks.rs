@@ -10,8 +10,8 @@ use std::time::Instant;
 
 const PROCESSES: u32 = 4_096;
 const LENGTHS: [u32; 11] = [4, 8, 16, 32, 64, 128, 256, 512, 1_024, 2_048, 4_095];
-const MOST_ROUNDS: u32 = 2_000;
-const LEAST_ROUNDS: u32 = 3;
+const MAX_ROUNDS: u32 = 2_000;
+const MIN_ROUNDS: u32 = 3;
 /// No round is begun after this many seconds, but for the first few.
 const SECONDS: f64 = 0.2;
 
@@ -70,8 +70,8 @@ fn time(work: Work, room: u32, waiting: u32, is_at_head: bool) -> f64 {
 fn least(work: Work, waiting: u32, blocks: u32, is_at_head: bool) -> [f64; 2] {
     let mut least = [f64::INFINITY; 2];
     let start = Instant::now();
-    for round in 0..MOST_ROUNDS {
-        if round >= LEAST_ROUNDS && start.elapsed().as_secs_f64() > SECONDS {
+    for round in 0..MAX_ROUNDS {
+        if round >= MIN_ROUNDS && start.elapsed().as_secs_f64() > SECONDS {
             break;
         }
         for (least, waits) in least.iter_mut().zip([waiting - blocks, waiting]) {

@@ -19,7 +19,7 @@ use timing::Workload;
 
 /// How many processes the tables have whose size is not what is timed.
 const PROCESSES: u32 = 4_096;
-const MOST_PROCESSES: u32 = 65_536;
+const MAX_PROCESSES: u32 = 65_536;
 
 unsafe extern "C" {
     safe fn mm_bench_nothing(number: u64) -> u64;
@@ -193,10 +193,10 @@ fn measure_nothing() {
 
 fn main() {
     timing::keep_memory();
-    for processes in [PROCESSES, MOST_PROCESSES] {
+    for processes in [PROCESSES, MAX_PROCESSES] {
         measure_openings(processes);
     }
-    for processes in [PROCESSES, MOST_PROCESSES] {
+    for processes in [PROCESSES, MAX_PROCESSES] {
         for resources in [16, 1_024, 65_536] {
             measure_rounds(processes, resources);
         }
@@ -212,12 +212,12 @@ fn main() {
         measure_give_ups(waiters);
     }
     measure_crosswise();
-    for size in [2, 64, PROCESSES, MOST_PROCESSES] {
+    for size in [2, 64, PROCESSES, MAX_PROCESSES] {
         measure_rings(size, false);
         measure_rings(size, true);
     }
     measure_chain(PROCESSES);
-    for size in [PROCESSES, MOST_PROCESSES] {
+    for size in [PROCESSES, MAX_PROCESSES] {
         measure_idle_settles(size);
     }
     measure_nothing();

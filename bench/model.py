@@ -132,11 +132,11 @@ class Model:
         if process not in self.verdicts or not all(map(self.may_hand_over, self.owned(process))):
             return False
         self.verdicts.discard(process)
-        self.withdraw(process)
+        self.take_back(process)
         self.free_slot(process)
         return True
 
-    def withdraw(self, process):
+    def take_back(self, process):
         """Takes the process out of the queue in which it waits."""
         resource = self.wait.pop(process)
         self.queues[resource].remove(process)
@@ -147,7 +147,7 @@ class Model:
         """Ends a wait without a verdict whose two labels are one."""
         if process not in self.wait or process in self.verdicts or self.private[process] != self.public[process]:
             return False
-        self.withdraw(process)
+        self.take_back(process)
         return True
 
     def holders_label(self, process):

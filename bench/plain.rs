@@ -2,16 +2,16 @@
 //!
 //! - `events`: one function for each event.
 //! - `changes`: the tests and the small changes that events are made of.
-//! - `marks`: sets of processes.
+//! - `bit_set`: sets of processes.
 //!
 //! The rules are those of docs/ALGORITHM.md. Processes and resources are two arrays, and all lists are threaded through them by
 //! number: free processes, the queue of each resource, what each process owns. Nothing is allocated after the opening.
 
+mod bit_set;
 mod changes;
 mod events;
-mod marks;
 
-use marks::Marks;
+use bit_set::BitSet;
 
 const NONE: u32 = u32::MAX;
 const COUNT_LIMIT: u64 = 1 << 62;
@@ -137,9 +137,9 @@ pub struct Table {
     accepted: u64,
     verdicts: u64,
     /// The processes whose wait or public label changed since the last settling.
-    touched: Marks,
-    now: Marks,
-    later: Marks,
+    touched: BitSet,
+    now: BitSet,
+    later: BitSet,
 }
 
 impl Table {
@@ -173,9 +173,9 @@ impl Table {
             unused: 0,
             accepted: 0,
             verdicts: 0,
-            touched: Marks::new(config.processes),
-            now: Marks::new(config.processes),
-            later: Marks::new(config.processes),
+            touched: BitSet::new(config.processes),
+            now: BitSet::new(config.processes),
+            later: BitSet::new(config.processes),
         })
     }
 

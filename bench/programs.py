@@ -4,7 +4,7 @@ import os
 import subprocess
 import sys
 
-from scripts import MOST_PROCESSES, WORDS
+from scripts import MAX_PROCESSES, WORDS
 
 TOP = os.path.dirname(os.path.dirname(os.path.abspath(__file__)))
 KEPT = os.path.join(TOP, "bench", "out")
@@ -34,8 +34,8 @@ def known_words(command):
 
 def known_headers(command):
     """The words that the program opens a table with."""
-    _, replies, _ = run(command, b"".join(b"%s 0 1 1 1\n" % header.encode() for header in MOST_PROCESSES))
-    return [header for header, reply in zip(MOST_PROCESSES, replies.split(b"\n")) if reply.startswith(b"refused")]
+    _, replies, _ = run(command, b"".join(b"%s 0 1 1 1\n" % header.encode() for header in MAX_PROCESSES))
+    return [header for header, reply in zip(MAX_PROCESSES, replies.split(b"\n")) if reply.startswith(b"refused")]
 
 
 def keep(name, data):

@@ -20,18 +20,18 @@ WORDS = {
 
 READS = ("state", "owner", "totals")  # these change nothing
 
-LONGEST_LINE = 128
-MOST_PROCESSES = {"table": 4_096, "table2": 65_536}  # by the word that opens the table
-MOST_RESOURCES = 65_536
-GREATEST_LABEL_LIMIT = 17_592_186_044_415
-GREATEST_NUMBER = 2**32 - 1
+MAX_LINE = 128
+MAX_PROCESSES = {"table": 4_096, "table2": 65_536}  # by the word that opens the table
+MAX_RESOURCES = 65_536
+MAX_LABEL_LIMIT = 17_592_186_044_415
+MAX_NUMBER = 2**32 - 1
 
 SMALL_RATE = 0.95  # tables with few processes, and tables with few resources
-MOST_IDLE_CALLS = 40  # a script ends after this many calls in a row that change nothing
+MAX_IDLE_CALLS = 40  # a script ends after this many calls in a row that change nothing
 LATE_TABLE_RATE = 0.1  # scripts that begin with calls before there is a table
 SECOND_TABLE_RATE = 0.003
 AIMED_RATE = 0.9  # calls with a key that the call is for
-MOST_DRAWS = 20  # of words, until one is of use
+MAX_DRAWS = 20  # of words, until one is of use
 STALE_RATE = 0.03
 NO_RESOURCE_RATE = 0.01
 ODD_LINE_RATE = 0.02
@@ -49,17 +49,17 @@ def small_or(rng, ranges, greatest):
 def random_config(rng, header):
     """Four numbers in range of the word that opens the table: small tables, and limits that are soon met as often as limits that are
     never met."""
-    processes = small_or(rng, [(1, 3), (2, 5), (4, 8), (6, 40)], MOST_PROCESSES[header])
-    resources = small_or(rng, [(1, 2), (2, 5), (4, 8), (8, 60)], MOST_RESOURCES)
-    label_limit = rng.choice([rng.randint(1, 3), rng.randint(4, 40), rng.randint(41, 400), GREATEST_LABEL_LIMIT, GREATEST_LABEL_LIMIT])
-    generation_limit = rng.choice([rng.randint(1, 3), rng.randint(4, 30), GREATEST_NUMBER, GREATEST_NUMBER])
+    processes = small_or(rng, [(1, 3), (2, 5), (4, 8), (6, 40)], MAX_PROCESSES[header])
+    resources = small_or(rng, [(1, 2), (2, 5), (4, 8), (8, 60)], MAX_RESOURCES)
+    label_limit = rng.choice([rng.randint(1, 3), rng.randint(4, 40), rng.randint(41, 400), MAX_LABEL_LIMIT, MAX_LABEL_LIMIT])
+    generation_limit = rng.choice([rng.randint(1, 3), rng.randint(4, 30), MAX_NUMBER, MAX_NUMBER])
     return (processes, resources, label_limit, generation_limit)
 
 
 def bad_config(rng, header):
     """Four numbers of which one is out of its range by one."""
     config = list(random_config(rng, header))
-    past = [MOST_PROCESSES[header] + 1, MOST_RESOURCES + 1, GREATEST_LABEL_LIMIT + 1, 0]
+    past = [MAX_PROCESSES[header] + 1, MAX_RESOURCES + 1, MAX_LABEL_LIMIT + 1, 0]
     at = rng.randrange(len(config))
     config[at] = rng.choice([0, past[at]])
     return tuple(config)
@@ -94,7 +94,7 @@ class ScriptWriter:
 
     def word(self):
         """The next word, mostly one that some process can be used for."""
-        draws = MOST_DRAWS if self.rng.random() < AIMED_RATE else 1
+        draws = MAX_DRAWS if self.rng.random() < AIMED_RATE else 1
         for _ in range(draws):
             word = self.rng.choices(self.words, self.weights)[0]
             if self.is_of_use(word):
@@ -155,14 +155,14 @@ class ScriptWriter:
 
     def stale_key(self):
         """A key that is not live: one of another generation, of a process that is not used, or of none."""
-        process = self.rng.choice([self.rng.randrange(self.model.processes + 2), GREATEST_NUMBER])
+        process = self.rng.choice([self.rng.randrange(self.model.processes + 2), MAX_NUMBER])
         generation = self.model.generation(process) + self.rng.choice([-1, -1, 0, 1])
-        return (process, self.rng.choice([generation, generation, GREATEST_NUMBER]))
+        return (process, self.rng.choice([generation, generation, MAX_NUMBER]))
 
     def resource(self, word, key):
         """A resource, mostly one of those that this script is about, and one that the key can be used for."""
         if self.rng.random() < NO_RESOURCE_RATE:
-            return self.rng.choice([self.model.resources, self.model.resources + 1, GREATEST_NUMBER])
+            return self.rng.choice([self.model.resources, self.model.resources + 1, MAX_NUMBER])
         of_use = self.near
         if word == "release":
             of_use = self.model.owned(key[0])
@@ -185,7 +185,7 @@ def dressed(rng, line):
 def padded(rng, line):
     """The line, made about as long as the longest by spaces, at its end or its start, with a carriage return or not."""
     end = rng.choice(["", "\r"])
-    room = " " * (LONGEST_LINE + rng.randint(-2, 2) - len(line) - len(end))
+    room = " " * (MAX_LINE + rng.randint(-2, 2) - len(line) - len(end))
     return rng.choice([line + room, room + line]) + end
 
 
@@ -208,7 +208,7 @@ def broken(rng, line):
         line.replace(" ", " +", 1),
         line.replace(" ", " -", 1),
         line[: rng.randrange(len(line) + 1)],
-        " ".join(parts[:-1] + [str(GREATEST_NUMBER + rng.randint(0, 2))]),
+        " ".join(parts[:-1] + [str(MAX_NUMBER + rng.randint(0, 2))]),
         " ".join(parts[:-1] + ["0" * 17 + last]),
         " ".join(parts[:-1] + ["%020d" % 7]),
         " ".join(parts[:-1] + ["%021d" % 7]),
@@ -234,7 +234,7 @@ def opening(rng, writer, header, config):
 
 def crowd(rng, writer):
     """The lines of so many begins that keys have greater processes than a table of the word `table` has."""
-    count = rng.randint(MOST_PROCESSES["table"] + 1, writer.model.processes)
+    count = rng.randint(MAX_PROCESSES["table"] + 1, writer.model.processes)
     for _ in range(count):
         writer.model.begin()
     return ["begin"] * count
@@ -249,7 +249,7 @@ def random_script(rng, words, most_lines, headers=("table",)):
     config = random_config(rng, header)
     writer = ScriptWriter(rng, words, config)
     lines = opening(rng, writer, header, config)
-    if config[0] > MOST_PROCESSES["table"] and "begin" in words and rng.random() < CROWD_RATE:
+    if config[0] > MAX_PROCESSES["table"] and "begin" in words and rng.random() < CROWD_RATE:
         lines += crowd(rng, writer)
         most_lines = min(most_lines, CROWD_LINES)
     idle = 0
@@ -262,6 +262,6 @@ def random_script(rng, words, most_lines, headers=("table",)):
             header = rng.choice(headers)
             lines.append(table_line(header, random_config(rng, header)))
         lines.append(dressed(rng, line) if rng.random() < DRESSED_RATE else line)
-        if idle == MOST_IDLE_CALLS:
+        if idle == MAX_IDLE_CALLS:
             break
     return ("\n".join(lines) + rng.choice(["\n", ""])).encode("latin-1")

@@ -12,7 +12,7 @@ use std::time::{Duration, Instant};
 
 const TRANSMITTERS: u32 = 2;
 const RESOURCES: u32 = 8;
-const MOST_DRAWS: u32 = 4;
+const MAX_DRAWS: u32 = 4;
 const TURNS: u64 = 10_000_000;
 
 /// The generator PCG-XSH-RR, on stream 0.
@@ -48,7 +48,7 @@ fn storm(seed: u64, clients: u32) -> Vec<Vec<u32>> {
 }
 
 fn client(words: &mut Words) -> Vec<u32> {
-    let draws = 1 + words.next() % MOST_DRAWS;
+    let draws = 1 + words.next() % MAX_DRAWS;
     let mut work = Vec::new();
     for _ in 0..draws {
         let resource = words.next() % RESOURCES;

@@ -3,8 +3,8 @@
 use std::hint::black_box;
 use std::time::Instant;
 
-const MOST_ROUNDS: u32 = 400;
-const LEAST_ROUNDS: u32 = 5;
+const MAX_ROUNDS: u32 = 400;
+const MIN_ROUNDS: u32 = 5;
 /// No round is begun after this many seconds, but for the first few.
 const SECONDS: f64 = 1.5;
 
@@ -44,7 +44,7 @@ fn time(work: Run, is_whole: bool) -> f64 {
 
 /// The least time of many rounds, in nanoseconds.
 pub fn least(work: &dyn Fn() -> u64) -> f64 {
-    (0..MOST_ROUNDS).map(|_| time(&|_| work(), true)).fold(f64::INFINITY, f64::min)
+    (0..MAX_ROUNDS).map(|_| time(&|_| work(), true)).fold(f64::INFINITY, f64::min)
 }
 
 impl Workload<'_> {
@@ -57,8 +57,8 @@ impl Workload<'_> {
         }
         let mut least = vec![[f64::INFINITY; 2]; self.runs.len()];
         let start = Instant::now();
-        for round in 0..MOST_ROUNDS {
-            if round >= LEAST_ROUNDS && start.elapsed().as_secs_f64() > SECONDS {
+        for round in 0..MAX_ROUNDS {
+            if round >= MIN_ROUNDS && start.elapsed().as_secs_f64() > SECONDS {
                 break;
             }
             for (run, least) in self.runs.iter().zip(&mut least) {

@@ -12,7 +12,7 @@
 #include <time.h>
 #include <unistd.h>
 
-enum { NAME_BYTES = 16, MOST_THREADS = 64 };
+enum { NAME_BYTES = 16, MAX_THREADS = 64 };
 
 static DB_ENV *env;
 static char (*names)[NAME_BYTES + 1];
@@ -99,7 +99,7 @@ static void *work(void *argument) {
 
 static void open_environment(void) {
     must(db_env_create(&env, 0));
-    must(env->set_lk_max_lockers(env, 2 * MOST_THREADS));
+    must(env->set_lk_max_lockers(env, 2 * MAX_THREADS));
     must(env->set_lk_max_locks(env, 1 << 17));
     must(env->set_lk_max_objects(env, 1 << 17));
     must(env->set_lk_detect(env, DB_LOCK_DEFAULT));
@@ -120,8 +120,8 @@ int main(int count, char **words) {
     make_names();
     open_environment();
     pthread_barrier_init(&gate, NULL, (unsigned)threads + 1);
-    pthread_t started[MOST_THREADS];
-    struct done done[MOST_THREADS] = {0};
+    pthread_t started[MAX_THREADS];
+    struct done done[MAX_THREADS] = {0};
     for (int thread = 0; thread < threads; thread++) {
         done[thread].seed = (uint64_t)thread + 1;
         pthread_create(&started[thread], NULL, work, &done[thread]);

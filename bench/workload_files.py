@@ -3,17 +3,17 @@
 import json
 import re
 
-MOST_BYTES = 1_048_576
-GREATEST_NUMBER = 2**32 - 1
-GREATEST_LIMIT = 2**64 - 1
+MAX_BYTES = 1_048_576
+MAX_NUMBER = 2**32 - 1
+MAX_LIMIT = 2**64 - 1
 DEEPEST = 127
 WORDS = ("acquire", "release", "meet")
 # The numbers of a file, with their ranges.
 RANGES = {
-    "processes": (0, GREATEST_NUMBER),
-    "resources": (0, GREATEST_NUMBER),
-    "label_limit": (0, GREATEST_LIMIT),
-    "generation_limit": (0, GREATEST_NUMBER),
+    "processes": (0, MAX_NUMBER),
+    "resources": (0, MAX_NUMBER),
+    "label_limit": (0, MAX_LIMIT),
+    "generation_limit": (0, MAX_NUMBER),
     "transmitters": (0, 64),
     "turns": (1, 1_000_000_000),
 }
@@ -22,7 +22,7 @@ OF_A_TABLE = {
     "processes": (1, 65_536),
     "resources": (1, 65_536),
     "label_limit": (1, 17_592_186_044_415),
-    "generation_limit": (1, GREATEST_NUMBER),
+    "generation_limit": (1, MAX_NUMBER),
 }
 STRING = re.compile(r'"(?:[^"\\]|\\.)*"')
 LONE_SURROGATE = re.compile("[\ud800-\udfff]")
@@ -62,7 +62,7 @@ def is_in(value, least, most):
 
 def is_step(step):
     """A word and a number."""
-    return isinstance(step, list) and len(step) == 2 and step[0] in WORDS and is_in(step[1], 0, GREATEST_NUMBER)
+    return isinstance(step, list) and len(step) == 2 and step[0] in WORDS and is_in(step[1], 0, MAX_NUMBER)
 
 
 def is_client(client):
@@ -94,7 +94,7 @@ def depth(text):
 
 def read(data):
     """The workload that the bytes say; `Malformed` where they say none."""
-    if len(data) > MOST_BYTES:
+    if len(data) > MAX_BYTES:
         raise Malformed("too long")
     try:
         text = data.decode("utf-8")

@@ -5,7 +5,7 @@ use crate::lock_table::{Key, LockTable, Refused};
 const STRIDE: u32 = 40_503;
 /// How many processes the tables have whose size is not what is timed.
 const PROCESSES: u32 = 4_096;
-const MOST_RESOURCES: u32 = 65_536;
+const MAX_RESOURCES: u32 = 65_536;
 
 fn accepted<T: LockTable>(table: &T) -> u64 {
     table.totals().0
@@ -43,17 +43,17 @@ fn next_number(number: u32) -> u32 {
 }
 
 pub fn random<T: LockTable>(count: u64) -> Result<u64, Refused> {
-    let mut table = T::open(PROCESSES, MOST_RESOURCES)?;
+    let mut table = T::open(PROCESSES, MAX_RESOURCES)?;
     for _ in 0..PROCESSES {
         table.begin()?;
     }
-    for resource in 0..MOST_RESOURCES {
+    for resource in 0..MAX_RESOURCES {
         table.acquire(Key { process: resource % PROCESSES, generation: 1 }, resource)?;
     }
     let mut number = 1;
     for _ in 0..count {
         number = next_number(number);
-        let resource = number % MOST_RESOURCES;
+        let resource = number % MAX_RESOURCES;
         let key = Key { process: resource % PROCESSES, generation: 1 };
         table.release(key, resource)?;
         table.acquire(key, resource)?;

@@ -83,7 +83,7 @@ impl Table {
     }
 
     /// Takes a process out of the queue in which it waits.
-    pub(super) fn withdraw(&mut self, process: u32) {
+    pub(super) fn take_back(&mut self, process: u32) {
         let waiter = &mut self.processes[process as usize];
         waiter.has_verdict = false;
         let resource = std::mem::replace(&mut waiter.waits_for, NONE) as usize;
@@ -136,7 +136,7 @@ impl Table {
             return NONE;
         }
         let mut waiter = self.processes[first as usize].next;
-        self.withdraw(first);
+        self.take_back(first);
         self.give(resource, first);
         while waiter != NONE {
             let label = self.fresh(waiter, first);

@@ -125,7 +125,7 @@ impl Table {
         if !self.may_vacate(key.process) {
             return Err(Refusal::LabelsExhausted);
         }
-        self.withdraw(key.process);
+        self.take_back(key.process);
         self.vacate(key.process);
         self.accepted += 1;
         Ok(())
@@ -143,7 +143,7 @@ impl Table {
         if process.private != process.public {
             return Err(Refusal::Carried);
         }
-        self.withdraw(key.process);
+        self.take_back(key.process);
         self.accepted += 1;
         Ok(())
     }

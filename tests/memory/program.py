@@ -16,7 +16,7 @@ Counts = namedtuple("Counts", "requests by_starts by_threads refused starts star
 SECONDS = 60
 HANGS = "no end"
 # After so many faults a case goes no further.
-MOST_FAULTS = 3
+MAX_FAULTS = 3
 
 
 class Run(namedtuple("Run", "status output errors counts")):

@@ -4,7 +4,7 @@ import json
 import os
 
 from memory.answers import AMPLE, REFUSED, ends_of, same_as, same_output_as, script_of
-from memory.program import MOST_FAULTS, refused
+from memory.program import MAX_FAULTS, refused
 
 # More requests than any run makes.
 MOST = 5000
@@ -47,7 +47,7 @@ def all_in_turn(cases, scratch, name, command, judge, given=b"", first=1):
             faults.append(f"request {place}: {run.says()}")
         elif run.counts.refused == 0 and answer == REFUSED:
             faults.append(f"nothing is refused: {run.says()}")
-        if run.counts.refused == 0 or len(faults) >= MOST_FAULTS:
+        if run.counts.refused == 0 or len(faults) >= MAX_FAULTS:
             break
         if answer is not None:
             answers[answer] += 1

@@ -2,7 +2,7 @@
 import os
 
 from memory.answers import AMPLE, REFUSED, ends_of, same_as, script_of
-from memory.program import MOST_FAULTS, limited
+from memory.program import MAX_FAULTS, limited
 from memory.requests import with_turns
 
 STEP = 64 * 1024
@@ -30,7 +30,7 @@ def in_steps(cases, name, command, judge, first, given=b""):
             faults.append(f"{space // 1024} KiB: {run.says()}")
         else:
             answers[answer] += 1
-        if answer == AMPLE or len(faults) >= MOST_FAULTS:
+        if answer == AMPLE or len(faults) >= MAX_FAULTS:
             break
     else:
         faults.append(f"no answer as with ample memory in {MOST} bytes")

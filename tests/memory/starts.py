@@ -3,7 +3,7 @@ import json
 import os
 
 from memory.answers import AMPLE, REFUSED, ends_of, is_refused
-from memory.program import MOST_FAULTS, Run, ended, refused
+from memory.program import MAX_FAULTS, Run, ended, refused
 
 TIMES = 50
 # A user who has no other processes.
@@ -30,7 +30,7 @@ def one_start(cases, scratch, name, command, workers):
         else:
             faults.append(f"start {place}: {run.says()}")
         faults += [f"start {place}: {fault}" for fault in run.left_over()]
-        if len(faults) >= MOST_FAULTS:
+        if len(faults) >= MAX_FAULTS:
             break
     told = f"{time + 1} times the start of one of {workers} workers is refused: {answers} times {REFUSED}, "
     cases.ends(f"{name}, a start refused", told + f"after all {started} threads that were started have ended", faults)
@@ -50,7 +50,7 @@ def few_processes(cases, name, command, clients, workers):
             answers[answer] += 1
         else:
             faults.append(f"at most {most} processes: status {status}, output {output!r}, errors {errors!r}")
-        if len(faults) >= MOST_FAULTS:
+        if len(faults) >= MAX_FAULTS:
             break
     told = f"{TIMES} times no worker can be started"
     told += f", once each that there may be 1 to {workers - 1} at once" if is_root else ""

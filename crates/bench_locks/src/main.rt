@@ -32,9 +32,9 @@ use std::time::Clock;
 use std::{env, io};
 use threads::timed;
 
-const MOST_THREADS: u32 = 64;
+const MAX_THREADS: u32 = 64;
 
-const MOST_NAMES: u32 = 65_536;
+const MAX_NAMES: u32 = 65_536;
 
 /// The number that a word of the command line is; 0 where it is none.
 fn number(word: Option<String>) -> u32 {
@@ -54,8 +54,8 @@ fn run<R: Threads + Wait + Clock + Sync>(
     milliseconds: u32,
 ) -> Result<Option<Done>, AllocError> {
     let config = ManagerConfig {
-        transactions: MOST_THREADS + 1,
-        names: MOST_NAMES,
+        transactions: MAX_THREADS + 1,
+        names: MAX_NAMES,
         name_bytes: 16,
         seed: 7,
     };
@@ -87,8 +87,8 @@ fn main(rt: HostRuntime) -> io::Result<()> {
     let Some(way) = words.next().and_then(|name| Way::named(name.as_str())) else {
         return Ok(());
     };
-    let threads = number(words.next()).clamp(1, MOST_THREADS);
-    let names = all_names(rt.alloc(), number(words.next()).clamp(8, MOST_NAMES))?;
+    let threads = number(words.next()).clamp(1, MAX_THREADS);
+    let names = all_names(rt.alloc(), number(words.next()).clamp(8, MAX_NAMES))?;
     let milliseconds = number(words.next());
     let Some(done) = run(
         &rt,

@@ -33,7 +33,7 @@ use std::{env, io};
 use storms::run_storms;
 use threads::timed;
 
-const MOST_THREADS: u32 = 64;
+const MAX_THREADS: u32 = 64;
 
 /// The number that a word of the command line is; 0 where it is none.
 fn number(word: &str) -> u32 {
@@ -53,7 +53,7 @@ fn config(processes: u32) -> Config {
     Config {
         processes,
         resources: 1024,
-        label_limit: Config::GREATEST_LABEL_LIMIT,
+        label_limit: Config::MAX_LABEL_LIMIT,
         generation_limit: u32::MAX,
     }
 }
@@ -65,7 +65,7 @@ fn print_storms<R: Print + Clock + Threads + Wait + Sync>(
     clients: u32,
     count: u32,
 ) -> io::Result<()> {
-    let Some(done) = run_storms(rt, alloc, clients.clamp(1, MOST_THREADS), count) else {
+    let Some(done) = run_storms(rt, alloc, clients.clamp(1, MAX_THREADS), count) else {
         return Ok(());
     };
     println!(rt; "{} {} {}", done.nanoseconds, done.finished, done.aborted)
@@ -93,7 +93,7 @@ fn print_threads<R: Print + Clock + Threads + Wait + Sync>(
     threads: u32,
     count: u32,
 ) -> io::Result<()> {
-    let Ok(prepared) = Prepared::new(alloc, config(MOST_THREADS)) else {
+    let Ok(prepared) = Prepared::new(alloc, config(MAX_THREADS)) else {
         return Ok(());
     };
     let (nanoseconds, done) = timed::<Brand, Brand, Brand, Brand, _>(
@@ -117,7 +117,7 @@ fn print_for<R: Print + Clock + Threads + Wait + Sync>(
             Some(work) => print_work(rt, alloc, work, third, fourth),
             None => Ok(()),
         },
-        _ => match number(first).min(MOST_THREADS) {
+        _ => match number(first).min(MAX_THREADS) {
             0 => Ok(()),
             threads => print_threads(rt, alloc, threads, number(second)),
         },

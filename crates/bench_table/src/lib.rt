@@ -29,7 +29,7 @@ fn open(alloc: Global, processes: u32, resources: u32) -> Result<Table, Refusal>
         Config {
             processes,
             resources,
-            label_limit: Config::GREATEST_LABEL_LIMIT,
+            label_limit: Config::MAX_LABEL_LIMIT,
             generation_limit: u32::MAX,
         },
     )

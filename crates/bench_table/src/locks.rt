@@ -1,7 +1,7 @@
 //! Names that are locked and unlocked, and numbers that are.
 ghost use Rattle.std.specs.Prelude.{◌≡◌, ◌≤◌};
 
-use crate::names::{MOST_BYTES, next_number, write_name};
+use crate::names::{MAX_BYTES, next_number, write_name};
 use mm_manager::{Key, Lock, LockManager, ManagerConfig};
 use mm_settled::{Config, Locked, SettledTable};
 use std::alloc::Global;
@@ -94,7 +94,7 @@ fn lock_numbers(table: &mut SettledTable, key: Key, mask: u32, count: u64) -> u6
 /// `names` is a power of two. It answers how many were granted.
 #[unsafe(no_mangle)]
 pub extern "C" fn mm_bench_lock_names(alloc: Global, names: u32, length: u32, count: u64) -> u64 {
-    let length = (length as usize).min(MOST_BYTES);
+    let length = (length as usize).min(MAX_BYTES);
     let Some(mut locks) = open_manager(alloc, names, length) else {
         return 0;
     };
@@ -109,7 +109,7 @@ pub extern "C" fn mm_bench_lock_numbers(alloc: Global, names: u32, count: u64) -
     let config = Config {
         processes: 2,
         resources: names,
-        label_limit: Config::GREATEST_LABEL_LIMIT,
+        label_limit: Config::MAX_LABEL_LIMIT,
         generation_limit: u32::MAX,
     };
     let Ok(mut table) = SettledTable::open(alloc, config) else {

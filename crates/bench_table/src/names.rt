@@ -5,7 +5,7 @@ use mm_names::{Names, NamesConfig};
 use std::alloc::Global;
 
 /// The most bytes of a name.
-pub const MOST_BYTES: usize = 64;
+pub const MAX_BYTES: usize = 64;
 
 /// From the last bytes of one name to those of the next. It is odd, so no two numbers have one name.
 const SPREAD: u64 = 0x9e37_79b9_7f4a_7c15;
@@ -104,7 +104,7 @@ pub extern "C" fn mm_bench_find_names(
     is_known: bool,
     count: u64,
 ) -> u64 {
-    let length = (length as usize).min(MOST_BYTES);
+    let length = (length as usize).min(MAX_BYTES);
     let Some(table) = filled(alloc, names, length) else {
         return 0;
     };
@@ -121,7 +121,7 @@ pub extern "C" fn mm_bench_find_names(
 /// The same, and `count` names of the table are interned once more.
 #[unsafe(no_mangle)]
 pub extern "C" fn mm_bench_intern_names(alloc: Global, names: u32, length: u32, count: u64) -> u64 {
-    let length = (length as usize).min(MOST_BYTES);
+    let length = (length as usize).min(MAX_BYTES);
     let Some(mut table) = filled(alloc, names, length) else {
         return 0;
     };
@@ -132,7 +132,7 @@ pub extern "C" fn mm_bench_intern_names(alloc: Global, names: u32, length: u32, 
 /// The same, and `count` names of the table are forgotten and interned again.
 #[unsafe(no_mangle)]
 pub extern "C" fn mm_bench_renew_names(alloc: Global, names: u32, length: u32, count: u64) -> u64 {
-    let length = (length as usize).min(MOST_BYTES);
+    let length = (length as usize).min(MAX_BYTES);
     let Some(mut table) = filled(alloc, names, length) else {
         return 0;
     };

@@ -19,7 +19,7 @@ fn owner_of(resource: u32) -> Key {
 }
 
 fn random(alloc: Global, count: u64) -> Result<u64, Refusal> {
-    let mut table = open(alloc, PROCESSES, Config::MOST_RESOURCES)?;
+    let mut table = open(alloc, PROCESSES, Config::MAX_RESOURCES)?;
     let accepted = own_all(&mut table).and_then(|()| change_hands(&mut table, count));
     drop(table);
     accepted
@@ -30,7 +30,7 @@ fn own_all(table: &mut Table) -> Result<(), Refusal> {
     for _ in 0..PROCESSES {
         table.begin()?;
     }
-    for resource in 0..Config::MOST_RESOURCES {
+    for resource in 0..Config::MAX_RESOURCES {
         table.acquire(owner_of(resource), resource)?;
     }
     Ok(())
@@ -41,7 +41,7 @@ fn change_hands(table: &mut Table, count: u64) -> Result<u64, Refusal> {
     let mut number = 1;
     for _ in 0..count {
         number = next_number(number);
-        let resource = number % Config::MOST_RESOURCES;
+        let resource = number % Config::MAX_RESOURCES;
         let key = owner_of(resource);
         table.release(key, resource)?;
         table.acquire(key, resource)?;

@@ -19,8 +19,8 @@ fn open_settled(alloc: Global) -> Result<SettledTable, Refusal> {
         alloc,
         Config {
             processes: PROCESSES,
-            resources: Config::MOST_RESOURCES,
-            label_limit: Config::GREATEST_LABEL_LIMIT,
+            resources: Config::MAX_RESOURCES,
+            label_limit: Config::MAX_LABEL_LIMIT,
             generation_limit: u32::MAX,
         },
     )
@@ -127,14 +127,14 @@ fn make_plain_owned(table: &mut Table, begins: u32, locks: u32) -> Result<u64, R
 }
 
 fn plain_borrowed(alloc: Global, begins: u32, locks: u32) -> Result<u64, Refusal> {
-    let mut table = open(alloc, PROCESSES, Config::MOST_RESOURCES)?;
+    let mut table = open(alloc, PROCESSES, Config::MAX_RESOURCES)?;
     let accepted = make_plain_borrowed(&mut table, begins, locks);
     drop(table);
     accepted
 }
 
 fn plain_owned(alloc: Global, begins: u32, locks: u32) -> Result<u64, Refusal> {
-    let mut table = open(alloc, PROCESSES, Config::MOST_RESOURCES)?;
+    let mut table = open(alloc, PROCESSES, Config::MAX_RESOURCES)?;
     let accepted = make_plain_owned(&mut table, begins, locks);
     drop(table);
     accepted

@@ -3,9 +3,9 @@ use Rattle.std.proofs.Common.{◌≡◌, ◌≤◌, ℕ, true, false, List, [], 
 use Rattle.std.specs.List.{filter_map, range_with_len}
 use Rattle.std.proofs.lemmas.Bool.{cases_Bool}
 use Rattle.mm_arena.specs.declared.key.Key.{Key}
-use Rattle.mm_lists.specs.Members.{Among}
-use Rattle.mm_lists.proofs.Lemmas.Filter.{filter_keeps}
-use Rattle.mm_lists.proofs.Lemmas.Range.{among_range, length_filter_range}
+use Rattle.mm_list_lemmas.specs.Members.{Among}
+use Rattle.mm_list_lemmas.proofs.Lemmas.Filter.{filter_keeps}
+use Rattle.mm_list_lemmas.proofs.Lemmas.Range.{among_range, length_filter_range}
 use Rattle.mm_rules.specs.TableState.{TableState, is_waiting}
 use Rattle.mm_rules.specs.Event.{tenant_of}
 use Rattle.mm_rules.specs.Laws.{Laws}

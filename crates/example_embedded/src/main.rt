@@ -94,7 +94,7 @@ fn run<R: Runtime>(rt: &R, alloc: Global, changed: &mut Vec<u32>) -> io::Result<
 }
 
 fn main(rt: HostRuntime) -> io::Result<()> {
-    let Ok(mut changed) = Vec::with_capacity(rt.alloc(), Config::MOST_PROCESSES as usize) else {
+    let Ok(mut changed) = Vec::with_capacity(rt.alloc(), Config::MAX_PROCESSES as usize) else {
         return println!(rt; "no memory");
     };
     run(&rt, rt.alloc(), &mut changed)

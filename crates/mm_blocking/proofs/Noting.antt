@@ -3,10 +3,10 @@ use Rattle.std.proofs.Common.{◌≡◌, ◌⊎◌, ◌↔◌, ◌≤◌, ◌<�
 use Rattle.std.proofs.lemmas.Bool.{cases_eq}
 use Rattle.std.proofs.lemmas.List.{map-append}
 use Rattle.std.proofs.Math.Seq.{take-suc}
-use Rattle.mm_lists.specs.Members.{Among}
-use Rattle.mm_lists.proofs.Lemmas.Among.{among_append, among_left, among_right}
-use Rattle.mm_lists.proofs.Lemmas.Set.{true_still, true_within}
-use Rattle.mm_marks.specs.Marks.{has}
+use Rattle.mm_list_lemmas.specs.Members.{Among}
+use Rattle.mm_list_lemmas.proofs.Lemmas.Among.{among_append, among_left, among_right}
+use Rattle.mm_list_lemmas.proofs.Lemmas.Set.{true_still, true_within}
+use Rattle.mm_bit_set.specs.BitSet.{has}
 use Rattle.mm_blocking.specs.Wakes.{IsToWake, Notes}
 
 -- ---- one is noted

@@ -1,7 +1,7 @@
 -- Whom a call is to wake. A process stands for the thread of its transaction.
 use Rattle.std.specs.Prelude.{◌≡◌, ◌⊎◌, ◌<◌, ◌++◌, ℕ, Bool, true, List, length, map}
-use Rattle.mm_lists.specs.Members.{Among}
-use Rattle.mm_marks.specs.Marks.{has}
+use Rattle.mm_list_lemmas.specs.Members.{Among}
+use Rattle.mm_bit_set.specs.BitSet.{has}
 use Rattle.mm_manager.specs.LockState.{LockState}
 
 -- whom the last call told something

@@ -18,7 +18,7 @@ use std::sync::{Mutex, MutexGuard, Wait};
 const PAUSES: u32 = 12;
 
 /// The most transactions that a manager can have at once.
-const MOST_TRANSACTIONS: u32 = 65_536;
+const MAX_TRANSACTIONS: u32 = 65_536;
 
 /// A lock manager that threads share by reference: a `LockManager` behind one lock, and beside it a place to sleep for each transaction.
 ///
@@ -72,7 +72,7 @@ impl Locks {
         ensures names { (result ≡ Err OpenError.Names) ↔ (¬ IsTransactionsOut config × IsNamesOut config) }
         ensures name_bytes { (result ≡ Err OpenError.NameBytes) ↔ (¬ IsTransactionsOut config × ¬ IsNamesOut config × IsNameBytesOut config) }
     {
-        let room = Room::open(alloc, config.transactions.min(MOST_TRANSACTIONS));
+        let room = Room::open(alloc, config.transactions.min(MAX_TRANSACTIONS));
         let manager = LockManager::open(alloc, config)?;
         put_together(manager, room)
     }
@@ -91,13 +91,13 @@ impl Locks {
     fn locked<R: Wait>(&self, rt: &R) -> MutexGuard<'_, CachePadded<Desk>> {
         match self.desk.try_lock() {
             Some(guard) => guard,
-            None => self.awaited(rt),
+            None => self.contended(rt),
         }
     }
 
     /// Waits for the lock, and takes it. Asking again at once would slow down the one that has it, who is done soon.
     #[inline(never)]
-    fn awaited<R: Wait>(&self, rt: &R) -> MutexGuard<'_, CachePadded<Desk>> {
+    fn contended<R: Wait>(&self, rt: &R) -> MutexGuard<'_, CachePadded<Desk>> {
         for _ in 0..PAUSES {
             spin_loop();
         }

@@ -24,8 +24,8 @@ impl Patience {
     }
 }
 
-/// The pauses of one whose time is up and that may not withdraw as yet: from one millisecond on, each twice the one before, up to a tenth
-/// of a second.
+/// The pauses of one whose time is up and that may not take back its request yet: from one millisecond on, each twice the one
+/// before, up to a tenth of a second.
 #[derive(Clone, Copy)]
 pub struct Pause {
     milliseconds: u64,

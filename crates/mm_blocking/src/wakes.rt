@@ -3,8 +3,8 @@ ghost use Rattle.std.specs.Prelude.{◌≡◌, ◌≤◌, ◌<◌, ◌↔◌, []
 ghost use Rattle.mm_blocking.specs.Wakes.{IsToWake, Notes};
 
 use arrayvec::ArrayVec;
+use mm_bit_set::BitSet;
 use mm_manager::{Grant, Key};
-use mm_marks::Marks;
 use std::alloc::{AllocError, Global};
 
 /// How many a thread wakes for each time that it had the lock.
@@ -47,7 +47,7 @@ impl Wakes {
 /// Processes whose threads are to be woken, and that nobody has taken to wake.
 #[derive(Drop)]
 pub struct Unwoken {
-    set: Marks,
+    set: BitSet,
     bound: u32,
     ghost sized: { length set ≡ bound },
 }
@@ -56,7 +56,7 @@ impl Unwoken {
     /// No process of those below `bound`. This takes memory.
     pub fn open(alloc: Global, bound: u32) -> Result<Unwoken, AllocError> {
         Ok(Unwoken {
-            set: Marks::new(alloc, bound)?,
+            set: BitSet::new(alloc, bound)?,
             bound,
         })
     }

@@ -16,7 +16,7 @@ use std::alloc::{AllocError, Global};
 use std::marker::{Model, PhantomData};
 
 /// A board has at most so many processes.
-pub const MOST_PROCESSES: u32 = 65_536;
+pub const MAX_PROCESSES: u32 = 65_536;
 
 /// The label words of all processes, and then their holder words. Each split and join loads the first, the label word of process 0.
 type Words = Table<(), View, u32, BoardRule, Global>;
@@ -80,7 +80,7 @@ impl RawBoard {
     /// `Err` only where a request for memory was refused.
     pub fn new(alloc: Global, processes: u32) -> Result<RawBoard, Memory>
         requires some_processes { 1 ≤ processes }
-        requires processes_in_range { processes ≤ MOST_PROCESSES }
+        requires processes_in_range { processes ≤ MAX_PROCESSES }
         ensures { IfOk result (λ board. processes_of board ≡ processes) }
     {
         let Ok(words) = opening_words(alloc, processes) else {
@@ -128,7 +128,7 @@ impl RawBoard {
 
 /// The words of a new board.
 fn opening_words(alloc: Global, processes: u32) -> Result<Vec<u64>, AllocError>
-    requires { processes ≤ MOST_PROCESSES }
+    requires { processes ≤ MAX_PROCESSES }
     ensures { IfOk result (λ words. AreOpening words.items processes) }
 {
     let mut words = Vec::with_capacity(alloc, 2 * processes as usize)?;

@@ -21,7 +21,7 @@ mod steps;
 mod views;
 mod waiter;
 
-pub use board::{Board, MOST_PROCESSES, RawBoard};
+pub use board::{Board, MAX_PROCESSES, RawBoard};
 pub use holder::Waiter;
 pub use mm_arena::Memory;
 pub use publisher::Publisher;

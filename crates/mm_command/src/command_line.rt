@@ -12,7 +12,7 @@ mod program;
 use clap::error::ErrorKind;
 use clap::{ArgMatches, Error};
 pub use options::StormOptions;
-use program::{MOST_CLIENTS, MOST_TRANSMITTERS, command};
+use program::{MAX_CLIENTS, MAX_TRANSMITTERS, command};
 use std::alloc::{AllocError, Global};
 use std::convert::AsStr;
 use std::{env, io};
@@ -135,7 +135,7 @@ fn storm(alloc: Global, own: &ArgMatches<'_>) -> Result<Request, AllocError>
     ) else {
         return wrong(alloc, "a number is missing");
     };
-    if clients == 0 || clients > MOST_CLIENTS || transmitters > MOST_TRANSMITTERS {
+    if clients == 0 || clients > MAX_CLIENTS || transmitters > MAX_TRANSMITTERS {
         return wrong(alloc, "a number is out of range");
     }
     Ok(Request::Storm {

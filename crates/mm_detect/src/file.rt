@@ -1,6 +1,6 @@
 //! The bytes of a file.
 
-use mm_workload::MOST_BYTES;
+use mm_workload::MAX_BYTES;
 use std::alloc::Global;
 use std::fs::File;
 use std::io;
@@ -8,7 +8,7 @@ use std::io::{ErrorKind, Read};
 use std::rt::Files;
 
 /// How many bytes of a file are read: one more than a workload may have, so that a longer file is told from one of the greatest length.
-const BYTES_READ: u64 = MOST_BYTES as u64 + 1;
+const BYTES_READ: u64 = MAX_BYTES as u64 + 1;
 
 /// What came of a file.
 #[derive(Drop)]

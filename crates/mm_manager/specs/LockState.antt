@@ -1,7 +1,7 @@
 -- What a contract sees of a lock manager, and who owns and who waits for which name. A name is a list of bytes.
 use Rattle.std.specs.Prelude.{◌≡◌, ◌≢◌, ◌↔◌, ℕ, Bool, true, false, List, [], Some, None, is_some, if◌then◌else◌}
 use Rattle.mm_arena.specs.declared.key.Key.{Key}
-use Rattle.mm_marks.specs.Marks.{has}
+use Rattle.mm_bit_set.specs.BitSet.{has}
 use Rattle.mm_names.specs.Names.{NameTable, name_of, IsLawful as IsLawfulNames}
 use Rattle.mm_rules.specs.TableState.{TableState, owner_of, wait_of, is_waiting, has_verdict}
 use Rattle.mm_rules.specs.Laws.{Laws, AtRest}

@@ -1,6 +1,6 @@
 //! The waits that are taken back.
 ghost use Rattle.std.specs.Prelude.{◌≡◌, Ok, false, []};
-ghost use Rattle.mm_marks.specs.Marks.{has};
+ghost use Rattle.mm_bit_set.specs.BitSet.{has};
 ghost use Rattle.mm_manager.specs.Calls.{Cancels};
 ghost use Rattle.mm_manager.specs.Permit.{may_cancel};
 ghost use Rattle.mm_manager.specs.private.Aborts.{GaveUp, cancel_of, seen};

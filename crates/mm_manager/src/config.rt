@@ -27,13 +27,13 @@ impl ManagerConfig {
         ensures name_bytes { (result ≡ Err OpenError.NameBytes) ↔ (¬ IsTransactionsOut self.now × ¬ IsNamesOut self.now × IsNameBytesOut self.now) }
         ensures memory { ¬ (result ≡ Err OpenError.Memory) }
     {
-        if !(1..=Config::MOST_PROCESSES).contains(&self.transactions) {
+        if !(1..=Config::MAX_PROCESSES).contains(&self.transactions) {
             return Err(OpenError::Transactions);
         }
-        if !(1..=NamesConfig::MOST_NAMES).contains(&self.names) {
+        if !(1..=NamesConfig::MAX_NAMES).contains(&self.names) {
             return Err(OpenError::Names);
         }
-        if !(1..=NamesConfig::MOST_NAME_BYTES).contains(&self.name_bytes) {
+        if !(1..=NamesConfig::MAX_NAME_BYTES).contains(&self.name_bytes) {
             return Err(OpenError::NameBytes);
         }
         Ok(())
@@ -46,7 +46,7 @@ impl ManagerConfig {
         Config {
             processes: self.transactions,
             resources: self.names,
-            label_limit: Config::GREATEST_LABEL_LIMIT,
+            label_limit: Config::MAX_LABEL_LIMIT,
             generation_limit: u32::MAX,
         }
     }

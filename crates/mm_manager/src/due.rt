@@ -1,6 +1,6 @@
 //! The ends of those whose abort comes due in a call.
 ghost use Rattle.std.specs.Prelude.{◌≡◌, ◌<◌, None, true, length};
-ghost use Rattle.mm_marks.specs.Marks.{has};
+ghost use Rattle.mm_bit_set.specs.BitSet.{has};
 ghost use Rattle.mm_rules.specs.TableState.{is_live, wait_of};
 ghost use Rattle.mm_manager.specs.private.Due.{AreGranted, IsReady, EndsDue, EndsIfDue, EndsOne};
 ghost use Rattle.mm_manager.specs.private.Lists.{Fits};

@@ -1,7 +1,7 @@
 //! The lock manager.
 ghost use Rattle.std.specs.Prelude.{◌≡◌, ◌↔◌, ◌≤◌, ℕ, List, [], Some, Err, IfOk, option_copied, vec_capacity};
 ghost use Rattle.mm_arena.specs.declared.key.Key.{Key as KeyValue};
-ghost use Rattle.mm_lists.specs.Members.{Among, NoRepeat};
+ghost use Rattle.mm_list_lemmas.specs.Members.{Among, NoRepeat};
 ghost use Rattle.mm_names.specs.Names.{name_of};
 ghost use Rattle.mm_settled.specs.Calls.{OthersKeepVerdicts};
 ghost use Rattle.mm_manager.specs.LockState.{Owns, IsLawful};

@@ -1,7 +1,7 @@
 //! The calls over the parts of a manager.
 ghost use Rattle.std.specs.Prelude.{◌≡◌, ℕ, [], Some, None, Ok, Err, true, length, IfOk, IfErr, OnOk, OnErr, IsSome};
 ghost use Rattle.mm_arena.specs.declared.key.Key.{Key as KeyValue};
-ghost use Rattle.mm_lists.specs.Members.{Among};
+ghost use Rattle.mm_list_lemmas.specs.Members.{Among};
 ghost use Rattle.mm_names.specs.Names.{name_of, IsLawful as IsLawfulNames};
 ghost use Rattle.mm_rules.specs.declared.reply.Released.{Released as ReleasedValue};
 ghost use Rattle.mm_rules.specs.TableState.{is_live, owner_of, wait_of};

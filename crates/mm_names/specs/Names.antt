@@ -1,7 +1,7 @@
 -- What a contract sees of a `Names`. A name is a list of bytes.
 use Rattle.std.specs.Prelude.{◌≡◌, ℕ, ◌+◌, ◌<◌, ◌≤◌, ◌⊎◌, List, [], ◌∷◌, length, Option, None, Some, is_some, IsSome, count_by, replicate, slice_index_or, slice_set}
 use Rattle.mm_names.specs.declared.config.NamesConfig.{NamesConfig}
-use Rattle.mm_names.specs.declared.config.TheConstants.NamesConfig.{MOST_NAMES, MOST_NAME_BYTES}
+use Rattle.mm_names.specs.declared.config.TheConstants.NamesConfig.{MAX_NAMES, MAX_NAME_BYTES}
 
 -- by number its name, or none, and how many bytes a name may have
 pub record NameTable : Type 0 where
@@ -66,8 +66,8 @@ entries t = entries_from 0 t.names
 -- each name has from 1 to `name_bytes` bytes, and there are as many numbers and bytes as a configuration may ask for
 pub record IsInRange (t : NameTable) : Type 0 where
   pub lengths : (n : ℕ) (name : List ℕ) → name_of t n ≡ Some name → CanBeName t name
-  pub numbers : (1 ≤ length t.names) × (length t.names ≤ MOST_NAMES)
-  pub bytes : (1 ≤ t.name_bytes) × (t.name_bytes ≤ MOST_NAME_BYTES)
+  pub numbers : (1 ≤ length t.names) × (length t.names ≤ MAX_NAMES)
+  pub bytes : (1 ≤ t.name_bytes) × (t.name_bytes ≤ MAX_NAME_BYTES)
 
 -- what holds of any names that a caller can hold: no two numbers have one name, and all is in range
 pub record IsLawful (t : NameTable) : Type 0 where
@@ -76,8 +76,8 @@ pub record IsLawful (t : NameTable) : Type 0 where
 
 -- there are to be no numbers, or too many
 abbrev pub IsNamesOut : NamesConfig → Type 0
-IsNamesOut config = (config.names ≡ 0) ⊎ (MOST_NAMES < config.names)
+IsNamesOut config = (config.names ≡ 0) ⊎ (MAX_NAMES < config.names)
 
 -- a name is to have no bytes, or too many
 abbrev pub IsNameBytesOut : NamesConfig → Type 0
-IsNameBytesOut config = (config.name_bytes ≡ 0) ⊎ (MOST_NAME_BYTES < config.name_bytes)
+IsNameBytesOut config = (config.name_bytes ≡ 0) ⊎ (MAX_NAME_BYTES < config.name_bytes)

@@ -49,10 +49,10 @@ impl Names {
         ensures names { (result ≡ Err OpenError.Names) ↔ IsNamesOut config }
         ensures name_bytes { (result ≡ Err OpenError.NameBytes) ↔ (¬ IsNamesOut config × IsNameBytesOut config) }
     {
-        if !(1..=NamesConfig::MOST_NAMES).contains(&config.names) {
+        if !(1..=NamesConfig::MAX_NAMES).contains(&config.names) {
             return Err(OpenError::Names);
         }
-        if !(1..=NamesConfig::MOST_NAME_BYTES).contains(&config.name_bytes) {
+        if !(1..=NamesConfig::MAX_NAME_BYTES).contains(&config.name_bytes) {
             return Err(OpenError::NameBytes);
         }
         Ok(no_names(alloc, config)?)
@@ -173,9 +173,9 @@ impl Names {
 /// Numbers without a name. The configuration is in range.
 fn no_names(alloc: Global, config: NamesConfig) -> Result<Names, AllocError>
     requires some_names { 1 ≤ config.names }
-    requires few_names { config.names ≤ NamesConfig.MOST_NAMES }
+    requires few_names { config.names ≤ NamesConfig.MAX_NAMES }
     requires some_bytes { 1 ≤ config.name_bytes }
-    requires few_bytes { config.name_bytes ≤ NamesConfig.MOST_NAME_BYTES }
+    requires few_bytes { config.name_bytes ≤ NamesConfig.MAX_NAME_BYTES }
     ensures { IfOk result (λ names. names ≡ nameless config.names config.name_bytes) }
 {
     let places = Places::new(alloc, config.names, config.name_bytes)?;

@@ -32,9 +32,9 @@ impl Places {
     /// `Err` only where that memory is refused.
     pub(crate) fn new(alloc: Global, numbers: u32, name_bytes: u32) -> Result<Places, AllocError>
         requires some_numbers { 1 ≤ numbers }
-        requires few_numbers { numbers ≤ NamesConfig.MOST_NAMES }
+        requires few_numbers { numbers ≤ NamesConfig.MAX_NAMES }
         requires some_bytes { 1 ≤ name_bytes }
-        requires few_bytes { name_bytes ≤ NamesConfig.MOST_NAME_BYTES }
+        requires few_bytes { name_bytes ≤ NamesConfig.MAX_NAME_BYTES }
         ensures { IfOk result (λ places. places ≡ nameless numbers name_bytes) }
     {
         let mut lengths = Vec::with_capacity(alloc, numbers as usize)?;

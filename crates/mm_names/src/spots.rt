@@ -1,6 +1,6 @@
 //! Where the number of a name stands, by the hash of the name.
 ghost use Rattle.std.specs.Prelude.{◌≡◌, ◌*◌, ◌<◌, ◌≤◌};
-ghost use Rattle.mm_names.specs.declared.config.TheConstants.NamesConfig.{MOST_NAMES};
+ghost use Rattle.mm_names.specs.declared.config.TheConstants.NamesConfig.{MAX_NAMES};
 ghost use Rattle.mm_names.specs.declared.spots.TheConstants.{LISTS_A_NAME};
 
 use crate::hash::NameHash;
@@ -16,7 +16,7 @@ pub(crate) struct Spots {
     hash: NameHash,
     lists: u32,
     ghost some_lists: { 1 ≤ lists },
-    ghost few_lists: { lists ≤ LISTS_A_NAME * MOST_NAMES },
+    ghost few_lists: { lists ≤ LISTS_A_NAME * MAX_NAMES },
 }
 
 impl Spots {
@@ -25,7 +25,7 @@ impl Spots {
     /// Spots for this many names, by the hash of this seed.
     pub(crate) fn new(seed: u64, names: u32) -> Spots
         requires some_names { 1 ≤ names }
-        requires few_names { names ≤ MOST_NAMES }
+        requires few_names { names ≤ MAX_NAMES }
     {
         Spots {
             hash: NameHash::new(seed),

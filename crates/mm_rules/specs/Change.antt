@@ -46,11 +46,11 @@ abbrev pub vacate : TableState → ℕ → TableState
 vacate s n = free_slot (fold hand_over s (resources_of s n)) n
 
 -- n's wait and its verdict go, and this is counted as an abort
-abbrev pub withdraw : TableState → ℕ → TableState
-withdraw s n = record (activate s n) { verdicts = slice_set s.verdicts n false; totals = record s.totals { aborts = s.totals.aborts + 1 } }
+abbrev pub take_back : TableState → ℕ → TableState
+take_back s n = record (activate s n) { verdicts = slice_set s.verdicts n false; totals = record s.totals { aborts = s.totals.aborts + 1 } }
 
 abbrev pub abort : TableState → ℕ → TableState
-abort s n = vacate (withdraw s n) n
+abort s n = vacate (take_back s n) n
 
 -- ---- transmit, detect
 

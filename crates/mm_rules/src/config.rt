@@ -16,19 +16,19 @@ pub struct Config {
 impl Config {
     ghost use Rattle.mm_rules.specs.TableState.{IsInRange};
 
-    pub const MOST_PROCESSES: u32 = 65536;
+    pub const MAX_PROCESSES: u32 = 65536;
 
-    pub const MOST_RESOURCES: u32 = 65536;
+    pub const MAX_RESOURCES: u32 = 65536;
 
-    pub const GREATEST_LABEL_LIMIT: u64 = 17_592_186_044_415;
+    pub const MAX_LABEL_LIMIT: u64 = 17_592_186_044_415;
 
     /// Whether each number is in its range.
     pub fn is_in_range(&self) -> bool
         ensures { IsTrue result ↔ IsInRange self.now }
     {
-        (1..=Self::MOST_PROCESSES).contains(&self.processes)
-            && (1..=Self::MOST_RESOURCES).contains(&self.resources)
-            && (1..=Self::GREATEST_LABEL_LIMIT).contains(&self.label_limit)
+        (1..=Self::MAX_PROCESSES).contains(&self.processes)
+            && (1..=Self::MAX_RESOURCES).contains(&self.resources)
+            && (1..=Self::MAX_LABEL_LIMIT).contains(&self.label_limit)
             && self.generation_limit >= 1
     }
 }

@@ -14,7 +14,7 @@ impl Header {
     {
         match self {
             Header::Table => 4096,
-            Header::Table2 => Config::MOST_PROCESSES,
+            Header::Table2 => Config::MAX_PROCESSES,
         }
     }
 }

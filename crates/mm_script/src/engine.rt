@@ -9,7 +9,7 @@ use super::calls::make;
 use super::cut::index_of;
 use super::line::{Line, line_of};
 use super::output::{make_room, write_replies};
-use super::reply::{LONGEST_REPLY, REPLIES_LEN, Replies, Reply, print_reply};
+use super::reply::{MAX_REPLY, REPLIES_LEN, Replies, Reply, print_reply};
 use arrayvec::ArrayVec;
 use mm_table::Table;
 use std::alloc::Global;
@@ -45,7 +45,7 @@ impl Session {
 
     /// Answers a line.
     fn answer(&mut self, line: &[u8])
-        requires room { array_vec_len self.old.replies + LONGEST_REPLY ≤ REPLIES_LEN }
+        requires room { array_vec_len self.old.replies + MAX_REPLY ≤ REPLIES_LEN }
         requires count { self.old.malformed < u64.MAX }
         ensures { AnswersLine self.old line.now self.new }
     {
@@ -101,7 +101,7 @@ impl Session {
     /// Answers the line that no newline ends, unless it is empty.
     fn answer_open(&mut self, line: &[u8])
         requires open { IsOpen line.now }
-        requires room { array_vec_len self.old.replies + LONGEST_REPLY ≤ REPLIES_LEN }
+        requires room { array_vec_len self.old.replies + MAX_REPLY ≤ REPLIES_LEN }
         requires count { self.old.malformed < u64.MAX }
         ensures { AnswersOpen self.old line.now self.new }
     {

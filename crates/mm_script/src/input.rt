@@ -3,7 +3,7 @@ ghost use Rattle.std.specs.Prelude.{◌≡◌, ℕ, ◌+◌, ◌-◌, ◌≤◌,
 ghost use Rattle.std.specs.Io.KnownBytes.{Keeps};
 
 use super::ScriptFault;
-use super::line::LONGEST_LINE;
+use super::line::MAX_LINE;
 use arrayvec::ArrayVec;
 use std::io::Read;
 
@@ -14,7 +14,7 @@ const INPUT_LEN: usize = 32768;
 pub const INPUT_LIMIT: usize = 16_777_216;
 
 /// More bytes than the longest line has. Of an open line no more are held.
-const MOST_HELD: usize = LONGEST_LINE + 1;
+const MAX_HELD: usize = MAX_LINE + 1;
 
 /// The bytes that were read and belong to no answered line yet.
 #[derive(Drop)]
@@ -79,10 +79,10 @@ impl Input {
     /// Removes `count` bytes at the front, and of the open line behind them all but the first 129, which make it too long.
     pub fn drop_front(&mut self, count: usize)
         requires { count ≤ length (held self.old) }
-        ensures held { held self.new ≡ take MOST_HELD (drop count (held self.old)) }
+        ensures held { held self.new ≡ take MAX_HELD (drop count (held self.old)) }
         ensures taken { self.new.taken ≡ self.old.taken }
     {
-        let len = MOST_HELD.min(self.bytes.len() - count);
+        let len = MAX_HELD.min(self.bytes.len() - count);
         self.bytes.as_mut_slice().copy_within(count..count + len, 0);
         self.bytes.truncate(len);
     }

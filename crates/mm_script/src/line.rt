@@ -8,7 +8,7 @@ use super::words::Words;
 use mm_table::{Config, Key};
 
 /// The longest line in bytes, with its carriage return.
-pub const LONGEST_LINE: usize = 128;
+pub const MAX_LINE: usize = 128;
 
 /// What a line is.
 #[derive(Clone, Copy)]
@@ -51,7 +51,7 @@ pub enum Call {
 pub fn line_of(line: &[u8]) -> Line
     ensures { result ≡ line_of line.now }
 {
-    if line.len() > LONGEST_LINE {
+    if line.len() > MAX_LINE {
         return Line::Malformed;
     }
     let mut words = Words::new(without_carriage_return(line));

@@ -4,7 +4,7 @@ ghost use Rattle.arrayvec.specs.ArrayVec.{array_vec_len};
 ghost use Rattle.mm_script.specs.private.Session.{Writes};
 
 use super::ScriptFault;
-use super::reply::{LONGEST_REPLY, REPLIES_LEN, Replies};
+use super::reply::{MAX_REPLY, REPLIES_LEN, Replies};
 use std::io::Write;
 
 /// Writes all replies.
@@ -24,9 +24,9 @@ pub fn make_room<W: Write>(replies: &mut Replies, writer: &mut W) -> Result<(), 
     ensures written { (lost : List ℕ) × Writes (W.contents writer.old) (W.contents writer.new) replies.old.items lost
         × OnOk result (lost ≡ replies.new.items) }
     ensures fault { IsOkUnless result ScriptFault.Write }
-    ensures room { OnOk result (array_vec_len replies.new + LONGEST_REPLY ≤ REPLIES_LEN) }
+    ensures room { OnOk result (array_vec_len replies.new + MAX_REPLY ≤ REPLIES_LEN) }
 {
-    if replies.remaining_capacity() < LONGEST_REPLY {
+    if replies.remaining_capacity() < MAX_REPLY {
         return write_replies(replies, writer);
     }
     Ok(())

@@ -38,15 +38,15 @@ pub enum Reply {
 pub const REPLIES_LEN: usize = 32768;
 
 /// A reply has at most so many bytes, with its newline.
-pub const LONGEST_REPLY: usize = 128;
+pub const MAX_REPLY: usize = 128;
 
 /// Replies that are not yet written.
 pub type Replies = ArrayVec<u8, REPLIES_LEN>;
 
 /// Adds a reply and a newline.
 pub fn print_reply(replies: &mut Replies, reply: &Reply)
-    requires { array_vec_len replies.old + LONGEST_REPLY ≤ REPLIES_LEN }
-    ensures { Prints replies.old.items (reply_line reply.now) LONGEST_REPLY replies.new.items }
+    requires { array_vec_len replies.old + MAX_REPLY ≤ REPLIES_LEN }
+    ensures { Prints replies.old.items (reply_line reply.now) MAX_REPLY replies.new.items }
 {
     print_without_newline(replies, reply);
     replies.push(b'\n');

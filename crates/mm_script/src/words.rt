@@ -65,13 +65,13 @@ impl<'a> Iterator for Words<'a> {
 }
 
 /// The longest number in digits.
-const MOST_DIGITS: usize = 20;
+const MAX_DIGITS: usize = 20;
 
 /// The number that a word spells.
 fn number64(word: &[u8]) -> Option<u64>
     ensures { result ≡ number_at_most u64.MAX word.now }
 {
-    if word.is_empty() || word.len() > MOST_DIGITS {
+    if word.is_empty() || word.len() > MAX_DIGITS {
         return None;
     }
     let mut number = 0u64;

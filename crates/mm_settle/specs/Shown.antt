@@ -1,7 +1,7 @@
 -- What a process shows to all, its public label and its holder, and what each event changes of it.
 use Rattle.std.specs.Prelude.{◌≡◌, ◌<◌, ℕ, List, [], ◌∷◌, Option, Some, None, Result, Ok, Err}
 use Rattle.mm_label.specs.Label.{Label}
-use Rattle.mm_lists.specs.Members.{Among}
+use Rattle.mm_list_lemmas.specs.Members.{Among}
 use Rattle.mm_rules.specs.declared.refusal.Refusal.{Refusal}
 use Rattle.mm_rules.specs.declared.reply.Acquired.TheVariants.{Granted, Waits}
 use Rattle.mm_rules.specs.declared.reply.Transmitted.TheVariants.{Raised, Still}

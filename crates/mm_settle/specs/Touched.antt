@@ -4,7 +4,7 @@ use Rattle.std.specs.Bool.{beq}
 use Rattle.std.specs.Option.{option_eq}
 use Rattle.std.specs.List.{range_with_len}
 use Rattle.mm_label.specs.Label.{label_eq}
-use Rattle.mm_marks.specs.Marks.{has}
+use Rattle.mm_bit_set.specs.BitSet.{has}
 use Rattle.mm_rules.specs.TableState.{TableState, private_of, public_of, has_verdict, holder_of, wait_of}
 
 -- process n is as it was

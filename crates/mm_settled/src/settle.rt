@@ -8,7 +8,7 @@ ghost use Rattle.mm_settled.specs.private.Lists.{joined, NoneWaits, ComesToRest}
 
 use crate::Table;
 use crate::lists::add_all;
-use mm_marks::Marks;
+use mm_bit_set::BitSet;
 use mm_table::Settled;
 
 /// Where the accepted or the verdict count is this or more, every event is refused.
@@ -41,7 +41,7 @@ fn settle(table: &mut Table, changed: &mut Vec<u32>) -> Settled
 }
 
 /// Settles such a table, and lists whom that changes beside those that are listed. The set is empty.
-pub fn settle_listing(table: &mut Table, changed: &mut Vec<u32>, set: &mut Marks) -> Settled
+pub fn settle_listing(table: &mut Table, changed: &mut Vec<u32>, set: &mut BitSet) -> Settled
     requires counts { counts_exhausted table.old ≡ false }
     requires none { set.old ≡ replicate table.old.config.processes false }
     requires room { table.old.config.processes ≤ vec_capacity changed.old }
@@ -59,7 +59,7 @@ pub fn settle_listing(table: &mut Table, changed: &mut Vec<u32>, set: &mut Marks
 }
 
 /// Settles such a table where one of those that are listed waits, and lists whom that changes beside them. The set is empty.
-pub fn come_to_rest(table: &mut Table, changed: &mut Vec<u32>, set: &mut Marks)
+pub fn come_to_rest(table: &mut Table, changed: &mut Vec<u32>, set: &mut BitSet)
     requires counts { counts_exhausted table.old ≡ false }
     requires none { set.old ≡ replicate table.old.config.processes false }
     requires room { table.old.config.processes ≤ vec_capacity changed.old }

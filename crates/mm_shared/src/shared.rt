@@ -86,13 +86,13 @@ impl<N: Name, A: Ledger, V: Ledger, B: Ledger> SharedTable<N, A, V, B> {
     fn locked<R: Wait>(&self, rt: &R) -> MutexGuard<'_, CachePadded<Inside<N, A, V, B>>> {
         match self.lock.try_lock() {
             Some(guard) => guard,
-            None => self.awaited(rt),
+            None => self.contended(rt),
         }
     }
 
     /// Waits for the lock, and takes it. Asking again at once would slow down the one that has it, who is done soon.
     #[inline(never)]
-    fn awaited<R: Wait>(&self, rt: &R) -> MutexGuard<'_, CachePadded<Inside<N, A, V, B>>> {
+    fn contended<R: Wait>(&self, rt: &R) -> MutexGuard<'_, CachePadded<Inside<N, A, V, B>>> {
         for _ in 0..PAUSES {
             spin_loop();
         }

@@ -1,6 +1,6 @@
 ghost use Rattle.std.specs.Prelude.{◌≡◌, ◌≢◌, ◌≤◌, ◌<◌, ◌↔◌, ◌||◌, ℕ, Some, false, length, replicate, IfOk, IfErr, IfSome, IfNone, None, vec_capacity};
-ghost use Rattle.mm_lists.specs.Members.{Among, NoRepeat};
-ghost use Rattle.mm_marks.specs.Marks.{has, members};
+ghost use Rattle.mm_list_lemmas.specs.Members.{Among, NoRepeat};
+ghost use Rattle.mm_bit_set.specs.BitSet.{has, members};
 ghost use Rattle.mm_rules.specs.TableState.{owner_of, public_of, holder_of, wait_of};
 ghost use Rattle.mm_rules.specs.Event.{Opens, Step, Begin, Acquire, Release, Finish, Transmit, Detect, Abort, GiveUp, Settle, state_of, owner_told, tenant_of};
 ghost use Rattle.mm_rules.specs.Laws.{Laws, HasSoundVerdicts};
@@ -10,7 +10,7 @@ use crate::records::Records;
 use crate::{
     Acquired, Config, Detected, Key, Label, Refusal, Released, Settled, State, Totals, Transmitted,
 };
-use mm_marks::Marks;
+use mm_bit_set::BitSet;
 use std::alloc::Global;
 use std::marker::Model;
 
@@ -29,13 +29,13 @@ const NOTHING: Settled = Settled {
 pub struct Table {
     records: Records,
     /// Whoever may transmit or newly detect is one of these, or waits for one of these.
-    changed: Marks,
+    changed: BitSet,
     /// Whom the call under way changed, where it lists them. Between calls it is empty.
-    touched: Marks,
+    touched: BitSet,
     /// Those to which a settle has still to come. What it has between calls means nothing.
-    pending: Marks,
+    pending: BitSet,
     /// Those that may still detect in a settle. What it has between calls means nothing.
-    checks: Marks,
+    checks: BitSet,
 }
 
 impl Model for Table {
@@ -349,7 +349,7 @@ impl Table {
 fn four_empty_sets(
     alloc: Global,
     processes: u32,
-) -> Result<((Marks, Marks), (Marks, Marks)), Refusal>
+) -> Result<((BitSet, BitSet), (BitSet, BitSet)), Refusal>
     ensures first { IfOk result (λ sets. sets.0.0 ≡ replicate processes false) }
     ensures second { IfOk result (λ sets. sets.0.1 ≡ replicate processes false) }
     ensures third { IfOk result (λ sets. sets.1.0 ≡ replicate processes false) }
@@ -362,7 +362,7 @@ fn four_empty_sets(
 }
 
 /// The empty set of processes, twice.
-fn two_empty_sets(alloc: Global, processes: u32) -> Result<(Marks, Marks), Refusal>
+fn two_empty_sets(alloc: Global, processes: u32) -> Result<(BitSet, BitSet), Refusal>
     ensures first { IfOk result (λ sets. sets.0 ≡ replicate processes false) }
     ensures second { IfOk result (λ sets. sets.1 ≡ replicate processes false) }
     ensures refusal { IfErr result (λ refusal. refusal ≡ Refusal.Memory) }
@@ -373,11 +373,11 @@ fn two_empty_sets(alloc: Global, processes: u32) -> Result<(Marks, Marks), Refus
 }
 
 /// The empty set of processes.
-fn empty_set(alloc: Global, processes: u32) -> Result<Marks, Refusal>
+fn empty_set(alloc: Global, processes: u32) -> Result<BitSet, Refusal>
     ensures set { IfOk result (λ set. set ≡ replicate processes false) }
     ensures refusal { IfErr result (λ refusal. refusal ≡ Refusal.Memory) }
 {
-    let Ok(set) = Marks::new(alloc, processes) else {
+    let Ok(set) = BitSet::new(alloc, processes) else {
         return Err(Refusal::Memory);
     };
     Ok(set)

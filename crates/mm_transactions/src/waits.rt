@@ -11,7 +11,7 @@ impl Transactions {
     /// A live transaction that does not wait starts to wait for a resource, last in its queue, in constant time. `arrival` is greater
     /// than at each earlier one.
     #[inline]
-    pub fn start_waiting(&mut self, key: Key, resource: u32, arrival: u64)
+    pub fn start_wait(&mut self, key: Key, resource: u32, arrival: u64)
         requires live { IsTrue (is_live self.old key) }
         requires resource { resource < self.old.resources }
         requires idle { waited_for self.old.waits key.process ≡ None }
@@ -28,7 +28,7 @@ impl Transactions {
 
     /// A live transaction that waits stops waiting, in constant time. The others keep their places.
     #[inline]
-    pub fn stop_waiting(&mut self, key: Key)
+    pub fn end_wait(&mut self, key: Key)
         requires live { IsTrue (is_live self.old key) }
         requires waiting { waited_for self.old.waits key.process ≢ None }
         ensures { self.new ≡ without_wait self.old key.process }

@@ -16,7 +16,7 @@ mod storms;
 mod workload;
 
 pub use fault::{Place, StepFault, WorkFault};
-pub use limits::MOST_BYTES;
+pub use limits::MAX_BYTES;
 pub use mm_table::Config;
 pub use step::WorkStep;
 pub use storms::storm;

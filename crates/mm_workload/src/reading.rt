@@ -11,7 +11,7 @@ ghost use Rattle.mm_workload.specs.declared.fault.WorkFault.TheVariants.{Memory}
 mod clients;
 
 use crate::fault::{Place, WorkFault};
-use crate::limits::{MOST_BYTES, MOST_TRANSMITTERS, MOST_TURNS};
+use crate::limits::{MAX_BYTES, MAX_TRANSMITTERS, MAX_TURNS};
 use crate::workload::Workload;
 use clients::clients;
 use mm_table::Config;
@@ -24,7 +24,7 @@ pub(crate) fn read(alloc: Global, bytes: &[u8]) -> Result<Workload, WorkFault>
     ensures malformed { IfErr result (λ e. ¬ (e ≡ Memory) → SaysNone bytes.now) }
     ensures memory { result ≡ Err Memory → (0 < length bytes.now) × (length bytes.now ≤ 1048576) }
 {
-    if bytes.len() > MOST_BYTES {
+    if bytes.len() > MAX_BYTES {
         return Err(WorkFault::Malformed(Place::TooLong));
     }
     match Value::from_slice(alloc, bytes) {
@@ -50,8 +50,8 @@ fn work(alloc: Global, value: &Value) -> Result<Workload, WorkFault>
     ensures malformed { IfErr result (λ e. ¬ (e ≡ Memory) → (w : Work) → ¬ SaysWork (view value.now) w) }
 {
     let config = config(value)?;
-    let transmitters = number(value, "transmitters", 0, MOST_TRANSMITTERS)?;
-    let turns = number(value, "turns", 1, MOST_TURNS)?;
+    let transmitters = number(value, "transmitters", 0, MAX_TRANSMITTERS)?;
+    let turns = number(value, "turns", 1, MAX_TURNS)?;
     let clients = clients(alloc, value)?;
     Ok(Workload::of(config, transmitters as u32, turns, clients))
 }

@@ -16,7 +16,7 @@ use std::alloc::{AllocError, Global};
 const RESOURCES: u32 = 8;
 
 /// The greatest number of words that give a client a resource.
-const MOST_DRAWS: u32 = 4;
+const MAX_DRAWS: u32 = 4;
 
 /// Returns the workload that is made from this seed: the same one for the same arguments. Takes memory; `O(clients)`.
 ///
@@ -63,7 +63,7 @@ fn client(alloc: Global, words: &mut Lcg64Xsh32) -> Result<Vec<WorkStep>, AllocE
     ensures steps { IfOk result (λ v. v.items ≡ client_of words.old) }
     ensures words { OnOk result (words.new ≡ after (1 + draws words.old) words.old) }
 {
-    let draws = 1 + words.next_word() % MOST_DRAWS;
+    let draws = 1 + words.next_word() % MAX_DRAWS;
     let mut steps = Vec::new(alloc);
     'draws: for _ in 0..draws {
         let resource = words.next_word() % RESOURCES;

@@ -21,7 +21,7 @@ pub fn opened(alloc: Global) -> Result<(), Refusal> {
 /// `Table::open` and a list, which is lent to the calls that say whom to wake.
 pub fn lists(alloc: Global) -> Result<(), Refusal> {
     let mut table = Table::open(alloc, CONFIG)?;
-    let Ok(mut wake) = Vec::with_capacity(alloc, Config::MOST_PROCESSES as usize) else {
+    let Ok(mut wake) = Vec::with_capacity(alloc, Config::MAX_PROCESSES as usize) else {
         return Err(Refusal::Memory);
     };
     deadlock(&mut table, &mut wake)

@@ -1,9 +1,9 @@
 //! One module for each library, `shelf` for the shelves of mm_arena, and `wake` and `watch` for example_calls.
 
 mod arena;
+mod bit_set;
 mod label;
 mod links;
-mod marks;
 mod owned;
 mod queue;
 mod same;

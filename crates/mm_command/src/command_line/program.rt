@@ -10,10 +10,10 @@ use clap::{Arg, ArgAction, Command};
 use std::alloc::{AllocError, Global};
 
 /// How many clients a storm may have.
-pub const MOST_CLIENTS: u32 = 64;
+pub const MAX_CLIENTS: u32 = 64;
 
 /// How many transmitters a storm may have.
-pub const MOST_TRANSMITTERS: u32 = 64;
+pub const MAX_TRANSMITTERS: u32 = 64;
 
 /// The whole program.
 pub fn command<'a>(alloc: Global) -> Result<Command<'a>, AllocError>
@@ -57,8 +57,8 @@ fn storm_command<'a>(alloc: Global) -> Result<Command<'a>, AllocError>
     Command::new(alloc, "storm")
         .about(STORM)
         .arg(number(alloc, "seed", 0, u64::MAX, "1"))?
-        .arg(number(alloc, "clients", 1, MOST_CLIENTS as u64, "8"))?
-        .arg(number(alloc, "transmitters", 0, MOST_TRANSMITTERS as u64, "2"))?
+        .arg(number(alloc, "clients", 1, MAX_CLIENTS as u64, "8"))?
+        .arg(number(alloc, "transmitters", 0, MAX_TRANSMITTERS as u64, "2"))?
         .arg(verbose(alloc))
 }
 

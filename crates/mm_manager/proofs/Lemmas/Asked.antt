@@ -2,8 +2,8 @@
 use Rattle.std.proofs.Common.{◌≡◌, ◌≢◌, ◌∷◌, ◌<◌, ℕ, Bool, List, [], Some, None, Result, Ok, Err, inl, inr, refl, sym, ap, subst, ◌∙◌, slice_index_or, get_or-set_same, get_or-set_other, arith, length}
 use Rattle.std.proofs.lemmas.Bool.{cases_eq}
 use Rattle.mm_arena.specs.declared.key.Key.{Key}
-use Rattle.mm_lists.specs.Members.{Among}
-use Rattle.mm_lists.proofs.Lemmas.Among.{among_right}
+use Rattle.mm_list_lemmas.specs.Members.{Among}
+use Rattle.mm_list_lemmas.proofs.Lemmas.Among.{among_right}
 use Rattle.mm_names.specs.Names.{NameTable, name_of, with_name, IsNamed, Interns}
 use Rattle.mm_rules.specs.declared.reply.Acquired.TheVariants as acquired
 use Rattle.mm_rules.specs.TableState.{TableState, owner_of, wait_of, waited_for}

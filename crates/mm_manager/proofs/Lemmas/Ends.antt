@@ -2,9 +2,9 @@
 use Rattle.std.proofs.Common.{◌≡◌, ◌≢◌, ◌⊎◌, ◌≤◌, ◌<◌, ◌+◌, ℕ, Bool, true, false, List, [], ◌∷◌, ◌++◌, length, take, None, MatchBool, inl, inr, refl, sym, ap, subst, ◌∙◌, arith, length-append, append_assoc, append-nil, slice_index_or, get_or-set_same, get_or-set_other, add-one}
 use Rattle.std.proofs.lemmas.List.{take-append-le}
 use Rattle.mm_arena.specs.declared.key.Key.{Key}
-use Rattle.mm_lists.specs.Members.{Among}
-use Rattle.mm_lists.proofs.Lemmas.Among.{among_append, among_left, among_right}
-use Rattle.mm_marks.specs.Marks.{has}
+use Rattle.mm_list_lemmas.specs.Members.{Among}
+use Rattle.mm_list_lemmas.proofs.Lemmas.Among.{among_append, among_left, among_right}
+use Rattle.mm_bit_set.specs.BitSet.{has}
 use Rattle.mm_names.specs.Names.{NameTable}
 use Rattle.mm_rules.specs.TableState.{TableState, is_live, wait_of}
 use Rattle.mm_rules.specs.Event.{Finish}

@@ -2,7 +2,7 @@
 use Rattle.std.proofs.Common.{◌≡◌, ◌≢◌, ℕ, true, false, List, Bool, Result, Ok, Err, inl, inr, sym, ap, subst, ◌∙◌, slice_set}
 use Rattle.std.proofs.lemmas.Bool.{cases_eq}
 use Rattle.mm_arena.specs.declared.key.Key.{Key}
-use Rattle.mm_marks.specs.Marks.{has}
+use Rattle.mm_bit_set.specs.BitSet.{has}
 use Rattle.mm_names.specs.Names.{NameTable}
 use Rattle.mm_rules.specs.TableState.{TableState, is_live, has_verdict, wait_of}
 use Rattle.mm_rules.specs.Change.{activate}

@@ -3,8 +3,8 @@ use Rattle.std.proofs.Common.{◌≡◌, ◌≢◌, ◌↔◌, ℕ, Bool, true, 
 use Rattle.std.proofs.lemmas.Bool.{cases_Bool, cases_lt}
 use Rattle.std.proofs.lemmas.List.{take_all, get_or_past}
 use Rattle.mm_arena.specs.declared.key.Key.{Key}
-use Rattle.mm_lists.specs.Members.{Among}
-use Rattle.mm_marks.specs.Marks.{has}
+use Rattle.mm_list_lemmas.specs.Members.{Among}
+use Rattle.mm_bit_set.specs.BitSet.{has}
 use Rattle.mm_names.specs.Names.{NameTable}
 use Rattle.mm_rules.specs.TableState.{TableState, wait_of, is_waiting, has_verdict}
 use Rattle.mm_rules.specs.Event.{Event, Answer}

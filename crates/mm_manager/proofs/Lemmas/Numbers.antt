@@ -3,7 +3,7 @@ use Rattle.std.proofs.Common.{◌≡◌, ◌↔◌, ◌<◌, ℕ, zero, suc, Lis
 use Rattle.std.proofs.lemmas.Bool.{cases_eq}
 use Rattle.std.proofs.lemmas.List.{set-get_or}
 use Rattle.mm_arena.specs.declared.key.Key.{Key}
-use Rattle.mm_lists.specs.Members.{Among}
+use Rattle.mm_list_lemmas.specs.Members.{Among}
 use Rattle.mm_names.specs.Names.{NameTable, name_of, with_name}
 use Rattle.mm_names.proofs.Lemmas.Index.{named_in_range}
 use Rattle.mm_rules.specs.TableState.{TableState, owner_of}

@@ -1,8 +1,8 @@
 -- A manager that was just opened.
 use Rattle.std.proofs.Common.{◌≡◌, ℕ, true, false, None, replicate, sym, ap, subst, ◌∙◌}
 use Rattle.std.proofs.lemmas.List.{length-replicate}
-use Rattle.mm_lists.proofs.Lemmas.Set.{read_replicate}
-use Rattle.mm_marks.specs.Marks.{has}
+use Rattle.mm_list_lemmas.proofs.Lemmas.Set.{read_replicate}
+use Rattle.mm_bit_set.specs.BitSet.{has}
 use Rattle.mm_names.specs.Names.{NameTable, nameless}
 use Rattle.mm_rules.specs.declared.config.Config.{Config}
 use Rattle.mm_rules.specs.TableState.{TableState, opening}

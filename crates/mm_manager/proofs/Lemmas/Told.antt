@@ -1,7 +1,7 @@
 -- From the parts to what a contract sees: what a request, a release and an end do.
 use Rattle.std.proofs.Common.{◌≡◌, ◌≢◌, ℕ, List, [], Some, Result, Ok, Err, IfOk, IfErr, OnErr, inl, inr, sym, ap, subst, ◌∙◌}
 use Rattle.mm_arena.specs.declared.key.Key.{Key}
-use Rattle.mm_lists.specs.Members.{Among}
+use Rattle.mm_list_lemmas.specs.Members.{Among}
 use Rattle.mm_names.specs.Names.{name_of, IsLawful as IsLawfulNames}
 use Rattle.mm_rules.specs.declared.reply.Released.{Released}
 use Rattle.mm_rules.specs.TableState.{owner_of}

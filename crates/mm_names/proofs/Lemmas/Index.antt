@@ -4,12 +4,12 @@ use Rattle.std.proofs.lemmas.Bool.{cases_eq, cases_lt}
 use Rattle.std.proofs.lemmas.List.{get_or-set_same, get_or-set_other, get_or_past, length-map, length-replicate}
 use Rattle.std.proofs.lemmas.List.Sums.{sum_by-set}
 use Rattle.std.proofs.Math.Nat.{mod-lt, div-lt_iff_lt-mul, mul-lt-mul_of_pos_right}
-use Rattle.mm_lists.specs.Members.{Among, NoRepeat, without}
-use Rattle.mm_lists.proofs.Lemmas.Among.{among_append, among_left, among_right}
-use Rattle.mm_lists.proofs.Lemmas.Cut.{no_repeat_around}
-use Rattle.mm_lists.proofs.Lemmas.Set.{read_replicate}
+use Rattle.mm_list_lemmas.specs.Members.{Among, NoRepeat, without}
+use Rattle.mm_list_lemmas.proofs.Lemmas.Among.{among_append, among_left, among_right}
+use Rattle.mm_list_lemmas.proofs.Lemmas.Cut.{no_repeat_around}
+use Rattle.mm_list_lemmas.proofs.Lemmas.Set.{read_replicate}
 use Rattle.mm_owned.specs.Owned.{Ownership, unowned, owner_at, given, freed}
-use Rattle.mm_names.specs.declared.config.TheConstants.NamesConfig.{MOST_NAMES}
+use Rattle.mm_names.specs.declared.config.TheConstants.NamesConfig.{MAX_NAMES}
 use Rattle.mm_names.specs.declared.spots.Spots.{Spots}
 use Rattle.mm_names.specs.Names.{NameTable, name_of, named_count, nameless, with_name, IsNamed, IsFree, IsFull}
 use Rattle.mm_names.specs.private.Hash.{hash_of}
@@ -182,7 +182,7 @@ module _ (t : NameTable) (index : Ownership) (spots : Spots) (free : List ℕ) (
       omega (arith, named_count-set t n None below, one, indexed.counted)
 
 -- at the opening
-pub AreIndexed-nameless : (t : NameTable) (index : Ownership) (spots : Spots) (free : List ℕ) (numbers name_bytes : ℕ) → numbers ≤ MOST_NAMES → t ≡ nameless numbers name_bytes
+pub AreIndexed-nameless : (t : NameTable) (index : Ownership) (spots : Spots) (free : List ℕ) (numbers name_bytes : ℕ) → numbers ≤ MAX_NAMES → t ≡ nameless numbers name_bytes
     → index ≡ unowned spots.lists numbers → AreAll numbers free → AreIndexed t index spots free
 AreIndexed-nameless t index spots free numbers name_bytes small is owned all =
     let long : length t.names ≡ numbers = ap (λ (s : NameTable). length s.names) is ∙ length-replicate numbers None in

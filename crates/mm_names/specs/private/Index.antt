@@ -1,8 +1,8 @@
 -- Which number stands in which list.
 use Rattle.std.specs.Prelude.{◌≡◌, ◌↔◌, ℕ, ◌+◌, ◌≤◌, ◌<◌, length, List, Some, option_map}
-use Rattle.mm_lists.specs.Members.{Among, NoRepeat}
+use Rattle.mm_list_lemmas.specs.Members.{Among, NoRepeat}
 use Rattle.mm_owned.specs.Owned.{Ownership, owner_at}
-use Rattle.mm_names.specs.declared.config.TheConstants.NamesConfig.{MOST_NAMES}
+use Rattle.mm_names.specs.declared.config.TheConstants.NamesConfig.{MAX_NAMES}
 use Rattle.mm_names.specs.declared.spots.Spots.{Spots}
 use Rattle.mm_names.specs.Names.{NameTable, name_of, named_count, IsFree}
 use Rattle.mm_names.specs.private.Spots.{spot_of}
@@ -15,7 +15,7 @@ pub record AreAll (numbers : ℕ) (free : List ℕ) : Type 0 where
 
 -- each number stands at the spot of its name, no name is that of two numbers, and the free ones are listed
 pub record AreIndexed (t : NameTable) (index : Ownership) (spots : Spots) (free : List ℕ) : Type 0 where
-  pub few : length t.names ≤ MOST_NAMES
+  pub few : length t.names ≤ MAX_NAMES
   pub size : length index.owners ≡ length t.names
   pub lists : length index.lists ≡ spots.lists
   pub spots_of : (n : ℕ) → owner_at index n ≡ option_map (spot_of spots) (name_of t n)

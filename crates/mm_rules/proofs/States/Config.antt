@@ -6,7 +6,7 @@ use Rattle.mm_arena.specs.declared.key.Key.{Key}
 use Rattle.mm_rules.specs.declared.refusal.Refusal.{Refusal}
 use Rattle.mm_rules.specs.declared.reply.Settled.{Settled}
 use Rattle.mm_rules.specs.TableState.{TableState, Wait, owner_of, waiters_of, resources_of, waiting_processes}
-use Rattle.mm_rules.specs.Change.{block, activate, give_to, hand_over, free_slot, vacate, withdraw, greater_label, transmit, can_detect, detect, swept}
+use Rattle.mm_rules.specs.Change.{block, activate, give_to, hand_over, free_slot, vacate, take_back, greater_label, transmit, can_detect, detect, swept}
 use Rattle.mm_rules.specs.Event.{Event, Begin, Acquire, Release, Finish, Transmit, Detect, Abort, Settle, GiveUp, Answer, Step, Gives, decided, acquire_change, Settles, settled, counts_exhausted}
 use Rattle.mm_rules.proofs.States.Transmit.{shown}
 use Rattle.mm_rules.proofs.States.Sweep.{swept_same_waits}
@@ -79,6 +79,6 @@ event_config (Release k r) old new reply step = ap (λ s. s.config) step.1 ∙ d
 event_config (Finish k) old new reply step = ap (λ s. s.config) step.1 ∙ decided_config _ old _ _ (vacate_config old k.process)
 event_config (Transmit k) old new reply step = ap (λ s. s.config) step.1 ∙ decided_config _ old _ _ (transmit_config old k.process)
 event_config (Detect k) old new reply step = ap (λ s. s.config) step.1 ∙ decided_config _ old _ _ (detect_config old k.process)
-event_config (Abort k) old new reply step = ap (λ s. s.config) step.1 ∙ decided_config _ old _ _ (vacate_config (withdraw old k.process) k.process)
+event_config (Abort k) old new reply step = ap (λ s. s.config) step.1 ∙ decided_config _ old _ _ (vacate_config (take_back old k.process) k.process)
 event_config Settle old new reply step = settle_config old new reply (counts_exhausted old) step
 event_config (GiveUp k) old new reply step = ap (λ s. s.config) step.1 ∙ decided_config _ old _ _ refl

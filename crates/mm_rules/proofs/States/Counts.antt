@@ -9,11 +9,11 @@ use Rattle.mm_rules.specs.declared.refusal.Refusal.{Refusal}
 use Rattle.mm_rules.specs.declared.reply.Detected.TheVariants.{Deadlock, Standing, Clear}
 use Rattle.mm_rules.specs.declared.reply.Settled.{Settled}
 use Rattle.mm_rules.specs.TableState.{TableState, private_of, public_of, has_verdict, holder_of, owner_of, is_waiting, waiting_processes}
-use Rattle.mm_rules.specs.Change.{withdraw, can_detect, detect, swept}
+use Rattle.mm_rules.specs.Change.{take_back, can_detect, detect, swept}
 use Rattle.mm_rules.specs.Event.{Event, Begin, Acquire, Release, Finish, Transmit, Detect, Abort, Settle, GiveUp, Answer, Outcome, Gives, Settles, decided, settled, acquire_change, counts_exhausted}
 use Rattle.mm_rules.specs.Laws.{verdicts_made, aborts_made, Counts, CountsAreExact}
-use Rattle.mm_lists.specs.Members.{Among, NoRepeat}
-use Rattle.mm_lists.proofs.Lemmas.Range.{no_repeat_filter_range}
+use Rattle.mm_list_lemmas.specs.Members.{Among, NoRepeat}
+use Rattle.mm_list_lemmas.proofs.Lemmas.Range.{no_repeat_filter_range}
 use Rattle.mm_rules.proofs.States.Detect.{convicted, detect_still, detect_convicts}
 use Rattle.mm_rules.proofs.States.Totals.{hand_over_totals, vacate_totals, transmit_totals, swept_totals, detects_accepted, detects_aborts}
 
@@ -130,7 +130,7 @@ event_counts (Detect k) old new reply step =
     gives_counts (Detect k) old new reply _ step
     (decided_counts (Detect k) old _ _ _ (detect_adds old k (has_verdict old k.process) (can_detect old k.process) (standing_detects_not old k.process)))
 event_counts (Abort k) old new reply step =
-    let same = vacate_totals (withdraw old k.process) k.process in
+    let same = vacate_totals (take_back old k.process) k.process in
     gives_counts (Abort k) old new reply _ step (decided_counts (Abort k) old _ _ _ (record {
       accepted = ap (λ t. t.accepted) same;
       verdicts = omega (arith, ap (λ t. t.verdicts) same);

@@ -7,7 +7,7 @@ use Rattle.mm_rules.specs.declared.refusal.Refusal.{Refusal}
 use Rattle.mm_rules.specs.declared.reply.Totals.{Totals}
 use Rattle.mm_rules.specs.Graph.{WaitsFor, IsActive}
 use Rattle.mm_rules.specs.TableState.{TableState, is_live, owner_of, owns, wait_of, has_verdict, graph_of}
-use Rattle.mm_rules.specs.Change.{activate, hand_over, hand_over_fits, vacate, vacate_fits, withdraw, abort, transmit, detect}
+use Rattle.mm_rules.specs.Change.{activate, hand_over, hand_over_fits, vacate, vacate_fits, take_back, abort, transmit, detect}
 use Rattle.mm_rules.specs.Event.{Event, Begin, Acquire, Release, Finish, Transmit, Detect, Abort, Settle, GiveUp, Answer, Step, Tests, outcome, begin_tests, release_tests, finish_tests, waiting_tests, abort_tests, give_up_tests, released, finished, aborted}
 use Rattle.mm_rules.specs.Laws.{Laws}
 use Rattle.mm_rules.specs.Victims.{BeginsWait}
@@ -18,7 +18,7 @@ use Rattle.mm_rules.proofs.States.Lookups.{none_of_is_some, no_holder}
 use Rattle.mm_rules.proofs.States.Outcome.{KeepsLaws, outcome_keeps}
 use Rattle.mm_rules.proofs.States.ClosesNone.{ClosesNone, closes_none_by, closes_none_itself, closes_none_then, same_holders_close_none, counting_closes_none}
 use Rattle.mm_rules.proofs.States.Activate.{activated_with, waits_no_longer, waits_else}
-use Rattle.mm_rules.proofs.States.GiveUp.{withdraw_keeps}
+use Rattle.mm_rules.proofs.States.GiveUp.{take_back_keeps}
 use Rattle.mm_rules.proofs.States.HandOverLaws.{MayHandOver}
 use Rattle.mm_rules.proofs.States.HandOver.{hand_over_keeps}
 use Rattle.mm_rules.proofs.States.Release.{owns_gives, may_hand_over}
@@ -65,13 +65,13 @@ finish_closes_none s k laws = outcome_closes_none s tt (vacate s k.process) (fin
 abort_change_closes_none : (s : TableState) (k : Key) → Laws s → IsTrue (is_live s k) → IsTrue (has_verdict s k.process) → IsTrue (vacate_fits s k.process) → ClosesNone s (abort s k.process)
 abort_change_closes_none s k laws live verdict fits =
     let n = k.process in
-    let withdrawn : KeepsLaws s (withdraw s n) = withdraw_keeps s n laws verdict in
-    let still : IsTrue (vacate_fits (withdraw s n) n) = fits_still s n laws fits in
-    let first : ClosesNone s (withdraw s n)
+    let withdrawn : KeepsLaws s (take_back s n) = take_back_keeps s n laws verdict in
+    let still : IsTrue (vacate_fits (take_back s n) n) = fits_still s n laws fits in
+    let first : ClosesNone s (take_back s n)
     = activated_closes_none s n (slice_set s.verdicts n false) (record s.totals { aborts = s.totals.aborts + 1 }) (λ v apart was. get_or-set_other s.verdicts n v false false apart ∙ was) in
-    closes_none_then s (withdraw s n) (abort s n) first
-    (vacate_closes_none (withdraw s n) n withdrawn.laws (live_process s k live) (waits_no_longer s n) still) withdrawn
-    (vacate_keeps (withdraw s n) n withdrawn.laws (live_process s k live) (waits_no_longer s n) still)
+    closes_none_then s (take_back s n) (abort s n) first
+    (vacate_closes_none (take_back s n) n withdrawn.laws (live_process s k live) (waits_no_longer s n) still) withdrawn
+    (vacate_keeps (take_back s n) n withdrawn.laws (live_process s k live) (waits_no_longer s n) still)
 
 abort_closes_none : (s : TableState) (k : Key) → Laws s → ClosesNone s (aborted s k).state
 abort_closes_none s k laws = outcome_closes_none s tt (abort s k.process) (abort_tests s k) (λ passed.

@@ -1,4 +1,4 @@
--- Give up keeps the laws, and so does the withdrawal with which an abort begins: the one that waits no longer shows its own label.
+-- Give up keeps the laws, and so does the take-back with which an abort begins: the one that waits no longer shows its own label.
 use Rattle.std.proofs.Common.{◌≡◌, ◌≢◌, ◌+◌, ℕ, ◌<◌, slice_set, slice_index_or, Bool, true, false, cond, IsTrue, IsFalse, inl, inr, refl, sym, ap, ◌∙◌, arith, length-set, get_or-set_same, get_or-set_other}
 use Rattle.std.specs.List.{count_by}
 use Rattle.std.proofs.lemmas.Bool.{cases_eq, not-false}
@@ -7,7 +7,7 @@ use Rattle.mm_label.specs.Label.{label_eq}
 use Rattle.mm_arena.specs.declared.key.Key.{Key}
 use Rattle.mm_rules.specs.Graph.{WaitsFor, IsWaiting}
 use Rattle.mm_rules.specs.TableState.{TableState, is_waiting, has_verdict, private_of, public_of, graph_of}
-use Rattle.mm_rules.specs.Change.{activate, withdraw}
+use Rattle.mm_rules.specs.Change.{activate, take_back}
 use Rattle.mm_rules.specs.Event.{given_up, give_up_tests}
 use Rattle.mm_rules.specs.Laws.{Laws}
 use Rattle.mm_rules.proofs.States.LabelOrder.{label_eq_true, word_tells}
@@ -55,6 +55,6 @@ module _ (s : TableState) (n : ℕ) (laws : Laws s) (verdict : IsTrue (has_verdi
       = sum_by-set (λ (v : Bool). cond v 1 0) s.verdicts n false false (omega (arith, within, laws.lawful.well_formed.sizes.verdicts)) in
       omega (arith, rw verdict at less, laws.lawful.counted)
 
-  pub withdraw_keeps : KeepsLaws s (withdraw s n)
-  withdraw_keeps = activated_with_keeps s n (laws.convicted n verdict).0 (slice_set s.verdicts n false) (record s.totals { aborts = s.totals.aborts + 1 }) laws convicted_waits convicted_own
+  pub take_back_keeps : KeepsLaws s (take_back s n)
+  take_back_keeps = activated_with_keeps s n (laws.convicted n verdict).0 (slice_set s.verdicts n false) (record s.totals { aborts = s.totals.aborts + 1 }) laws convicted_waits convicted_own
       verdict_before (length-set s.verdicts n false) counted

@@ -6,14 +6,14 @@ use Rattle.std.proofs.lemmas.Bool.{eqb-false, eq-eqb, and_from, and_left, not-fa
 use Rattle.std.proofs.lemmas.Option.{slice_get_within, get_or_from_slice_get}
 use Rattle.mm_label.specs.Label.{Label}
 use Rattle.mm_arena.specs.declared.key.Key.{Key}
-use Rattle.mm_lists.specs.Members.{Among}
-use Rattle.mm_lists.proofs.Lemmas.Among.{all_at, among_rest_gives, first_among}
+use Rattle.mm_list_lemmas.specs.Members.{Among}
+use Rattle.mm_list_lemmas.proofs.Lemmas.Among.{all_at, among_rest_gives, first_among}
 use Rattle.mm_rules.specs.declared.refusal.Refusal.{Refusal}
 use Rattle.mm_rules.specs.declared.reply.Settled.{Settled}
 use Rattle.mm_rules.specs.declared.reply.Transmitted.TheVariants.{Raised, Still}
 use Rattle.mm_rules.specs.declared.reply.Detected.TheVariants.{Deadlock, Standing, Clear}
 use Rattle.mm_rules.specs.TableState.{TableState, Wait, is_live, key_of, has_verdict, private_of, owner_of, resources_of, waiters_of, waiting_processes}
-use Rattle.mm_rules.specs.Change.{activate, give_to, hand_over, vacate, withdraw, greater_label, transmit, can_detect, detect, swept, total_raises, abort}
+use Rattle.mm_rules.specs.Change.{activate, give_to, hand_over, vacate, take_back, greater_label, transmit, can_detect, detect, swept, total_raises, abort}
 use Rattle.mm_rules.specs.Event.{Tests, Event, Begin, Acquire, Release, Finish, Transmit, Detect, Abort, Settle, GiveUp, Answer, Gives, Step, Run, Settles, allowed, outcome, decided, begin_tests, acquire_tests, acquire_answer, acquire_change, release_tests, release_answer, waiting_tests, give_up_tests, settle_tests, finish_tests, abort_tests, settled, counts_exhausted}
 use Rattle.mm_rules.specs.Laws.{Laws}
 use Rattle.mm_rules.proofs.States.Outcome.{counting, outcome_keeps, tests_false}
@@ -177,9 +177,9 @@ event_keys (Detect k) old new reply step laws = gives_keys old new _ step.1
 event_keys (Abort k) old new reply step laws = gives_keys old new _ step.1
     (outcome_keys old tt (abort old k.process) (abort_tests old k) (λ passed.
     let taken : IsTaken old k.process = is_taken old k laws (not-false (is_live old k) passed.1.0) in
-    let same : SameKeys old (withdraw old k.process) = record { generations = refl; live = refl; free = refl } in
-    keys_then old (withdraw old k.process) (abort old k.process) (same_keeps_keys old (withdraw old k.process) same)
-    (vacate_keys (withdraw old k.process) k.process (still_taken old (withdraw old k.process) k.process same taken))))
+    let same : SameKeys old (take_back old k.process) = record { generations = refl; live = refl; free = refl } in
+    keys_then old (take_back old k.process) (abort old k.process) (same_keeps_keys old (take_back old k.process) same)
+    (vacate_keys (take_back old k.process) k.process (still_taken old (take_back old k.process) k.process same taken))))
 event_keys Settle old new reply step laws = settle_keys old new reply (counts_exhausted old) step
 event_keys (GiveUp k) old new reply step laws = gives_keys old new _ step.1
     (outcome_keys old tt (activate old k.process) (give_up_tests old k) (λ passed. same_keeps_keys old _ (record { generations = refl; live = refl; free = refl })))

@@ -2,7 +2,7 @@
 use Rattle.std.specs.Prelude.{◌≡◌, ℕ, ◌+◌, ◌-◌, ◌≤◌, ◌<◌, Bool, List, [], ◌++◌, length, take, Option, MatchBool}
 use Rattle.std.specs.Io.KnownBytes.{Consumes, IsAtEnd}
 use Rattle.mm_script.specs.declared.input.Input.{Input}
-use Rattle.mm_script.specs.declared.input.TheConstants.{MOST_HELD}
+use Rattle.mm_script.specs.declared.input.TheConstants.{MAX_HELD}
 use Rattle.mm_script.specs.Script.{input_limit}
 
 -- the bytes that are held
@@ -15,7 +15,7 @@ within_limit input = take (length (held input) - (input.taken - input_limit)) (h
 
 -- there is room for a byte, and one more may be read
 pub record IsReady (input : Input) : Type 0 where
-  pub room : length (held input) ≤ MOST_HELD
+  pub room : length (held input) ≤ MAX_HELD
   pub within_limit : input.taken ≤ input_limit
 
 -- a read gave a piece, or was at the end

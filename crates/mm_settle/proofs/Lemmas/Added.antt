@@ -1,10 +1,10 @@
 -- What is added to a set: one process, and those of a queue one after the other.
 use Rattle.std.proofs.Common.{◌≡◌, ◌⊎◌, ◌<◌, ◌++◌, ℕ, Bool, true, List, [], ◌∷◌, length, slice_set, inl, inr, refl, sym, ap, ◌∙◌, length-set}
 use Rattle.std.proofs.lemmas.Bool.{cases_eq}
-use Rattle.mm_lists.specs.Members.{Among}
-use Rattle.mm_lists.proofs.Lemmas.Among.{among_append, among_left}
+use Rattle.mm_list_lemmas.specs.Members.{Among}
+use Rattle.mm_list_lemmas.proofs.Lemmas.Among.{among_append, among_left}
 use Rattle.mm_rules.specs.TableState.{Wait}
-use Rattle.mm_marks.specs.Marks.{has}
+use Rattle.mm_bit_set.specs.BitSet.{has}
 use Rattle.mm_settle.specs.Steps.Added.{Adds, AddsAll}
 use Rattle.mm_settle.proofs.Lemmas.Passes.{has_added, has_apart}
 

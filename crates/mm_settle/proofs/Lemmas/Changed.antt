@@ -5,9 +5,9 @@ use Rattle.std.proofs.lemmas.Bool.{cases_Bool, cases_eq, cases_lt}
 use Rattle.mm_label.specs.Label.{label_lt, label_eq}
 use Rattle.mm_rules.specs.TableState.{TableState, has_verdict, holder_of}
 use Rattle.mm_rules.specs.Change.{can_transmit, can_detect, detect}
-use Rattle.mm_lists.proofs.Lemmas.Set.{true_still}
+use Rattle.mm_list_lemmas.proofs.Lemmas.Set.{true_still}
 use Rattle.mm_rules.proofs.States.Detect.{detect_still, detect_convicts}
-use Rattle.mm_marks.specs.Marks.{has, IsNextMember}
+use Rattle.mm_bit_set.specs.BitSet.{has, IsNextMember}
 use Rattle.mm_settle.specs.Steps.Marked.{AddsWaiters}
 use Rattle.mm_settle.specs.Steps.Changed.{holder_in, AreChanged, ChangesOnly, IsLoading}
 use Rattle.mm_settle.proofs.Lemmas.Frames.{greater_from, detects_from, idle_transmits_not, idle_detects_not}

@@ -4,15 +4,15 @@ use Rattle.std.specs.Option.{option_map_or}
 use Rattle.std.specs.List.{range_with_len}
 use Rattle.std.proofs.lemmas.Bool.{cases_Bool, cases_eq, cases_lt, and_parts, not-true}
 use Rattle.mm_label.specs.Label.{label_eq}
-use Rattle.mm_lists.specs.Members.{Among}
+use Rattle.mm_list_lemmas.specs.Members.{Among}
 use Rattle.mm_rules.specs.TableState.{TableState, private_of, public_of, has_verdict, holder_of, is_waiting, waiting_processes}
 use Rattle.mm_rules.specs.Change.{can_transmit, can_detect, detect}
 use Rattle.mm_rules.specs.Laws.{Laws}
-use Rattle.mm_lists.proofs.Lemmas.Range.{among_range_gives}
-use Rattle.mm_lists.proofs.Lemmas.Set.{true_within}
+use Rattle.mm_list_lemmas.proofs.Lemmas.Range.{among_range_gives}
+use Rattle.mm_list_lemmas.proofs.Lemmas.Set.{true_within}
 use Rattle.mm_rules.proofs.States.Counts.{detect_apart, verdicts_after, count_same}
 use Rattle.mm_rules.proofs.States.Detect.{convicted, detect_still, detect_convicts, detect_keeps}
-use Rattle.mm_marks.specs.Marks.{has, HasNoneFrom, IsNextMember}
+use Rattle.mm_bit_set.specs.BitSet.{has, HasNoneFrom, IsNextMember}
 use Rattle.mm_settle.specs.Steps.Pass.{ahead}
 use Rattle.mm_settle.specs.Steps.Detects.{IsDetecting, IsDetected}
 use Rattle.mm_settle.proofs.Lemmas.Frames.{detects_from, idle_detects_not, not_waiting_idle}

@@ -1,10 +1,10 @@
 -- Whoever waits for nothing once resources were handed over shows the label that it showed: new labels go to those alone that wait on.
 use Rattle.std.proofs.Common.{◌≡◌, ◌<◌, ℕ, List, [], ◌∷◌, length, map, fold, slice_set, nat_eq, Some, None, IsTrue, subst, inl, inr, refl, sym, ap, ◌∙◌}
 use Rattle.std.proofs.lemmas.Bool.{cases_eq}
-use Rattle.mm_lists.specs.Members.{Among, NoRepeat}
-use Rattle.mm_lists.proofs.Lemmas.Among.{among_map}
-use Rattle.mm_lists.proofs.Lemmas.NoRepeat.{no_repeat_filter}
-use Rattle.mm_lists.proofs.Lemmas.Range.{no_repeat_filter_range}
+use Rattle.mm_list_lemmas.specs.Members.{Among, NoRepeat}
+use Rattle.mm_list_lemmas.proofs.Lemmas.Among.{among_map}
+use Rattle.mm_list_lemmas.proofs.Lemmas.NoRepeat.{no_repeat_filter}
+use Rattle.mm_list_lemmas.proofs.Lemmas.Range.{no_repeat_filter_range}
 use Rattle.mm_rules.specs.TableState.{TableState, Wait, public_of, wait_of, waited_for, waiters_of, owns, resources_of}
 use Rattle.mm_rules.specs.Change.{activate, give_to, hand_over, vacate, vacate_fits}
 use Rattle.mm_rules.specs.Laws.{Laws}

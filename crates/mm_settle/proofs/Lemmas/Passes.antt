@@ -3,12 +3,12 @@ use Rattle.std.proofs.Common.{◌≡◌, ◌≢◌, ◌⊎◌, ◌+◌, ◌-◌,
 use Rattle.std.specs.List.{range_with_len}
 use Rattle.std.proofs.lemmas.Bool.{cases_Bool, cases_eq, cases_lt}
 use Rattle.std.proofs.lemmas.List.{get_or_past}
-use Rattle.mm_lists.specs.Members.{Among}
+use Rattle.mm_list_lemmas.specs.Members.{Among}
 use Rattle.mm_rules.specs.TableState.{TableState, holder_of}
 use Rattle.mm_rules.specs.Change.{can_transmit, transmit, raises_along, can_detect, sweep, sweep_raises}
-use Rattle.mm_lists.proofs.Lemmas.Set.{true_within}
+use Rattle.mm_list_lemmas.proofs.Lemmas.Set.{true_within}
 use Rattle.mm_rules.proofs.States.Transmit.{transmit_keeps}
-use Rattle.mm_marks.specs.Marks.{has, HasNoneFrom, IsNextMember}
+use Rattle.mm_bit_set.specs.BitSet.{has, HasNoneFrom, IsNextMember}
 use Rattle.mm_settle.specs.Steps.Pass.{ahead, IsPassing, IsPassed}
 use Rattle.mm_settle.specs.Steps.Marked.{AddsWaiters, AreMarked}
 use Rattle.mm_settle.proofs.Lemmas.Frames.{transmit_config, transmit_holder, transmit_frame, detect_frame, cannot_still, risen_transmits_not, risen_detects_not}

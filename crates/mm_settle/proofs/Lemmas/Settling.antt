@@ -6,7 +6,7 @@ use Rattle.mm_rules.specs.TableState.{TableState, public_of, has_verdict}
 use Rattle.mm_rules.specs.Change.{can_transmit, transmit}
 use Rattle.mm_rules.specs.Laws.{Laws}
 use Rattle.mm_rules.proofs.States.LabelOrder.{label_le_then, label_le_lt}
-use Rattle.mm_marks.specs.Marks.{has}
+use Rattle.mm_bit_set.specs.BitSet.{has}
 use Rattle.mm_settle.specs.Touched.{IsChanged, Touches}
 use Rattle.mm_settle.specs.Steps.Added.{Adds}
 use Rattle.mm_settle.specs.Steps.Settling.{IsSettling}

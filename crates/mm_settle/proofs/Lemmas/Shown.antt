@@ -5,9 +5,9 @@ use Rattle.std.specs.List.{range_with_len, AllByRecursion}
 use Rattle.std.proofs.lemmas.Bool.{cases_Bool, eq-eqb, not-false}
 use Rattle.mm_label.specs.Label.{Label, opening_label}
 use Rattle.mm_arena.specs.declared.key.Key.{Key}
-use Rattle.mm_lists.specs.Members.{Among}
-use Rattle.mm_lists.proofs.Lemmas.Filter.{filter_gives, filter_keeps}
-use Rattle.mm_lists.proofs.Lemmas.Range.{among_range, among_range_gives}
+use Rattle.mm_list_lemmas.specs.Members.{Among}
+use Rattle.mm_list_lemmas.proofs.Lemmas.Filter.{filter_gives, filter_keeps}
+use Rattle.mm_list_lemmas.proofs.Lemmas.Range.{among_range, among_range_gives}
 use Rattle.mm_rules.specs.declared.refusal.Refusal.{Refusal}
 use Rattle.mm_rules.specs.declared.reply.Acquired.{Acquired}
 use Rattle.mm_rules.specs.declared.reply.Released.{Released}
@@ -16,13 +16,13 @@ use Rattle.mm_rules.specs.declared.reply.Detected.{Detected}
 use Rattle.mm_rules.specs.declared.reply.Settled.{Settled}
 use Rattle.mm_rules.specs.declared.reply.Transmitted.TheVariants.{Raised, Still}
 use Rattle.mm_rules.specs.TableState.{TableState, Wait, public_of, holder_of, has_verdict, owner_of, wait_of, waited_for, waiting_processes, is_live}
-use Rattle.mm_rules.specs.Change.{label_against, block, activate, hand_over, vacate, vacate_fits, withdraw, abort, greater_label, transmit, can_detect, detect, swept}
+use Rattle.mm_rules.specs.Change.{label_against, block, activate, hand_over, vacate, vacate_fits, take_back, abort, greater_label, transmit, can_detect, detect, swept}
 use Rattle.mm_rules.specs.Event.{Event, Begin, Acquire, Release, Finish, Transmit, Detect, Abort, Settle, GiveUp, Gives, Step, Tests, allowed, decided, outcome, Settles, settled, counts_exhausted, begin_tests, acquire_tests, acquire_answer, acquire_change, release_tests, finish_tests, waiting_tests, abort_tests, settle_tests, give_up_tests}
 use Rattle.mm_rules.specs.Laws.{Laws}
 use Rattle.mm_rules.proofs.States.Abort.{fits_still}
 use Rattle.mm_rules.proofs.States.Activate.{waits_no_longer}
 use Rattle.mm_rules.proofs.States.Detect.{detect_still, detect_convicts}
-use Rattle.mm_rules.proofs.States.GiveUp.{withdraw_keeps}
+use Rattle.mm_rules.proofs.States.GiveUp.{take_back_keeps}
 use Rattle.mm_rules.proofs.States.Lookups.{live_within, none_of_is_some, holder_is, no_holder}
 use Rattle.mm_rules.proofs.States.Outcome.{counting, tests_false}
 use Rattle.mm_rules.proofs.States.Transmit.{shown}
@@ -210,8 +210,8 @@ abort_shown s t k reply laws step =
       within = λ n told. told_within s (counting (abort s k.process) m) n told;
       shown = λ i idle.
           let n = k.process in
-          let withdrawn = (withdraw_keeps s n laws (not-false (has_verdict s n) tests.1.1.0)).laws in
-          vacate_idle (withdraw s n) n withdrawn (waits_no_longer s n) (fits_still s n laws (not-false (vacate_fits s n) tests.1.1.1.0)) i idle;
+          let withdrawn = (take_back_keeps s n laws (not-false (has_verdict s n) tests.1.1.0)).laws in
+          vacate_idle (take_back s n) n withdrawn (waits_no_longer s n) (fits_still s n laws (not-false (vacate_fits s n) tests.1.1.1.0)) i idle;
     })
     reply t step
 

@@ -3,10 +3,10 @@ use Rattle.std.proofs.Common.{◌≡◌, ◌+◌, ◌-◌, ◌<◌, ◌≤◌, �
 use Rattle.std.specs.List.{range_with_len}
 use Rattle.std.proofs.lemmas.Bool.{cases_Bool}
 use Rattle.std.proofs.lemmas.List.Sums.{sum_by-cons}
-use Rattle.mm_lists.specs.Members.{Among}
+use Rattle.mm_list_lemmas.specs.Members.{Among}
 use Rattle.mm_rules.specs.TableState.{TableState, holder_of, is_waiting}
 use Rattle.mm_rules.specs.Change.{can_transmit, transmit, raises_along, can_detect, detect, sweep, sweep_raises}
-use Rattle.mm_lists.proofs.Lemmas.Range.{among_range_gives}
+use Rattle.mm_list_lemmas.proofs.Lemmas.Range.{among_range_gives}
 use Rattle.mm_rules.proofs.States.Detect.{detect_still}
 use Rattle.mm_settle.specs.Steps.Pass.{ahead}
 use Rattle.mm_settle.proofs.Lemmas.Frames.{transmit_holder, cannot_still, idle_transmits_not, not_waiting_idle}

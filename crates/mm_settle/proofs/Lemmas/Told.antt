@@ -9,7 +9,7 @@ use Rattle.mm_label.specs.Label.{label_eq}
 use Rattle.mm_rules.specs.declared.reply.Totals.{Totals}
 use Rattle.mm_rules.specs.TableState.{TableState, private_of, public_of, has_verdict, holder_of, wait_of}
 use Rattle.mm_rules.proofs.States.LabelOrder.{label_eq_true, label_eq_is}
-use Rattle.mm_marks.specs.Marks.{has, members}
+use Rattle.mm_bit_set.specs.BitSet.{has, members}
 use Rattle.mm_settle.specs.Touched.{IsUnchanged, IsChanged, Touches, is_changed, changed_processes}
 use Rattle.mm_settle.specs.Steps.Marked.{IsNoneMarked}
 use Rattle.mm_settle.specs.Steps.Changed.{AreChanged}

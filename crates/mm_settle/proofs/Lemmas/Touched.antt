@@ -4,9 +4,9 @@ use Rattle.std.specs.Option.{option_map_or}
 use Rattle.std.proofs.lemmas.Bool.{cases_eq, eqb-true}
 use Rattle.mm_label.specs.Label.{Label, label_lt, opening_label}
 use Rattle.mm_arena.specs.declared.key.Key.{Key}
-use Rattle.mm_lists.proofs.Lemmas.Filter.{filter_gives}
-use Rattle.mm_lists.proofs.Lemmas.NoRepeat.{found_by_number}
-use Rattle.mm_lists.specs.Members.{Among}
+use Rattle.mm_list_lemmas.proofs.Lemmas.Filter.{filter_gives}
+use Rattle.mm_list_lemmas.proofs.Lemmas.NoRepeat.{found_by_number}
+use Rattle.mm_list_lemmas.specs.Members.{Among}
 use Rattle.mm_rules.specs.TableState.{TableState, Wait, public_of, owner_of, wait_of, waited_for, is_waiting, waiters_of}
 use Rattle.mm_rules.specs.Change.{greater_label, can_transmit, transmit, block, label_against, activate, give_to, hand_over}
 use Rattle.mm_rules.specs.Stages.{blocked_on}
@@ -14,7 +14,7 @@ use Rattle.mm_rules.specs.Laws.{Laws}
 use Rattle.mm_rules.proofs.States.Lookups.{waiter_within}
 use Rattle.mm_rules.proofs.States.Transmit.{shown}
 use Rattle.mm_rules.proofs.States.Activate.{waits_no_longer, waits_else}
-use Rattle.mm_marks.specs.Marks.{has}
+use Rattle.mm_bit_set.specs.BitSet.{has}
 use Rattle.mm_settle.specs.Touched.{IsUnchanged, IsChanged, Touches}
 use Rattle.mm_settle.specs.Steps.Added.{Adds, AddsAll}
 use Rattle.mm_settle.specs.Steps.Changed.{ChangesOnly}

@@ -2,7 +2,7 @@
 use Rattle.std.proofs.Common.{◌≡◌, ◌+◌, ℕ, Bool, true, false, List, slice_set, sym, subst, ◌∙◌, arith}
 use Rattle.mm_rules.specs.TableState.{TableState}
 use Rattle.mm_rules.specs.Change.{can_transmit, transmit}
-use Rattle.mm_marks.specs.Marks.{IsNextMember}
+use Rattle.mm_bit_set.specs.BitSet.{IsNextMember}
 use Rattle.mm_settle.specs.Steps.Marked.{AddsWaiters}
 use Rattle.mm_settle.specs.Steps.Pass.{IsPassing, IsTurn}
 use Rattle.mm_settle.proofs.Lemmas.Frames.{transmit_holder, cannot_still}

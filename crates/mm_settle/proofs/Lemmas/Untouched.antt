@@ -7,7 +7,7 @@ use Rattle.mm_rules.specs.Change.{can_detect, detect, swept, total_raises}
 use Rattle.mm_rules.specs.Event.{counts_exhausted, settled, Settles, Settle, Step, Gives}
 use Rattle.mm_rules.proofs.States.Detect.{detect_still}
 use Rattle.mm_rules.proofs.States.Outcome.{counting}
-use Rattle.mm_marks.specs.Marks.{has}
+use Rattle.mm_bit_set.specs.BitSet.{has}
 use Rattle.mm_settle.specs.Touched.{Touches, IsUnchanged}
 use Rattle.mm_settle.specs.Steps.Marked.{IsNoneMarked}
 use Rattle.mm_settle.proofs.Lemmas.Skips.{one, count_first}

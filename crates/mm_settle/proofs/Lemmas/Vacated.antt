@@ -2,9 +2,9 @@
 use Rattle.std.proofs.Common.{◌≡◌, ◌≢◌, ◌⊎◌, ◌<◌, ℕ, Bool, true, false, List, [], ◌∷◌, length, slice_set, slice_index_or, Option, Some, None, option_map, option_and_then, nat_lt, slice_index, if◌then◌else◌, ◌+◌, subst, inl, inr, refl, sym, ap, ◌∙◌, get_or-set_same, get_or-set_other}
 use Rattle.std.proofs.lemmas.Bool.{cases_eq}
 use Rattle.mm_arena.specs.declared.key.Key.{Key}
-use Rattle.mm_lists.specs.Members.{Among}
+use Rattle.mm_list_lemmas.specs.Members.{Among}
 use Rattle.mm_rules.specs.TableState.{TableState, Wait, holder_of, owner_of, wait_of, waited_for, waiters_of}
-use Rattle.mm_rules.specs.Change.{activate, block, give_to, hand_over, free_slot, withdraw}
+use Rattle.mm_rules.specs.Change.{activate, block, give_to, hand_over, free_slot, take_back}
 use Rattle.mm_rules.specs.Stages.{blocked_on}
 use Rattle.mm_rules.specs.Laws.{Laws}
 use Rattle.mm_rules.proofs.States.Lookups.{no_holder}
@@ -118,7 +118,7 @@ free_slot_else s n k = by (nat_lt (slice_index s.generations n) s.config.generat
     by false = record { private = refl; public = refl; wait = refl; holder = refl; verdict = refl }
 
 -- whoever does not take its wait back is as it was
-withdraw_else : (s : TableState) (n k : ℕ) → k ≢ n → IsUnchanged s (withdraw s n) k
+withdraw_else : (s : TableState) (n k : ℕ) → k ≢ n → IsUnchanged s (take_back s n) k
 withdraw_else s n k apart =
     let still = activate_else s n k apart in
     record {
@@ -130,9 +130,9 @@ withdraw_else s n k apart =
     }
 
 -- who takes its wait back is changed, and nobody else
-pub touches_withdraw : (s : TableState) (n r : ℕ) (old new : List Bool) → wait_of s n ≡ Some r → Adds n old new → Touches s (withdraw s n) old new
+pub touches_withdraw : (s : TableState) (n r : ℕ) (old new : List Bool) → wait_of s n ≡ Some r → Adds n old new → Touches s (take_back s n) old new
 touches_withdraw s n r old new waits adds =
-    touches_one s (withdraw s n) n old new adds (withdraw_else s n) (λ same.
+    touches_one s (take_back s n) n old new adds (withdraw_else s n) (λ same.
     let never : None ≡ Some r = sym (waits_no_longer s n) ∙ same.wait ∙ waits in
     cc)
 
@@ -167,9 +167,9 @@ vacating_ends s t n a b way = record {
 }
 
 -- an abort: its wait goes, and then all that it owns
-pub abort_touches : (s u : TableState) (n r : ℕ) (a b c : List Bool) → wait_of s n ≡ Some r → Adds n a b → IsVacating (withdraw s n) n u b c → Touches s u a c
+pub abort_touches : (s u : TableState) (n r : ℕ) (a b c : List Bool) → wait_of s n ≡ Some r → Adds n a b → IsVacating (take_back s n) n u b c → Touches s u a c
 abort_touches s u n r a b c waits adds way =
-    touches_apart s (withdraw s n) u a b c (touches_withdraw s n r a b waits adds) way.touches (λ k. elim (cases_eq k n) [
-      | inl e ↦ inr (way.idle k (ap (wait_of (withdraw s n)) e ∙ waits_no_longer s n))
+    touches_apart s (take_back s n) u a b c (touches_withdraw s n r a b waits adds) way.touches (λ k. elim (cases_eq k n) [
+      | inl e ↦ inr (way.idle k (ap (wait_of (take_back s n)) e ∙ waits_no_longer s n))
       | inr apart ↦ inl (withdraw_else s n k apart)
     ])

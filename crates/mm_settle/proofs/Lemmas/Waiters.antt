@@ -4,10 +4,10 @@ use Rattle.std.specs.Option.{option_map_or}
 use Rattle.std.proofs.lemmas.Bool.{cases_Bool, ne_eqb, eq-eqb}
 use Rattle.mm_arena.specs.declared.key.Key.{Key}
 use Rattle.mm_rules.specs.TableState.{TableState, Wait, owner_of, wait_of, waited_for, waiters_of, owns}
-use Rattle.mm_lists.specs.Members.{Among}
-use Rattle.mm_lists.proofs.Lemmas.Filter.{filter_keeps}
+use Rattle.mm_list_lemmas.specs.Members.{Among}
+use Rattle.mm_list_lemmas.proofs.Lemmas.Filter.{filter_keeps}
 use Rattle.mm_rules.proofs.States.Lookups.{waits_here}
-use Rattle.mm_marks.specs.Marks.{has}
+use Rattle.mm_bit_set.specs.BitSet.{has}
 use Rattle.mm_settle.specs.Steps.Marked.{AddsWaiters}
 
 -- nobody is taken out

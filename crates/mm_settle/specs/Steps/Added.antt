@@ -1,8 +1,8 @@
 -- What is added to a set of processes.
 use Rattle.std.specs.Prelude.{◌≡◌, ◌≢◌, ◌⊎◌, ℕ, Bool, true, List, length}
-use Rattle.mm_lists.specs.Members.{Among}
+use Rattle.mm_list_lemmas.specs.Members.{Among}
 use Rattle.mm_rules.specs.TableState.{Wait}
-use Rattle.mm_marks.specs.Marks.{has}
+use Rattle.mm_bit_set.specs.BitSet.{has}
 
 -- n was added, and nobody else
 pub record Adds (n : ℕ) (old new : List Bool) : Type 0 where

@@ -1,7 +1,7 @@
 -- The changed: whoever may transmit or newly detect is one of them, or its holder is.
 use Rattle.std.specs.Prelude.{◌≡◌, ◌<◌, ℕ, Bool, true, false, List}
 use Rattle.std.specs.Option.{option_map_or}
-use Rattle.mm_marks.specs.Marks.{has}
+use Rattle.mm_bit_set.specs.BitSet.{has}
 use Rattle.mm_rules.specs.TableState.{TableState, private_of, public_of, has_verdict, holder_of}
 use Rattle.mm_rules.specs.Change.{can_transmit, can_detect}
 

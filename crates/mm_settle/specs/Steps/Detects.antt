@@ -1,6 +1,6 @@
 -- The detects of those that are left to check, by rising number. They are the detects of all that wait.
 use Rattle.std.specs.Prelude.{◌≡◌, ◌≤◌, ◌<◌, ◌+◌, ℕ, Bool, false, List, length, fold, count_by}
-use Rattle.mm_marks.specs.Marks.{has}
+use Rattle.mm_bit_set.specs.BitSet.{has}
 use Rattle.mm_rules.specs.TableState.{TableState, waiting_processes}
 use Rattle.mm_rules.specs.Change.{can_detect, detect}
 use Rattle.mm_rules.specs.Laws.{Laws}

@@ -1,6 +1,6 @@
 -- The sets of processes that a settle keeps: who may transmit, and who may newly detect.
 use Rattle.std.specs.Prelude.{◌≡◌, ℕ, Bool, true, false, List, Some, length}
-use Rattle.mm_marks.specs.Marks.{has}
+use Rattle.mm_bit_set.specs.BitSet.{has}
 use Rattle.mm_rules.specs.TableState.{TableState, holder_of}
 use Rattle.mm_rules.specs.Change.{can_transmit, can_detect}
 use Rattle.mm_rules.specs.Laws.{Laws}

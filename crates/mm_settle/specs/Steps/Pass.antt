@@ -1,7 +1,7 @@
 -- A pass: one way through the pending processes by rising number. It is one sweep of all that wait.
 use Rattle.std.specs.Prelude.{◌≡◌, ◌≤◌, ◌<◌, ◌+◌, ◌-◌, ℕ, Bool, true, false, List, fold, slice_set}
 use Rattle.std.specs.List.{range_with_len}
-use Rattle.mm_marks.specs.Marks.{has}
+use Rattle.mm_bit_set.specs.BitSet.{has}
 use Rattle.mm_rules.specs.TableState.{TableState}
 use Rattle.mm_rules.specs.Change.{transmit, raises_along, sweep, sweep_raises}
 use Rattle.mm_settle.specs.Steps.Marked.{AddsWaiters, AreMarked}

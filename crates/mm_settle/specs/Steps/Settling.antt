@@ -1,7 +1,7 @@
 -- What a settle did so far, and to whom.
 use Rattle.std.specs.Prelude.{◌≡◌, ◌⊎◌, ℕ, Bool, true, false, List, length}
 use Rattle.mm_label.specs.Label.{label_lt}
-use Rattle.mm_marks.specs.Marks.{has}
+use Rattle.mm_bit_set.specs.BitSet.{has}
 use Rattle.mm_rules.specs.TableState.{TableState, public_of, has_verdict}
 use Rattle.mm_settle.specs.Touched.{IsUnchanged}
 

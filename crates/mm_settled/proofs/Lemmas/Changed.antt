@@ -3,10 +3,10 @@ use Rattle.std.proofs.Common.{◌≡◌, ◌≢◌, ◌<◌, ◌||◌, ℕ, true
 use Rattle.std.specs.List.{range_with_len, AllByRecursion}
 use Rattle.std.proofs.lemmas.Bool.{cases_Bool}
 use Rattle.mm_label.specs.Label.{label_le}
-use Rattle.mm_lists.specs.Members.{Among}
-use Rattle.mm_lists.proofs.Lemmas.Among.{all_from}
-use Rattle.mm_lists.proofs.Lemmas.Filter.{filter_none, filter_gives, filter_keeps}
-use Rattle.mm_lists.proofs.Lemmas.Range.{among_range, among_range_gives, no_repeat_range}
+use Rattle.mm_list_lemmas.specs.Members.{Among}
+use Rattle.mm_list_lemmas.proofs.Lemmas.Among.{all_from}
+use Rattle.mm_list_lemmas.proofs.Lemmas.Filter.{filter_none, filter_gives, filter_keeps}
+use Rattle.mm_list_lemmas.proofs.Lemmas.Range.{among_range, among_range_gives, no_repeat_range}
 use Rattle.mm_rules.specs.declared.reply.Settled.{Settled}
 use Rattle.mm_rules.specs.TableState.{TableState, public_of, has_verdict, wait_of, waited_for}
 use Rattle.mm_rules.specs.Event.{Settle, Step}

@@ -4,18 +4,18 @@ use Rattle.std.specs.List.{range_with_len}
 use Rattle.std.proofs.lemmas.Bool.{cases_lt, eqb-true, eqb-false, not-false}
 use Rattle.std.proofs.lemmas.List.{get_or_past}
 use Rattle.mm_arena.specs.declared.key.Key.{Key}
-use Rattle.mm_lists.specs.Members.{Among}
-use Rattle.mm_lists.proofs.Lemmas.Filter.{filter_gives, filter_keeps}
-use Rattle.mm_lists.proofs.Lemmas.Range.{among_range, no_repeat_filter_range}
+use Rattle.mm_list_lemmas.specs.Members.{Among}
+use Rattle.mm_list_lemmas.proofs.Lemmas.Filter.{filter_gives, filter_keeps}
+use Rattle.mm_list_lemmas.proofs.Lemmas.Range.{among_range, no_repeat_filter_range}
 use Rattle.mm_rules.specs.declared.reply.Released.{Released}
 use Rattle.mm_rules.specs.TableState.{TableState, has_verdict, owner_of, owns, resources_of, wait_of, waited_for, waiters_of}
-use Rattle.mm_rules.specs.Change.{activate, free_slot, hand_over, hand_over_fits, vacate, vacate_fits, withdraw, abort}
+use Rattle.mm_rules.specs.Change.{activate, free_slot, hand_over, hand_over_fits, vacate, vacate_fits, take_back, abort}
 use Rattle.mm_rules.specs.Event.{Release, Finish, Abort, Step, release_tests, release_answer, finish_tests, abort_tests}
 use Rattle.mm_rules.specs.Laws.{Laws}
 use Rattle.mm_rules.proofs.States.Abort.{fits_still}
 use Rattle.mm_rules.proofs.States.Activate.{waits_no_longer, waits_else}
 use Rattle.mm_rules.proofs.States.Config.{event_config}
-use Rattle.mm_rules.proofs.States.GiveUp.{withdraw_keeps}
+use Rattle.mm_rules.proofs.States.GiveUp.{take_back_keeps}
 use Rattle.mm_rules.proofs.States.HandOver.{hand_over_keeps}
 use Rattle.mm_rules.proofs.States.HandOverLaws.{MayHandOver, owner_within}
 use Rattle.mm_rules.proofs.States.Lookups.{none_of_is_some}
@@ -146,7 +146,7 @@ finish_hands_on s new k laws step =
     (event_config (Finish k) s new (Ok tt) step) (ends_as (emptied s n) new n done.state)
 
 -- its wait and its verdict go first
-withdrawn_hands_on : (s new : TableState) (n : ℕ) → HandsOn (withdraw s n) n (owns (withdraw s n) n) new → HandsOn s n (owns s n) new
+withdrawn_hands_on : (s new : TableState) (n : ℕ) → HandsOn (take_back s n) n (owns (take_back s n) n) new → HandsOn s n (owns s n) new
 withdrawn_hands_on s new n on = record {
   config = on.config;
   others = λ r other. on.others r other;
@@ -174,7 +174,7 @@ abort_hands_on s new k laws step =
     let n = k.process in
     let done : IsAccepted (Unit {0}) (abort_tests s k) tt (abort s n) tt new = accepted (abort_tests s k) s tt (abort s n) tt new step in
     let verdict : IsTrue (has_verdict s n) = not-false (has_verdict s n) done.passed.1.1.0 in
-    let still : IsTrue (vacate_fits (withdraw s n) n) = fits_still s n laws (not-false (vacate_fits s n) done.passed.1.1.1.0) in
+    let still : IsTrue (vacate_fits (take_back s n) n) = fits_still s n laws (not-false (vacate_fits s n) done.passed.1.1.1.0) in
     withdrawn_hands_on s new n
-    (vacated_hands_on (withdraw s n) new n (withdraw_keeps s n laws verdict).laws (waits_no_longer s n) still
-    (event_config (Abort k) s new (Ok tt) step) (ends_as (emptied (withdraw s n) n) new n done.state))
+    (vacated_hands_on (take_back s n) new n (take_back_keeps s n laws verdict).laws (waits_no_longer s n) still
+    (event_config (Abort k) s new (Ok tt) step) (ends_as (emptied (take_back s n) n) new n done.state))

@@ -6,9 +6,9 @@ use Rattle.std.specs.List.{range_with_len, AllByRecursion}
 use Rattle.std.proofs.lemmas.Bool.{cases_Bool, cases_lt, and_parts, eqb-true, eq-eqb}
 use Rattle.std.proofs.lemmas.List.{length-replicate, get_or-replicate, get_or_past}
 use Rattle.mm_arena.specs.declared.key.Key.{Key}
-use Rattle.mm_lists.specs.Members.{Among}
-use Rattle.mm_lists.proofs.Lemmas.Among.{all_from}
-use Rattle.mm_marks.specs.Marks.{has, members}
+use Rattle.mm_list_lemmas.specs.Members.{Among}
+use Rattle.mm_list_lemmas.proofs.Lemmas.Among.{all_from}
+use Rattle.mm_bit_set.specs.BitSet.{has, members}
 use Rattle.mm_rules.specs.declared.config.Config.{Config}
 use Rattle.mm_rules.specs.TableState.{TableState, is_live, owner_of, owns}
 use Rattle.mm_rules.specs.Laws.{Laws}

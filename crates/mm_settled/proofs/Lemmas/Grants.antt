@@ -5,10 +5,10 @@ use Rattle.std.specs.List.{filter_map, range_with_len, cons_option}
 use Rattle.std.proofs.Math.ListN.{length-map}
 use Rattle.std.proofs.lemmas.Bool.{cases_Bool, cases_eq, lt-ltb, eqb-true, eq-eqb}
 use Rattle.mm_arena.specs.declared.key.Key.{Key}
-use Rattle.mm_lists.specs.Members.{Among, NoRepeat}
-use Rattle.mm_lists.proofs.Lemmas.Among.{among_map_gives}
-use Rattle.mm_lists.proofs.Lemmas.NoRepeat.{length-NoRepeat}
-use Rattle.mm_lists.proofs.Lemmas.Range.{among_range, among_range_gives, no_repeat_range}
+use Rattle.mm_list_lemmas.specs.Members.{Among, NoRepeat}
+use Rattle.mm_list_lemmas.proofs.Lemmas.Among.{among_map_gives}
+use Rattle.mm_list_lemmas.proofs.Lemmas.NoRepeat.{length-NoRepeat}
+use Rattle.mm_list_lemmas.proofs.Lemmas.Range.{among_range, among_range_gives, no_repeat_range}
 use Rattle.mm_rules.specs.TableState.{TableState, owner_of, wait_of}
 use Rattle.mm_rules.specs.Laws.{Laws}
 use Rattle.mm_rules.proofs.States.Lookups.{WaitsHere, waits_here, waiter_within, holder_is, holder_apart}

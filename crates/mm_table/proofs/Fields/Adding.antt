@@ -1,7 +1,7 @@
 -- A queue is walked, and the process of each waiter that is passed is added to a set.
 use Rattle.std.proofs.Common.{◌≡◌, ◌<◌, ◌++◌, ℕ, Bool, true, List, [], ◌∷◌, length, map, slice_set, Option, Some, None, ap, sym, subst, ◌∙◌}
 use Rattle.std.proofs.lemmas.List.{append-nil}
-use Rattle.mm_lists.specs.Members.{NoRepeat}
+use Rattle.mm_list_lemmas.specs.Members.{NoRepeat}
 use Rattle.mm_rules.specs.TableState.{Wait}
 use Rattle.mm_settle.specs.Steps.Added.{AddsAll}
 use Rattle.mm_settle.proofs.Lemmas.Added.{adds_set, adds_nobody, adds_last}

@@ -5,10 +5,10 @@ use Rattle.mm_label.specs.Label.{Label}
 use Rattle.std.specs.Option.{IsSome}
 use Rattle.std.specs.List.{list_all, AllByRecursion}
 use Rattle.mm_arena.specs.declared.key.Key.{Key}
-use Rattle.mm_lists.specs.Members.{Among, NoRepeat}
-use Rattle.mm_lists.proofs.Lemmas.Among.{all_map, all_from}
-use Rattle.mm_lists.proofs.Lemmas.Filter.{filter_gives, filter_swap, filter_not}
-use Rattle.mm_lists.proofs.Lemmas.NoRepeat.{no_repeat_filter, found_by_number}
+use Rattle.mm_list_lemmas.specs.Members.{Among, NoRepeat}
+use Rattle.mm_list_lemmas.proofs.Lemmas.Among.{all_map, all_from}
+use Rattle.mm_list_lemmas.proofs.Lemmas.Filter.{filter_gives, filter_swap, filter_not}
+use Rattle.mm_list_lemmas.proofs.Lemmas.NoRepeat.{no_repeat_filter, found_by_number}
 use Rattle.mm_rules.specs.TableState.{TableState, Wait, is_of, is_live, is_waiting, wait_of, waiters_of}
 use Rattle.mm_rules.specs.Change.{activate, block_fits, give_to, give_to_fits, hand_over, hand_over_fits}
 use Rattle.mm_rules.specs.Event.{release_answer}

@@ -5,7 +5,7 @@ use Rattle.std.proofs.lemmas.List.{map-set}
 use Rattle.mm_arena.specs.declared.key.Key.{Key}
 use Rattle.std.proofs.lemmas.Bool.{le-leb}
 use Rattle.mm_label.specs.Label.{Label, opening_label}
-use Rattle.mm_lists.proofs.Lemmas.Among.{list_all_from}
+use Rattle.mm_list_lemmas.proofs.Lemmas.Among.{list_all_from}
 use Rattle.mm_rules.specs.TableState.{TableState, Wait, public_of, waiters_of, resources_of}
 use Rattle.mm_rules.specs.Change.{label_against, block_fits, give_to_fits, hand_over_fits, vacate_fits}
 use Rattle.mm_table.specs.declared.records.Records.TheInside.{Inside}

@@ -3,7 +3,7 @@ use Rattle.std.proofs.Common.{◌≡◌, ◌&&◌, ◌||◌, not, nat_eq, ℕ, B
 use Rattle.std.specs.Result.{result_eq}
 use Rattle.std.proofs.lemmas.Bool.{cases_lt, and_parts, not-false, eqb-true}
 use Rattle.std.proofs.lemmas.List.{get_or_past, get_or-replicate, length-replicate}
-use Rattle.mm_marks.specs.Marks.{has, members}
+use Rattle.mm_bit_set.specs.BitSet.{has, members}
 use Rattle.mm_rules.specs.declared.config.Config.{Config}
 use Rattle.mm_rules.specs.declared.refusal.Refusal.{Refusal}
 use Rattle.mm_rules.specs.declared.reply.Settled.{Settled}

@@ -1,8 +1,8 @@
 -- A queue that is walked from one waiter to the next, by their processes.
 use Rattle.std.proofs.Common.{◌≡◌, ℕ, ◌<◌, List, [], ◌∷◌, ◌++◌, length, map, Option, Some, None, option_map, inl, refl, ap, sym, subst, ◌∙◌, arith}
-use Rattle.mm_lists.specs.Members.{Among, NoRepeat}
-use Rattle.mm_lists.proofs.Lemmas.Among.{among_right}
-use Rattle.mm_lists.proofs.Lemmas.Walk.{first_number, rest_from, rest_from-part}
+use Rattle.mm_list_lemmas.specs.Members.{Among, NoRepeat}
+use Rattle.mm_list_lemmas.proofs.Lemmas.Among.{among_right}
+use Rattle.mm_list_lemmas.proofs.Lemmas.Walk.{first_number, rest_from, rest_from-part}
 use Rattle.mm_rules.specs.TableState.{Wait}
 use Rattle.mm_transactions.specs.Transactions.{queue_of, first_key, IsNextWaiter}
 

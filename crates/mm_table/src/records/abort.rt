@@ -1,26 +1,26 @@
 //! A transaction under a verdict takes back its wait, and ends.
 ghost use Rattle.std.specs.Prelude.{◌≡◌, ◌<◌, ◌^◌, IsTrue, OnOk, length};
 ghost use Rattle.mm_rules.specs.TableState.{is_live, has_verdict, is_waiting};
-ghost use Rattle.mm_rules.specs.Change.{vacate_fits, withdraw};
+ghost use Rattle.mm_rules.specs.Change.{vacate_fits, take_back};
 ghost use Rattle.mm_rules.specs.Event.{Gives, allowed, aborted, abort_tests};
 ghost use Rattle.mm_rules.specs.Laws.{Laws};
 ghost use Rattle.mm_settle.specs.Touched.{Touches};
 
 use super::Records;
 use crate::{Key, Refusal};
-use mm_marks::Marks;
+use mm_bit_set::BitSet;
 
 impl Records {
     /// Takes back the wait of a transaction with a verdict, hands over all that it owns, frees its slot, and adds those that this
     /// changes to the touched. `O(its resources + their waiters)`.
-    pub fn abort(&mut self, key: Key, touched: &mut Marks) -> Result<(), Refusal>
+    pub fn abort(&mut self, key: Key, touched: &mut BitSet) -> Result<(), Refusal>
         requires laws { Laws self.old }
         requires sized { length touched.old ≡ self.old.config.processes }
         ensures step { Gives (aborted self.old key) result self.new }
         ensures touched { Touches self.old self.new touched.old touched.new }
     {
         self.may_abort(key)?;
-        self.withdraw(key);
+        self.take_back(key);
         touched.add(key.process);
         self.vacate(key, touched);
         self.count();
@@ -45,11 +45,11 @@ impl Records {
     }
 
     /// Takes back the wait and the verdict of a transaction that waits, and counts an abort. Constant time.
-    fn withdraw(&mut self, key: Key)
+    fn take_back(&mut self, key: Key)
         requires live { IsTrue (is_live self.old key) }
         requires waiting { IsTrue (is_waiting self.old key.process) }
         requires count { self.old.totals.aborts < 2 ^ 62 }
-        ensures { self.new ≡ withdraw self.old key.process }
+        ensures { self.new ≡ take_back self.old key.process }
     {
         self.end_wait(key);
         self.transactions.set_verdict(key, false);

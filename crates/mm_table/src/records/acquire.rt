@@ -10,8 +10,8 @@ ghost use Rattle.mm_table.specs.private.LabelLimit.{waiting};
 
 use super::Records;
 use crate::{Acquired, Key, Refusal};
+use mm_bit_set::BitSet;
 use mm_label::Label;
-use mm_marks::Marks;
 
 impl Records {
     /// The key takes a free resource, or waits for its owner and is then added to the touched. Constant time.
@@ -20,7 +20,7 @@ impl Records {
         &mut self,
         key: Key,
         resource: u32,
-        touched: &mut Marks,
+        touched: &mut BitSet,
     ) -> Result<Acquired, Refusal>
         requires laws { Laws self.old }
         requires sized { length touched.old ≡ self.old.config.processes }
@@ -45,7 +45,7 @@ impl Records {
     /// `acquire` of a resource that another process, `holder`, owns. Returns the label by which the transaction waits; `None` past the
     /// label limit, and then nothing changes. It is not inlined, so that the code of a grant is short, and its result fits in registers.
     #[inline(never)]
-    fn wait(&mut self, key: Key, resource: u32, holder: u32, touched: &mut Marks) -> Option<Label>
+    fn wait(&mut self, key: Key, resource: u32, holder: u32, touched: &mut BitSet) -> Option<Label>
         requires live { IsTrue (is_live self.old key) }
         requires process { key.process < self.old.config.processes }
         requires holder { holder < self.old.config.processes }
@@ -79,6 +79,6 @@ impl Records {
     {
         self.totals.accepted += 1;
         self.transactions
-            .start_waiting(key, resource, self.totals.accepted);
+            .start_wait(key, resource, self.totals.accepted);
     }
 }

@@ -23,6 +23,6 @@ impl Records {
         requires waiting { IsTrue (is_waiting self.old key.process) }
         ensures { self.new ≡ activate self.old key.process }
     {
-        self.transactions.stop_waiting(key);
+        self.transactions.end_wait(key);
     }
 }

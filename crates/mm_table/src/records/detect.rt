@@ -1,6 +1,6 @@
 //! A waiting transaction whose label came round gets a verdict.
 ghost use Rattle.std.specs.Prelude.{◌≡◌, ◌<◌, ◌^◌, IsTrue, ℕ, false, length};
-ghost use Rattle.mm_marks.specs.Marks.{has};
+ghost use Rattle.mm_bit_set.specs.BitSet.{has};
 ghost use Rattle.mm_rules.specs.TableState.{is_live};
 ghost use Rattle.mm_rules.specs.Change.{can_detect, detect};
 ghost use Rattle.mm_rules.specs.Event.{Gives, detected};
@@ -10,7 +10,7 @@ ghost use Rattle.mm_settle.specs.Steps.Settling.{IsSettling};
 
 use super::Records;
 use crate::{Detected, Key, Refusal};
-use mm_marks::Marks;
+use mm_bit_set::BitSet;
 
 impl Records {
     /// The waiting transaction gets a verdict where its own label came round to its holder. Constant time.
@@ -58,7 +58,7 @@ impl Records {
     }
 
     /// `process` gets a verdict where its label came round to its holder, and is then added to the touched. Returns whether it did.
-    fn detect_at(&mut self, process: u32, touched: &mut Marks) -> bool
+    fn detect_at(&mut self, process: u32, touched: &mut BitSet) -> bool
         requires laws { Laws self.old }
         requires count { self.old.totals.verdicts < u64.MAX }
         requires touched { length touched.old ≡ self.old.config.processes }
@@ -78,7 +78,7 @@ impl Records {
     }
 
     /// Each that is left to check detects where it can, by rising number. Returns how many verdicts are new.
-    pub(super) fn detect_all(&mut self, checks: &mut Marks, touched: &mut Marks) -> u64
+    pub(super) fn detect_all(&mut self, checks: &mut BitSet, touched: &mut BitSet) -> u64
         requires laws { Laws self.old }
         requires sized { length checks.old ≡ self.old.config.processes }
         requires detects { (k : ℕ) → has checks.old k ≡ false → can_detect self.old k ≡ false }

@@ -9,12 +9,12 @@ ghost use Rattle.mm_settle.specs.Steps.Vacating.{IsVacating};
 
 use super::Records;
 use crate::{Key, Refusal};
-use mm_marks::Marks;
+use mm_bit_set::BitSet;
 
 impl Records {
     /// Hands over all that the transaction owns, frees its slot, and adds those that this changes to the touched.
     /// `O(its resources + their waiters)`.
-    pub fn finish(&mut self, key: Key, touched: &mut Marks) -> Result<(), Refusal>
+    pub fn finish(&mut self, key: Key, touched: &mut BitSet) -> Result<(), Refusal>
         requires laws { Laws self.old }
         requires sized { length touched.old ≡ self.old.config.processes }
         ensures step { Gives (finished self.old key) result self.new }
@@ -44,7 +44,7 @@ impl Records {
     }
 
     /// Hands over all that a live transaction owns, and frees its slot. The order in which it hands over makes no difference.
-    pub(super) fn vacate(&mut self, key: Key, touched: &mut Marks)
+    pub(super) fn vacate(&mut self, key: Key, touched: &mut BitSet)
         requires laws { Laws self.old }
         requires live { IsTrue (is_live self.old key) }
         requires active { wait_of self.old key.process ≡ None }
@@ -77,7 +77,7 @@ impl Records {
     }
 
     /// Hands over all that `process` owns, and adds all that waited for it to the touched.
-    fn hand_over_all(&mut self, process: u32, touched: &mut Marks)
+    fn hand_over_all(&mut self, process: u32, touched: &mut BitSet)
         requires laws { Laws self.old }
         requires process { process < self.old.config.processes }
         requires active { wait_of self.old process ≡ None }

@@ -6,11 +6,11 @@ ghost use Rattle.mm_settle.specs.Touched.{Touches};
 
 use super::Records;
 use crate::{Key, Refusal};
-use mm_marks::Marks;
+use mm_bit_set::BitSet;
 
 impl Records {
     /// Takes back the wait of a transaction without a verdict whose two labels are equal, and adds it to the touched. Constant time.
-    pub fn give_up(&mut self, key: Key, touched: &mut Marks) -> Result<(), Refusal>
+    pub fn give_up(&mut self, key: Key, touched: &mut BitSet) -> Result<(), Refusal>
         requires sized { length touched.old ≡ self.old.config.processes }
         ensures step { Gives (given_up self.old key) result self.new }
         ensures touched { Touches self.old self.new touched.old touched.new }

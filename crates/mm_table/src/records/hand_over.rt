@@ -9,13 +9,13 @@ ghost use Rattle.mm_settle.specs.Steps.Added.{AddsAll};
 
 use super::Records;
 use crate::{Key, Released};
-use mm_marks::Marks;
+use mm_bit_set::BitSet;
 
 impl Records {
     /// Hands a resource over, adds all that waited for it to the touched, and returns what becomes of it.
     /// `O(waiters of the resource)`.
     #[inline(always)]
-    pub(super) fn hand_over(&mut self, resource: u32, touched: &mut Marks) -> Released
+    pub(super) fn hand_over(&mut self, resource: u32, touched: &mut BitSet) -> Released
         requires resource { resource < self.old.config.resources }
         requires fits { IsTrue (hand_over_fits self.old resource) }
         requires sized { length touched.old ≡ self.old.config.processes }
@@ -33,7 +33,7 @@ impl Records {
 
     /// Hands over a resource that somebody waits for. It stands apart, so that one that nobody waits for is freed in few instructions.
     #[inline(never)]
-    fn hand_over_awaited(&mut self, resource: u32, touched: &mut Marks) -> Released
+    fn hand_over_awaited(&mut self, resource: u32, touched: &mut BitSet) -> Released
         requires resource { resource < self.old.config.resources }
         requires awaited { waiters_of self.old resource ≢ [] }
         requires fits { IsTrue (hand_over_fits self.old resource) }
@@ -75,7 +75,7 @@ impl Records {
     }
 
     /// Blocks on `holder` all that wait for `resource`, and adds them to the touched. `O(waiters of the resource)`.
-    fn block_queue(&mut self, resource: u32, holder: u32, touched: &mut Marks)
+    fn block_queue(&mut self, resource: u32, holder: u32, touched: &mut BitSet)
         requires holder { holder < self.old.config.processes }
         requires resource { resource < self.old.config.resources }
         requires fits { IsTrue (list_all (λ w. block_fits self.old w.key.process holder) (waiters_of self.old resource)) }

@@ -7,7 +7,7 @@ ghost use Rattle.mm_settle.specs.Touched.{Touches};
 
 use super::Records;
 use crate::{Key, Refusal, Released};
-use mm_marks::Marks;
+use mm_bit_set::BitSet;
 
 impl Records {
     /// Hands a resource over, and adds those that this changes to the touched. `O(waiters of the resource)`.
@@ -15,7 +15,7 @@ impl Records {
         &mut self,
         key: Key,
         resource: u32,
-        touched: &mut Marks,
+        touched: &mut BitSet,
     ) -> Result<Released, Refusal>
         requires laws { Laws self.old }
         requires sized { length touched.old ≡ self.old.config.processes }

@@ -1,6 +1,6 @@
 //! What all waiting transactions do in turn: sweeps of transmits, and then detects. Only those are looked at that may do either.
 ghost use Rattle.std.specs.Prelude.{◌≡◌, ◌<◌, ◌≤◌, Ok, List, Bool, true, false, length, IsFalse};
-ghost use Rattle.mm_marks.specs.Marks.{has};
+ghost use Rattle.mm_bit_set.specs.BitSet.{has};
 ghost use Rattle.mm_rules.specs.Event.{Step, Settle, counts_exhausted};
 ghost use Rattle.mm_rules.specs.Laws.{Laws};
 ghost use Rattle.mm_settle.specs.Touched.{Touches};
@@ -9,7 +9,7 @@ ghost use Rattle.mm_settle.specs.Steps.Marked.{AddsWaiters, AreMarked, IsNoneMar
 
 use super::Records;
 use crate::{Refusal, Settled};
-use mm_marks::Marks;
+use mm_bit_set::BitSet;
 
 impl Records {
     /// Sweeps until no label can be transmitted, and then gives each verdict that is due. Only those are looked at that are among
@@ -17,12 +17,15 @@ impl Records {
     ///
     /// Takes all from the changed, and adds whoever it raises or convicts to the touched. What `pending` and `checks` have before
     /// makes no difference.
+    // Where a caller settles at one place only, the compiler would copy this into it and then keep the table's counts in memory: a
+    // granted lock and a begin beside it then cost a tenth more.
+    #[inline(never)]
     pub fn settle(
         &mut self,
-        changed: &mut Marks,
-        pending: &mut Marks,
-        checks: &mut Marks,
-        touched: &mut Marks,
+        changed: &mut BitSet,
+        pending: &mut BitSet,
+        checks: &mut BitSet,
+        touched: &mut BitSet,
     ) -> Result<Settled, Refusal>
         requires laws { Laws self.old }
         requires changed { AreChanged self.old changed.old }
@@ -47,7 +50,7 @@ impl Records {
     }
 
     /// Takes all from the changed. Each of them, and all that wait for one of them, are pending. Returns whether anybody changed.
-    fn load(&self, changed: &mut Marks, pending: &mut Marks) -> bool
+    fn load(&self, changed: &mut BitSet, pending: &mut BitSet) -> bool
         requires laws { Laws self.now }
         requires changed { AreChanged self.now changed.old }
         requires changed_sized { length changed.old ≡ self.now.config.processes }
@@ -66,7 +69,7 @@ impl Records {
     }
 
     /// The process and all that wait for it are pending.
-    fn load_one(&self, process: u32, pending: &mut Marks)
+    fn load_one(&self, process: u32, pending: &mut BitSet)
         requires process { process < self.now.config.processes }
         requires sized { length pending.old ≡ self.now.config.processes }
         ensures process { has pending.new process ≡ true }
@@ -79,9 +82,9 @@ impl Records {
     /// `settle`, where those that may transmit are pending and those that may newly detect are pending or to be checked.
     fn settle_pending(
         &mut self,
-        pending: &mut Marks,
-        checks: &mut Marks,
-        touched: &mut Marks,
+        pending: &mut BitSet,
+        checks: &mut BitSet,
+        touched: &mut BitSet,
     ) -> Settled
         requires counts { counts_exhausted self.old ≡ false }
         requires marked { AreMarked self.old pending.old checks.old }

@@ -8,7 +8,7 @@ ghost use Rattle.mm_settle.specs.Steps.Pass.{IsTurn, IsPassed};
 ghost use Rattle.mm_settle.specs.Steps.Settling.{IsSettling};
 
 use super::Records;
-use mm_marks::Marks;
+use mm_bit_set::BitSet;
 
 impl Records {
     /// One turn of a sweep: where the process transmits, it is touched and those that wait for it are pending; else it is left to
@@ -16,9 +16,9 @@ impl Records {
     fn turn(
         &mut self,
         process: u32,
-        pending: &mut Marks,
-        checks: &mut Marks,
-        touched: &mut Marks,
+        pending: &mut BitSet,
+        checks: &mut BitSet,
+        touched: &mut BitSet,
     ) -> bool
         requires laws { Laws self.old }
         requires process { process < self.old.config.processes }
@@ -41,7 +41,7 @@ impl Records {
     }
 
     /// One sweep: each of the pending in turn, by rising number. Returns how many labels were raised.
-    fn sweep(&mut self, pending: &mut Marks, checks: &mut Marks, touched: &mut Marks) -> u64
+    fn sweep(&mut self, pending: &mut BitSet, checks: &mut BitSet, touched: &mut BitSet) -> u64
         requires marked { AreMarked self.old pending.old checks.old }
         requires touched { length touched.old ≡ self.old.config.processes }
         ensures passed { IsPassed self.old result pending.new checks.new self.new }
@@ -61,9 +61,9 @@ impl Records {
     /// Sweeps until one raises nothing. Returns how many labels were raised.
     pub(super) fn sweep_all(
         &mut self,
-        pending: &mut Marks,
-        checks: &mut Marks,
-        touched: &mut Marks,
+        pending: &mut BitSet,
+        checks: &mut BitSet,
+        touched: &mut BitSet,
     ) -> u64
         requires marked { AreMarked self.old pending.old checks.old }
         requires touched { length touched.old ≡ self.old.config.processes }

@@ -8,13 +8,13 @@ ghost use Rattle.mm_settle.specs.Touched.{Touches};
 
 use super::Records;
 use crate::{Key, Refusal, Transmitted};
+use mm_bit_set::BitSet;
 use mm_label::Label;
-use mm_marks::Marks;
 
 impl Records {
     /// The waiting transaction takes over its holder's public label where that is greater, and is then added to the touched.
     /// Constant time.
-    pub fn transmit(&mut self, key: Key, touched: &mut Marks) -> Result<Transmitted, Refusal>
+    pub fn transmit(&mut self, key: Key, touched: &mut BitSet) -> Result<Transmitted, Refusal>
         requires laws { Laws self.old }
         requires sized { length touched.old ≡ self.old.config.processes }
         ensures step { Gives (transmitted self.old key) result self.new }

@@ -5,35 +5,35 @@ ghost use Rattle.mm_settle.specs.Steps.Added.{AddsAll};
 ghost use Rattle.mm_settle.specs.Steps.Marked.{AddsWaiters};
 
 use super::Records;
-use mm_marks::Marks;
+use mm_bit_set::BitSet;
 
 impl Records {
     /// Adds all that wait for what `holder` owns. `O(its resources + their waiters)`.
     #[inline(always)]
-    pub(super) fn add_waiters(&self, holder: u32, marks: &mut Marks)
+    pub(super) fn add_waiters(&self, holder: u32, set: &mut BitSet)
         requires holder { holder < self.now.config.processes }
-        requires sized { length marks.old ≡ self.now.config.processes }
-        ensures { AddsWaiters self.now holder marks.old marks.new }
+        requires sized { length set.old ≡ self.now.config.processes }
+        ensures { AddsWaiters self.now holder set.old set.new }
     {
         let mut next = self.owned.first(holder);
         while let Some(resource) = next {
-            self.add_queue(resource, marks);
+            self.add_queue(resource, set);
             next = self.owned.next(resource);
         }
     }
 
     /// Adds all that wait for `resource`. `O(waiters of the resource)`.
-    fn add_queue(&self, resource: u32, marks: &mut Marks)
+    fn add_queue(&self, resource: u32, set: &mut BitSet)
         requires resource { resource < self.now.config.resources }
-        requires sized { length marks.old ≡ self.now.config.processes }
-        ensures { AddsAll (waiters_of self.now resource) marks.old marks.new }
+        requires sized { length set.old ≡ self.now.config.processes }
+        ensures { AddsAll (waiters_of self.now resource) set.old set.new }
     {
         let Some(first) = self.transactions.first_waiter(resource) else {
             return;
         };
         let mut next = Some(first.process);
         while let Some(process) = next {
-            marks.add(process);
+            set.add(process);
             next = self.transactions.next_waiter(process);
         }
     }

@@ -7,7 +7,7 @@ ghost use Rattle.mm_workload.specs.Json.{clients_in, steps_of, step_of, step_by}
 ghost use Rattle.mm_workload.specs.declared.fault.WorkFault.TheVariants.{Memory};
 
 use crate::fault::{Place, StepFault, WorkFault};
-use crate::limits::{MOST_CLIENTS, MOST_STEPS};
+use crate::limits::{MAX_CLIENTS, MAX_STEPS};
 use crate::step::WorkStep;
 use serde_json::Value;
 use std::alloc::Global;
@@ -25,7 +25,7 @@ pub(crate) fn clients(alloc: Global, value: &Value) -> Result<Vec<Vec<WorkStep>>
     let Some(items) = found.as_array() else {
         return Err(WorkFault::Malformed(Place::Clients));
     };
-    if items.is_empty() || items.len() > MOST_CLIENTS {
+    if items.is_empty() || items.len() > MAX_CLIENTS {
         return Err(WorkFault::Malformed(Place::Clients));
     }
     let mut made = Vec::new(alloc);
@@ -44,7 +44,7 @@ fn steps(alloc: Global, value: &Value, client: usize) -> Result<Vec<WorkStep>, W
     let Some(items) = value.as_array() else {
         return Err(WorkFault::Malformed(Place::Client(client)));
     };
-    if items.len() > MOST_STEPS {
+    if items.len() > MAX_STEPS {
         return Err(WorkFault::Malformed(Place::Client(client)));
     }
     let mut made = Vec::new(alloc);

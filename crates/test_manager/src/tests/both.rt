@@ -19,7 +19,7 @@ const NAMES: [&[u8]; 11] = [
 ];
 
 /// How many names can be owned at once.
-const MOST_NAMES: u32 = 7;
+const MAX_NAMES: u32 = 7;
 
 /// The two managers, what is known of keys, and the names in the order of their numbers.
 #[derive(Drop)]
@@ -38,14 +38,14 @@ pub struct Both {
 }
 
 pub fn open_both(alloc: Global) -> Result<Both, Fail> {
-    let mut plain = Plain::new(alloc, MOST_NAMES as usize);
+    let mut plain = Plain::new(alloc, MAX_NAMES as usize);
     plain.fill(TRANSACTIONS as usize, NAMES.len())?;
     let last = first_keys(alloc)?;
     let manager = LockManager::open(
         alloc,
         ManagerConfig {
             transactions: TRANSACTIONS,
-            names: MOST_NAMES,
+            names: MAX_NAMES,
             name_bytes: 4,
             seed: 46,
         },
@@ -163,7 +163,7 @@ impl Both {
     fn list_numbers(&mut self) -> Result<(), AllocError> {
         self.numbered.clear();
         self.order.clear();
-        for number in 0..MOST_NAMES {
+        for number in 0..MAX_NAMES {
             let name = self.manager.name(number).and_then(|name| place_of(name));
             self.numbered.push(name)?;
             if let Some(name) = name {
@@ -311,7 +311,7 @@ impl Both {
         if self.plain.is_due(key.process) {
             return self.end(key);
         }
-        self.plain.stop_waiting(key.process);
+        self.plain.end_wait(key.process);
         Ok(())
     }
 

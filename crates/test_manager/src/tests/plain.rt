@@ -189,7 +189,7 @@ impl Plain {
     }
 
     /// The transaction waits no longer.
-    pub fn stop_waiting(&mut self, transaction: u32) {
+    pub fn end_wait(&mut self, transaction: u32) {
         self.waiters
             .retain(|waiter| waiter.transaction != transaction);
     }
@@ -207,7 +207,7 @@ impl Plain {
         let next = self.longest_waiter(name);
         self.give(name, next);
         if let Some(transaction) = next {
-            self.stop_waiting(transaction);
+            self.end_wait(transaction);
             self.granted.push(Given { transaction, name })?;
         }
         Ok(())
@@ -215,7 +215,7 @@ impl Plain {
 
     /// Ends a transaction, which hands over its names in this order.
     pub fn end(&mut self, transaction: u32, order: &[u32]) -> Result<(), AllocError> {
-        self.stop_waiting(transaction);
+        self.end_wait(transaction);
         self.mark(transaction, false);
         self.set_due(transaction, false);
         self.set_key(transaction, None);

@@ -37,7 +37,7 @@ fn config(processes: u32, resources: u32) -> Config {
     Config {
         processes,
         resources,
-        label_limit: Config::GREATEST_LABEL_LIMIT,
+        label_limit: Config::MAX_LABEL_LIMIT,
         generation_limit: u32::MAX,
     }
 }

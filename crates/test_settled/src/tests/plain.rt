@@ -129,7 +129,7 @@ impl Plain {
         if self.awaited(transaction).is_some() && !self.is_victim(transaction) {
             return Ok(Told::Refused);
         }
-        self.stop_waiting(transaction);
+        self.end_wait(transaction);
         self.mark(transaction, false);
         for resource in 0..self.resources {
             if self.owner(resource) == Some(transaction) {
@@ -142,10 +142,10 @@ impl Plain {
     /// The transaction waits no longer.
     pub fn give_up(&mut self, transaction: u32) {
         self.granted.clear();
-        self.stop_waiting(transaction);
+        self.end_wait(transaction);
     }
 
-    fn stop_waiting(&mut self, transaction: u32) {
+    fn end_wait(&mut self, transaction: u32) {
         self.waiters
             .retain(|waiter| waiter.transaction != transaction);
     }
@@ -154,7 +154,7 @@ impl Plain {
         let next = self.longest_waiter(resource);
         self.give(resource, next);
         if let Some(transaction) = next {
-            self.stop_waiting(transaction);
+            self.end_wait(transaction);
             self.granted.push(Given {
                 transaction,
                 resource,

@@ -1,5 +1,5 @@
 ghost use Rattle.std.specs.Prelude.{◌≡◌, ◌<◌, ◌↔◌, length, IsTrue};
-ghost use Rattle.mm_lists.specs.Members.{Among};
+ghost use Rattle.mm_list_lemmas.specs.Members.{Among};
 ghost use Rattle.mm_owned.specs.Owned.{list_at, unowned};
 
 use crate::tests::same::same;

@@ -69,7 +69,7 @@ fn the_second_that_asks_waits(rt: HostRuntime) -> Result<(), Fail> {
 
 /// Begins as many transactions as the largest table has processes, each of which asks for its last resource.
 fn fill(table: &mut Table) -> Result<(), Refusal> {
-    for _ in 0..Config::MOST_PROCESSES {
+    for _ in 0..Config::MAX_PROCESSES {
         let key = table.begin()?;
         table.acquire(key, 65535)?;
     }
@@ -77,9 +77,9 @@ fn fill(table: &mut Table) -> Result<(), Refusal> {
 }
 
 const LARGEST: Config = Config {
-    processes: Config::MOST_PROCESSES,
-    resources: Config::MOST_RESOURCES,
-    label_limit: Config::GREATEST_LABEL_LIMIT,
+    processes: Config::MAX_PROCESSES,
+    resources: Config::MAX_RESOURCES,
+    label_limit: Config::MAX_LABEL_LIMIT,
     generation_limit: u32::MAX,
 };
 

@@ -1,5 +1,5 @@
 use Rattle.std.proofs.Common.{◌≡◌, ◌<◌, Ok, ℕ, zero, suc, Bool, true, List, [], ◌∷◌, length, sym, ap, ◌∙◌, slice_index_or, arith}
-use Rattle.mm_marks.specs.Marks.{has}
+use Rattle.mm_bit_set.specs.BitSet.{has}
 use Rattle.mm_rules.specs.TableState.{TableState}
 use Rattle.mm_rules.proofs.States.Lookups.{live_within}
 use Rattle.mm_manager.specs.Permit.{may_cancel}

@@ -1,5 +1,5 @@
 use Rattle.std.proofs.Common.{◌≡◌, ◌↔◌, ℕ, Some, fold, ap, subst, ◌∙◌}
-use Rattle.mm_lists.specs.Members.{Among}
+use Rattle.mm_list_lemmas.specs.Members.{Among}
 use Rattle.mm_rules.specs.TableState.{TableState, owner_of}
 use Rattle.mm_manager.specs.private.Numbers.{forgotten}
 use Rattle.mm_manager.proofs.Lemmas.Owners.{abort_leaves}

@@ -1,5 +1,5 @@
 use Rattle.std.proofs.Common.{length, arith, ap, sym, subst, ◌∙◌, inl, inr, IsTrue, rules}
-use Rattle.mm_lists.specs.Members.{Among}
+use Rattle.mm_list_lemmas.specs.Members.{Among}
 use Rattle.mm_owned.specs.Owned.{list_at}
 use Rattle.mm_owned.proofs.Lemmas.ListsMatchOwners.{in_range, in_its_list}
 use Rattle.mm_owned.proofs.Lemmas.Walk.{rest_from, rest_from-head, Among-head, Among-next, rest_from-next}

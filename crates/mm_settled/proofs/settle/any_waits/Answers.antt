@@ -1,6 +1,6 @@
 use Rattle.std.proofs.Common.{◌≡◌, None, slice_index_or, sym, subst, ◌∙◌}
 use Rattle.std.proofs.lemmas.List.{take_all}
-use Rattle.mm_lists.specs.Members.{Among}
+use Rattle.mm_list_lemmas.specs.Members.{Among}
 use Rattle.mm_rules.specs.TableState.{wait_of}
 use Rattle.mm_rules.proofs.States.Lookups.{none_of_is_some}
 use Rattle.mm_settled.proofs.Lemmas.Loops.{among_more}

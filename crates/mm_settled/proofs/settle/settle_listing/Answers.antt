@@ -1,6 +1,6 @@
 use Rattle.std.proofs.Common.{◌≡◌, ◌||◌, length, false, ap, ◌∙◌}
 use Rattle.std.proofs.lemmas.List.{length-replicate}
-use Rattle.mm_marks.specs.Marks.{has}
+use Rattle.mm_bit_set.specs.BitSet.{has}
 use Rattle.mm_settled.specs.private.Lists.{is_listed}
 use Rattle.mm_settled.proofs.Lemmas.Changed.{changed_within}
 use Rattle.mm_settled.proofs.Lemmas.Fits.{joined_members}

@@ -80,7 +80,7 @@ fn wakes(
     changed: &[u32],
     woken: &[Key],
 ) -> Result<(), AllocError> {
-    let most = Config::MOST_PROCESSES as usize;
+    let most = Config::MAX_PROCESSES as usize;
     let mut came = Vec::with_capacity(alloc, most)?;
     let mut active = Vec::with_capacity(alloc, most)?;
     table.keeps_laws();

@@ -1,10 +1,10 @@
 use Rattle.std.proofs.Common.{◌≡◌, ◌+◌, ℕ, Ok, true, false, Option, Some, None, is_some, refl, ap, sym, subst, ◌∙◌, arith, IsTrue}
 use Rattle.mm_rules.specs.TableState.{TableState, wait_of}
-use Rattle.mm_rules.specs.Change.{abort, vacate, vacate_fits, withdraw}
+use Rattle.mm_rules.specs.Change.{abort, vacate, vacate_fits, take_back}
 use Rattle.mm_rules.specs.Event.{abort_tests, allowed, decided}
 use Rattle.mm_rules.specs.Laws.{Laws}
 use Rattle.mm_rules.proofs.States.Activate.{waits_no_longer}
-use Rattle.mm_rules.proofs.States.GiveUp.{withdraw_keeps}
+use Rattle.mm_rules.proofs.States.GiveUp.{take_back_keeps}
 use Rattle.mm_rules.proofs.States.Abort.{fits_still}
 use Rattle.mm_rules.proofs.States.Lookups.{waiting_is_some, live_within}
 use Rattle.mm_settle.specs.Touched.{Touches}
@@ -15,14 +15,14 @@ use Rattle.mm_settle.proofs.Lemmas.Vacated.{abort_touches}
 use Rattle.mm_table.proofs.records.Records.abort.Goals as goal
 
 pub vacate-requires-clause-laws : goal.vacate-requires-clause-laws
-vacate-requires-clause-laws c = subst Laws (sym c.withdraw.ensures) (withdraw_keeps c.args.self.now c.args.key.process c.requires.laws c.in_ok-may_abort.ensures.verdict).laws
+vacate-requires-clause-laws c = subst Laws (sym c.take_back.ensures) (take_back_keeps c.args.self.now c.args.key.process c.requires.laws c.in_ok-may_abort.ensures.verdict).laws
 
 pub vacate-requires-clause-active : goal.vacate-requires-clause-active
-vacate-requires-clause-active c = ap (λ s. wait_of s c.args.key.process) c.withdraw.ensures ∙ waits_no_longer c.args.self.now c.args.key.process
+vacate-requires-clause-active c = ap (λ s. wait_of s c.args.key.process) c.take_back.ensures ∙ waits_no_longer c.args.self.now c.args.key.process
 
 pub vacate-requires-clause-fits : goal.vacate-requires-clause-fits
 vacate-requires-clause-fits c =
-    subst (λ (s : TableState). IsTrue (vacate_fits s c.args.key.process)) (sym c.withdraw.ensures) (fits_still c.args.self.now c.args.key.process c.requires.laws c.in_ok-may_abort.ensures.fits)
+    subst (λ (s : TableState). IsTrue (vacate_fits s c.args.key.process)) (sym c.take_back.ensures) (fits_still c.args.self.now c.args.key.process c.requires.laws c.in_ok-may_abort.ensures.fits)
 
 resource : (o : Option ℕ) → is_some o ≡ true → (r : ℕ) × (o ≡ Some r)
 resource None waits = (let never : false ≡ true = waits in absurd (cc))
@@ -37,7 +37,7 @@ returns-clause-touched c =
     let new = c.vacate.new.touched in
     let u = c.vacate.new.self in
     let waits = resource (wait_of s n) (waiting_is_some s n _ (c.requires.laws.convicted n c.in_ok-may_abort.ensures.verdict).1.waits) in
-    let vacated : IsVacating (withdraw s n) n u mid new = subst (λ (t : TableState). IsVacating t n u mid new) c.withdraw.ensures c.vacate.ensures.touched in
+    let vacated : IsVacating (take_back s n) n u mid new = subst (λ (t : TableState). IsVacating t n u mid new) c.take_back.ensures c.vacate.ensures.touched in
     subst (λ (t : TableState). Touches s t old new) (sym c.count.ensures)
     (touches_counted s u old new _ (abort_touches s u n waits.0 old mid new waits.1 (adds_set old mid n (omega (arith, live_within s c.args.key c.requires.laws.lawful.well_formed.sizes c.in_ok-may_abort.ensures.live, c.requires.sized)) c.add.ensures) vacated))
 
@@ -47,7 +47,7 @@ returns-clause-step c =
     let n = c.args.key.process in
     let passed : allowed (abort_tests s c.args.key) ≡ Ok tt = sym c.may_abort.ensures.tests ∙ c.in_ok-may_abort.was in
     let given = sym (ap (λ v. decided v s tt (abort s n)) passed) in
-    let vacated : c.vacate.new.self ≡ abort s n = c.vacate.ensures.state ∙ ap (λ (t : TableState). vacate t n) c.withdraw.ensures in (
+    let vacated : c.vacate.new.self ≡ abort s n = c.vacate.ensures.state ∙ ap (λ (t : TableState). vacate t n) c.take_back.ensures in (
       ap (λ o. o.reply) given,
       c.count.ensures ∙ ap (λ (t : TableState). record t { totals = record t.totals { accepted = t.totals.accepted + 1 } }) vacated ∙ ap (λ o. o.state) given,
     )

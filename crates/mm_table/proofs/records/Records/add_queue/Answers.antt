@@ -14,7 +14,7 @@ pub returns-in_default : goal.returns-in_default
 returns-in_default c =
     let s = c.args.self.now in
     let none = nobody (waiters_of s c.args.resource) (sym (ap (λ t. first_key (waiters_of t c.args.resource)) c.self.view_is) ∙ sym c.first_waiter.ensures.first ∙ c.in_default.is) in
-    subst (λ (ws : List Wait). AddsAll ws c.args.marks.now c.args.marks.now) (sym none) (adds_nobody c.args.marks.now)
+    subst (λ (ws : List Wait). AddsAll ws c.args.set.now c.args.set.now) (sym none) (adds_nobody c.args.set.now)
 
 pub loop-next-init : goal.loop-next-init
 loop-next-init c =
@@ -27,7 +27,7 @@ loop-next-init c =
       left = waiters_of s r;
       at = at;
       within = queue_within (λ w. w.key.process < s.config.processes) s r lawful.within;
-      added = adding_starts (waiters_of s r) (Some c.in-Some.first.process) c.args.marks.now (once_queue s r lawful.once) at;
+      added = adding_starts (waiters_of s r) (Some c.in-Some.first.process) c.args.set.now (once_queue s r lawful.once) at;
     }
 
 lawful : (c : goal.After-next_waiter-next) → HasLawfulWaits c.args.self.now
@@ -83,16 +83,16 @@ loop-next-preserved c =
     let s = c.args.self.now in
     let queue = waiters_of s c.args.resource in
     let n = c.in-Some-next.process in
-    let was : AddsUpTo queue (Some n) c.args.marks.now c.loop-next.marks = subst (λ o. AddsUpTo queue o c.args.marks.now c.loop-next.marks) c.in-Some-next.is c.loop-next.invariant.added in
+    let was : AddsUpTo queue (Some n) c.args.set.now c.loop-next.set = subst (λ o. AddsUpTo queue o c.args.set.now c.loop-next.set) c.in-Some-next.is c.loop-next.invariant.added in
     record {
       left = (one c).others;
       at = then c;
       within = (within c).1;
-      added = adding_next queue n c.next_waiter-next.result c.loop-next.invariant.left c.args.marks.now c.loop-next.marks c.add.new.self (once_queue s c.args.resource (lawful c).once)
+      added = adding_next queue n c.next_waiter-next.result c.loop-next.invariant.left c.args.set.now c.loop-next.set c.add.new.self (once_queue s c.args.resource (lawful c).once)
           (at c) (one c) (then c) (omega (arith, (within c).0, (one c).process_is, was.added.sized, c.requires.sized)) c.add.ensures was;
     }
 
 pub returns : goal.returns
 returns c =
     let queue = waiters_of c.args.self.now c.args.resource in
-    adding_ends queue c.args.marks.now c.loop-next.marks (subst (λ o. AddsUpTo queue o c.args.marks.now c.loop-next.marks) c.in_default-next.is c.loop-next.invariant.added)
+    adding_ends queue c.args.set.now c.loop-next.set (subst (λ o. AddsUpTo queue o c.args.set.now c.loop-next.set) c.in_default-next.is c.loop-next.invariant.added)

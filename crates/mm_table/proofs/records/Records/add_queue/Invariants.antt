@@ -11,7 +11,7 @@ invariant-loop-next l = record {
   left : List Wait;
   at : IsAt (waiters_of l.self l.resource) l.next left;
   within : AllByRecursion (λ w. w.key.process < l.self.config.processes) left;
-  added : AddsUpTo (waiters_of l.self l.resource) l.next l.fn.marks l.marks;
+  added : AddsUpTo (waiters_of l.self l.resource) l.next l.fn.set l.set;
 }
 
 abbrev pub decreases-loop-next : goal.decreases-loop-next

@@ -1,5 +1,5 @@
 use Rattle.std.proofs.Common.{◌≡◌, ◌∷◌, length, refl, sym, ap, subst, ◌∙◌, inl, inr, arith}
-use Rattle.mm_lists.specs.Members.{Among}
+use Rattle.mm_list_lemmas.specs.Members.{Among}
 use Rattle.mm_owned.specs.Owned.{list_at}
 use Rattle.mm_owned.proofs.Lemmas.ListsMatchOwners.{in_range}
 use Rattle.mm_owned.proofs.Lemmas.Walk.{rest_from, Among-head, Among-next, rest_from-head, rest_from-next}
@@ -63,7 +63,7 @@ returns c =
     let list = list_at c.self.inside.owned c.args.holder in
     let s = c.args.self.now in
     let lists = listed c.self.inside s c.self.invariant c.self.view_is c.first-next.ensures.matched in
-    adds_by_queues s c.args.holder c.args.marks.now c.loop-next.marks c.loop-next.invariant.kept c.loop-next.invariant.sized
+    adds_by_queues s c.args.holder c.args.set.now c.loop-next.set c.loop-next.invariant.kept c.loop-next.invariant.sized
     (λ r owned w waits. elim (c.loop-next.invariant.added r (lists.all c.args.holder r owned)) [
       | inl added ↦ added w waits
       | inr left ↦ absurd (subst (Among r) (ap (rest_from list) c.in_default.is) left)

@@ -1,5 +1,5 @@
 use Rattle.std.proofs.Common.{◌≡◌, ℕ, [], Some, None, length}
-use Rattle.mm_lists.specs.Members.{Among}
+use Rattle.mm_list_lemmas.specs.Members.{Among}
 use Rattle.mm_rules.specs.TableState.{resources_of}
 use Rattle.mm_rules.proofs.States.HandOverAll.{IsUnderWay}
 use Rattle.mm_settle.specs.Steps.Vacating.{IsVacating}

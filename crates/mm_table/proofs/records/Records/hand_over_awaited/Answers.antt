@@ -1,6 +1,6 @@
 use Rattle.std.proofs.Common.{◌≡◌, Some, map, ap, sym, subst, ◌∙◌, arith}
 use Rattle.std.specs.Option.{IsSome}
-use Rattle.mm_lists.specs.Members.{NoRepeat}
+use Rattle.mm_list_lemmas.specs.Members.{NoRepeat}
 use Rattle.mm_rules.specs.TableState.{TableState, waiters_of}
 use Rattle.mm_rules.proofs.States.Totals.{hand_over_totals}
 use Rattle.mm_settle.proofs.Lemmas.Added.{adds_set}

@@ -1,8 +1,8 @@
 use Rattle.std.proofs.Common.{◌≡◌, ◌≤◌, ◌<◌, ℕ, Bool, false, List, Option, Some, None, inl, inr, subst, length, refl, sym, ap, ◌∙◌, arith, rules, length-set}
 use Rattle.std.proofs.lemmas.Bool.{cases_lt}
 use Rattle.std.specs.Option.{option_map_or}
-use Rattle.mm_lists.proofs.Lemmas.Set.{true_within}
-use Rattle.mm_marks.specs.Marks.{has}
+use Rattle.mm_list_lemmas.proofs.Lemmas.Set.{true_within}
+use Rattle.mm_bit_set.specs.BitSet.{has}
 use Rattle.mm_rules.specs.TableState.{holder_of}
 use Rattle.mm_settle.specs.Steps.Marked.{IsNoneMarked}
 use Rattle.mm_settle.proofs.Lemmas.Changed.{loading_starts, loading_turn}

@@ -1,5 +1,5 @@
 use Rattle.std.proofs.Common.{◌≡◌, ◌+◌, ◌<◌, ℕ, Bool, List, if◌then◌else◌, length, length-set, ap, ◌∙◌, sym, subst, arith}
-use Rattle.mm_lists.proofs.Lemmas.Set.{true_within}
+use Rattle.mm_list_lemmas.proofs.Lemmas.Set.{true_within}
 use Rattle.mm_settle.specs.Steps.Pass.{IsPassed}
 use Rattle.mm_settle.proofs.Lemmas.Passes.{pass_starts, pass_ends}
 use Rattle.mm_settle.proofs.Lemmas.Settling.{settling_starts, settling_then}

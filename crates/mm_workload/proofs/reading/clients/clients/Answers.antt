@@ -3,7 +3,7 @@ use Rattle.serde_json.specs.View.{view, items_view}
 use Rattle.serde_json.specs.Find.{as_array, get}
 use Rattle.mm_workload.specs.Json.{steps_of, all_in}
 use Rattle.mm_workload.proofs.Lemmas.Items.{all_in-over, all_in-under, all_in-within, goes_on-end, in_array}
-use Rattle.mm_workload.proofs.reading.clients.clients.Goals.{then-is_empty-via-then-is_empty, then-is_empty-via-else-is_empty+then-len-gt-MOST_CLIENTS}
+use Rattle.mm_workload.proofs.reading.clients.clients.Goals.{then-is_empty-via-then-is_empty, then-is_empty-via-else-is_empty+then-len-gt-MAX_CLIENTS}
 use Rattle.mm_workload.proofs.reading.clients.clients.Goals as goal
 
 pub returns-then-is_empty-clause-malformed : goal.returns-then-is_empty-clause-malformed
@@ -13,7 +13,7 @@ returns-then-is_empty-clause-malformed c = λ _.
     let is : option_and_then as_array member ≡ Some (items_view items) = search rules in
     let refused : all_in 1 64 steps_of (items_view items) ≡ None = elim c.then-is_empty.branch [
       | then-is_empty-via-then-is_empty w ↦ all_in-under 1 64 steps_of items (search rules)
-      | then-is_empty-via-else-is_empty+then-len-gt-MOST_CLIENTS w ↦ all_in-over 1 64 steps_of items (search rules)
+      | then-is_empty-via-else-is_empty+then-len-gt-MAX_CLIENTS w ↦ all_in-over 1 64 steps_of items (search rules)
     ] in
     in_array (all_in 1 64 steps_of) member ∙ (ap (option_and_then (all_in 1 64 steps_of)) is ∙ refused)
 

@@ -5,8 +5,8 @@ use Rattle.mm_workload.specs.Json.{step_of, all_in}
 use Rattle.mm_workload.proofs.Lemmas.Items.{all_in-over, all_in-within, goes_on-end}
 use Rattle.mm_workload.proofs.reading.clients.steps.Goals as goal
 
-pub returns-then-len-gt-MOST_STEPS-clause-malformed : goal.returns-then-len-gt-MOST_STEPS-clause-malformed
-returns-then-len-gt-MOST_STEPS-clause-malformed c = λ _.
+pub returns-then-len-gt-MAX_STEPS-clause-malformed : goal.returns-then-len-gt-MAX_STEPS-clause-malformed
+returns-then-len-gt-MAX_STEPS-clause-malformed c = λ _.
     let items = c.in-Some.items.now.items in
     let is : as_array (view c.args.value.now) ≡ Some (items_view items) = search rules in
     ap (option_and_then (all_in 0 256 step_of)) is ∙ all_in-over 0 256 step_of items (search rules)

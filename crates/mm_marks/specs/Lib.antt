@@ -1,3 +1,0 @@
-pub mod Marks
--- private: how the words keep a set; no public clause cites these
-pub mod private

@@ -1,0 +1,49 @@
+ghost use Rattle.std.specs.Prelude.{◌≡◌, ◌≤◌, length, vec_capacity};
+
+use crate::tests::same::same;
+use mm_bit_set::BitSet;
+use std::process::Abort;
+use std::test::Fail;
+
+// The example of README.md.
+#[test]
+fn takes_the_first_from_a_place(rt: HostRuntime) -> Result<(), Fail> {
+    let mut set = BitSet::new(rt.alloc(), 200)?;
+    set.add(130);
+    set.add(3);
+    same(&rt, set.next(0), Some(3));
+    same(&rt, set.take_next(4), Some(130));
+    same(&rt, set.take_next(4), None);
+    same(&rt, set.take_next(0), Some(3));
+    same(&rt, set.next(0), None);
+    Ok(())
+}
+
+// The second example of README.md.
+#[test]
+fn moves_lists_and_clears(rt: HostRuntime) -> Result<(), Fail> {
+    let mut set = BitSet::new(rt.alloc(), 200)?;
+    let mut other = BitSet::new(rt.alloc(), 200)?;
+    let mut list = Vec::with_capacity(rt.alloc(), 200)?;
+    move_list_and_clear(&rt, &mut set, &mut other, &mut list);
+    Ok(())
+}
+
+fn move_list_and_clear(rt: &impl Abort, set: &mut BitSet, other: &mut BitSet, list: &mut Vec<u32>)
+    requires set { length set.old ≡ 200 }
+    requires other { length other.old ≡ 200 }
+    requires list { 200 ≤ vec_capacity list.old }
+{
+    other.add(64);
+    other.add(7);
+    set.add(130);
+    other.move_all(set, list);
+    same(rt, list.as_slice(), &[7, 64]);
+    same(rt, other.next(0), None);
+    set.take_all(list);
+    same(rt, list.as_slice(), &[7, 64, 130]);
+    same(rt, set.next(0), None);
+    other.add(64);
+    other.clear();
+    same(rt, other.next(0), None);
+}
