@@ -4,5 +4,7 @@
 pub mod Records
 -- what holds of every `Table`
 pub mod Table
+-- the labels of all processes
+pub mod Labels
 -- labels that are shown, and the label limit
 pub mod LabelLimit

@@ -5,8 +5,10 @@
 //! - `table`: `Table`, with one method for each event and each read.
 //! - `laws`: facts about all tables, as the contracts of functions that do nothing: those of mm_rules and of mm_settle.
 //! - `records`: how a table is kept. Nothing else depends on it.
+//! - `labels`: the labels of all processes, for `records`.
 #![tactic(auto)]
 
+mod labels;
 pub mod laws;
 mod records;
 mod table;

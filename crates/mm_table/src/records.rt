@@ -7,8 +7,8 @@
 //! - `changes`, `labelling`: the changes that several events are made of, and those of labels.
 //! - `hand_over`: how a resource goes to the longest waiter.
 //! - `sweep`, `waiters`: the sweeps of a settle, and who is looked at next after a raise.
+use crate::labels::Labels;
 use crate::{Config, Totals};
-use mm_label::Label;
 use mm_owned::Owned;
 use mm_transactions::Transactions;
 use std::marker::Model;
@@ -31,13 +31,6 @@ mod sweep;
 mod transmit;
 mod waiters;
 
-/// The labels of a process, which outlive its transactions.
-#[derive(Clone, Copy)]
-struct Labels {
-    private: Label,
-    public: Label,
-}
-
 /// How a table is kept. Each event is one step by its definition. Most events ask for the laws of the state before; that they hold after
 /// it is for `Table` to say.
 #[derive(Drop)]
@@ -45,9 +38,7 @@ pub struct Records {
     config: Config,
     /// What each waits for, and the queue of each resource.
     transactions: Transactions,
-    labels: Vec<Labels>,
-    /// No public label has a greater counter.
-    greatest: u64,
+    labels: Labels,
     /// The owner of each resource, and the resources of each process.
     owned: Owned,
     totals: Totals,

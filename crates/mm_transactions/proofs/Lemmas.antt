@@ -17,3 +17,5 @@ pub mod End
 pub mod Verdict
 pub mod Start
 pub mod Stop
+-- a walk through a queue
+pub mod Walk

@@ -78,11 +78,6 @@ first_key (w ∷ ws) = Some w.key
 abbrev pub without_wait : Transactions → ℕ → Transactions
 without_wait t n = record t { waits = filter (λ w. not (is_of n w)) t.waits }
 
--- wherever a wait of this process stands in a queue, `next` is the process of the one that follows it
-abbrev pub IsNextWaiter : List Wait → ℕ → Option ℕ → Type 0
-IsNextWaiter ws process next =
-    (r : ℕ) (before : List Wait) (w : Wait) (after : List Wait) → queue_of ws r ≡ before ++ w ∷ after → w.key.process ≡ process → next ≡ option_map (λ k. k.process) (first_key after)
-
 -- who waits is live, waits once, and for a resource that there is
 pub record WaitsAreLawful (t : Transactions) : Type 0 where
   pub live : (w : Wait) → Among w t.waits → IsTrue (is_live t w.key)

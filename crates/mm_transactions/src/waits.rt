@@ -1,9 +1,11 @@
 //! Who waits for what, and the queue of each resource.
-ghost use Rattle.std.specs.Prelude.{◌≡◌, ◌≢◌, ◌<◌, ◌++◌, ◌∷◌, [], None, not, filter, IsTrue, IsNone};
+ghost use Rattle.std.specs.Option.{option_map};
+ghost use Rattle.std.specs.Prelude.{◌≡◌, ◌≢◌, ◌<◌, ◌++◌, ◌∷◌, [], None, not, filter, map, IsTrue, IsNone};
 ghost use Rattle.mm_rules.specs.TableState.{waited_for};
-ghost use Rattle.mm_transactions.specs.Transactions.{is_live, queue_of, first_key, without_wait, IsNextWaiter, WaitsAreLawful};
+ghost use Rattle.mm_transactions.specs.Transactions.{is_live, queue_of, first_key, without_wait, WaitsAreLawful};
+ghost use Rattle.mm_transactions.specs.private.Walk.{IsNextWaiter};
 
-use crate::Transactions;
+use crate::{Transactions, Waiters};
 use mm_arena::Key;
 use mm_links::Link;
 
@@ -42,8 +44,7 @@ impl Transactions {
     #[inline]
     pub fn first_waiter(&self, resource: u32) -> Option<Key>
         requires { resource < self.now.resources }
-        ensures first { result ≡ first_key (queue_of self.now.waits resource) }
-        ensures lawful { WaitsAreLawful self.now }
+        ensures { result ≡ first_key (queue_of self.now.waits resource) }
     {
         if self.waiting == 0 {
             return None;
@@ -51,12 +52,43 @@ impl Transactions {
         self.queues.front(resource)
     }
 
+    /// Does nothing. Its contract is what holds of the waits of any transactions that a caller can hold.
+    #[inline]
+    pub fn keeps_laws(&self)
+        ensures { WaitsAreLawful self.now }
+    {
+        let _ = &self.slots;
+    }
+
+    /// The processes that wait for a resource, in order of arrival. Constant time; so is each step of the walk.
+    #[inline]
+    pub fn waiters(&self, resource: u32) -> Waiters<'_>
+        requires { resource < self.now.resources }
+        ensures { result ≡ map (λ w. w.key.process) (queue_of self.now.waits resource) }
+    {
+        self.keeps_laws();
+        let first = self.first_waiter(resource);
+        Waiters {
+            transactions: self,
+            resource,
+            next: process_of(first),
+        }
+    }
+
     /// The process that waits next after a waiting one for the same resource, in constant time. `None` for the last of a queue.
     #[inline]
-    pub fn next_waiter(&self, process: u32) -> Option<u32>
+    pub(crate) fn next_waiter(&self, process: u32) -> Option<u32>
         requires { waited_for self.now.waits process ≢ None }
         ensures { IsNextWaiter self.now.waits process result }
     {
         self.queues.next_process(process)
     }
+}
+
+/// The process of a key, where there is one.
+#[inline]
+fn process_of(key: Option<Key>) -> Option<u32>
+    ensures { result ≡ option_map (λ k. k.process) key }
+{
+    Some(key?.process)
 }

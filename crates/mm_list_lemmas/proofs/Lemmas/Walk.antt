@@ -2,26 +2,16 @@
 use Rattle.std.proofs.Common.{◌≡◌, ◌≢◌, ℕ, List, [], ◌∷◌, ◌++◌, map, Option, Some, None, nat_eq, if◌then◌else◌, refl, sym, subst, inl}
 use Rattle.std.proofs.lemmas.Bool.{eq-eqb, ne_eqb}
 use Rattle.mm_list_lemmas.specs.Members.{Among, NoRepeat}
+use Rattle.mm_list_lemmas.specs.Walk.{first_number, rest_from}
 use Rattle.mm_list_lemmas.proofs.Lemmas.Among.{among_map, among_right}
 
 module _ {X : Type 0} (number : X → ℕ) where
-  -- the number of the first
-  abbrev pub first_number : List X → Option ℕ
-  first_number [] = None
-  first_number (x ∷ xs) = Some (number x)
-
-  -- the part of a list from the element with this number on
-  abbrev pub rest_from : List X → Option ℕ → List X
-  rest_from xs None = []
-  rest_from [] (Some n) = []
-  rest_from (x ∷ xs) (Some n) = if nat_eq (number x) n then x ∷ xs else rest_from xs (Some n)
-
-  rest_from-first : (xs : List X) → rest_from xs (first_number xs) ≡ xs
+  rest_from-first : (xs : List X) → rest_from number xs (first_number number xs) ≡ xs
   rest_from-first [] = refl
   rest_from-first (x ∷ xs) = rw (eq-eqb (number x) (number x) refl) refl
 
   -- from the first number of a part on, the list is that part
-  pub rest_from-part : (earlier rest : List X) → NoRepeat (map number (earlier ++ rest)) → rest_from (earlier ++ rest) (first_number rest) ≡ rest
+  pub rest_from-part : (earlier rest : List X) → NoRepeat (map number (earlier ++ rest)) → rest_from number (earlier ++ rest) (first_number number rest) ≡ rest
   rest_from-part [] rest once = rest_from-first rest
   rest_from-part (y ∷ earlier) [] once = refl
   rest_from-part (y ∷ earlier) (x ∷ rest) once =

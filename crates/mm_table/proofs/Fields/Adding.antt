@@ -1,29 +1,52 @@
 -- A queue is walked, and the process of each waiter that is passed is added to a set.
-use Rattle.std.proofs.Common.{◌≡◌, ◌<◌, ◌++◌, ℕ, Bool, true, List, [], ◌∷◌, length, map, slice_set, Option, Some, None, ap, sym, subst, ◌∙◌}
-use Rattle.std.proofs.lemmas.List.{append-nil}
-use Rattle.mm_list_lemmas.specs.Members.{NoRepeat}
+use Rattle.std.proofs.Common.{◌≡◌, ◌⊎◌, ◌<◌, ◌++◌, ℕ, Bool, true, List, [], ◌∷◌, length, map, slice_set, inl, inr, refl, ap, sym, subst, ◌∙◌}
+use Rattle.std.proofs.lemmas.Bool.{cases_eq}
+use Rattle.mm_bit_set.specs.BitSet.{has}
+use Rattle.mm_list_lemmas.specs.Members.{Among}
+use Rattle.mm_list_lemmas.proofs.Lemmas.Among.{among_append, among_left, among_right, among_map, among_map_gives}
 use Rattle.mm_rules.specs.TableState.{Wait}
 use Rattle.mm_settle.specs.Steps.Added.{AddsAll}
-use Rattle.mm_settle.proofs.Lemmas.Added.{adds_set, adds_nobody, adds_last}
-use Rattle.mm_table.proofs.Fields.Walk.{process, left_from, IsAt, Passes, append_one, left_is}
+use Rattle.mm_settle.proofs.Lemmas.Added.{adds_set}
 
--- those before `next` were added
-pub record AddsUpTo (queue : List Wait) (next : Option ℕ) (old new : List Bool) : Type 0 where
-  pub passed : List Wait
-  pub whole : queue ≡ passed ++ left_from queue next
-  pub added : AddsAll passed old new
+-- these were added, and nobody else
+pub record AddsEach (ns : List ℕ) (old new : List Bool) : Type 0 where
+  pub kept : (n : ℕ) → has old n ≡ true → has new n ≡ true
+  pub added : (n : ℕ) → Among n ns → has new n ≡ true
+  pub only : (n : ℕ) → has new n ≡ true → (has old n ≡ true) ⊎ Among n ns
+  pub sized : length new ≡ length old
 
-pub adding_starts : (queue : List Wait) (next : Option ℕ) (set : List Bool) → NoRepeat (map process queue) → IsAt queue next queue → AddsUpTo queue next set set
-adding_starts queue next set once at = record { passed = []; whole = sym (left_is queue next queue once at); added = adds_nobody set }
+pub adds_none : (set : List Bool) → AddsEach [] set set
+adds_none set = record { kept = λ n was. was; added = λ n among. absurd among; only = λ n here. inl here; sized = refl }
 
-pub adding_next : (queue : List Wait) (n : ℕ) (next : Option ℕ) (left : List Wait) (a b c : List Bool) → NoRepeat (map process queue) → IsAt queue (Some n) left → (one : Passes queue n left)
-    → IsAt queue next one.others → n < length b → c ≡ slice_set b n true → AddsUpTo queue (Some n) a b → AddsUpTo queue next a c
-adding_next queue n next left a b c once at one then within is way = record {
-  passed = way.passed ++ one.wait ∷ [];
-  whole = way.whole ∙ ap (λ l. way.passed ++ l) (left_is queue (Some n) left once at ∙ one.left_is) ∙ append_one way.passed one.wait one.others
-      ∙ ap (λ l. (way.passed ++ one.wait ∷ []) ++ l) (sym (left_is queue next one.others once then));
-  added = adds_last one.wait way.passed a b c n one.process_is way.added (adds_set b c n within is);
+-- one more was added
+pub adds_one : (ns : List ℕ) (n : ℕ) (a b c : List Bool) → AddsEach ns a b → n < length b → c ≡ slice_set b n true → AddsEach (ns ++ n ∷ []) a c
+adds_one ns n a b c each within is =
+    let one = adds_set b c n within is in
+    let still : (k : ℕ) → has b k ≡ true → has c k ≡ true = λ k was. elim (cases_eq k n) [
+      | inl e ↦ ap (has c) e ∙ one.here
+      | inr apart ↦ one.others k apart ∙ was
+    ] in
+    record {
+      kept = λ k was. still k (each.kept k was);
+      added = λ k among. elim (among_append ns (n ∷ []) k among) [
+        | inl before ↦ still k (each.added k before)
+        | inr last ↦ elim last [ inl e ↦ ap (has c) e ∙ one.here | inr never ↦ absurd never ]
+      ];
+      only = λ k here. elim (cases_eq k n) [
+        | inl e ↦ inr (among_right ns (n ∷ []) k (inl e))
+        | inr apart ↦ elim (each.only k (sym (one.others k apart) ∙ here)) [ inl was ↦ inl was | inr found ↦ inr (among_left ns (n ∷ []) k found) ]
+      ];
+      sized = one.sized ∙ each.sized;
+    }
+
+-- so all of a queue were, once its processes were
+pub adds_queue : (ws : List Wait) (ns : List ℕ) (old new : List Bool) → ns ≡ map (λ w. w.key.process) ws → AddsEach ns old new → AddsAll ws old new
+adds_queue ws ns old new are each = record {
+  kept = each.kept;
+  added = λ w among. each.added w.key.process (subst (Among w.key.process) (sym are) (among_map (λ (v : Wait). v.key.process) ws w among));
+  only = λ n here. elim (each.only n here) [
+    | inl was ↦ inl was
+    | inr among ↦ (let found = among_map_gives (λ (v : Wait). v.key.process) ws n (subst (Among n) are among) in inr (found.0, found.1, sym found.2))
+  ];
+  sized = each.sized;
 }
-
-pub adding_ends : (queue : List Wait) (old new : List Bool) → AddsUpTo queue None old new → AddsAll queue old new
-adding_ends queue old new way = subst (λ ws. AddsAll ws old new) (sym (way.whole ∙ append-nil way.passed)) way.added

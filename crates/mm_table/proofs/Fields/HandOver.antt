@@ -1,44 +1,26 @@
 -- A resource goes to the longest waiter, and what is left of its queue.
-use Rattle.std.proofs.Common.{◌≡◌, ◌≢◌, ℕ, zero, suc, ◌<◌, ◌&&◌, Bool, true, false, not, is_some, List, [], ◌∷◌, map, filter, slice_index_or, slice_set, Option, Some, None, option_map, nat_eq, refl, ap, sym, ◌∙◌, subst, inl, arith, IsTrue, SomeIff}
+use Rattle.std.proofs.Common.{◌≡◌, ◌≢◌, ℕ, zero, suc, ◌<◌, ◌&&◌, Bool, true, false, not, is_some, List, [], ◌∷◌, map, filter, slice_set, Option, Some, None, option_map, nat_eq, refl, ap, sym, ◌∙◌, subst, inl, arith, IsTrue}
 use Rattle.std.proofs.lemmas.Bool.{eq-eqb, ne_eqb}
-use Rattle.mm_label.specs.Label.{Label}
-use Rattle.std.specs.Option.{IsSome}
-use Rattle.std.specs.List.{list_all, AllByRecursion}
+use Rattle.std.specs.List.{list_all}
 use Rattle.mm_arena.specs.declared.key.Key.{Key}
 use Rattle.mm_list_lemmas.specs.Members.{Among, NoRepeat}
-use Rattle.mm_list_lemmas.proofs.Lemmas.Among.{all_map, all_from}
+use Rattle.mm_list_lemmas.proofs.Lemmas.Among.{all_map}
 use Rattle.mm_list_lemmas.proofs.Lemmas.Filter.{filter_gives, filter_swap, filter_not}
 use Rattle.mm_list_lemmas.proofs.Lemmas.NoRepeat.{no_repeat_filter, found_by_number}
-use Rattle.mm_rules.specs.TableState.{TableState, Wait, is_of, is_live, is_waiting, wait_of, waiters_of}
+use Rattle.mm_rules.specs.TableState.{TableState, Wait, is_of, is_live, is_waiting, waiters_of}
 use Rattle.mm_rules.specs.Change.{activate, block_fits, give_to, give_to_fits, hand_over, hand_over_fits}
-use Rattle.mm_rules.specs.Event.{release_answer}
-use Rattle.mm_rules.specs.declared.reply.Released.TheVariants.{To}
 use Rattle.mm_rules.specs.Stages.{blocked_on, NoneIs}
-use Rattle.mm_transactions.specs.Transactions.{first_key, IsNextWaiter, WaitsAreLawful}
+use Rattle.mm_transactions.specs.Transactions.{first_key, WaitsAreLawful}
 use Rattle.mm_settle.specs.Steps.Added.{Adds, AddsAll}
 use Rattle.mm_settle.proofs.Lemmas.Added.{adds_first}
 use Rattle.mm_table.specs.declared.records.Records.TheInside.{Inside}
 use Rattle.mm_table.specs.private.Records.{IsConsistent, state_of_records}
-use Rattle.mm_table.proofs.Fields.Walk.{IsAt, Passes, passes, at_start, at_next}
-use Rattle.mm_table.proofs.Fields.BlockQueue.{none_behind}
-
--- nobody waits for a resource whose queue has no first
-pub nobody : (ws : List Wait) → first_key ws ≡ None → ws ≡ []
-nobody [] none = refl
-nobody (w ∷ ws) none = (let never : Some w.key ≡ None = none in absurd (cc))
-
--- where somebody waits there is a first
-pub somebody : (ws : List Wait) → ws ≢ [] → IsSome (first_key ws)
-somebody [] some = absurd (some refl)
-somebody (w ∷ ws) some = refl
+use Rattle.mm_table.proofs.Fields.Walk.{process, queued}
+use Rattle.mm_table.proofs.Fields.BlockQueue.{none_is}
 
 -- no process waits twice for one resource
 pub once_queue : (s : TableState) (r : ℕ) → NoRepeat (map (λ w. w.key.process) s.waits) → NoRepeat (map (λ w. w.key.process) (waiters_of s r))
 once_queue s r once = no_repeat_filter (λ (w : Wait). w.key.process) (λ w. nat_eq w.resource r) s.waits once
-
--- what holds of all that wait holds of a queue
-pub queue_within : (P : Wait → Type 0) (s : TableState) (r : ℕ) → ((w : Wait) → Among w s.waits → P w) → AllByRecursion P (waiters_of s r)
-queue_within P s r each = all_from P (waiters_of s r) (λ w among. each w (filter_gives (λ v. nat_eq v.resource r) s.waits w among).0)
 
 -- ---- the waits of a table
 
@@ -55,59 +37,27 @@ lawful_waits t s fits is lawful = subst HasLawfulWaits is (record {
   within = λ w among. omega (arith, (lawful.in_range w among).0, fits.sizes.slots);
 })
 
--- who is in a queue waits
-pub queued_waits : (s : TableState) (r : ℕ) (w : Wait) (n : ℕ) → HasLawfulWaits s → Among w (waiters_of s r) → w.key.process ≡ n → wait_of s n ≢ None
-queued_waits s r w n lawful among is none =
-    let found = found_by_number (λ (v : Wait). v.key.process) s.waits w n lawful.once (filter_gives (λ v. nat_eq v.resource r) s.waits w among).0 is in
-    let never : Some w.resource ≡ None = sym (ap (option_map (λ (v : Wait). v.resource)) found) ∙ none in
-    cc
-
--- the waits are as before once r is free
-pub same_waits : (s free : TableState) (r : ℕ) → free ≡ record s { owners = slice_set s.owners r None } → HasLawfulWaits free → HasLawfulWaits s
-same_waits s free r is lawful =
-    let now : HasLawfulWaits (record s { owners = slice_set s.owners r None }) = subst HasLawfulWaits is lawful in
-    record { live = now.live; once = now.once; within = now.within }
-
 -- s with this key as the owner of r, which waits no longer
 abbrev pub taken_over : TableState → ℕ → Key → TableState
 taken_over s r key = activate (record s { owners = slice_set s.owners r (Some key) }) key.process
 
 -- ---- the limit, by a walk through the queue
 
--- those before `next` fit
-pub record FitsFrom (s : TableState) (r h : ℕ) (next : Option ℕ) : Type 0 where
-  pub left : List Wait
-  pub at : IsAt (waiters_of s r) next left
-  pub fits : hand_over_fits s r ≡ list_all (λ w. block_fits s w.key.process h) left
-  pub within : AllByRecursion (λ w. w.key.process < s.config.processes) left
+-- what holds of the process of each waiter
+process_test : (f : ℕ → Bool) (ws : List Wait) → list_all (λ w. f w.key.process) ws ≡ list_all f (map process ws)
+process_test f [] = refl
+process_test f (w ∷ ws) = ap (λ b. f w.key.process && b) (process_test f ws)
 
--- what `label_against` answered says whether it fits
-pub fits_by : (o : Option Label) (b : Bool) (v : Label) → SomeIff o (IsTrue b) v → is_some o ≡ true → b ≡ true
-fits_by None b v given found = let never : false ≡ true = found in cc
-fits_by (Some l) b v given found = given.0
-
-module _ (s : TableState) (r h n : ℕ) (way : FitsFrom s r h (Some n)) where
-  pub next_one : Passes (waiters_of s r) n way.left
-  next_one = passes (waiters_of s r) n way.left way.at
-
-  pub next_within : n < s.config.processes
-  next_within = subst (λ (m : ℕ). m < s.config.processes) next_one.process_is (subst (λ (l : List Wait). AllByRecursion (λ w. w.key.process < s.config.processes) l) next_one.left_is way.within).0
-
-  pub next_at : (next : Option ℕ) → IsNextWaiter s.waits n next → IsAt (waiters_of s r) next next_one.others
-  next_at next is_next = at_next s.waits (waiters_of s r) r n next way.left refl way.at next_one is_next
-
-  here : hand_over_fits s r ≡ (block_fits s n h && list_all (λ w. block_fits s w.key.process h) next_one.others)
-  here =
-      way.fits ∙ ap (list_all (λ (w : Wait). block_fits s w.key.process h)) next_one.left_is
-      ∙ ap (λ m. block_fits s m h && list_all (λ w. block_fits s w.key.process h) next_one.others) next_one.process_is
-
-  pub next_fits : (next : Option ℕ) → IsNextWaiter s.waits n next → block_fits s n h ≡ true → FitsFrom s r h next
-  next_fits next is_next fits = record {
-    left = next_one.others;
-    at = next_at next is_next;
-    fits = here ∙ rw fits refl;
-    within = (subst (λ (l : List Wait). AllByRecursion (λ w. w.key.process < s.config.processes) l) next_one.left_is way.within).1;
-  }
+-- behind the first, each has to fit
+pub fits_behind : (s : TableState) (r h : ℕ) (others : List ℕ) → queued s r ≡ h ∷ others → hand_over_fits s r ≡ list_all (λ n. block_fits s n h) others
+fits_behind s r h others = by (waiters_of s r)
+  where
+    by : (ws : List Wait) → map process ws ≡ h ∷ others → give_to_fits s ws ≡ list_all (λ n. block_fits s n h) others
+    by [] is = (let never : [] ≡ h ∷ others = is in absurd (cc))
+    by (first ∷ ws) is =
+        let head : first.key.process ≡ h = (let both : first.key.process ∷ map process ws ≡ h ∷ others = is in cc) in
+        let tail : map process ws ≡ others = (let both : first.key.process ∷ map process ws ≡ h ∷ others = is in cc) in
+        ap (λ n. list_all (λ w. block_fits s w.key.process n) ws) head ∙ process_test (λ n. block_fits s n h) ws ∙ ap (list_all (λ n. block_fits s n h)) tail
 
 -- the key of the first of a queue
 pub record Leads (key : Key) (queue : List Wait) : Type 0 where
@@ -141,16 +91,8 @@ module _ (s : TableState) (r : ℕ) (key : Key) (first : Some key ≡ first_key 
   pub waiting : is_waiting s key.process ≡ true
   waiting = ap (λ o. is_some (option_map (λ (w : Wait). w.resource) o)) (found_by_number (λ (w : Wait). w.key.process) s.waits one.wait key.process once among its_process)
 
-  pub first_waits : wait_of s key.process ≢ None
-  first_waits none =
-      let never : true ≡ false = sym waiting ∙ ap is_some none in
-      cc
-
-  pub answer : To key ≡ release_answer (waiters_of s r)
-  answer = ap To (sym one.key_is) ∙ ap release_answer (sym one.queue_is)
-
   pub apart : NoneIs key.process one.others
-  apart = subst (λ n. NoneIs n one.others) its_process (none_behind [] one.wait one.others (subst (λ (l : List Wait). NoRepeat (map (λ w. w.key.process) l)) one.queue_is (once_queue s r once)))
+  apart = subst (λ n. NoneIs n one.others) its_process (none_is one.wait.key.process one.others (subst (λ (l : List Wait). NoRepeat (map (λ w. w.key.process) l)) one.queue_is (once_queue s r once)).0)
 
   -- the others stay in the queue
   pub left : (t : TableState) → t ≡ taken_over s r key → waiters_of t r ≡ one.others
@@ -182,29 +124,12 @@ module _ (s : TableState) (r : ℕ) (key : Key) (first : Some key ≡ first_key 
       subst (λ (ws : List Wait). AddsAll ws a c) (sym one.queue_is)
       (adds_first one.wait one.others a b c key.process its_process first (subst (λ (ws : List Wait). AddsAll ws b c) (left t is) others))
 
-  -- the others are walked against it
-  pub fits_start : (next : Option ℕ) → IsNextWaiter s.waits key.process next → ((w : Wait) → Among w s.waits → w.key.process < s.config.processes) → FitsFrom s r key.process next
-  fits_start next is_next within =
-      let at = at_start (waiters_of s r) (Some key.process) (ap (option_map (λ (k : Key). k.process)) first) in
-      let passed : Passes (waiters_of s r) key.process (waiters_of s r) = record { wait = one.wait; others = one.others; left_is = one.queue_is; process_is = its_process } in
-      record {
-        left = one.others;
-        at = at_next s.waits (waiters_of s r) r key.process next (waiters_of s r) refl at passed is_next;
-        fits = ap (give_to_fits s) one.queue_is ∙ ap (λ n. list_all (λ w. block_fits s w.key.process n) one.others) its_process;
-        within = (subst (λ (l : List Wait). AllByRecursion (λ w. w.key.process < s.config.processes) l) one.queue_is (queue_within (λ w. w.key.process < s.config.processes) s r within)).1;
-      }
-
 -- ---- the owner's resource is freed before the first waiter owns it
 
 set_again : (os : List (Option Key)) (r : ℕ) (a b : Option Key) → slice_set (slice_set os r a) r b ≡ slice_set os r b
 set_again [] r a b = refl
 set_again (o ∷ os) zero a b = refl
 set_again (o ∷ os) (suc r) a b = ap (λ xs. o ∷ xs) (set_again os r a b)
-
-pub none_owns : (os : List (Option Key)) (r : ℕ) → slice_index_or (slice_set os r None) r None ≡ None
-none_owns [] r = refl
-none_owns (o ∷ os) zero = refl
-none_owns (o ∷ os) (suc r) = none_owns os r
 
 pub freed_then_owned : (old free waited t : TableState) (r : ℕ) (key : Key) → free ≡ record old { owners = slice_set old.owners r None } → waited ≡ activate free key.process
     → t ≡ record waited { owners = slice_set waited.owners r (Some key) } → t ≡ taken_over old r key

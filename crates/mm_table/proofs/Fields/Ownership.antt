@@ -11,7 +11,7 @@ use Rattle.mm_owned.proofs.Lemmas.Walk.{Among-next, next-apart}
 use Rattle.mm_owned.proofs.Lemmas.ListsMatchOwners.{in_range}
 use Rattle.mm_rules.specs.declared.config.Config.{Config}
 use Rattle.mm_table.specs.declared.records.Records.TheInside.{Inside}
-use Rattle.mm_table.specs.declared.records.Labels.{Labels}
+use Rattle.mm_table.specs.declared.labels.ProcessLabels.{ProcessLabels}
 use Rattle.mm_transactions.specs.Transactions.{Transactions}
 use Rattle.mm_rules.specs.TableState.{TableState, owns, resources_of}
 use Rattle.mm_rules.specs.Change.{hand_over_fits, vacate_fits}
@@ -22,7 +22,7 @@ use Rattle.mm_list_lemmas.proofs.Lemmas.Range.{among_range, among_range_gives}
 
 -- ---- sizes
 
-pub given_sized : {c : Config} {s : Transactions} {ls : List Labels} {o : Ownership} (k : Key) (r : ℕ) → FieldsAreSized c s ls o → FieldsAreSized c s ls (given o k r)
+pub given_sized : {c : Config} {s : Transactions} {ls : List ProcessLabels} {o : Ownership} (k : Key) (r : ℕ) → FieldsAreSized c s ls o → FieldsAreSized c s ls (given o k r)
 given_sized {c} {s} {ls} {o} k r sizes = record {
   config = sizes.config;
   slots = sizes.slots;
@@ -33,7 +33,7 @@ given_sized {c} {s} {ls} {o} k r sizes = record {
   owners = length-set o.owners r (Some k) ∙ sizes.owners;
 }
 
-pub freed_sized : {c : Config} {s : Transactions} {ls : List Labels} {o : Ownership} (r : ℕ) → FieldsAreSized c s ls o → FieldsAreSized c s ls (freed o r)
+pub freed_sized : {c : Config} {s : Transactions} {ls : List ProcessLabels} {o : Ownership} (r : ℕ) → FieldsAreSized c s ls o → FieldsAreSized c s ls (freed o r)
 freed_sized {c} {s} {ls} {o} r sizes = record {
   config = sizes.config;
   slots = sizes.slots;

@@ -1,17 +1,13 @@
 -- Labels that are shown, and the label limit.
 use Rattle.std.specs.Prelude.{◌≡◌, ℕ, ◌+◌, [], ◌∷◌, ◌++◌, IsTrue, slice_set}
 use Rattle.mm_arena.specs.declared.key.Key.{Key}
-use Rattle.mm_label.specs.Label.{Label, fresh_label}
+use Rattle.mm_label.specs.Label.{Label}
 use Rattle.mm_rules.specs.TableState.{TableState, public_of}
 use Rattle.mm_rules.specs.Change.{block_fits}
 
 -- some process has this public label
 abbrev pub IsShown : TableState → Label → Type 0
 IsShown s label = (n : ℕ) × (label ≡ public_of s n)
-
--- the label that process n gets by waiting for one that shows this label
-abbrev pub label_under : TableState → ℕ → Label → Label
-label_under s n shown = fresh_label (public_of s n) shown n
 
 -- both labels of n are this one
 abbrev pub labelled : TableState → ℕ → Label → TableState

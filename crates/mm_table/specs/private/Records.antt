@@ -1,22 +1,16 @@
 -- What the fields of `Records` stand for, and what holds of them.
-use Rattle.std.specs.Prelude.{◌≡◌, ℕ, ◌≤◌, List, length, Option, map}
-use Rattle.std.specs.List.{AllByRecursion}
+use Rattle.std.specs.Prelude.{◌≡◌, ◌≤◌, List, length, Option, map}
 use Rattle.mm_arena.specs.declared.key.Key.{Key}
-use Rattle.mm_label.specs.Label.{opening_label}
 use Rattle.mm_owned.specs.Owned.{Ownership}
 use Rattle.mm_rules.specs.declared.config.Config.{Config}
 use Rattle.mm_rules.specs.declared.reply.Totals.{Totals}
 use Rattle.mm_rules.specs.TableState.{TableState, IsInRange}
 use Rattle.mm_table.specs.declared.records.Records.TheInside.{Inside}
-use Rattle.mm_table.specs.declared.records.Labels.{Labels}
+use Rattle.mm_table.specs.declared.labels.ProcessLabels.{ProcessLabels}
 use Rattle.mm_transactions.specs.Transactions.{Transactions}
 
--- both labels of process i at first
-abbrev pub opening_labels : ℕ → Labels
-opening_labels i = record { private = opening_label i; public = opening_label i }
-
 -- the state that the fields of a table stand for
-abbrev pub state_of_fields : Config → Transactions → List Labels → List (Option Key) → Totals → TableState
+abbrev pub state_of_fields : Config → Transactions → List ProcessLabels → List (Option Key) → Totals → TableState
 state_of_fields config transactions labels owners totals = record {
   config = config;
   generations = transactions.generations;
@@ -32,10 +26,10 @@ state_of_fields config transactions labels owners totals = record {
 
 -- the state that a table stands for
 abbrev pub state_of_records : Inside → TableState
-state_of_records t = state_of_fields t.config t.transactions t.labels.items t.owned.owners t.totals
+state_of_records t = state_of_fields t.config t.transactions t.labels t.owned.owners t.totals
 
 -- There is one slot, one pair of labels and one list of owned resources for each process, and one owner and one queue for each resource.
-pub record FieldsAreSized (c : Config) (t : Transactions) (ls : List Labels) (o : Ownership) : Type 0 where
+pub record FieldsAreSized (c : Config) (t : Transactions) (ls : List ProcessLabels) (o : Ownership) : Type 0 where
   pub config : IsInRange c
   pub slots : length t.live ≡ c.processes
   pub last_generation : t.generation_limit ≡ c.generation_limit
@@ -44,12 +38,7 @@ pub record FieldsAreSized (c : Config) (t : Transactions) (ls : List Labels) (o 
   pub lists : length o.lists ≡ c.processes
   pub owners : length o.owners ≡ c.resources
 
--- no public label of these has a greater counter
-abbrev pub AreAtMost : ℕ → List Labels → Type 0
-AreAtMost greatest labels = AllByRecursion (λ l. l.public.counter ≤ greatest) labels
-
--- the fields are of one table, no wait arrived after the last accepted event, and no public label has a counter above the greatest
+-- the fields are of one table, and no wait arrived after the last accepted event
 pub record IsConsistent (t : Inside) : Type 0 where
-  pub sizes : FieldsAreSized t.config t.transactions t.labels.items t.owned
+  pub sizes : FieldsAreSized t.config t.transactions t.labels t.owned
   pub arrivals : t.transactions.latest ≤ t.totals.accepted
-  pub counters : AreAtMost t.greatest t.labels.items

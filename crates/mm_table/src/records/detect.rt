@@ -21,7 +21,7 @@ impl Records {
         let answer = if self.has_verdict(key) {
             Detected::Standing
         } else if self.can_detect(key) {
-            let label = self.labels[key.process as usize].private;
+            let label = self.labels.of(key.process).private;
             self.convict(key);
             Detected::Deadlock(label)
         } else {
@@ -36,7 +36,7 @@ impl Records {
         requires { IsTrue (is_live self.now key) }
         ensures { result ≡ can_detect self.now key.process }
     {
-        let labels = self.labels[key.process as usize];
+        let labels = self.labels.of(key.process);
         if labels.private != labels.public || self.has_verdict(key) {
             return false;
         }

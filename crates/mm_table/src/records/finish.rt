@@ -51,7 +51,6 @@ impl Records {
         requires fits { IsTrue (vacate_fits self.old key.process) }
         requires sized { length touched.old ≡ self.old.config.processes }
         ensures state { self.new ≡ vacate self.old key.process }
-        ensures totals { self.new.totals ≡ self.old.totals }
         ensures touched { IsVacating self.old key.process self.new touched.old touched.new }
     {
         self.hand_over_all(key.process, touched);

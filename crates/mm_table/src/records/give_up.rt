@@ -33,7 +33,7 @@ impl Records {
         if self.has_verdict(key) {
             return Err(Refusal::UnderVerdict);
         }
-        let labels = self.labels[key.process as usize];
+        let labels = self.labels.of(key.process);
         if labels.private != labels.public {
             return Err(Refusal::Carried);
         }

@@ -1,10 +1,11 @@
 //! A resource goes from its owner to the longest waiter.
-ghost use Rattle.std.specs.Prelude.{◌≡◌, ◌≢◌, ◌<◌, [], IsTrue, None, length, slice_set};
+ghost use Rattle.std.specs.Prelude.{◌≡◌, ◌<◌, IsTrue, None, Some, length, slice_set};
 ghost use Rattle.std.specs.List.{list_all};
 ghost use Rattle.mm_rules.specs.TableState.{waiters_of};
 ghost use Rattle.mm_rules.specs.Change.{block_fits, hand_over, hand_over_fits};
 ghost use Rattle.mm_rules.specs.Event.{release_answer};
 ghost use Rattle.mm_rules.specs.Stages.{blocked_on, NoneIs};
+ghost use Rattle.mm_transactions.specs.Transactions.{first_key};
 ghost use Rattle.mm_settle.specs.Steps.Added.{AddsAll};
 
 use super::Records;
@@ -21,35 +22,32 @@ impl Records {
         requires sized { length touched.old ≡ self.old.config.processes }
         ensures answer { result ≡ release_answer (waiters_of self.old resource) }
         ensures state { self.new ≡ hand_over self.old resource }
-        ensures totals { self.new.totals ≡ self.old.totals }
         ensures touched { AddsAll (waiters_of self.old resource) touched.old touched.new }
     {
-        if self.transactions.first_waiter(resource).is_some() {
-            return self.hand_over_awaited(resource, touched);
-        }
-        self.free(resource);
-        Released::Free
+        let Some(first) = self.transactions.first_waiter(resource) else {
+            self.free(resource);
+            return Released::Free;
+        };
+        self.hand_over_to(first, resource, touched);
+        Released::To(first)
     }
 
-    /// Hands over a resource that somebody waits for. It stands apart, so that one that nobody waits for is freed in few instructions.
+    /// Hands a resource over to its longest waiter. It stands apart, so that one that nobody waits for is freed in few instructions.
     #[inline(never)]
-    fn hand_over_awaited(&mut self, resource: u32, touched: &mut BitSet) -> Released
+    fn hand_over_to(&mut self, first: Key, resource: u32, touched: &mut BitSet)
         requires resource { resource < self.old.config.resources }
-        requires awaited { waiters_of self.old resource ≢ [] }
+        requires first { first_key (waiters_of self.old resource) ≡ Some first }
         requires fits { IsTrue (hand_over_fits self.old resource) }
         requires sized { length touched.old ≡ self.old.config.processes }
-        ensures answer { result ≡ release_answer (waiters_of self.old resource) }
         ensures state { self.new ≡ hand_over self.old resource }
-        ensures totals { self.new.totals ≡ self.old.totals }
         ensures touched { AddsAll (waiters_of self.old resource) touched.old touched.new }
     {
+        self.transactions.keeps_laws();
         self.free(resource);
-        let first = self.transactions.first_waiter(resource).unwrap();
         self.end_wait(first);
         self.grant(first, resource);
         touched.add(first.process);
         self.block_queue(resource, first.process, touched);
-        Released::To(first)
     }
 
     /// Whether the limit allows each label that the hand-over of `resource` makes. Constant time while the greatest label
@@ -61,15 +59,15 @@ impl Records {
         if self.all_labels_fit() {
             return true;
         }
-        let Some(first) = self.transactions.first_waiter(resource) else {
+        self.transactions.keeps_laws();
+        let mut waiters = self.transactions.waiters(resource);
+        let Some(first) = waiters.next() else {
             return true;
         };
-        let mut next = self.transactions.next_waiter(first.process);
-        while let Some(process) = next {
-            if self.label_against(process, first.process).is_none() {
+        for process in waiters {
+            if self.label_against(process, first).is_none() {
                 return false;
             }
-            next = self.transactions.next_waiter(process);
         }
         true
     }
@@ -84,15 +82,12 @@ impl Records {
         ensures state { self.new ≡ blocked_on self.old holder (waiters_of self.old resource) }
         ensures touched { AddsAll (waiters_of self.old resource) touched.old touched.new }
     {
-        let Some(first) = self.transactions.first_waiter(resource) else {
-            return;
-        };
-        let shown = self.public(holder);
-        let mut next = Some(first.process);
-        while let Some(process) = next {
-            self.block_under(process, shown);
+        self.transactions.keeps_laws();
+        let shown = self.labels.public(holder);
+        for process in self.transactions.waiters(resource) {
+            self.labels
+                .block_under(process, shown, self.config.label_limit);
             touched.add(process);
-            next = self.transactions.next_waiter(process);
         }
     }
 

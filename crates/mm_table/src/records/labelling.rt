@@ -1,8 +1,8 @@
 //! The labels of a process: what they are, whether the limit allows new ones, and how they change.
-ghost use Rattle.std.specs.Prelude.{◌≡◌, ◌<◌, ◌≤◌, IsTrue, SomeIff, slice_set};
+ghost use Rattle.std.specs.Prelude.{◌≡◌, ◌<◌, IsTrue, SomeIff, slice_set};
 ghost use Rattle.mm_rules.specs.TableState.{public_of};
 ghost use Rattle.mm_rules.specs.Change.{block_fits, label_against};
-ghost use Rattle.mm_table.specs.private.LabelLimit.{label_under, labelled, AllLabelsFit, IsShown};
+ghost use Rattle.mm_table.specs.private.LabelLimit.{labelled, AllLabelsFit, IsShown};
 
 use super::Records;
 use mm_label::{Label, fresh};
@@ -13,14 +13,14 @@ impl Records {
         requires { process < self.now.config.processes }
         ensures { result ≡ public_of self.now process }
     {
-        self.labels[process as usize].public
+        self.labels.public(process)
     }
 
     /// Whether the limit allows each label that one block can make. Where it does not, some may still fit.
     pub(super) fn all_labels_fit(&self) -> bool
         ensures { IsTrue result → AllLabelsFit self.now }
     {
-        self.greatest < self.config.label_limit
+        self.labels.are_below(self.config.label_limit)
     }
 
     /// The label that `process` gets by waiting for `holder`; `None` past the label limit.
@@ -37,28 +37,12 @@ impl Records {
         )
     }
 
-    /// Gives `process` both its new labels, by which it waits for one that shows this label.
-    pub(super) fn block_under(&mut self, process: u32, shown: Label)
-        requires process { process < self.old.config.processes }
-        requires fits { (label_under self.old process shown).counter ≤ self.old.config.label_limit }
-        ensures { self.new ≡ labelled self.old process (label_under self.old process shown) }
-    {
-        let own = self.public(process);
-        let label = fresh(own, shown, process, self.config.label_limit).unwrap();
-        self.relabel(process, label);
-    }
-
     /// Both labels of a process are this one from now on.
     pub(super) fn relabel(&mut self, process: u32, label: Label)
         requires { process < self.old.config.processes }
         ensures { self.new ≡ labelled self.old process label }
     {
-        if label.counter() > self.greatest {
-            self.greatest = label.counter();
-        }
-        let blocked = &mut self.labels[process as usize];
-        blocked.private = label;
-        blocked.public = label;
+        self.labels.relabel(process, label);
     }
 
     /// Makes this label, which some process shows, the public label of `process`.
@@ -67,6 +51,6 @@ impl Records {
         requires shown { IsShown self.old label }
         ensures { self.new ≡ record self.old { public = slice_set self.old.public process label } }
     {
-        self.labels[process as usize].public = label;
+        self.labels.show(process, label);
     }
 }

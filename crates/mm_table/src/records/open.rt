@@ -1,40 +1,12 @@
 //! The opening.
-ghost use Rattle.std.specs.Prelude.{◌≡◌, ◌≤◌, ◌<◌, IfOk, map};
-ghost use Rattle.std.specs.List.{range_with_len};
-ghost use Rattle.mm_label.specs.Label.{process_range};
 ghost use Rattle.mm_rules.specs.Event.{Opens};
-ghost use Rattle.mm_table.specs.private.Records.{opening_labels};
 
-use super::{Labels, Records};
+use super::Records;
+use crate::labels::Labels;
 use crate::{Config, Refusal, Totals};
-use mm_label::Label;
 use mm_owned::Owned;
 use mm_transactions::Transactions;
-use std::alloc::{AllocError, Global};
-
-impl Labels {
-    /// The labels of a process that was never used.
-    fn at_opening(process: u32) -> Labels
-        requires { process < process_range }
-        ensures { result ≡ opening_labels process }
-    {
-        let label = Label::new(0, process).unwrap();
-        Labels {
-            private: label,
-            public: label,
-        }
-    }
-}
-
-/// The labels of a table that was just opened.
-fn labels_at_opening(alloc: Global, count: u32) -> Result<Vec<Labels>, AllocError>
-    requires { count ≤ process_range }
-    ensures { IfOk result (λ v. v.items ≡ map opening_labels (range_with_len 0 count)) }
-{
-    (0..count)
-        .map(|process| Labels::at_opening(process))
-        .collect(alloc)
-}
+use std::alloc::Global;
 
 impl Records {
     /// The opening of this configuration. Takes memory once for each part.
@@ -52,7 +24,7 @@ impl Records {
         ) else {
             return Err(Refusal::Memory);
         };
-        let Ok(labels) = labels_at_opening(alloc, config.processes) else {
+        let Ok(labels) = Labels::open(alloc, config.processes) else {
             return Err(Refusal::Memory);
         };
         let Ok(owned) = Owned::new(alloc, config.processes, config.resources) else {
@@ -62,7 +34,6 @@ impl Records {
             config,
             transactions,
             labels,
-            greatest: 0,
             owned,
             totals: Totals {
                 accepted: 0,

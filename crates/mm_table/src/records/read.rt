@@ -22,7 +22,7 @@ impl Records {
             Some(resource) if transaction.has_verdict => Mode::Convicted(resource),
             Some(resource) => Mode::Waiting(resource),
         };
-        let labels = self.labels[key.process as usize];
+        let labels = self.labels.of(key.process);
         Ok(State {
             mode,
             private: labels.private,
@@ -135,6 +135,6 @@ impl Records {
         ensures { result ≡ option_map (public_of self.now) (holder_of self.now key.process) }
     {
         let holder = self.holder(key)?;
-        Some(self.labels[holder as usize].public)
+        Some(self.labels.public(holder))
     }
 }

@@ -61,7 +61,7 @@ impl Records {
         ensures { result ≡ greater_label self.now key.process }
     {
         let shown = self.holder_label(key)?;
-        let own = self.labels[key.process as usize].public;
+        let own = self.labels.public(key.process);
         (own < shown).then_some(shown)
     }
 }

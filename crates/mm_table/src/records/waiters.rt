@@ -28,13 +28,9 @@ impl Records {
         requires sized { length set.old ≡ self.now.config.processes }
         ensures { AddsAll (waiters_of self.now resource) set.old set.new }
     {
-        let Some(first) = self.transactions.first_waiter(resource) else {
-            return;
-        };
-        let mut next = Some(first.process);
-        while let Some(process) = next {
+        self.transactions.keeps_laws();
+        for process in self.transactions.waiters(resource) {
             set.add(process);
-            next = self.transactions.next_waiter(process);
         }
     }
 }

@@ -11,7 +11,8 @@ use Rattle.mm_list_lemmas.proofs.Lemmas.Cut.{cut_at}
 use Rattle.mm_list_lemmas.proofs.Lemmas.Filter.{filter_keeps, filter_swap, filter_not, filter_only, only_among, none_pass, filter_map}
 use Rattle.mm_queue.specs.Queues.{Queues, queue, with_queue, first, IsOccupied, IsNextProcess, Removes}
 use Rattle.mm_rules.specs.TableState.{Wait, is_of, waited_for}
-use Rattle.mm_transactions.specs.Transactions.{queue_of, first_key, IsNextWaiter}
+use Rattle.mm_transactions.specs.Transactions.{queue_of, first_key}
+use Rattle.mm_transactions.specs.private.Walk.{IsNextWaiter}
 use Rattle.mm_transactions.specs.private.Layout.{keys_for, IsLinked}
 
 abbrev key : Wait → Key

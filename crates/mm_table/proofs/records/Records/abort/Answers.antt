@@ -1,4 +1,4 @@
-use Rattle.std.proofs.Common.{◌≡◌, ◌+◌, ℕ, Ok, true, false, Option, Some, None, is_some, refl, ap, sym, subst, ◌∙◌, arith, IsTrue}
+use Rattle.std.proofs.Common.{◌≡◌, ◌+◌, ◌<◌, rules, ℕ, Ok, true, false, Option, Some, None, is_some, refl, ap, sym, subst, ◌∙◌, arith, IsTrue}
 use Rattle.mm_rules.specs.TableState.{TableState, wait_of}
 use Rattle.mm_rules.specs.Change.{abort, vacate, vacate_fits, take_back}
 use Rattle.mm_rules.specs.Event.{abort_tests, allowed, decided}
@@ -6,6 +6,7 @@ use Rattle.mm_rules.specs.Laws.{Laws}
 use Rattle.mm_rules.proofs.States.Activate.{waits_no_longer}
 use Rattle.mm_rules.proofs.States.GiveUp.{take_back_keeps}
 use Rattle.mm_rules.proofs.States.Abort.{fits_still}
+use Rattle.mm_rules.proofs.States.Totals.{vacate_totals}
 use Rattle.mm_rules.proofs.States.Lookups.{waiting_is_some, live_within}
 use Rattle.mm_settle.specs.Touched.{Touches}
 use Rattle.mm_settle.specs.Steps.Vacating.{IsVacating}
@@ -23,6 +24,11 @@ vacate-requires-clause-active c = ap (λ s. wait_of s c.args.key.process) c.take
 pub vacate-requires-clause-fits : goal.vacate-requires-clause-fits
 vacate-requires-clause-fits c =
     subst (λ (s : TableState). IsTrue (vacate_fits s c.args.key.process)) (sym c.take_back.ensures) (fits_still c.args.self.now c.args.key.process c.requires.laws c.in_ok-may_abort.ensures.fits)
+
+pub count-requires : goal.count-requires
+count-requires c =
+    let same = ap (λ s. s.totals.accepted) c.vacate.ensures.state ∙ ap (λ t. t.accepted) (vacate_totals c.take_back.new.self c.args.key.process) ∙ ap (λ s. s.totals.accepted) c.take_back.ensures in
+    subst (λ n. n < 4611686018427387904) (sym same) (search rules)
 
 resource : (o : Option ℕ) → is_some o ≡ true → (r : ℕ) × (o ≡ Some r)
 resource None waits = (let never : false ≡ true = waits in absurd (cc))

@@ -1,82 +1,104 @@
-use Rattle.std.proofs.Common.{◌≡◌, ◌<◌, List, length, Some, option_map, ap, sym, subst, ◌∙◌, arith}
-use Rattle.mm_arena.specs.declared.key.Key.{Key}
-use Rattle.mm_rules.specs.TableState.{TableState, Wait, public_of, waited_for, waiters_of}
-use Rattle.mm_rules.specs.Stages.{blocked_on}
-use Rattle.mm_transactions.specs.Transactions.{first_key, IsNextWaiter}
-use Rattle.mm_settle.specs.Steps.Added.{AddsAll}
-use Rattle.mm_settle.proofs.Lemmas.Added.{adds_nobody}
-use Rattle.mm_table.specs.private.LabelLimit.{label_under, labelled}
-use Rattle.mm_table.proofs.Fields.Adding.{AddsUpTo, adding_starts, adding_next}
-use Rattle.mm_table.proofs.Fields.Walk.{left_from, at_start, at_among, fewer_left}
-use Rattle.mm_table.proofs.Fields.BlockQueue.{IsUnderWay, starts, one, its_own, at_another, blocked}
-use Rattle.mm_table.proofs.Fields.HandOver.{lawful_waits, queued_waits, nobody, once_queue, queue_within}
+use Rattle.std.proofs.Common.{◌≡◌, length, refl, sym, ap, subst, ◌∙◌, arith, length-set}
+use Rattle.std.proofs.lemmas.Bool.{leb-true}
+use Rattle.mm_label.specs.Label.{Label}
+use Rattle.mm_rules.specs.TableState.{TableState, public_of, waiters_of}
+use Rattle.mm_rules.specs.Change.{label_against}
+use Rattle.mm_table.specs.private.Labels.{both, label_under}
+use Rattle.mm_table.proofs.Fields.Walk.{queued, walks_on, walks_among, walks_through, queued_within}
+use Rattle.mm_table.proofs.Fields.Adding.{adds_none, adds_one, adds_queue}
+use Rattle.mm_table.proofs.Fields.BlockQueue.{IsUnderWay, with_labels, block_written, starts, ends, its_fit, blocked}
+use Rattle.mm_table.proofs.Fields.HandOver.{lawful_waits, once_queue}
+use Rattle.mm_table.proofs.Fields.Labels.{sized_labels}
 use Rattle.mm_table.proofs.records.Records.block_queue.Goals as goal
 
-pub returns-in_default : goal.returns-in_default
-returns-in_default c =
-    let s = c.args.self.now in
-    let none = nobody (waiters_of s c.args.resource) (sym (ap (λ t. first_key (waiters_of t c.args.resource)) c.self.view_is) ∙ sym c.first_waiter.ensures.first ∙ c.in_default.is) in
-    record {
-      state = sym (ap (blocked_on s c.args.holder) none);
-      touched = subst (λ (ws : List Wait). AddsAll ws c.args.touched.now c.args.touched.now) (sym none) (adds_nobody c.args.touched.now);
-    }
-
-pub loop-next-init : goal.loop-next-init
-loop-next-init c =
+pub loop-process-init : goal.loop-process-init
+loop-process-init c =
     let s = c.args.self.now in
     let r = c.args.resource in
-    let lawful = lawful_waits c.self.inside s c.self.invariant c.self.view_is c.first_waiter.ensures.lawful in
-    let once = once_queue s r lawful.once in
-    let first = ap (option_map (λ (k : Key). k.process)) (sym c.in-Some.is ∙ c.first_waiter.ensures.first ∙ ap (λ t. first_key (waiters_of t r)) c.self.view_is) in
+    let labels = c.self.inside.labels in
+    let walked = ap (λ t. queued t r) (sym c.self.view_is) ∙ sym c.waiters-process-items.ensures ∙ sym c.into_iter-process-iterator.ensures.into_iter_gives in
+    let lawful = lawful_waits c.self.inside s c.self.invariant c.self.view_is c.keeps_laws.ensures in
+    let same : s ≡ with_labels s labels = subst (λ (t : TableState). t ≡ with_labels t labels) c.self.view_is refl in
+    let way = starts s r c.args.holder c.requires.fits c.requires.apart (once_queue s r lawful.once) in
     record {
-      way = starts s r c.args.holder (Some c.in-Some.first.process) first c.requires.fits c.requires.apart (queue_within (λ w. w.key.process < s.config.processes) s r lawful.within) once;
-      added = adding_starts (waiters_of s r) (Some c.in-Some.first.process) c.args.touched.now once (at_start (waiters_of s r) (Some c.in-Some.first.process) first);
+      walked = walked;
+      way = subst (λ t. IsUnderWay s t r c.args.holder c.into_iter-process-iterator.result) same (subst (IsUnderWay s s r c.args.holder) walked way);
+      added = adds_none c.args.touched.now;
+      sized = c.self.invariant.sizes.labels ∙ ap (λ t. t.config.processes) c.self.view_is;
     }
 
-way : (c : goal.After-next_waiter-next) → IsUnderWay c.args.self.now c.loop-next.self c.args.resource c.args.holder (Some c.in-Some-next.process)
-way c = subst (IsUnderWay c.args.self.now c.loop-next.self c.args.resource c.args.holder) c.in-Some-next.is c.loop-next.invariant.way
+pub invariant_of-self : goal.invariant_of-self
+invariant_of-self c = record {
+  sizes = sized_labels _ (c.loop-process.invariant.sized ∙ sym (c.self.invariant.sizes.labels ∙ ap (λ t. t.config.processes) c.self.view_is)) c.self.invariant.sizes;
+  arrivals = c.self.invariant.arrivals;
+}
 
-is_next : (c : goal.After-next_waiter-next) → IsNextWaiter c.loop-next.self.waits c.in-Some-next.process c.next_waiter-next.result
-is_next c = subst (λ (ws : List Wait). IsNextWaiter ws c.in-Some-next.process c.next_waiter-next.result) (ap (λ s. s.waits) (c.self-in-Some-next.view_is ∙ c.block_under.ensures)) c.next_waiter-next.ensures
-
-pub next_waiter-next-requires : goal.next_waiter-next-requires
-next_waiter-next-requires c = λ none.
-    let old = c.args.self.now in
-    let s = c.loop-next.self in
+pub block_under-requires-clause-process : goal.block_under-requires-clause-process
+block_under-requires-clause-process c =
+    let s = c.args.self.now in
     let r = c.args.resource in
-    let n = c.in-Some-next.process in
-    let way = subst (IsUnderWay old s r c.args.holder) c.in-Some-next.is c.loop-next.invariant.way in
-    let first = one old s r c.args.holder n way in
-    let lawful = lawful_waits c.self.inside old c.self.invariant c.self.view_is c.first_waiter.ensures.lawful in
-    queued_waits old r first.wait n lawful (at_among (waiters_of old r) n way.left way.at first) first.process_is
-    (sym (ap (λ ws. waited_for ws n) (ap (λ t. t.waits) (c.self-in-Some-next.view_is ∙ c.block_under.ensures) ∙ way.waits)) ∙ none)
+    let among = walks_among (queued s r) c.loop-process.yielded c.loop-process.process-iterator c.loop-process.invariant.walked c.in-Some.process c.next.new.self c.in-Some.ensures.steps in
+    let lawful = lawful_waits c.self.inside s c.self.invariant c.self.view_is c.keeps_laws.ensures in
+    omega (arith, queued_within s r c.in-Some.process lawful.within among, c.loop-process.invariant.sized)
 
-pub loop-next-smaller : goal.loop-next-smaller
-loop-next-smaller c =
-    let old = c.args.self.now in
+pub block_under-requires-clause-process_in_range : goal.block_under-requires-clause-process_in_range
+block_under-requires-clause-process_in_range c =
+    let s = c.args.self.now in
+    let r = c.args.resource in
+    let among = walks_among (queued s r) c.loop-process.yielded c.loop-process.process-iterator c.loop-process.invariant.walked c.in-Some.process c.next.new.self c.in-Some.ensures.steps in
+    let lawful = lawful_waits c.self.inside s c.self.invariant c.self.view_is c.keeps_laws.ensures in
+    omega (arith, queued_within s r c.in-Some.process lawful.within among, c.self.invariant.sizes.config.processes, ap (λ t. t.config.processes) c.self.view_is)
+
+pub block_under-requires-clause-fits : goal.block_under-requires-clause-fits
+block_under-requires-clause-fits c =
+    let s = c.args.self.now in
+    let h = c.args.holder in
+    let n = c.in-Some.process in
+    let ls = c.loop-process.self-inside.1.1.1.0 in
+    let way = subst (IsUnderWay s (with_labels s ls) c.args.resource h) c.in-Some.ensures.steps c.loop-process.invariant.way in
+    let fits = leb-true (label_against (with_labels s ls) n h).counter s.config.label_limit (its_fit s (with_labels s ls) c.args.resource h n c.next.new.self way) in
+    let shown = ap (λ (l : Label). l.counter) (c.public-shown.ensures ∙ ap (λ t. public_of t h) c.self.view_is ∙ sym way.shown) in
+    omega (arith, fits, shown, ap (λ t. t.config.label_limit) c.self.view_is)
+
+pub add-requires : goal.add-requires
+add-requires c =
+    let s = c.args.self.now in
+    let r = c.args.resource in
+    let among = walks_among (queued s r) c.loop-process.yielded c.loop-process.process-iterator c.loop-process.invariant.walked c.in-Some.process c.next.new.self c.in-Some.ensures.steps in
+    let lawful = lawful_waits c.self.inside s c.self.invariant c.self.view_is c.keeps_laws.ensures in
+    omega (arith, queued_within s r c.in-Some.process lawful.within among, c.loop-process.invariant.added.sized, c.requires.sized)
+
+pub loop-process-preserved : goal.loop-process-preserved
+loop-process-preserved c =
+    let s = c.args.self.now in
     let r = c.args.resource in
     let h = c.args.holder in
-    let n = c.in-Some-next.process in
-    omega (
-      arith,
-      ap (λ o. length (left_from (waiters_of old r) o)) c.in-Some-next.is,
-      fewer_left (waiters_of old r) n c.next_waiter-next.result (way c).left (way c).once (way c).at (one old c.loop-next.self r h n (way c)) (at_another old c.loop-next.self r h n (way c) c.next_waiter-next.result (is_next c)),
-    )
-
-pub loop-next-preserved : goal.loop-next-preserved
-loop-next-preserved c =
-    let old = c.args.self.now in
-    let s = c.loop-next.self in
-    let r = c.args.resource in
-    let h = c.args.holder in
-    let n = c.in-Some-next.process in
-    let next = c.next_waiter-next.result in
-    let shown : public_of s h ≡ c.public-shown.result = (way c).shown ∙ sym c.public-shown.ensures in
-    let was : AddsUpTo (waiters_of old r) (Some n) c.args.touched.now c.loop-next.touched
-    = subst (λ o. AddsUpTo (waiters_of old r) o c.args.touched.now c.loop-next.touched) c.in-Some-next.is c.loop-next.invariant.added in
+    let n = c.in-Some.process in
+    let rest = c.next.new.self in
+    let ls = c.loop-process.self-inside.1.1.1.0 in
+    let steps = c.in-Some.ensures.steps in
+    let loop = c.loop-process.invariant in
+    let among = walks_among (queued s r) c.loop-process.yielded c.loop-process.process-iterator loop.walked n rest steps in
+    let lawful = lawful_waits c.self.inside s c.self.invariant c.self.view_is c.keeps_laws.ensures in
+    let within = queued_within s r n lawful.within among in
+    let way = subst (IsUnderWay s (with_labels s ls) r h) steps loop.way in
+    let shown : c.public-shown.result ≡ public_of (with_labels s ls) h = c.public-shown.ensures ∙ ap (λ t. public_of t h) c.self.view_is ∙ sym way.shown in
     record {
-      way = subst (λ (t : TableState). IsUnderWay old t r h next) (ap (λ l. labelled s n (label_under s n l)) shown ∙ sym c.block_under.ensures)
-          (blocked old s r h n (way c) next (is_next c));
-      added = adding_next (waiters_of old r) n next (way c).left c.args.touched.now c.loop-next.touched c.add.new.self (way c).once (way c).at (one old s r h n (way c))
-          (at_another old s r h n (way c) next (is_next c)) (omega (arith, its_own old s r h n (way c), was.added.sized, c.requires.sized)) c.add.ensures was;
+      walked = walks_on (queued s r) c.loop-process.yielded c.loop-process.process-iterator loop.walked n rest steps;
+      way = subst (λ t. IsUnderWay s t r h rest) (block_written s ls c.block_under.new.self n h c.public-shown.result shown c.block_under.ensures) (blocked s (with_labels s ls) r h n rest way);
+      added = adds_one c.loop-process.yielded n c.args.touched.now c.loop-process.touched c.add.new.self loop.added (omega (arith, within, loop.added.sized, c.requires.sized)) c.add.ensures;
+      sized = ap length c.block_under.ensures ∙ length-set ls n (both (label_under ls n c.public-shown.result)) ∙ loop.sized;
     }
+
+pub returns-clause-state : goal.returns-clause-state
+returns-clause-state c =
+    let s = c.args.self.now in
+    let ls = c.loop-process.self-inside.1.1.1.0 in
+    ap (λ t. with_labels t ls) c.self.view_is ∙ ends s (with_labels s ls) c.args.resource c.args.holder c.loop-process.process-iterator c.in-None.ensures.steps.0 c.loop-process.invariant.way
+
+pub returns-clause-touched : goal.returns-clause-touched
+returns-clause-touched c =
+    let s = c.args.self.now in
+    let r = c.args.resource in
+    adds_queue (waiters_of s r) c.loop-process.yielded c.args.touched.now c.loop-process.touched
+    (walks_through (queued s r) c.loop-process.yielded c.loop-process.process-iterator c.loop-process.invariant.walked c.in-None.ensures.steps.0) c.loop-process.invariant.added

@@ -1,8 +1,14 @@
-use Rattle.std.proofs.Common.{sym, subst}
+use Rattle.std.proofs.Common.{◌<◌, rules, ap, sym, subst, ◌∙◌}
 use Rattle.mm_rules.specs.TableState.{TableState}
+use Rattle.mm_rules.proofs.States.Totals.{vacate_totals}
 use Rattle.mm_settle.specs.Touched.{Touches}
 use Rattle.mm_settle.proofs.Lemmas.Told.{touches_counted}
 use Rattle.mm_table.proofs.records.Records.finish.Goals as goal
+
+pub count-requires : goal.count-requires
+count-requires c =
+    let same = ap (λ s. s.totals.accepted) c.vacate.ensures.state ∙ ap (λ t. t.accepted) (vacate_totals c.args.self.now c.args.key.process) in
+    subst (λ n. n < 4611686018427387904) (sym same) (search rules)
 
 pub returns-clause-touched : goal.returns-clause-touched
 returns-clause-touched c =

@@ -5,5 +5,4 @@ pub invariant_of-self : goal.invariant_of-self
 invariant_of-self c = record {
   sizes = rw c.push.ensures (given_sized c.args.key c.args.resource c.self.invariant.sizes);
   arrivals = c.self.invariant.arrivals;
-  counters = c.self.invariant.counters;
 }

@@ -1,11 +1,12 @@
-use Rattle.std.proofs.Common.{length}
-use Rattle.mm_rules.specs.TableState.{waiters_of}
-use Rattle.mm_table.proofs.Fields.Walk.{left_from}
-use Rattle.mm_table.proofs.Fields.HandOver.{FitsFrom}
+use Rattle.std.proofs.Common.{◌≡◌, ◌∷◌, ◌++◌}
+use Rattle.std.specs.List.{list_all}
+use Rattle.mm_rules.specs.Change.{block_fits, hand_over_fits}
+use Rattle.mm_table.proofs.Fields.Walk.{queued}
 use Rattle.mm_table.proofs.records.Records.hand_over_fits.Given as goal
 
-abbrev pub invariant-loop-next : goal.invariant-loop-next
-invariant-loop-next l = FitsFrom l.self l.resource l.first.process l.next
-
-abbrev pub decreases-loop-next : goal.decreases-loop-next
-decreases-loop-next l = length (left_from (waiters_of l.self l.resource) l.next)
+-- those that were passed fit
+abbrev pub invariant-loop-process : goal.invariant-loop-process
+invariant-loop-process l = record {
+  walked : queued l.self l.resource ≡ (l.first ∷ l.yielded) ++ l.process-iterator;
+  fits : hand_over_fits l.self l.resource ≡ list_all (λ n. block_fits l.self n l.first) l.process-iterator;
+}

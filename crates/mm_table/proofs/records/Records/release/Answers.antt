@@ -1,9 +1,15 @@
-use Rattle.std.proofs.Common.{sym, subst}
+use Rattle.std.proofs.Common.{◌<◌, rules, ap, sym, subst, ◌∙◌}
 use Rattle.mm_rules.specs.TableState.{TableState}
+use Rattle.mm_rules.proofs.States.Totals.{hand_over_totals}
 use Rattle.mm_settle.specs.Touched.{Touches}
 use Rattle.mm_settle.proofs.Lemmas.Touched.{touches_hand_over}
 use Rattle.mm_settle.proofs.Lemmas.Told.{touches_counted}
 use Rattle.mm_table.proofs.records.Records.release.Goals as goal
+
+pub count-requires : goal.count-requires
+count-requires c =
+    let same = ap (λ s. s.totals.accepted) c.hand_over-answer.ensures.state ∙ ap (λ t. t.accepted) (hand_over_totals c.args.self.now c.args.resource) in
+    subst (λ n. n < 4611686018427387904) (sym same) (search rules)
 
 pub returns-clause-touched : goal.returns-clause-touched
 returns-clause-touched c =

@@ -2,7 +2,6 @@ use Rattle.std.proofs.Common.{ap, sym, subst, ◌∙◌, IsTrue, IsFalse}
 use Rattle.mm_rules.specs.TableState.{TableState, is_live, wait_of, has_verdict}
 use Rattle.mm_rules.specs.Change.{free_slot}
 use Rattle.mm_rules.proofs.States.HandOverAll.{live_still, active_still, no_verdict_then}
-use Rattle.mm_rules.proofs.States.Totals.{vacate_totals}
 use Rattle.mm_settle.specs.Steps.Vacating.{IsVacating}
 use Rattle.mm_settle.proofs.Lemmas.Vacated.{vacating_ends}
 use Rattle.mm_table.proofs.records.Records.vacate.Goals as goal
@@ -21,10 +20,6 @@ free_slot-requires-clause-no_verdict c =
 
 pub returns-clause-state : goal.returns-clause-state
 returns-clause-state c = c.free_slot.ensures ∙ ap (λ s. free_slot s c.args.key.process) c.hand_over_all.ensures.state
-
-pub returns-clause-totals : goal.returns-clause-totals
-returns-clause-totals c =
-    ap (λ s. s.totals) (c.free_slot.ensures ∙ ap (λ s. free_slot s c.args.key.process) c.hand_over_all.ensures.state) ∙ vacate_totals c.args.self.now c.args.key.process
 
 pub returns-clause-touched : goal.returns-clause-touched
 returns-clause-touched c =

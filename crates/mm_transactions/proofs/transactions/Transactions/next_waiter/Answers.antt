@@ -1,6 +1,6 @@
 use Rattle.std.proofs.Common.{subst, sym, ap, ◌∙◌}
 use Rattle.mm_rules.specs.TableState.{waited_for}
-use Rattle.mm_transactions.specs.Transactions.{IsNextWaiter}
+use Rattle.mm_transactions.specs.private.Walk.{IsNextWaiter}
 use Rattle.mm_transactions.proofs.Lemmas.Linked.{next_is, waiting_stands}
 use Rattle.mm_transactions.proofs.Lemmas.Lawful.{none_past}
 use Rattle.mm_transactions.proofs.transactions.Transactions.next_waiter.Goals as goal

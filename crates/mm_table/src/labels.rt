@@ -1,0 +1,140 @@
+//! The labels of all processes.
+ghost use Rattle.std.specs.Prelude.{◌≡◌, ◌≤◌, ◌<◌, ℕ, IfOk, IsTrue, length, map, slice_set};
+ghost use Rattle.std.specs.List.{range_with_len};
+ghost use Rattle.mm_label.specs.Label.{counter_range, process_range};
+ghost use Rattle.mm_table.specs.private.Labels.{opening_labels, private_in, public_in, label_under, both};
+
+use mm_label::{Label, fresh};
+use std::alloc::{AllocError, Global};
+use std::marker::Model;
+
+/// The labels of one process.
+#[derive(Clone, Copy)]
+pub struct ProcessLabels {
+    pub private: Label,
+    pub public: Label,
+}
+
+/// The labels of each process, which outlive its transactions. All of the memory is taken at the opening.
+#[derive(Drop)]
+pub struct Labels {
+    processes: Vec<ProcessLabels>,
+    /// No public label has a greater counter.
+    greatest: u64,
+}
+
+impl Model for Labels {
+    ghost use Rattle.std.specs.Prelude.{List};
+    ghost use Rattle.mm_table.specs.declared.labels.ProcessLabels.{ProcessLabels};
+    ghost use Rattle.mm_table.specs.private.Labels.{AreAtMost};
+
+    ghost Value = { List ProcessLabels };
+
+    ghost view = { λ labels. labels.processes.items };
+
+    ghost invariant = { λ labels. AreAtMost labels.greatest labels.processes.items };
+}
+
+impl Labels {
+    /// The labels of so many processes, none of which was ever used.
+    pub fn open(alloc: Global, count: u32) -> Result<Labels, AllocError>
+        requires { count ≤ process_range }
+        ensures { IfOk result (λ labels. labels ≡ map opening_labels (range_with_len 0 count)) }
+    {
+        let processes = labels_at_opening(alloc, count)?;
+        Ok(Labels {
+            processes,
+            greatest: 0,
+        })
+    }
+
+    /// Both labels of a process.
+    #[inline]
+    pub fn of(&self, process: u32) -> ProcessLabels
+        requires { process < length self.now }
+        ensures private { result.private ≡ private_in self.now process }
+        ensures public { result.public ≡ public_in self.now process }
+    {
+        self.processes[process as usize]
+    }
+
+    /// The public label of a process.
+    #[inline]
+    pub fn public(&self, process: u32) -> Label
+        requires { process < length self.now }
+        ensures { result ≡ public_in self.now process }
+    {
+        self.of(process).public
+    }
+
+    /// Whether each public label has a counter below this one. `false` is no proof of the contrary.
+    #[inline]
+    pub fn are_below(&self, counter: u64) -> bool
+        ensures { IsTrue result → (n : ℕ) → (public_in self.now n).counter < counter }
+    {
+        self.greatest < counter
+    }
+
+    /// Both labels of a process are this one from now on.
+    #[inline]
+    pub fn relabel(&mut self, process: u32, label: Label)
+        requires { process < length self.old }
+        ensures { self.new ≡ slice_set self.old process (both label) }
+    {
+        self.greatest = self.greatest.max(label.counter());
+        self.processes[process as usize] = ProcessLabels {
+            private: label,
+            public: label,
+        };
+    }
+
+    /// Gives `process` both its new labels, by which it waits for one that shows this label. No counter may pass the limit.
+    #[inline]
+    pub fn block_under(&mut self, process: u32, shown: Label, limit: u64)
+        requires process { process < length self.old }
+        requires process_in_range { process < process_range }
+        requires limit_in_range { limit < counter_range }
+        requires fits { (label_under self.old process shown).counter ≤ limit }
+        ensures { self.new ≡ slice_set self.old process (both (label_under self.old process shown)) }
+    {
+        let own = self.public(process);
+        let label = fresh(own, shown, process, limit).unwrap();
+        self.relabel(process, label);
+    }
+
+    /// Makes this label, which some process shows, the public label of `process`.
+    #[inline]
+    pub fn show(&mut self, process: u32, label: Label)
+        requires process { process < length self.old }
+        requires shown { (n : ℕ) × (label ≡ public_in self.old n) }
+        ensures private { map (λ l. l.private) self.new ≡ map (λ l. l.private) self.old }
+        ensures public { map (λ l. l.public) self.new ≡ slice_set (map (λ l. l.public) self.old) process label }
+        ensures sized { length self.new ≡ length self.old }
+    {
+        self.processes[process as usize].public = label;
+    }
+}
+
+impl ProcessLabels {
+    /// The labels of a process that was never used.
+    fn at_opening(process: u32) -> ProcessLabels
+        requires { process < process_range }
+        ensures { result ≡ opening_labels process }
+    {
+        let label = Label::new(0, process).unwrap();
+        ProcessLabels {
+            private: label,
+            public: label,
+        }
+    }
+}
+
+/// The labels of so many processes that were never used.
+fn labels_at_opening(alloc: Global, count: u32) -> Result<Vec<ProcessLabels>, AllocError>
+    requires { count ≤ process_range }
+    ensures { IfOk result (λ v. v.items ≡ map opening_labels (range_with_len 0 count)) }
+{
+    (0..count)
+        .map(|process| ProcessLabels::at_opening(process))
+        .collect(alloc)
+}
