@@ -34,8 +34,8 @@ impl Records {
         ensures verdict { OnOk result (IsTrue (has_verdict self.now key.process)) }
         ensures fits { OnOk result (IsTrue (vacate_fits self.now key.process)) }
     {
-        self.may_call(key)?;
-        if !self.has_verdict(key) {
+        let transaction = self.may_call(key)?;
+        if !transaction.has_verdict {
             return Err(Refusal::NoVerdict);
         }
         if !self.vacate_fits(key.process) {

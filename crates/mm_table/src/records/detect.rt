@@ -17,8 +17,8 @@ impl Records {
     pub fn detect(&mut self, key: Key) -> Result<Detected, Refusal>
         ensures { Gives (detected self.old key) result self.new }
     {
-        self.may_call_waiting(key)?;
-        let answer = if self.has_verdict(key) {
+        let transaction = self.may_call_waiting(key)?;
+        let answer = if transaction.has_verdict {
             Detected::Standing
         } else if self.can_detect(key) {
             let label = self.labels.of(key.process).private;

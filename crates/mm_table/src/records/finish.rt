@@ -33,8 +33,8 @@ impl Records {
         ensures active { OnOk result (wait_of self.now key.process ≡ None) }
         ensures fits { OnOk result (IsTrue (vacate_fits self.now key.process)) }
     {
-        self.may_call(key)?;
-        if self.is_waiting(key) {
+        let transaction = self.may_call(key)?;
+        if transaction.waits_for.is_some() {
             return Err(Refusal::Waiting);
         }
         if !self.vacate_fits(key.process) {

@@ -29,8 +29,8 @@ impl Records {
         ensures in_range { OnOk result (key.process < self.now.config.processes) }
         ensures waiting { OnOk result (IsTrue (is_waiting self.now key.process)) }
     {
-        self.may_call_waiting(key)?;
-        if self.has_verdict(key) {
+        let transaction = self.may_call_waiting(key)?;
+        if transaction.has_verdict {
             return Err(Refusal::UnderVerdict);
         }
         let labels = self.labels.of(key.process);

@@ -1,7 +1,7 @@
 //! Reads, which change nothing: those that a caller makes, and those that events are made of.
 ghost use Rattle.std.specs.Prelude.{◌≡◌, ◌≤◌, ◌<◌, ◌↔◌, ℕ, IsTrue, IfSome, IfNone, None, Some, option_map, vec_capacity};
 ghost use Rattle.mm_list_lemmas.specs.Members.{Among, NoRepeat};
-ghost use Rattle.mm_rules.specs.TableState.{wait_of, holder_of, is_live, has_verdict, public_of, is_waiting, owner_of, owns};
+ghost use Rattle.mm_rules.specs.TableState.{wait_of, holder_of, is_live, has_verdict, public_of, owner_of, owns};
 ghost use Rattle.mm_rules.specs.Laws.{Laws};
 ghost use Rattle.mm_rules.specs.Event.{state_of, owner_told, tenant_of};
 
@@ -83,14 +83,6 @@ impl Records {
         ensures in_range { IsTrue result → key.process < self.now.config.processes }
     {
         self.transactions.contains(key)
-    }
-
-    /// Whether a live transaction waits.
-    pub(super) fn is_waiting(&self, key: Key) -> bool
-        requires { IsTrue (is_live self.now key) }
-        ensures { result ≡ is_waiting self.now key.process }
-    {
-        self.transactions.get(key).unwrap().waits_for.is_some()
     }
 
     pub(super) fn has_verdict(&self, key: Key) -> bool
