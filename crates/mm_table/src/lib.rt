@@ -6,11 +6,13 @@
 //! - `laws`: facts about all tables, as the contracts of functions that do nothing: those of mm_rules and of mm_settle.
 //! - `records`: how a table is kept. Nothing else depends on it.
 //! - `labels`: the labels of all processes, for `records`.
+//! - `sets`: the sets of processes that a table works with.
 #![tactic(auto)]
 
 mod labels;
 pub mod laws;
 mod records;
+mod sets;
 mod table;
 
 pub use mm_rules::{

@@ -7,10 +7,10 @@ ghost use Rattle.mm_rules.specs.Laws.{Laws, HasSoundVerdicts};
 ghost use Rattle.mm_settle.specs.Touched.{changed_processes};
 
 use crate::records::Records;
+use crate::sets::Sets;
 use crate::{
     Acquired, Config, Detected, Key, Label, Refusal, Released, Settled, State, Totals, Transmitted,
 };
-use mm_bit_set::BitSet;
 use std::alloc::Global;
 use std::marker::Model;
 
@@ -28,14 +28,7 @@ const NOTHING: Settled = Settled {
 #[derive(Drop)]
 pub struct Table {
     records: Records,
-    /// Whoever may transmit or newly detect is one of these, or waits for one of these.
-    changed: BitSet,
-    /// Whom the call under way changed, where it lists them. Between calls it is empty.
-    touched: BitSet,
-    /// Those to which a settle has still to come. What it has between calls means nothing.
-    pending: BitSet,
-    /// Those that may still detect in a settle. What it has between calls means nothing.
-    checks: BitSet,
+    sets: Sets,
 }
 
 impl Model for Table {
@@ -59,14 +52,10 @@ impl Table {
         ensures { Opens config result }
     {
         let records = Records::open(alloc, config)?;
-        let ((changed, touched), (pending, checks)) = four_empty_sets(alloc, config.processes)?;
-        Ok(Table {
-            records,
-            changed,
-            touched,
-            pending,
-            checks,
-        })
+        let Ok(sets) = Sets::open(alloc, config.processes) else {
+            return Err(Refusal::Memory);
+        };
+        Ok(Table { records, sets })
     }
 
     /// Starts a transaction in the first free process, and returns its key. The labels of the process stay as they are.
@@ -86,7 +75,7 @@ impl Table {
     pub fn acquire(&mut self, key: Key, resource: u32) -> Result<Acquired, Refusal>
         ensures { Step (Acquire key resource) self.old result self.new }
     {
-        self.records.acquire(key, resource, &mut self.changed)
+        self.records.acquire(key, resource, &mut self.sets.changed)
     }
 
     /// Hands the resource over: the longest waiter owns it from now on, and each other waiter keeps its place and gets a fresh
@@ -97,7 +86,7 @@ impl Table {
     pub fn release(&mut self, key: Key, resource: u32) -> Result<Released, Refusal>
         ensures { Step (Release key resource) self.old result self.new }
     {
-        self.records.release(key, resource, &mut self.changed)
+        self.records.release(key, resource, &mut self.sets.changed)
     }
 
     /// `release`, which also lists whom to wake: `wake` then has, in place of what it had, all processes whose labels, wait, holder or
@@ -118,8 +107,8 @@ impl Table {
         ensures woken { wake.new.items ≡ changed_processes self.old self.new }
         ensures room { vec_capacity wake.new ≡ vec_capacity wake.old }
     {
-        let answer = self.records.release(key, resource, &mut self.touched);
-        self.touched.move_all(&mut self.changed, wake);
+        let answer = self.records.release(key, resource, &mut self.sets.touched);
+        self.sets.touched.move_all(&mut self.sets.changed, wake);
         answer
     }
 
@@ -131,7 +120,7 @@ impl Table {
     pub fn finish(&mut self, key: Key) -> Result<(), Refusal>
         ensures { Step (Finish key) self.old result self.new }
     {
-        self.records.finish(key, &mut self.changed)
+        self.records.finish(key, &mut self.sets.changed)
     }
 
     /// `finish`, which also lists whom to wake, as `release_waking` does: those that waited for what the transaction owned.
@@ -143,8 +132,8 @@ impl Table {
         ensures woken { wake.new.items ≡ changed_processes self.old self.new }
         ensures room { vec_capacity wake.new ≡ vec_capacity wake.old }
     {
-        let answer = self.records.finish(key, &mut self.touched);
-        self.touched.move_all(&mut self.changed, wake);
+        let answer = self.records.finish(key, &mut self.sets.touched);
+        self.sets.touched.move_all(&mut self.sets.changed, wake);
         answer
     }
 
@@ -154,7 +143,7 @@ impl Table {
     pub fn transmit(&mut self, key: Key) -> Result<Transmitted, Refusal>
         ensures { Step (Transmit key) self.old result self.new }
     {
-        self.records.transmit(key, &mut self.changed)
+        self.records.transmit(key, &mut self.sets.changed)
     }
 
     /// Gives the waiting transaction a verdict where its private label, its public one and its holder's public one are one label.
@@ -175,7 +164,7 @@ impl Table {
     pub fn abort(&mut self, key: Key) -> Result<(), Refusal>
         ensures { Step (Abort key) self.old result self.new }
     {
-        self.records.abort(key, &mut self.changed)
+        self.records.abort(key, &mut self.sets.changed)
     }
 
     /// `abort`, which also lists whom to wake, as `release_waking` does: those that waited for what the transaction owned, and the
@@ -188,8 +177,8 @@ impl Table {
         ensures woken { wake.new.items ≡ changed_processes self.old self.new }
         ensures room { vec_capacity wake.new ≡ vec_capacity wake.old }
     {
-        let answer = self.records.abort(key, &mut self.touched);
-        self.touched.move_all(&mut self.changed, wake);
+        let answer = self.records.abort(key, &mut self.sets.touched);
+        self.sets.touched.move_all(&mut self.sets.changed, wake);
         answer
     }
 
@@ -203,7 +192,7 @@ impl Table {
     pub fn give_up(&mut self, key: Key) -> Result<(), Refusal>
         ensures { Step (GiveUp key) self.old result self.new }
     {
-        self.records.give_up(key, &mut self.changed)
+        self.records.give_up(key, &mut self.sets.changed)
     }
 
     /// Each waiting transaction in turn, by rising process number, transmits where it can; this is done again until a whole sweep
@@ -219,14 +208,9 @@ impl Table {
     pub fn settle(&mut self) -> Result<Settled, Refusal>
         ensures { Step Settle self.old result self.new }
     {
-        let answer = self.records.settle(
-            &mut self.changed,
-            &mut self.pending,
-            &mut self.checks,
-            &mut self.touched,
-        );
+        let answer = self.records.settle(&mut self.sets);
         if answer != Ok(NOTHING) {
-            self.touched.clear();
+            self.sets.touched.clear();
         }
         answer
     }
@@ -241,13 +225,8 @@ impl Table {
         ensures woken { wake.new.items ≡ changed_processes self.old self.new }
         ensures room { vec_capacity wake.new ≡ vec_capacity wake.old }
     {
-        let answer = self.records.settle(
-            &mut self.changed,
-            &mut self.pending,
-            &mut self.checks,
-            &mut self.touched,
-        );
-        self.touched.take_all(wake);
+        let answer = self.records.settle(&mut self.sets);
+        self.sets.touched.take_all(wake);
         answer
     }
 
@@ -343,42 +322,4 @@ impl Table {
     {
         let _ = &self.records;
     }
-}
-
-/// The empty set of processes, four times.
-fn four_empty_sets(
-    alloc: Global,
-    processes: u32,
-) -> Result<((BitSet, BitSet), (BitSet, BitSet)), Refusal>
-    ensures first { IfOk result (λ sets. sets.0.0 ≡ replicate processes false) }
-    ensures second { IfOk result (λ sets. sets.0.1 ≡ replicate processes false) }
-    ensures third { IfOk result (λ sets. sets.1.0 ≡ replicate processes false) }
-    ensures fourth { IfOk result (λ sets. sets.1.1 ≡ replicate processes false) }
-    ensures refusal { IfErr result (λ refusal. refusal ≡ Refusal.Memory) }
-{
-    let two = two_empty_sets(alloc, processes)?;
-    let others = two_empty_sets(alloc, processes)?;
-    Ok((two, others))
-}
-
-/// The empty set of processes, twice.
-fn two_empty_sets(alloc: Global, processes: u32) -> Result<(BitSet, BitSet), Refusal>
-    ensures first { IfOk result (λ sets. sets.0 ≡ replicate processes false) }
-    ensures second { IfOk result (λ sets. sets.1 ≡ replicate processes false) }
-    ensures refusal { IfErr result (λ refusal. refusal ≡ Refusal.Memory) }
-{
-    let one = empty_set(alloc, processes)?;
-    let other = empty_set(alloc, processes)?;
-    Ok((one, other))
-}
-
-/// The empty set of processes.
-fn empty_set(alloc: Global, processes: u32) -> Result<BitSet, Refusal>
-    ensures set { IfOk result (λ set. set ≡ replicate processes false) }
-    ensures refusal { IfErr result (λ refusal. refusal ≡ Refusal.Memory) }
-{
-    let Ok(set) = BitSet::new(alloc, processes) else {
-        return Err(Refusal::Memory);
-    };
-    Ok(set)
 }

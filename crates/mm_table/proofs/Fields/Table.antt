@@ -53,8 +53,8 @@ module _ (e : Event) (old : Inside) (new : TableState) (reply : Result (Answer e
   processes = ap (λ c. c.processes) (event_config e old.records new reply step)
 
   -- whoever may transmit or newly detect afterwards is among these
-  pub step_keeps_table : (changed touched : List Bool) → AreChanged new changed → length changed ≡ length old.changed → length touched ≡ length old.touched → ((k : ℕ) → has touched k ≡ false)
-      → IsLawfulTable (record old { records = new; changed = changed; touched = touched })
+  pub step_keeps_table : (changed touched : List Bool) → AreChanged new changed → length changed ≡ length old.sets.changed → length touched ≡ length old.sets.touched → ((k : ℕ) → has touched k ≡ false)
+      → IsLawfulTable (record { records = new; sets = record old.sets { changed = changed; touched = touched } })
   step_keeps_table changed touched are changed_sized touched_sized none = record {
     laws = (event_keeps e old.records new reply step kept.laws).laws;
     changed = are;
@@ -68,24 +68,24 @@ module _ (e : Event) (old : Inside) (new : TableState) (reply : Result (Answer e
   }
 
   -- those that the event changed were added to the changed
-  pub touch_keeps_table : (changed : List Bool) → Touches old.records new old.changed changed → IsLawfulTable (record old { records = new; changed = changed })
+  pub touch_keeps_table : (changed : List Bool) → Touches old.records new old.sets.changed changed → IsLawfulTable (record { records = new; sets = record old.sets { changed = changed } })
   touch_keeps_table changed touches =
-      step_keeps_table changed old.touched (changes_keep old.records new old.changed changed (touches_changes old.records new old.changed changed touches) kept.changed) touches.sized refl kept.touched_none
+      step_keeps_table changed old.sets.touched (changes_keep old.records new old.sets.changed changed (touches_changes old.records new old.sets.changed changed touches) kept.changed) touches.sized refl kept.touched_none
 
   -- they were listed first
-  pub listing_keeps_table : (touched changed left : List Bool) → Touches old.records new old.touched touched → ((k : ℕ) → has changed k ≡ (has old.changed k || has touched k))
-      → length changed ≡ length old.changed → left ≡ replicate (length touched) false → IsLawfulTable (record old { records = new; changed = changed; touched = left })
+  pub listing_keeps_table : (touched changed left : List Bool) → Touches old.records new old.sets.touched touched → ((k : ℕ) → has changed k ≡ (has old.sets.changed k || has touched k))
+      → length changed ≡ length old.sets.changed → left ≡ replicate (length touched) false → IsLawfulTable (record { records = new; sets = record old.sets { changed = changed; touched = left } })
   listing_keeps_table touched changed left touches union sized is =
-      step_keeps_table changed left (touches_union old.records new old.touched touched old.changed changed touches kept.changed union) sized
+      step_keeps_table changed left (touches_union old.records new old.sets.touched touched old.sets.changed changed touches kept.changed union) sized
       (ap length is ∙ length-replicate (length touched) false ∙ touches.sized) (emptied left (length touched) is)
 
   -- they are the list
-  pub listed : (touched : List Bool) (list : List ℕ) → Touches old.records new old.touched touched → list ≡ members touched → list ≡ changed_processes old.records new
-  listed touched list touches is = is ∙ told old.records new old.touched touched touches kept.touched_none kept.touched_sized
+  pub listed : (touched : List Bool) (list : List ℕ) → Touches old.records new old.sets.touched touched → list ≡ members touched → list ≡ changed_processes old.records new
+  listed touched list touches is = is ∙ told old.records new old.sets.touched touched touches kept.touched_none kept.touched_sized
 
   -- a settle
-  pub settled_keeps_table : (changed touched left pending checks : List Bool) → AreChanged new changed → SetsAreSized new changed pending checks → Touches old.records new old.touched touched
-      → left ≡ replicate (length touched) false → IsLawfulTable (record { records = new; changed = changed; touched = left; pending = pending; checks = checks })
+  pub settled_keeps_table : (changed touched left pending checks : List Bool) → AreChanged new changed → SetsAreSized new changed pending checks → Touches old.records new old.sets.touched touched
+      → left ≡ replicate (length touched) false → IsLawfulTable (record { records = new; sets = record { changed = changed; touched = left; pending = pending; checks = checks } })
   settled_keeps_table changed touched left pending checks are sized touches is = record {
     laws = (event_keeps e old.records new reply step kept.laws).laws;
     changed = are;
@@ -96,13 +96,13 @@ module _ (e : Event) (old : Inside) (new : TableState) (reply : Result (Answer e
 
 -- a settle that raises and convicts nobody
 pub still_keeps_table : (old : Inside) (new : TableState) → Step Settle old.records (Ok nothing) new → IsLawfulTable old → (changed touched pending checks : List Bool) → AreChanged new changed
-    → SetsAreSized new changed pending checks → Touches old.records new old.touched touched → IsLawfulTable (record { records = new; changed = changed; touched = touched; pending = pending; checks = checks })
+    → SetsAreSized new changed pending checks → Touches old.records new old.sets.touched touched → IsLawfulTable (record { records = new; sets = record { changed = changed; touched = touched; pending = pending; checks = checks } })
 still_keeps_table old new step kept changed touched pending checks are sized touches = record {
   laws = (event_keeps Settle old.records new (Ok nothing) step kept.laws).laws;
   changed = are;
   sized = sized;
   touched_sized = touches.sized ∙ kept.touched_sized ∙ sym (processes Settle old new (Ok nothing) step kept);
-  touched_none = none_touched old.records new step old.touched touched touches kept.touched_none;
+  touched_none = none_touched old.records new step old.sets.touched touched touches kept.touched_none;
 }
 
 -- an answer that equals it is that one

@@ -8,7 +8,7 @@ use Rattle.mm_table.specs.declared.table.Table.TheInside.{Inside}
 -- all laws; whoever may transmit or newly detect is among the changed, or its holder is; each set has a place for each process
 pub record IsLawfulTable (t : Inside) : Type 0 where
   pub laws : Laws t.records
-  pub changed : AreChanged t.records t.changed
-  pub sized : SetsAreSized t.records t.changed t.pending t.checks
-  pub touched_sized : length t.touched ≡ t.records.config.processes
-  pub touched_none : IsNoneMarked t.touched
+  pub changed : AreChanged t.records t.sets.changed
+  pub sized : SetsAreSized t.records t.sets.changed t.sets.pending t.sets.checks
+  pub touched_sized : length t.sets.touched ≡ t.records.config.processes
+  pub touched_none : IsNoneMarked t.sets.touched

@@ -8,6 +8,7 @@ ghost use Rattle.mm_settle.specs.Steps.Changed.{AreChanged};
 ghost use Rattle.mm_settle.specs.Steps.Marked.{AddsWaiters, AreMarked, IsNoneMarked, NoneCan, SameLengths, SetsAreSized};
 
 use super::Records;
+use crate::sets::Sets;
 use crate::{Refusal, Settled};
 use mm_bit_set::BitSet;
 
@@ -15,32 +16,26 @@ impl Records {
     /// Sweeps until no label can be transmitted, and then gives each verdict that is due. Only those are looked at that are among
     /// the changed or wait for one of them, and those that wait for whoever is raised.
     ///
-    /// Takes all from the changed, and adds whoever it raises or convicts to the touched. What `pending` and `checks` have before
-    /// makes no difference.
+    /// Takes all from the changed, and adds whoever it raises or convicts to the touched. What the two other sets have before makes no
+    /// difference.
     // Where a caller settles at one place only, the compiler would copy this into it and then keep the table's counts in memory: a
     // granted lock and a begin beside it then cost a tenth more.
     #[inline(never)]
-    pub fn settle(
-        &mut self,
-        changed: &mut BitSet,
-        pending: &mut BitSet,
-        checks: &mut BitSet,
-        touched: &mut BitSet,
-    ) -> Result<Settled, Refusal>
+    pub fn settle(&mut self, sets: &mut Sets) -> Result<Settled, Refusal>
         requires laws { Laws self.old }
-        requires changed { AreChanged self.old changed.old }
-        requires sized { SetsAreSized self.old changed.old pending.old checks.old }
-        requires touched { length touched.old ≡ self.old.config.processes }
+        requires changed { AreChanged self.old sets.old.changed }
+        requires sized { SetsAreSized self.old sets.old.changed sets.old.pending sets.old.checks }
+        requires touched { length sets.old.touched ≡ self.old.config.processes }
         ensures step { Step Settle self.old result self.new }
-        ensures changed { AreChanged self.new changed.new }
-        ensures sized { SetsAreSized self.new changed.new pending.new checks.new }
-        ensures touched { Touches self.old self.new touched.old touched.new }
+        ensures changed { AreChanged self.new sets.new.changed }
+        ensures sized { SetsAreSized self.new sets.new.changed sets.new.pending sets.new.checks }
+        ensures touched { Touches self.old self.new sets.old.touched sets.new.touched }
     {
         if self.counts_exhausted() {
             return Err(Refusal::CountsExhausted);
         }
-        if self.load(changed, pending) {
-            return Ok(self.settle_pending(pending, checks, touched));
+        if self.load(&mut sets.changed, &mut sets.pending) {
+            return Ok(self.settle_pending(&mut sets.pending, &mut sets.checks, &mut sets.touched));
         }
         self.count();
         Ok(Settled {

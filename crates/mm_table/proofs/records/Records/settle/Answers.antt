@@ -14,7 +14,7 @@ returns-then-load-clause-sized c =
     let config = sym (ap (λ t. t.processes) (event_config Settle c.args.self.now c.settle_pending.new.self (Ok c.settle_pending.result) c.settle_pending.ensures.step)) in
     record {
       changed_sized = c.load.ensures.changed_sized ∙ c.requires.sized.changed_sized ∙ config;
-      pending_sized = c.settle_pending.ensures.pending ∙ (c.load.ensures.marked c.args.checks.now c.requires.sized.checks_sized).pending_sized ∙ config;
+      pending_sized = c.settle_pending.ensures.pending ∙ (c.load.ensures.marked c.args.sets.now.checks c.requires.sized.checks_sized).pending_sized ∙ config;
       checks_sized = c.settle_pending.ensures.checks ∙ c.requires.sized.checks_sized ∙ config;
     }
 
@@ -32,10 +32,10 @@ returns-clause-sized c =
     let config = sym (ap (λ t. t.config.processes) c.count.ensures) in
     record {
       changed_sized = c.load.ensures.changed_sized ∙ c.requires.sized.changed_sized ∙ config;
-      pending_sized = (c.load.ensures.marked c.args.checks.now c.requires.sized.checks_sized).pending_sized ∙ config;
+      pending_sized = (c.load.ensures.marked c.args.sets.now.checks c.requires.sized.checks_sized).pending_sized ∙ config;
       checks_sized = c.requires.sized.checks_sized ∙ config;
     }
 
 pub returns-clause-touched : goal.returns-clause-touched
 returns-clause-touched c =
-    quiet_touches c.args.self.now c.requires.laws (c.load.ensures.quiet c.if-load.false) c.count.new.self c.count.ensures c.args.touched.now
+    quiet_touches c.args.self.now c.requires.laws (c.load.ensures.quiet c.if-load.false) c.count.new.self c.count.ensures c.args.sets.now.touched

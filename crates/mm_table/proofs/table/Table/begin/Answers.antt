@@ -9,7 +9,7 @@ pub invariant_of-self : goal.invariant_of-self
 invariant_of-self c =
     let old = c.self.inside in
     let s = old.records in
-    step_keeps_table Begin old c.begin.new.self c.begin.result c.begin.ensures c.self.invariant old.changed old.touched
-    (subst (λ (t : TableState). AreChanged t old.changed) (sym c.begin.ensures.1)
-    (counted_changed _ s _ _ old.changed c.self.invariant.changed (begun_changed s _ _ old.changed c.self.invariant.changed)))
+    step_keeps_table Begin old c.begin.new.self c.begin.result c.begin.ensures c.self.invariant old.sets.changed old.sets.touched
+    (subst (λ (t : TableState). AreChanged t old.sets.changed) (sym c.begin.ensures.1)
+    (counted_changed _ s _ _ old.sets.changed c.self.invariant.changed (begun_changed s _ _ old.sets.changed c.self.invariant.changed)))
     refl refl c.self.invariant.touched_none

@@ -12,7 +12,7 @@ invariant_of-self c =
     let old = c.self.inside in
     let s = old.records in
     let n = c.args.key.process in
-    let detects = changes_keep s (detect s n) old.changed old.changed (changes_detect s n old.changed) c.self.invariant.changed in
-    step_keeps_table (Detect c.args.key) old c.detect.new.self c.detect.result c.detect.ensures c.self.invariant old.changed old.touched
-    (subst (λ (t : TableState). AreChanged t old.changed) (sym c.detect.ensures.1) (counted_changed _ s _ (detect s n) old.changed c.self.invariant.changed detects))
+    let detects = changes_keep s (detect s n) old.sets.changed old.sets.changed (changes_detect s n old.sets.changed) c.self.invariant.changed in
+    step_keeps_table (Detect c.args.key) old c.detect.new.self c.detect.result c.detect.ensures c.self.invariant old.sets.changed old.sets.touched
+    (subst (λ (t : TableState). AreChanged t old.sets.changed) (sym c.detect.ensures.1) (counted_changed _ s _ (detect s n) old.sets.changed c.self.invariant.changed detects))
     refl refl c.self.invariant.touched_none

@@ -14,12 +14,12 @@ invariant_of-result c =
     let sized : (set : List Bool) → set ≡ replicate processes false → length set ≡ c.in_ok-records.records.config.processes = λ set is. ap length is ∙ length-replicate processes false ∙ sym (ap (λ s. s.config.processes) opened.1) in
     record {
       laws = subst Laws (sym opened.1) (opening_lawful c.args.config opened.0);
-      changed = subst (λ (s : TableState). AreChanged s c.in_ok-changed.changed) (sym opened.1) (opened_changed c.args.config c.in_ok-changed.changed);
+      changed = subst (λ (s : TableState). AreChanged s c.in-Ok.sets.changed) (sym opened.1) (opened_changed c.args.config c.in-Ok.sets.changed);
       sized = record {
-        changed_sized = sized c.in_ok-changed.changed c.in_ok-changed.ensures.first;
-        pending_sized = sized c.in_ok-changed.pending c.in_ok-changed.ensures.third;
-        checks_sized = sized c.in_ok-changed.checks c.in_ok-changed.ensures.fourth;
+        changed_sized = sized c.in-Ok.sets.changed c.in-Ok.ensures.changed;
+        pending_sized = sized c.in-Ok.sets.pending c.in-Ok.ensures.pending;
+        checks_sized = sized c.in-Ok.sets.checks c.in-Ok.ensures.checks;
       };
-      touched_sized = sized c.in_ok-changed.touched c.in_ok-changed.ensures.second;
-      touched_none = emptied c.in_ok-changed.touched processes c.in_ok-changed.ensures.second;
+      touched_sized = sized c.in-Ok.sets.touched c.in-Ok.ensures.touched;
+      touched_none = emptied c.in-Ok.sets.touched processes c.in-Ok.ensures.touched;
     }
