@@ -50,15 +50,11 @@ of_unlock Deadlock = true
 of_unlock NameEmpty = true
 of_unlock NameTooLong = true
 of_unlock NotOwner = true
-of_unlock LabelsFull = true
-of_unlock CountsFull = true
 of_unlock NotActive = true
 of_unlock error = false
 
 -- of `commit`
 abbrev pub of_commit : LockError → Bool
 of_commit Deadlock = true
-of_commit LabelsFull = true
-of_commit CountsFull = true
 of_commit NotActive = true
 of_commit error = false

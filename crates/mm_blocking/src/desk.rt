@@ -131,8 +131,8 @@ impl Desk {
         }
     }
 
-    /// Takes back the request of one that waits: `TimedOut` where that is done. Else it owns the name, or waits on: it carries another's
-    /// label, or a count is at its limit.
+    /// Takes back the request of one that waits: `TimedOut` where that is done. Else it owns the name, or waits on, since it carries
+    /// another's label.
     pub fn take_back(
         &mut self,
         key: Key,
