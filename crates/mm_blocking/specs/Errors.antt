@@ -44,6 +44,11 @@ of_lock CountsFull = true
 of_lock NotActive = true
 of_lock error = false
 
+-- of a try for a name, which never waits and needs no label
+abbrev pub of_try : LockError → Bool
+of_try LabelsFull = false
+of_try error = of_lock error
+
 -- of `unlock`
 abbrev pub of_unlock : LockError → Bool
 of_unlock Deadlock = true

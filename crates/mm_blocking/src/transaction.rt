@@ -1,6 +1,6 @@
 //! A transaction.
 ghost use Rattle.std.specs.Prelude.{◌≡◌, ◌⊎◌, true, IfErr};
-ghost use Rattle.mm_blocking.specs.Errors.{of_lock, of_unlock, of_commit};
+ghost use Rattle.mm_blocking.specs.Errors.{of_lock, of_try, of_unlock, of_commit};
 
 use crate::desk::Asked;
 use crate::error::LockError;
@@ -123,7 +123,7 @@ impl<'m, R: Wait> Transaction<'m, R> {
     ///
     /// Refused as `Deadlock`, `NameEmpty`, `NameTooLong`, `NamesFull` or `CountsFull`. `O(length)`.
     pub fn try_lock(&mut self, name: &[u8]) -> Result<bool, LockError>
-        ensures refused { IfErr result (λ error. of_lock error ≡ true) }
+        ensures refused { IfErr result (λ error. of_try error ≡ true) }
     {
         self.locks.try_lock(self.rt, self.key, name)
     }
