@@ -19,8 +19,7 @@ pub enum Next {
 /// Asks for an account, and handles each answer: a transaction that closed a cycle of waits is aborted at once. Whom that gives its
 /// accounts, `locks.granted()` lists; the caller wakes them.
 ///
-/// Refused as `LockManager::lock` is. Where the abort is refused, as `LabelsFull` or `CountsFull`, the transaction is still in the deadlock,
-/// and owns what it owned.
+/// Refused as `LockManager::lock` is.
 pub fn lock_or_roll_back(locks: &mut LockManager, key: Key, account: &[u8]) -> Result<Next, Refusal>
     ensures { IfOk result (Leaves locks.new key account.now) }
 {
@@ -42,6 +41,6 @@ fn roll_back(locks: &mut LockManager, key: Key) -> Result<(), Refusal>
 {
     match locks.abort(key)? {
         Abort::Done => Ok(()),
-        Abort::Later | Abort::Withdrawn => unreachable!(),
+        Abort::Later => unreachable!(),
     }
 }

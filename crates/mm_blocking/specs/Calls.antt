@@ -6,7 +6,8 @@ use Rattle.mm_rules.specs.Victims.{IsOnCycle}
 use Rattle.mm_manager.specs.LockState.{LockState, Owns, untold}
 use Rattle.mm_manager.specs.Calls.{Begins, Gets, Queues, UnlocksName, Commits, Aborts, Cancels}
 use Rattle.mm_manager.specs.Reads.{HasStatus}
-use Rattle.mm_manager.specs.Refused.{NameRefused, CommitRefused}
+use Rattle.mm_manager.specs.Permit.{may_ask}
+use Rattle.mm_manager.specs.Refused.{TryRefused, LockRefused}
 use Rattle.mm_manager.specs.declared.refusal.Refusal.{Refusal}
 use Rattle.mm_manager.specs.declared.reply.Abort.{Abort}
 use Rattle.mm_manager.specs.declared.reply.Cancel.{Cancel}
@@ -26,7 +27,7 @@ Starts old (Err error) new = Because (λ refusal. Begins old (Err refusal) new) 
 
 -- the manager refuses the request, and nothing changes
 abbrev pub IsRefused : LockState → Key → List ℕ → LockError → LockState → Type 0
-IsRefused old k name error new = (new ≡ untold old) × Because (NameRefused old k name) error
+IsRefused old k name error new = (new ≡ untold old) × Because (LockRefused old k name) error
 
 -- a request: k owns the name; or it waits, on no cycle of waits; or it closed a cycle, or is refused
 abbrev pub Asks : LockState → Key → List ℕ → Result Asked LockError → LockState → Type 0
@@ -80,9 +81,9 @@ left names (Err error) = Err error
 abbrev pub Tries : LockState → Key → List ℕ → Result Bool LockError → LockState → Type 0
 Tries old k name (Ok true) new = Gets old k name new ⊎ (Owns old k name × (new ≡ untold old))
 Tries old k name (Ok false) new = ((h : Key) × Owns old h name × (h ≢ k)) × (new ≡ untold old)
-Tries old k name (Err error) new = IsRefused old k name error new
+Tries old k name (Err error) new = (new ≡ untold old) × Because (TryRefused old k name) error
 
--- the request of k is taken back; or it is not, since k carries another's label or a count is at its limit, and this is what it has come to
+-- the request of k is taken back; or it is not, since k carries another's label or does not wait any more, and this is what it has come to
 abbrev pub TimesOut : LockState → Key → List ℕ → Result Asked LockError → LockState → Type 0
 TimesOut old k name found new =
     ((found ≡ Err TimedOut) × Cancels old k (Ok cancel.Withdrawn) new)
@@ -93,11 +94,11 @@ abbrev pub GivesBack : LockState → Key → List ℕ → Result (Unit {0}) Lock
 GivesBack old k name (Ok done) new = UnlocksName old k name (Ok tt) new
 GivesBack old k name (Err error) new = Because (λ refusal. UnlocksName old k name (Err refusal) new) error
 
--- k is aborted, or that is refused since a label or a count is at its limit
+-- k is aborted; only who is not live is refused that
 abbrev pub RollsBack : LockState → Key → LockState → Type 0
 RollsBack old k new = (answer : Result Abort Refusal) × Aborts old k answer new
 
 -- k ends; or that is refused, and it is rolled back
 abbrev pub Ends : LockState → Key → Result (Unit {0}) LockError → LockState → Type 0
 Ends old k (Ok done) new = Commits old k (Ok tt) new
-Ends old k (Err error) new = Because (CommitRefused old k) error × RollsBack (untold old) k new
+Ends old k (Err error) new = Because (λ refusal. may_ask old.table k ≡ Err refusal) error × RollsBack (untold old) k new

@@ -44,21 +44,22 @@ of_lock CountsFull = true
 of_lock NotActive = true
 of_lock error = false
 
+-- of a try for a name, which never waits and needs no label
+abbrev pub of_try : LockError → Bool
+of_try LabelsFull = false
+of_try error = of_lock error
+
 -- of `unlock`
 abbrev pub of_unlock : LockError → Bool
 of_unlock Deadlock = true
 of_unlock NameEmpty = true
 of_unlock NameTooLong = true
 of_unlock NotOwner = true
-of_unlock LabelsFull = true
-of_unlock CountsFull = true
 of_unlock NotActive = true
 of_unlock error = false
 
 -- of `commit`
 abbrev pub of_commit : LockError → Bool
 of_commit Deadlock = true
-of_commit LabelsFull = true
-of_commit CountsFull = true
 of_commit NotActive = true
 of_commit error = false

@@ -6,7 +6,7 @@ ghost use Rattle.mm_manager.specs.Reads.{HasStatus};
 ghost use Rattle.mm_manager.specs.declared.refusal.Refusal.{Refusal as RefusalValue};
 ghost use Rattle.mm_manager.specs.declared.reply.Status.{Status as StatusValue};
 ghost use Rattle.mm_blocking.specs.Calls.{Starts, Asks, AsksEach, GoesOn, Tries, Finds, TimesOut, GivesBack, Ends, bytes_of, left, is_deadlock};
-ghost use Rattle.mm_blocking.specs.Errors.{of_begin, of_lock, of_unlock, of_commit};
+ghost use Rattle.mm_blocking.specs.Errors.{of_begin, of_lock, of_try, of_unlock, of_commit};
 ghost use Rattle.mm_blocking.specs.Wakes.{IsToWake, Notes, told};
 
 use crate::error::LockError;
@@ -87,7 +87,7 @@ impl Desk {
     /// Asks for a name, and never waits. Returns whether the transaction owns it.
     pub fn try_lock(&mut self, key: Key, name: &[u8]) -> Result<bool, LockError>
         ensures tries { Tries self.old.manager key name.now result self.new.manager }
-        ensures refused { IfErr result (λ error. of_lock error ≡ true) }
+        ensures refused { IfErr result (λ error. of_try error ≡ true) }
     {
         match self.manager.try_lock(key, name) {
             Ok(TryLock::Granted | TryLock::Held) => Ok(true),
@@ -131,8 +131,8 @@ impl Desk {
         }
     }
 
-    /// Takes back the request of one that waits: `TimedOut` where that is done. Else it owns the name, or waits on: it carries another's
-    /// label, or a count is at its limit.
+    /// Takes back the request of one that waits: `TimedOut` where that is done. Else it owns the name, or waits on, since it carries
+    /// another's label.
     pub fn take_back(
         &mut self,
         key: Key,

@@ -21,7 +21,7 @@ pub enum LockError {
     TransactionsFull,
     #[error("as many names are owned as there can be")]
     NamesFull,
-    #[error("a label would pass its limit")]
+    #[error("there may be no label left for one more wait")]
     LabelsFull,
     #[error("the count of events is at its limit")]
     CountsFull,

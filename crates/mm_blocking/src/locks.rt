@@ -1,6 +1,6 @@
 //! What threads share.
 ghost use Rattle.std.specs.Prelude.{◌≡◌, ◌⊎◌, ◌↔◌, true, Err, IfErr};
-ghost use Rattle.mm_blocking.specs.Errors.{of_begin, of_lock, of_unlock, of_commit};
+ghost use Rattle.mm_blocking.specs.Errors.{of_begin, of_lock, of_try, of_unlock, of_commit};
 ghost use Rattle.mm_manager.specs.Opening.{IsTransactionsOut, IsNamesOut, IsNameBytesOut};
 
 use crate::desk::{Asked, Desk};
@@ -162,7 +162,7 @@ impl Locks {
 
     /// `Desk::try_lock`.
     pub(crate) fn try_lock<R: Wait>(&self, rt: &R, key: Key, name: &[u8]) -> Result<bool, LockError>
-        ensures refused { IfErr result (λ error. of_lock error ≡ true) }
+        ensures refused { IfErr result (λ error. of_try error ≡ true) }
     {
         self.locked(rt).try_lock(key, name)
     }

@@ -1,6 +1,6 @@
 //! A transaction.
 ghost use Rattle.std.specs.Prelude.{◌≡◌, ◌⊎◌, true, IfErr};
-ghost use Rattle.mm_blocking.specs.Errors.{of_lock, of_unlock, of_commit};
+ghost use Rattle.mm_blocking.specs.Errors.{of_lock, of_try, of_unlock, of_commit};
 
 use crate::desk::Asked;
 use crate::error::LockError;
@@ -123,15 +123,14 @@ impl<'m, R: Wait> Transaction<'m, R> {
     ///
     /// Refused as `Deadlock`, `NameEmpty`, `NameTooLong`, `NamesFull` or `CountsFull`. `O(length)`.
     pub fn try_lock(&mut self, name: &[u8]) -> Result<bool, LockError>
-        ensures refused { IfErr result (λ error. of_lock error ≡ true) }
+        ensures refused { IfErr result (λ error. of_try error ≡ true) }
     {
         self.locks.try_lock(self.rt, self.key, name)
     }
 
     /// Gives the name back: its longest waiter owns it from now on, and is woken; with no waiter it is free.
     ///
-    /// Refused as `Deadlock`, `NameEmpty`, `NameTooLong`, `NotOwner`, `CountsFull` or `LabelsFull`. It costs what `LockManager::unlock`
-    /// costs.
+    /// Refused as `Deadlock`, `NameEmpty`, `NameTooLong` or `NotOwner`. It costs what `LockManager::unlock` costs.
     pub fn unlock(&mut self, name: &[u8]) -> Result<(), LockError>
         ensures refused { IfErr result (λ error. of_unlock error ≡ true) }
     {
@@ -140,9 +139,8 @@ impl<'m, R: Wait> Transaction<'m, R> {
 
     /// Ends the transaction: all that it owns is handed over, and whoever was granted something is woken.
     ///
-    /// A transaction that is in a deadlock is rolled back, and refused as `Deadlock`. Where a label or a count is at its limit, the end may
-    /// be refused as `LabelsFull` or `CountsFull`, and the same for a transaction that is dropped: then it stays as it was, and nobody has
-    /// it any more. It costs what `LockManager::commit` costs.
+    /// A transaction that is in a deadlock is rolled back, and refused as `Deadlock`: no other end is refused. It costs what
+    /// `LockManager::commit` costs.
     pub fn commit(self) -> Result<(), LockError>
         ensures refused { IfErr result (λ error. of_commit error ≡ true) }
     {

@@ -36,3 +36,9 @@ pub mod May
 pub mod Limits
 -- who waits, and for what
 pub mod Reads
+-- what an event leaves of labels and waits
+pub mod Labels
+-- how many live transactions, waits and owned numbers an event leaves
+pub mod Fewer
+-- what is left for the ends of transactions
+pub mod Room

@@ -5,9 +5,8 @@ use Rattle.mm_list_lemmas.specs.Members.{Among}
 use Rattle.mm_bit_set.specs.BitSet.{has}
 use Rattle.mm_names.specs.Names.{NameTable, name_of, Interns}
 use Rattle.mm_rules.specs.declared.reply.Released.{Released}
-use Rattle.mm_rules.specs.TableState.{TableState, owner_of}
+use Rattle.mm_rules.specs.TableState.{TableState, is_live, owner_of}
 use Rattle.mm_rules.specs.Victims.{IsOnCycle}
-use Rattle.mm_rules.specs.declared.refusal.Refusal as table
 use Rattle.mm_rules.specs.Event.{Event, Begin, Release, Finish, Answer, Step, Abort, GiveUp}
 use Rattle.mm_rules.specs.declared.refusal.Refusal.TheVariants.{Carried}
 use Rattle.mm_settled.specs.Calls.{Locks, Made, OthersKeepVerdicts}
@@ -15,10 +14,11 @@ use Rattle.mm_settled.specs.Grants.{grants}
 use Rattle.mm_settled.specs.declared.reply.Grant.{Grant}
 use Rattle.mm_settled.specs.declared.reply.Locked.{Locked}
 use Rattle.mm_settled.specs.declared.reply.Locked.TheVariants as locked
-use Rattle.mm_manager.specs.Permit.{may_cancel, refusal_of}
+use Rattle.mm_manager.specs.Permit.{may_ask, may_begin, may_cancel, may_wait}
 use Rattle.mm_manager.specs.LockState.{LockState, Owns, Waits, IsUnowned, KeepOwned, untold}
-use Rattle.mm_manager.specs.Refused.{RefusedBy, NameRefused, UnlockRefused, CommitRefused, AbortRefused, CancelRefused}
+use Rattle.mm_manager.specs.Refused.{TryRefused, LockRefused, UnlockRefused}
 use Rattle.mm_manager.specs.declared.refusal.Refusal.{Refusal}
+use Rattle.mm_manager.specs.declared.refusal.Refusal.TheVariants.{NoTransaction}
 use Rattle.mm_manager.specs.declared.reply.Abort as abort
 use Rattle.mm_manager.specs.declared.reply.Cancel as cancel
 use Rattle.mm_manager.specs.declared.reply.Cancel.TheVariants as cancels
@@ -30,10 +30,10 @@ use Rattle.mm_manager.specs.declared.reply.TryLock.TheVariants as tried
 
 -- ---- begin
 
--- a transaction starts, and nothing else changes; or it is refused as by the table
+-- a transaction starts, and nothing else changes
 abbrev pub Begins : LockState → Result Key Refusal → LockState → Type 0
-Begins old (Ok key) new = Step Begin old.table (Ok key) new.table × (new ≡ record (untold old) { table = new.table })
-Begins old (Err refusal) new = (new ≡ untold old) × ((why : table.Refusal) × Step Begin old.table (Err why) old.table × (refusal ≡ refusal_of why))
+Begins old (Ok key) new = (may_begin old.table ≡ Ok tt) × Step Begin old.table (Ok key) new.table × (new ≡ record (untold old) { table = new.table })
+Begins old (Err refusal) new = (new ≡ untold old) × (may_begin old.table ≡ Err refusal)
 
 -- ---- lock
 
@@ -59,14 +59,14 @@ LocksName old k name (Ok lock.Granted) new = Gets old k name new
 LocksName old k name (Ok lock.Held) new = Owns old k name × (new ≡ untold old)
 LocksName old k name (Ok (lock.Waits h)) new = Queues old k name h new × ¬ IsOnCycle new.table k.process
 LocksName old k name (Ok (lock.Deadlock h)) new = Queues old k name h new × IsOnCycle new.table k.process
-LocksName old k name (Err refusal) new = (new ≡ untold old) × NameRefused old k name refusal
+LocksName old k name (Err refusal) new = (new ≡ untold old) × LockRefused old k name refusal
 
 -- what a try does, by its answer: it never waits
 abbrev pub TriesName : LockState → Key → List ℕ → Result TryLock Refusal → LockState → Type 0
 TriesName old k name (Ok tried.Granted) new = Gets old k name new
 TriesName old k name (Ok tried.Held) new = Owns old k name × (new ≡ untold old)
 TriesName old k name (Ok (tried.Busy h)) new = Owns old h name × (h ≢ k) × (new ≡ untold old)
-TriesName old k name (Err refusal) new = (new ≡ untold old) × NameRefused old k name refusal
+TriesName old k name (Err refusal) new = (new ≡ untold old) × TryRefused old k name refusal
 
 -- by numbers: the name has a number, now or already, and the table at rest answers the request for that number so
 abbrev pub Asks : TableState → NameTable → Key → List ℕ → Locked → TableState → NameTable → Type 0
@@ -76,11 +76,11 @@ Asks s t k name answer new named = (n : ℕ) × Interns t name n named × Locks 
 abbrev pub Finds : TableState → NameTable → List ℕ → Key → TableState → NameTable → Type 0
 Finds s t name h new named = ((n : ℕ) × (name_of t n ≡ Some name) × (owner_of s n ≡ Some h)) × (new ≡ s) × (named ≡ t)
 
--- so a request is answered: with its name's number from now on, or as one that owns it already
+-- so a request is answered: with its name's number from now on, or as one that owns it already; who waits has a label left for that
 abbrev pub Requests : TableState → NameTable → Key → List ℕ → Lock → TableState → NameTable → Type 0
 Requests s t k name lock.Granted new named = Asks s t k name locked.Granted new named
-Requests s t k name (lock.Waits h) new named = Asks s t k name (locked.Waits h) new named
-Requests s t k name (lock.Deadlock h) new named = Asks s t k name (locked.Deadlock h) new named
+Requests s t k name (lock.Waits h) new named = (may_wait s ≡ true) × Asks s t k name (locked.Waits h) new named
+Requests s t k name (lock.Deadlock h) new named = (may_wait s ≡ true) × Asks s t k name (locked.Deadlock h) new named
 Requests s t k name lock.Held new named = Finds s t name k new named
 
 -- so a try is answered
@@ -105,21 +105,9 @@ pub record HandsOver (e : Event) (old : LockState) (answer : Answer e) (new : Lo
   pub ends : EndsAll mid new.aborted later new.table
   pub names : KeepOwned old.names new.table new.names
 
--- after the first of these ends, the table refuses the end of k, since a label or a count is at its limit
-pub record EndIsRefused (s : TableState) (ended : List Key) (k : Key) : Type 0 where
-  pub before : List Key
-  pub after : List Key
-  pub parts : ended ≡ before ++ after
-  pub granted : List Grant
-  pub state : TableState
-  pub ends : EndsAll s before granted state
-  pub refusal : Refusal
-  pub refused : RefusedBy (Finish k) state refusal
-
--- from mid on, whose abort was due and who was granted something is aborted, or the table refuses its end; no other one is, and all other marks stay
-pub record AbortsDue (old : LockState) (mid : TableState) (new : LockState) : Type 0 where
-  pub were_due : (k : Key) → Among k new.aborted → (has old.due k.process ≡ true) × ((g : Grant) × Among g new.granted × (g.key ≡ k))
-  pub all : (g : Grant) → Among g new.granted → has old.due g.key.process ≡ true → Among g.key new.aborted ⊎ EndIsRefused mid new.aborted g.key
+-- those are aborted whose abort was due and who were granted something, and nobody else; all other marks stay
+pub record AbortsDue (old new : LockState) : Type 0 where
+  pub aborted : (k : Key) → Among k new.aborted ↔ ((has old.due k.process ≡ true) × ((g : Grant) × Among g new.granted × (g.key ≡ k)))
   pub stay : (p : ℕ) → (has new.due p ≡ true) ↔ ((has old.due p ≡ true) × ((g : Grant) → Among g new.granted → g.key.process ≢ p))
 
 -- h was granted the name
@@ -156,13 +144,13 @@ pub record Unlocks (old : LockState) (k : Key) (name : List ℕ) (new : LockStat
   pub answer : Released
   pub over : HandsOver (Release k number) old answer new
   pub passes : Passes old k (LosesName k name new.aborted) new
-  pub due : AbortsDue old over.mid new
+  pub due : AbortsDue old new
 
 -- k ends by this event, and hands over all that it owned
 pub record EndsBy (e : Event) (old : LockState) (answer : Answer e) (k : Key) (new : LockState) : Type 0 where
   pub over : HandsOver e old answer new
   pub passes : Passes old k (LosesAll k new.aborted) new
-  pub due : AbortsDue old over.mid new
+  pub due : AbortsDue old new
 
 -- what an unlock does, by its answer
 abbrev pub UnlocksName : LockState → Key → List ℕ → Result (Unit {0}) Refusal → LockState → Type 0
@@ -172,7 +160,7 @@ UnlocksName old k name (Err refusal) new = (new ≡ untold old) × UnlockRefused
 -- what a commit does, by its answer
 abbrev pub Commits : LockState → Key → Result (Unit {0}) Refusal → LockState → Type 0
 Commits old k (Ok done) new = EndsBy (Finish k) old tt k new
-Commits old k (Err refusal) new = (new ≡ untold old) × CommitRefused old k refusal
+Commits old k (Err refusal) new = (new ≡ untold old) × (may_ask old.table k ≡ Err refusal)
 
 -- ---- abort
 
@@ -184,12 +172,11 @@ GivesUp old k new = Step (GiveUp k) old.table (Ok tt) new.table × (new ≡ reco
 abbrev pub IsEnded : LockState → Key → LockState → Type 0
 IsEnded old k new = EndsBy (Finish k) old tt k new ⊎ EndsBy (Abort k) old tt k new ⊎ ((mid : LockState) × GivesUp old k mid × EndsBy (Finish k) mid tt k new)
 
--- what an abort does, by its answer: only who waits in no deadlock can be told of another one than `Done`
+-- what an abort does, by its answer: only who waits in no deadlock can be told `Later`, and only who is not live is refused
 abbrev pub Aborts : LockState → Key → Result abort.Abort Refusal → LockState → Type 0
 Aborts old k (Ok aborts.Done) new = IsEnded old k new
 Aborts old k (Ok aborts.Later) new = (may_cancel old.table k ≡ Ok tt) × Step (GiveUp k) old.table (Err Carried) old.table × (new ≡ record (untold old) { due = slice_set old.due k.process true })
-Aborts old k (Ok aborts.Withdrawn) new = (may_cancel old.table k ≡ Ok tt) × GivesUp old k new × ((refusal : Refusal) × RefusedBy (Finish k) new.table refusal)
-Aborts old k (Err refusal) new = (new ≡ untold old) × AbortRefused old k refusal
+Aborts old k (Err refusal) new = (new ≡ untold old) × (is_live old.table k ≡ false) × (refusal ≡ NoTransaction)
 
 -- ---- cancel
 
@@ -200,6 +187,6 @@ TakesBack old k new = Step (GiveUp k) old.table (Ok tt) new.table × (new ≡ re
 -- what a cancel does, by its answer: that of one whose abort is due is an abort
 abbrev pub Cancels : LockState → Key → Result cancel.Cancel Refusal → LockState → Type 0
 Cancels old k (Ok cancels.Withdrawn) new =
-    ((has old.due k.process ≡ false) × TakesBack old k new) ⊎ ((has old.due k.process ≡ true) × (Aborts old k (Ok aborts.Done) new ⊎ Aborts old k (Ok aborts.Withdrawn) new))
+    ((has old.due k.process ≡ false) × TakesBack old k new) ⊎ ((has old.due k.process ≡ true) × Aborts old k (Ok aborts.Done) new)
 Cancels old k (Ok cancels.Carried) new = Step (GiveUp k) old.table (Err Carried) old.table × (new ≡ untold old)
-Cancels old k (Err refusal) new = (new ≡ untold old) × CancelRefused old k refusal
+Cancels old k (Err refusal) new = (new ≡ untold old) × (may_cancel old.table k ≡ Err refusal)

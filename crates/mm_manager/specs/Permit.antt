@@ -1,11 +1,9 @@
 -- What a call is refused for before the table is asked, in the order of the tests.
-use Rattle.std.specs.Prelude.{ℕ, Bool, true, false, List, length, Option, Some, None, Result, Ok, Err, if◌then◌else◌, nat_eq, nat_lt}
+use Rattle.std.specs.Prelude.{ℕ, ◌-◌, ◌/◌, ◌^◌, Bool, true, false, List, length, Option, Some, None, Result, Ok, Err, if◌then◌else◌, nat_eq, nat_lt}
 use Rattle.mm_arena.specs.declared.key.Key.{Key}
 use Rattle.mm_rules.specs.TableState.{TableState, is_live, has_verdict, wait_of}
-use Rattle.mm_rules.specs.declared.refusal.Refusal as table
-use Rattle.mm_rules.specs.declared.refusal.Refusal.TheVariants as tables
 use Rattle.mm_manager.specs.declared.refusal.Refusal.{Refusal}
-use Rattle.mm_manager.specs.declared.refusal.Refusal.TheVariants.{NoTransaction, MustAbort, Waiting, NameEmpty, NameTooLong, NotOwner, NotWaiting, TransactionsFull, LabelsFull, CountsFull}
+use Rattle.mm_manager.specs.declared.refusal.Refusal.TheVariants.{NoTransaction, MustAbort, Waiting, NameEmpty, NameTooLong, NotWaiting, TransactionsFull, CountsFull}
 
 -- by what a live transaction waits for, if anything, and whether it has a verdict
 abbrev pub may_ask_in : Option ℕ → Bool → Result (Unit {0}) Refusal
@@ -39,12 +37,22 @@ may_cancel_in (Some n) false = Ok tt
 abbrev pub may_cancel : TableState → Key → Result (Unit {0}) Refusal
 may_cancel s k = if is_live s k then may_cancel_in (wait_of s k.process) (has_verdict s k.process) else Err NoTransaction
 
--- what a refusal of the table means: those that are left are that of its counts, and some that a manager never meets
-abbrev pub refusal_of : table.Refusal → Refusal
-refusal_of tables.Stale = NoTransaction
-refusal_of tables.Waiting = Waiting
-refusal_of tables.NotOwner = NotOwner
-refusal_of tables.NotWaiting = NotWaiting
-refusal_of tables.Full = TransactionsFull
-refusal_of tables.LabelsExhausted = LabelsFull
-refusal_of why = CountsFull
+-- where so many events were counted, no transaction begins and no name is asked for: what the table can count beyond is left for the ends of those that are live
+abbrev pub event_limit : ℕ
+event_limit = 2 ^ 62 - 2 ^ 20
+
+-- fewer events were counted
+abbrev pub may_count : TableState → Result (Unit {0}) Refusal
+may_count s = if nat_lt s.totals.accepted event_limit then Ok tt else Err CountsFull
+
+-- a transaction may begin
+abbrev pub may_begin : TableState → Result (Unit {0}) Refusal
+may_begin s = first_refusal (may_count s) (if nat_eq (length s.free) 0 then Err TransactionsFull else Ok tt)
+
+-- the transaction may ask, an event may be counted, and these bytes can be a name
+abbrev pub may_request : TableState → ℕ → Key → List ℕ → Result (Unit {0}) Refusal
+may_request s name_bytes k name = first_refusal (may_ask s k) (first_refusal (may_count s) (may_name name_bytes name))
+
+-- a wait, and all hand-overs after it, find labels below the limit: by an event the counter of a label and the number of waits grow by two at the most
+abbrev pub may_wait : TableState → Bool
+may_wait s = nat_lt s.totals.accepted (s.config.label_limit / 2)

@@ -18,3 +18,5 @@ pub mod Manager
 pub mod Aborts
 -- what is read
 pub mod Reads
+-- what is left for the ends of transactions
+pub mod Room

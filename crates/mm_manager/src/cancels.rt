@@ -28,18 +28,13 @@ pub fn cancel_any(
     table.is_at_rest();
     may_cancel(table.table(), key)?;
     if lists.due[key.process as usize] {
-        return of_abort(abort_waiting(table, names, lists, key));
+        return Ok(of_abort(abort_waiting(table, names, lists, key)));
     }
-    cancel_waiting(table, names, lists, key)
+    Ok(cancel_waiting(table, names, lists, key))
 }
 
 /// Takes back the wait of a transaction whose abort is not due.
-fn cancel_waiting(
-    table: &mut SettledTable,
-    names: &Names,
-    lists: &Lists,
-    key: Key,
-) -> Result<Cancel, Refusal>
+fn cancel_waiting(table: &mut SettledTable, names: &Names, lists: &Lists, key: Key) -> Cancel
     requires parts { AreParts table.old.table names.now lists.now }
     requires may { may_cancel table.old.table key ≡ Ok tt }
     requires not_due { has lists.now.due.items key.process ≡ false }
@@ -50,13 +45,11 @@ fn cancel_waiting(
 }
 
 /// What a cancel answers whose abort had this answer.
-fn of_abort(answer: Result<Abort, Refusal>) -> Result<Cancel, Refusal>
+fn of_abort(answer: Abort) -> Cancel
     ensures { result ≡ cancel_of answer }
 {
     match answer {
-        Ok(Abort::Done) => Ok(Cancel::Withdrawn),
-        Ok(Abort::Withdrawn) => Ok(Cancel::Withdrawn),
-        Ok(Abort::Later) => Ok(Cancel::Carried),
-        Err(refusal) => Err(refusal),
+        Abort::Done => Cancel::Withdrawn,
+        Abort::Later => Cancel::Carried,
     }
 }

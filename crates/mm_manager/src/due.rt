@@ -5,6 +5,7 @@ ghost use Rattle.mm_rules.specs.TableState.{is_live, wait_of};
 ghost use Rattle.mm_manager.specs.private.Due.{AreGranted, IsReady, EndsDue, EndsIfDue, EndsOne};
 ghost use Rattle.mm_manager.specs.private.Lists.{Fits};
 ghost use Rattle.mm_manager.specs.private.Numbers.{AreNumbered};
+ghost use Rattle.mm_manager.specs.private.Room.{HasRoom};
 
 use crate::Key;
 use crate::hand_over::finish;
@@ -35,6 +36,7 @@ fn end_if_due(table: &mut SettledTable, names: &mut Names, lists: &mut Lists, ke
     requires within { key.process < table.old.table.config.processes }
     requires idle { wait_of table.old.table key.process ≡ None }
     requires live { has lists.old.due.items key.process ≡ true → is_live table.old.table key ≡ true }
+    requires left { HasRoom table.old.table }
     ensures { EndsIfDue table.old.table names.old lists.old key table.new.table names.new lists.new }
 {
     if !lists.due[key.process as usize] {
@@ -43,7 +45,7 @@ fn end_if_due(table: &mut SettledTable, names: &mut Names, lists: &mut Lists, ke
     end_one(table, names, lists, key);
 }
 
-/// Ends a transaction that was granted something, and whose abort is due no longer. Where the table refuses that, it goes on.
+/// Ends a transaction that was granted something, and whose abort is due no longer.
 fn end_one(table: &mut SettledTable, names: &mut Names, lists: &mut Lists, key: Key)
     requires numbered { AreNumbered table.old.table names.old }
     requires fits { Fits table.old.table.config lists.old }
@@ -52,12 +54,12 @@ fn end_one(table: &mut SettledTable, names: &mut Names, lists: &mut Lists, key: 
     requires within { key.process < table.old.table.config.processes }
     requires idle { wait_of table.old.table key.process ≡ None }
     requires live { is_live table.old.table key ≡ true }
+    requires left { HasRoom table.old.table }
     ensures { EndsOne table.old.table names.old lists.old key table.new.table names.new lists.new }
 {
     table.is_at_rest();
     lists.due[key.process as usize] = false;
-    if finish(table, names, &mut lists.owned, key).is_ok() {
-        lists.aborted.push_reserved(key);
-        add_grants(&mut lists.granted, table.granted());
-    }
+    finish(table, names, &mut lists.owned, key);
+    lists.aborted.push_reserved(key);
+    add_grants(&mut lists.granted, table.granted());
 }

@@ -1,10 +1,11 @@
 //! The lock manager.
-ghost use Rattle.std.specs.Prelude.{◌≡◌, ◌↔◌, ◌≤◌, ℕ, List, [], Some, Err, IfOk, option_copied, vec_capacity};
+ghost use Rattle.std.specs.Prelude.{◌≡◌, ◌↔◌, ◌≤◌, ℕ, List, [], Some, Ok, Err, IfOk, OnOk, option_copied, vec_capacity};
 ghost use Rattle.mm_arena.specs.declared.key.Key.{Key as KeyValue};
 ghost use Rattle.mm_list_lemmas.specs.Members.{Among, NoRepeat};
 ghost use Rattle.mm_names.specs.Names.{name_of};
 ghost use Rattle.mm_settled.specs.Calls.{OthersKeepVerdicts};
 ghost use Rattle.mm_manager.specs.LockState.{Owns, IsLawful};
+ghost use Rattle.mm_manager.specs.Permit.{may_request};
 ghost use Rattle.mm_manager.specs.Opening.{opening_state, IsTransactionsOut, IsNamesOut, IsNameBytesOut};
 ghost use Rattle.mm_manager.specs.Calls.{Begins, LocksName, TriesName, Requests, Tries, UnlocksName, Commits, Aborts, Cancels};
 ghost use Rattle.mm_manager.specs.Reads.{HasStatus, waits_of};
@@ -70,7 +71,8 @@ impl LockManager {
 
     /// Starts a transaction, and returns its key. Nothing else changes.
     ///
-    /// Refused as `TransactionsFull`, or as `CountsFull`, which is tested first. Constant time.
+    /// Refused as `CountsFull` where 4,611,686,018,426,339,328 events were counted or more, and as `TransactionsFull` where there are as
+    /// many transactions as there can be, which is tested second. Constant time.
     pub fn begin(&mut self) -> Result<Key, Refusal>
         ensures { Begins self.old result self.new }
     {
@@ -85,11 +87,13 @@ impl LockManager {
     ///   others: it owns the name once a call lists it in `granted`.
     /// - `Deadlock`: the same, but it closed a cycle of waits by that. It keeps what it owns, and `abort` is the one call that it may make.
     ///
-    /// Nobody else's owners, waits or verdicts change. Refused as `NoTransaction`, `MustAbort`, `Waiting`, `NameEmpty`, `NameTooLong`,
-    /// `NamesFull`, `CountsFull` or `LabelsFull`, which are tested in this order. `O(length)` where it does not wait; a wait costs the settle
-    /// that follows.
+    /// Nobody else's owners, waits or verdicts change. Refused as `NoTransaction`, `MustAbort`, `Waiting`, `CountsFull`, `NameEmpty`,
+    /// `NameTooLong`, `NamesFull` or `LabelsFull`, which are tested in this order: as `CountsFull` where `begin` is, as `NamesFull` where
+    /// nobody owns the name and all numbers are taken, and as `LabelsFull` where it would wait, and half as many events were counted as
+    /// labels can be high, 8,796,093,022,207, or more. `O(length)` where it does not wait; a wait costs the settle that follows.
     pub fn lock(&mut self, key: Key, name: &[u8]) -> Result<Lock, Refusal>
         ensures locks { LocksName self.old key name.now result self.new }
+        ensures may { OnOk result (may_request self.old.table self.old.names.name_bytes key name.now ≡ Ok tt) }
         ensures step { IfOk result (λ answer. Requests self.old.table self.old.names key name.now answer self.new.table self.new.names) }
         ensures others { OthersKeepVerdicts self.old.table self.new.table key.process }
         ensures due { self.new.due ≡ self.old.due }
@@ -105,10 +109,11 @@ impl LockManager {
     /// - `Held`: the transaction owns it already, and nothing changes.
     /// - `Busy`: the holder owns it, and nothing changes.
     ///
-    /// Refused as `NoTransaction`, `MustAbort`, `Waiting`, `NameEmpty`, `NameTooLong`, `NamesFull` or `CountsFull`, which are tested in this
-    /// order. `O(length)`.
+    /// Refused as `NoTransaction`, `MustAbort`, `Waiting`, `CountsFull`, `NameEmpty`, `NameTooLong` or `NamesFull`, which are tested in this
+    /// order, and mean what they do of `lock`. `O(length)`.
     pub fn try_lock(&mut self, key: Key, name: &[u8]) -> Result<TryLock, Refusal>
         ensures tries { TriesName self.old key name.now result self.new }
+        ensures may { OnOk result (may_request self.old.table self.old.names.name_bytes key name.now ≡ Ok tt) }
         ensures step { IfOk result (λ answer. Tries self.old.table self.old.names key name.now answer self.new.table self.new.names) }
         ensures others { OthersKeepVerdicts self.old.table self.new.table key.process }
         ensures due { self.new.due ≡ self.old.due }
@@ -121,7 +126,7 @@ impl LockManager {
     /// Hands the name over: its longest waiter owns it from now on and is listed in `granted`; with no waiter it is free.
     ///
     /// Then those end that were granted something and whose abort is due, and those whose abort comes due by that, until none is left.
-    /// Refused as `NoTransaction`, `MustAbort`, `Waiting`, `NameEmpty`, `NameTooLong`, `NotOwner`, `CountsFull` or `LabelsFull`.
+    /// Refused as `NoTransaction`, `MustAbort`, `Waiting`, `NameEmpty`, `NameTooLong` or `NotOwner`, which are tested in this order.
     /// `O(length + waiters of the name)`, the settle that follows, and the ends.
     pub fn unlock(&mut self, key: Key, name: &[u8]) -> Result<(), Refusal>
         ensures { UnlocksName self.old key name.now result self.new }
@@ -131,8 +136,8 @@ impl LockManager {
 
     /// Ends a transaction that does not wait: hands over all names that it owns, each as `unlock` does.
     ///
-    /// Then those end whose abort is due by that, as after `unlock`. Refused as `NoTransaction`, `MustAbort`, `Waiting`, `CountsFull` or
-    /// `LabelsFull`. `O(its names + their waiters)`, the settle that follows, and the ends.
+    /// Then those end whose abort is due by that, as after `unlock`. Refused as `NoTransaction`, `MustAbort` or
+    /// `Waiting`. `O(its names + their waiters)`, the settle that follows, and the ends.
     pub fn commit(&mut self, key: Key) -> Result<(), Refusal>
         ensures { Commits self.old key result self.new }
     {
@@ -144,9 +149,8 @@ impl LockManager {
     /// - `Done`: it ended, and so did those whose abort is due by that, as after `unlock`.
     /// - `Later`: it waits, and carries another's label, which may stand on no other path. Its abort is due: it ends in the call that ends
     ///   its wait, and that call lists it in `aborted`. Nothing else changes.
-    /// - `Withdrawn`: its wait is taken back, but the table refuses its end, since a label or a count is at its limit. Nothing else changes.
     ///
-    /// Refused as `NoTransaction`, `CountsFull` or `LabelsFull`. It costs what `commit` costs.
+    /// Refused only as `NoTransaction`, where the transaction is not live. It costs what `commit` costs.
     pub fn abort(&mut self, key: Key) -> Result<Abort, Refusal>
         ensures { Aborts self.old key result self.new }
     {
@@ -158,7 +162,7 @@ impl LockManager {
     /// - `Withdrawn`: so it is; where its abort was due, that is done now, as by `abort`.
     /// - `Carried`: it carries another's label and waits on; nothing changes.
     ///
-    /// Refused as `NoTransaction`, `MustAbort`, `NotWaiting` or `CountsFull`. Constant time where no abort is due.
+    /// Refused as `NoTransaction`, `MustAbort` or `NotWaiting`. Constant time where no abort is due.
     pub fn cancel(&mut self, key: Key) -> Result<Cancel, Refusal>
         ensures { Cancels self.old key result self.new }
     {

@@ -5,25 +5,25 @@ ghost use Rattle.mm_list_lemmas.specs.Members.{Among};
 ghost use Rattle.mm_names.specs.Names.{name_of, IsLawful as IsLawfulNames};
 ghost use Rattle.mm_rules.specs.declared.reply.Released.{Released as ReleasedValue};
 ghost use Rattle.mm_rules.specs.TableState.{is_live, owner_of, wait_of};
-ghost use Rattle.mm_rules.specs.declared.refusal.Refusal.{Refusal as TableRefusal};
 ghost use Rattle.mm_rules.specs.Event.{Begin, Release, Finish, Step};
 ghost use Rattle.mm_rules.specs.Laws.{Laws};
 ghost use Rattle.mm_settled.specs.Calls.{OthersKeepVerdicts};
 ghost use Rattle.mm_manager.specs.Calls.{Requests, Tries};
-ghost use Rattle.mm_manager.specs.Permit.{refusal_of};
-ghost use Rattle.mm_manager.specs.Refused.{RefusedBy, NameRefused, UnlockRefused, CommitRefused};
+ghost use Rattle.mm_manager.specs.Permit.{may_ask, may_begin, may_request};
+ghost use Rattle.mm_manager.specs.Refused.{TryRefused, LockRefused, UnlockRefused};
 ghost use Rattle.mm_settled.specs.declared.reply.Grant.{Grant as GrantValue};
 ghost use Rattle.mm_manager.specs.private.Due.{AreGranted, EndsDue};
 ghost use Rattle.mm_manager.specs.private.Handed.{AreParts, Handed, IsUntouched};
 ghost use Rattle.mm_manager.specs.private.HandsDown.{IsEnding, IsReleased};
 ghost use Rattle.mm_manager.specs.private.Lists.{Fits};
 ghost use Rattle.mm_manager.specs.private.Numbers.{AreNumbered, bare};
+ghost use Rattle.mm_manager.specs.private.Room.{HasRoom};
 
 use crate::due::end_due;
 use crate::hand_over::{finish, release};
 use crate::lists::{Lists, add_grants};
 use crate::numbers::owned_number;
-use crate::permit::may_ask;
+use crate::permit::{may_ask, may_count};
 use crate::request::{request, try_request};
 use crate::{Key, Lock, Refusal, TryLock};
 use mm_names::Names;
@@ -33,6 +33,7 @@ use mm_settled::SettledTable;
 pub fn pass_on(table: &mut SettledTable, names: &mut Names, lists: &mut Lists)
     requires numbered { AreNumbered table.old.table names.old }
     requires fits { Fits table.old.table.config lists.old }
+    requires left { HasRoom table.old.table }
     requires none_granted { lists.old.granted.items ≡ [] }
     requires none_aborted { lists.old.aborted.items ≡ [] }
     requires granted { AreGranted table.old.table table.old.granted }
@@ -50,70 +51,52 @@ pub fn release_number(
     lists: &mut Lists,
     key: Key,
     number: u32,
-) -> Result<(), Refusal>
+)
     requires parts { AreParts table.old.table names.old lists.old }
     requires none_granted { lists.old.granted.items ≡ [] }
     requires none_aborted { lists.old.aborted.items ≡ [] }
     requires named { IsSome (name_of names.old number) }
     requires owned { owner_of table.old.table number ≡ Some key }
     requires active { wait_of table.old.table key.process ≡ None }
-    ensures handed { OnOk result ((answer : ReleasedValue) × Handed (Release key number) table.old.table names.old lists.old.due.items answer key.process (IsReleased key number) table.new.table names.new lists.new) }
-    ensures untouched { OnErr result (IsUntouched table.old.table names.old lists.old table.new.table names.new lists.new) }
-    ensures refused { IfErr result (RefusedBy (Release key number) table.old.table) }
-    ensures parts { AreParts table.new.table names.new lists.new }
+    ensures { (answer : ReleasedValue) × Handed (Release key number) table.old.table names.old lists.old.due.items answer key.process (IsReleased key number) table.new.table names.new lists.new }
 {
     table.is_at_rest();
-    match release(table, names, key, number) {
-        Ok(_) => {
-            pass_on(table, names, lists);
-            Ok(())
-        }
-        Err(refusal) => Err(Refusal::of_table(refusal)),
-    }
+    release(table, names, key, number);
+    pass_on(table, names, lists);
 }
 
 /// Ends an active transaction.
-pub fn end(
-    table: &mut SettledTable,
-    names: &mut Names,
-    lists: &mut Lists,
-    key: Key,
-) -> Result<(), Refusal>
+pub fn end(table: &mut SettledTable, names: &mut Names, lists: &mut Lists, key: Key)
     requires parts { AreParts table.old.table names.old lists.old }
     requires none_granted { lists.old.granted.items ≡ [] }
     requires none_aborted { lists.old.aborted.items ≡ [] }
     requires live { is_live table.old.table key ≡ true }
     requires active { wait_of table.old.table key.process ≡ None }
-    ensures handed { OnOk result (Handed (Finish key) table.old.table names.old lists.old.due.items tt key.process (IsEnding key) table.new.table names.new lists.new) }
-    ensures untouched { OnErr result (IsUntouched table.old.table names.old lists.old table.new.table names.new lists.new) }
-    ensures refused { IfErr result (RefusedBy (Finish key) table.old.table) }
-    ensures parts { AreParts table.new.table names.new lists.new }
+    ensures { Handed (Finish key) table.old.table names.old lists.old.due.items tt key.process (IsEnding key) table.new.table names.new lists.new }
 {
     table.is_at_rest();
-    match finish(table, names, &mut lists.owned, key) {
-        Ok(()) => {
-            pass_on(table, names, lists);
-            Ok(())
-        }
-        Err(refusal) => Err(Refusal::of_table(refusal)),
-    }
+    finish(table, names, &mut lists.owned, key);
+    pass_on(table, names, lists);
 }
 
 /// Starts a transaction.
 pub fn begin(table: &mut SettledTable, names: &Names, lists: &mut Lists) -> Result<Key, Refusal>
     requires { AreParts table.old.table names.now lists.old }
     ensures begun { IfOk result (λ key. Step Begin table.old.table (Ok key) table.new.table) }
+    ensures may { OnOk result (may_begin table.old.table ≡ Ok tt) }
     ensures same { OnErr result (table.new.table ≡ table.old.table) }
-    ensures refused { IfErr result (λ refusal. (why : TableRefusal) × Step Begin table.old.table (Err why) table.old.table × (refusal ≡ refusal_of why)) }
+    ensures refused { IfErr result (λ refusal. may_begin table.old.table ≡ Err refusal) }
     ensures parts { AreParts table.new.table names.now lists.new }
     ensures granted { lists.new.granted.items ≡ [] }
     ensures aborted { lists.new.aborted.items ≡ [] }
     ensures due { lists.new.due ≡ lists.old.due }
 {
     lists.clear();
+    table.is_at_rest();
+    may_count(table.table())?;
     match table.begin() {
         Ok(key) => Ok(key),
-        Err(refusal) => Err(Refusal::of_table(refusal)),
+        Err(_) => Err(Refusal::TransactionsFull),
     }
 }
 
@@ -127,7 +110,8 @@ pub fn lock(
 ) -> Result<Lock, Refusal>
     requires { AreParts table.old.table names.old lists.old }
     ensures requested { IfOk result (λ answer. Requests table.old.table names.old key name.now answer table.new.table names.new) }
-    ensures refused { IfErr result (λ refusal. NameRefused (bare table.old.table names.old) key name.now refusal) }
+    ensures may { OnOk result (may_request table.old.table names.old.name_bytes key name.now ≡ Ok tt) }
+    ensures refused { IfErr result (λ refusal. LockRefused (bare table.old.table names.old) key name.now refusal) }
     ensures table { OnErr result (table.new.table ≡ table.old.table) }
     ensures names { OnErr result (names.new ≡ names.old) }
     ensures others { OthersKeepVerdicts table.old.table table.new.table key.process }
@@ -140,6 +124,7 @@ pub fn lock(
     lists.clear();
     table.is_at_rest();
     may_ask(table.table(), key)?;
+    may_count(table.table())?;
     request(table, names, key, name)
 }
 
@@ -153,7 +138,8 @@ pub fn try_lock(
 ) -> Result<TryLock, Refusal>
     requires { AreParts table.old.table names.old lists.old }
     ensures tried { IfOk result (λ answer. Tries table.old.table names.old key name.now answer table.new.table names.new) }
-    ensures refused { IfErr result (λ refusal. NameRefused (bare table.old.table names.old) key name.now refusal) }
+    ensures may { OnOk result (may_request table.old.table names.old.name_bytes key name.now ≡ Ok tt) }
+    ensures refused { IfErr result (λ refusal. TryRefused (bare table.old.table names.old) key name.now refusal) }
     ensures table { OnErr result (table.new.table ≡ table.old.table) }
     ensures names { OnErr result (names.new ≡ names.old) }
     ensures others { OthersKeepVerdicts table.old.table table.new.table key.process }
@@ -166,6 +152,7 @@ pub fn try_lock(
     lists.clear();
     table.is_at_rest();
     may_ask(table.table(), key)?;
+    may_count(table.table())?;
     try_request(table, names, key, name)
 }
 
@@ -187,7 +174,8 @@ pub fn unlock(
     lists.clear();
     names.keeps_laws();
     let number = owned_number(table.table(), names, key, name)?;
-    release_number(table, names, lists, key, number)
+    release_number(table, names, lists, key, number);
+    Ok(())
 }
 
 /// Ends a transaction that does not wait.
@@ -200,10 +188,11 @@ pub fn commit(
     requires { AreParts table.old.table names.old lists.old }
     ensures handed { OnOk result (Handed (Finish key) table.old.table names.old lists.old.due.items tt key.process (IsEnding key) table.new.table names.new lists.new) }
     ensures untouched { OnErr result (IsUntouched table.old.table names.old lists.old table.new.table names.new lists.new) }
-    ensures refused { IfErr result (λ refusal. CommitRefused (bare table.old.table names.old) key refusal) }
+    ensures refused { IfErr result (λ refusal. may_ask table.old.table key ≡ Err refusal) }
     ensures parts { AreParts table.new.table names.new lists.new }
 {
     lists.clear();
     may_ask(table.table(), key)?;
-    end(table, names, lists, key)
+    end(table, names, lists, key);
+    Ok(())
 }

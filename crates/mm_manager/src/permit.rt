@@ -1,11 +1,15 @@
 //! What a call is refused for before the table is asked.
 ghost use Rattle.std.specs.Prelude.{◌≡◌};
-ghost use Rattle.mm_manager.specs.Permit.{may_ask, may_cancel, may_name};
+ghost use Rattle.mm_manager.specs.Permit.{may_ask, may_cancel, may_count, may_name, may_wait};
 
 use crate::{Key, Refusal};
 use mm_names::Names;
 use mm_settled::Table;
 use mm_table::Mode;
+
+/// Where so many events were counted, no transaction begins and no name is asked for. The table counts 2 to the 62; the others are left
+/// for the ends of those that are live then.
+const EVENT_LIMIT: u64 = (1 << 62) - (1 << 20);
 
 /// Whether a transaction may ask for something: its key is live, and it does not wait.
 pub fn may_ask(table: &Table, key: Key) -> Result<(), Refusal>
@@ -33,6 +37,24 @@ pub fn may_cancel(table: &Table, key: Key) -> Result<(), Refusal>
         Mode::Waiting(_) => Ok(()),
         Mode::Convicted(_) => Err(Refusal::MustAbort),
     }
+}
+
+/// Whether an event may be counted that is no end.
+pub fn may_count(table: &Table) -> Result<(), Refusal>
+    ensures { result ≡ may_count table.now }
+{
+    if table.totals().accepted < EVENT_LIMIT {
+        Ok(())
+    } else {
+        Err(Refusal::CountsFull)
+    }
+}
+
+/// Whether there is a label left for one more wait, and for the hand-overs after it.
+pub fn may_wait(table: &Table) -> bool
+    ensures { result ≡ may_wait table.now }
+{
+    table.totals().accepted < table.config().label_limit / 2
 }
 
 /// Whether these bytes can be a name.

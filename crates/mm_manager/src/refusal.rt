@@ -39,30 +39,12 @@ pub enum Refusal {
     TransactionsFull,
     #[error("as many names are owned as there can be")]
     NamesFull,
-    #[error("a label would pass its limit")]
+    /// Only of `lock`, where it would wait.
+    #[error("there may be no label left for one more wait")]
     LabelsFull,
+    /// Only of `begin`, `lock` and `try_lock`.
     #[error("the count of events is at its limit")]
     CountsFull,
-}
-
-impl Refusal {
-    ghost use Rattle.std.specs.Prelude.{◌≡◌};
-    ghost use Rattle.mm_manager.specs.Permit.{refusal_of};
-
-    /// What a refusal of the table means.
-    pub(crate) fn of_table(refusal: mm_settled::Refusal) -> Refusal
-        ensures { result ≡ refusal_of refusal }
-    {
-        match refusal {
-            mm_settled::Refusal::Stale => Refusal::NoTransaction,
-            mm_settled::Refusal::Waiting => Refusal::Waiting,
-            mm_settled::Refusal::NotOwner => Refusal::NotOwner,
-            mm_settled::Refusal::NotWaiting => Refusal::NotWaiting,
-            mm_settled::Refusal::Full => Refusal::TransactionsFull,
-            mm_settled::Refusal::LabelsExhausted => Refusal::LabelsFull,
-            _ => Refusal::CountsFull,
-        }
-    }
 }
 
 impl From<AllocError> for OpenError {

@@ -32,8 +32,6 @@ pub enum Abort {
     Done,
     /// The transaction waits and carries another's label. It is aborted in the call that ends its wait.
     Later,
-    /// The wait of the transaction is taken back, but the table refuses to end it, since a label or a count is at its limit. It is active, and keeps what it owns.
-    Withdrawn,
 }
 
 /// What a cancel is told.

@@ -5,19 +5,19 @@ use Rattle.mm_arena.specs.declared.key.Key.{Key}
 use Rattle.mm_bit_set.specs.BitSet.{has}
 use Rattle.mm_names.specs.Names.{NameTable, name_of, IsLawful as IsLawfulNames}
 use Rattle.mm_rules.specs.declared.reply.Released.{Released}
-use Rattle.mm_rules.specs.TableState.{TableState, is_live, owner_of}
+use Rattle.mm_rules.specs.TableState.{TableState, owner_of}
 use Rattle.mm_rules.specs.Event.{Event, Answer, Release, Finish, Abort}
 use Rattle.mm_manager.specs.LockState.{LockState, untold}
-use Rattle.mm_manager.specs.Permit.{may_cancel}
-use Rattle.mm_manager.specs.Refused.{RefusedBy, UnlockRefused, CommitRefused}
+use Rattle.mm_manager.specs.Permit.{may_ask, may_cancel}
+use Rattle.mm_manager.specs.Refused.{UnlockRefused}
 use Rattle.mm_manager.specs.Calls.{EndsBy, UnlocksName, Commits, Aborts, Cancels}
 use Rattle.mm_manager.specs.declared.lists.Lists.{Lists}
 use Rattle.mm_manager.specs.declared.refusal.Refusal.{Refusal}
 use Rattle.mm_manager.specs.declared.reply.Abort as reply
 use Rattle.mm_manager.specs.declared.reply.Cancel as cancel
 use Rattle.mm_manager.specs.declared.reply.Cancel.TheVariants as cancels
-use Rattle.mm_manager.specs.declared.reply.Abort.TheVariants.{Done, Later, Withdrawn}
-use Rattle.mm_manager.specs.private.Aborts.{AbortsWaiting, GaveUp, seen, done_by, cancel_of}
+use Rattle.mm_manager.specs.declared.reply.Abort.TheVariants.{Done, Later}
+use Rattle.mm_manager.specs.private.Aborts.{AbortsWaiting, GaveUp, seen, cancel_of}
 use Rattle.mm_manager.specs.private.Handed.{Handed, IsUntouched}
 use Rattle.mm_manager.specs.private.HandsDown.{IsEnding, IsReleased}
 use Rattle.mm_manager.proofs.Lemmas.Told.{released_unlocks, ended_by}
@@ -49,24 +49,20 @@ module _ (s u : TableState) (t named : NameTable) (l cleared m : Lists) (k : Key
   ended e answer handed = ended_by old new k m refl refl refl e answer (subst (λ ds. Handed e s t ds answer k.process (IsEnding k) u named m) marks handed)
 
   pub commits : (done : Result (Unit {0}) Refusal) → OnOk done (Handed (Finish k) s t cleared.due.items tt k.process (IsEnding k) u named m) → OnErr done (IsUntouched s t cleared u named m)
-      → IfErr done (λ refusal. CommitRefused old k refusal) → Commits old k done new
+      → IfErr done (λ refusal. may_ask s k ≡ Err refusal) → Commits old k done new
   commits (Ok x) handed same_parts refused = ended (Finish k) tt handed
   commits (Err e) handed same_parts refused = (untouched same_parts, refused)
 
   -- ---- an abort
 
-  pub active_aborts : is_live s k ≡ true → (done : Result (Unit {0}) Refusal) → OnOk done (Handed (Finish k) s t cleared.due.items tt k.process (IsEnding k) u named m) → OnErr done (IsUntouched s t cleared u named m)
-      → IfErr done (λ refusal. RefusedBy (Finish k) s refusal) → Aborts old k (done_by done) new
-  active_aborts live (Ok x) handed same_parts refused = inl (ended (Finish k) tt handed)
-  active_aborts live (Err e) handed same_parts refused = (untouched same_parts, inr (live, inl refused))
+  pub active_aborts : Handed (Finish k) s t cleared.due.items tt k.process (IsEnding k) u named m → Aborts old k (Ok Done) new
+  active_aborts handed = inl (ended (Finish k) tt handed)
 
-  pub convicted_aborts : is_live s k ≡ true → (done : Result (Unit {0}) Refusal) → OnOk done (Handed (Abort k) s t cleared.due.items tt k.process (IsEnding k) u named m) → OnErr done (IsUntouched s t cleared u named m)
-      → IfErr done (λ refusal. RefusedBy (Abort k) s refusal) → Aborts old k (done_by done) new
-  convicted_aborts live (Ok x) handed same_parts refused = inr (inl (ended (Abort k) tt handed))
-  convicted_aborts live (Err e) handed same_parts refused = (untouched same_parts, inr (live, inr (inl refused)))
+  pub convicted_aborts : Handed (Abort k) s t cleared.due.items tt k.process (IsEnding k) u named m → Aborts old k (Ok Done) new
+  convicted_aborts handed = inr (inl (ended (Abort k) tt handed))
 
-  pub waiting_aborts : is_live s k ≡ true → may_cancel s k ≡ Ok tt → (answer : Result reply.Abort Refusal) → AbortsWaiting s t cleared k answer u named m → Aborts old k answer new
-  waiting_aborts live may (Ok Done) (mid, step, handed) =
+  pub waiting_aborts : may_cancel s k ≡ Ok tt → (answer : reply.Abort) → AbortsWaiting s t cleared k answer u named m → Aborts old k (Ok answer) new
+  waiting_aborts may Done (mid, step, handed) =
       let between : LockState = record (untold old) { table = mid; due = slice_set l.due.items k.process false } in
       inr (inr (
         between,
@@ -74,30 +70,22 @@ module _ (s u : TableState) (t named : NameTable) (l cleared m : Lists) (k : Key
         ended_by between new k m refl refl refl (Finish k) tt
             (subst (λ ds. Handed (Finish k) mid t (slice_set ds k.process false) tt k.process (IsEnding k) u named m) marks handed),
       ))
-  waiting_aborts live may (Ok Later) (step, table, names, due, nobody) =
+  waiting_aborts may Later (step, table, names, due, nobody) =
       let marked = due ∙ ap (λ ds. slice_set ds k.process true) marks in
       (may, step, λ i. record { table = table i; names = names i; due = marked i; granted = nobody.granted i; aborted = nobody.aborted i })
-  waiting_aborts live may (Ok Withdrawn) (step, names, due, nobody, refused) =
-      let marked = due ∙ ap (λ ds. slice_set ds k.process false) marks in
-      (may, (step, λ i. record { table = u; names = names i; due = marked i; granted = nobody.granted i; aborted = nobody.aborted i }), refused)
-  waiting_aborts live may (Err e) (same_parts, stays) = (untouched same_parts, inr (live, inr (inr stays)))
 
   -- ---- a cancel
 
-  pub due_cancels : may_cancel s k ≡ Ok tt → is_live s k ≡ true → (answer : Result reply.Abort Refusal) → has l.due.items k.process ≡ true → AbortsWaiting s t cleared k answer u named m → Cancels old k (cancel_of answer) new
-  due_cancels may live (Ok Done) is_due aborts = inr (is_due, inl (waiting_aborts live may (Ok Done) aborts))
-  due_cancels may live (Ok Withdrawn) is_due aborts = inr (is_due, inr (waiting_aborts live may (Ok Withdrawn) aborts))
-  due_cancels may live (Ok Later) is_due (step, table, names, due, nobody) =
+  pub due_cancels : may_cancel s k ≡ Ok tt → (answer : reply.Abort) → has l.due.items k.process ≡ true → AbortsWaiting s t cleared k answer u named m → Cancels old k (Ok (cancel_of answer)) new
+  due_cancels may Done is_due aborts = inr (is_due, waiting_aborts may Done aborts)
+  due_cancels may Later is_due (step, table, names, due, nobody) =
       let still = due ∙ ap (λ ds. slice_set ds k.process true) marks ∙ ap (slice_set l.due.items k.process) (sym is_due) ∙ set-get_or l.due.items k.process false in
       (step, λ i. record { table = table i; names = names i; due = still i; granted = nobody.granted i; aborted = nobody.aborted i })
-  due_cancels may live (Err e) is_due (same_parts, stays) = (untouched same_parts, inr (may, stays))
 
 -- where no abort is due: the names and the marks stay, and nobody is told of
-pub waiting_cancels : (s u : TableState) (t : NameTable) (l m : Lists) (k : Key) → m.due ≡ l.due → m.granted.items ≡ [] → m.aborted.items ≡ [] → may_cancel s k ≡ Ok tt → has l.due.items k.process ≡ false
-    → (answer : Result cancel.Cancel Refusal) → GaveUp s k answer u → Cancels (seen s t l) k answer (seen u t m)
-waiting_cancels s u t l m k due granted aborted may not_due (Ok cancels.Withdrawn) step =
+pub waiting_cancels : (s u : TableState) (t : NameTable) (l m : Lists) (k : Key) → m.due ≡ l.due → m.granted.items ≡ [] → m.aborted.items ≡ [] → has l.due.items k.process ≡ false
+    → (answer : cancel.Cancel) → GaveUp s k answer u → Cancels (seen s t l) k (Ok answer) (seen u t m)
+waiting_cancels s u t l m k due granted aborted not_due cancels.Withdrawn step =
     inl (not_due, (step, λ i. record { table = u; names = t; due = (due i).items; granted = granted i; aborted = aborted i }))
-waiting_cancels s u t l m k due granted aborted may not_due (Ok cancels.Carried) (step, same) =
+waiting_cancels s u t l m k due granted aborted not_due cancels.Carried (step, same) =
     (step, λ i. record { table = same i; names = t; due = (due i).items; granted = granted i; aborted = aborted i })
-waiting_cancels s u t l m k due granted aborted may not_due (Err e) (stays, same) =
-    ((λ i. record { table = same i; names = t; due = (due i).items; granted = granted i; aborted = aborted i }), inr (may, stays))

@@ -1,6 +1,6 @@
 -- From numbers to names: what a request does.
-use Rattle.std.proofs.Common.{◌≡◌, ◌≢◌, ◌∷◌, ◌<◌, ℕ, Bool, List, [], Some, None, Result, Ok, Err, inl, inr, refl, sym, ap, subst, ◌∙◌, slice_index_or, get_or-set_same, get_or-set_other, arith, length}
-use Rattle.std.proofs.lemmas.Bool.{cases_eq}
+use Rattle.std.proofs.Common.{◌≡◌, ◌≢◌, ◌∷◌, ◌<◌, ◌≤◌, ◌+◌, ◌*◌, ◌/◌, ℕ, true, Bool, List, [], Some, None, Result, Ok, Err, inl, inr, refl, sym, ap, subst, ◌∙◌, slice_index_or, get_or-set_same, get_or-set_other, arith, length}
+use Rattle.std.proofs.lemmas.Bool.{cases_eq, ltb-true}
 use Rattle.mm_arena.specs.declared.key.Key.{Key}
 use Rattle.mm_list_lemmas.specs.Members.{Among}
 use Rattle.mm_list_lemmas.proofs.Lemmas.Among.{among_right}
@@ -16,16 +16,19 @@ use Rattle.mm_settled.specs.Calls.{Locks, WaitsFrom, OthersKeepVerdicts}
 use Rattle.mm_settled.specs.declared.reply.Locked.TheVariants as locked
 use Rattle.mm_manager.specs.LockState.{LockState}
 use Rattle.mm_manager.specs.Calls.{Gets, Queues, Requests, Tries}
+use Rattle.mm_manager.specs.Permit.{event_limit, may_wait}
 use Rattle.mm_manager.specs.declared.refusal.Refusal.{Refusal}
 use Rattle.mm_manager.specs.declared.reply.Lock.{Lock}
 use Rattle.mm_manager.specs.declared.reply.Lock.TheVariants as lock
 use Rattle.mm_manager.specs.private.Handed.{DueWait}
 use Rattle.mm_manager.specs.private.Numbers.{AreNumbered}
+use Rattle.mm_manager.specs.private.Room.{HasRoom}
 use Rattle.mm_manager.specs.declared.reply.TryLock.{TryLock}
 use Rattle.mm_manager.specs.declared.reply.TryLock.TheVariants as tried
 use Rattle.mm_manager.proofs.Lemmas.Handed.{waits_something, is_waiting_for}
 use Rattle.mm_manager.proofs.Lemmas.Names.{waited_is_owned}
 use Rattle.mm_manager.proofs.Lemmas.Numbers.{some_not_none}
+use Rattle.mm_manager.proofs.Lemmas.Room.{granted_room, waits_room}
 use Rattle.mm_manager.proofs.Lemmas.Requests.{IsGranted, IsQueued, granted_is, queued_is, interned_name, owned_is_known, free_is_new}
 
 -- ---- what stays in the table
@@ -35,23 +38,37 @@ queued_else s u k h n queued m apart = ap (λ ws. waited_for ws m) queued.waits 
 
 pub record RequestKeeps (s u : TableState) : Type 0 where
   pub laws : Laws u
+  pub room : HasRoom u
   pub config : u.config ≡ s.config
   pub still : (m q : ℕ) → wait_of s m ≡ Some q → wait_of u m ≡ Some q
 
-granted_keeps : (s u : TableState) (k : Key) (n : ℕ) → Laws s → Locks s k n (Ok locked.Granted) u → RequestKeeps s u
-granted_keeps s u k n laws locks =
+pub label_left : (s : TableState) → may_wait s ≡ true → 2 * s.totals.accepted + 2 ≤ s.config.label_limit
+label_left s label = (let below : s.totals.accepted < s.config.label_limit / 2 = ltb-true s.totals.accepted (s.config.label_limit / 2) label in omega (arith, below))
+
+-- what holds before a request
+pub record MayRequest (s : TableState) : Type 0 where
+  pub laws : Laws s
+  pub room : HasRoom s
+  pub below : s.totals.accepted < event_limit
+
+granted_keeps : (s u : TableState) (k : Key) (n : ℕ) → MayRequest s → Locks s k n (Ok locked.Granted) u → RequestKeeps s u
+granted_keeps s u k n may locks =
     let granted = granted_is s u k n locks in
+    let laws = (event_keeps (Acquire k n) s u (Ok acquired.Granted) locks may.laws).laws in
     record {
-      laws = (event_keeps (Acquire k n) s u (Ok acquired.Granted) locks laws).laws;
+      laws = laws;
+      room = granted_room s u k n may.room laws may.below locks;
       config = granted.config;
       still = λ m q waits. ap (λ ws. waited_for ws m) granted.waits ∙ waits;
     }
 
-waits_keeps : (s u : TableState) (k h : Key) (n : ℕ) → Laws s → WaitsFrom s k n h u → RequestKeeps s u
-waits_keeps s u k h n laws from =
+waits_keeps : (s u : TableState) (k h : Key) (n : ℕ) → MayRequest s → may_wait s ≡ true → WaitsFrom s k n h u → RequestKeeps s u
+waits_keeps s u k h n may label from =
     let queued = queued_is s u k h n from in
+    let laws = (event_keeps Settle from.mid u (Ok from.answer) from.settle (event_keeps (Acquire k n) s from.mid (Ok (acquired.Waits h from.label)) from.event may.laws).laws).laws in
     record {
-      laws = (event_keeps Settle from.mid u (Ok from.answer) from.settle (event_keeps (Acquire k n) s from.mid (Ok (acquired.Waits h from.label)) from.event laws).laws).laws;
+      laws = laws;
+      room = waits_room s u k h n may.room laws may.below (label_left s label) from;
       config = queued.config;
       still = λ m q waits. elim (cases_eq m k.process) [
         | inl same ↦ absurd (some_not_none (wait_of s m) q waits (ap (wait_of s) same ∙ queued.active))
@@ -59,29 +76,29 @@ waits_keeps s u k h n laws from =
       ];
     }
 
-same_keeps : (s u : TableState) → Laws s → u ≡ s → RequestKeeps s u
-same_keeps s u laws same = subst (λ v. RequestKeeps s v) (sym same) record { laws = laws; config = refl; still = λ m q waits. waits }
+same_keeps : (s u : TableState) → MayRequest s → u ≡ s → RequestKeeps s u
+same_keeps s u may same = subst (λ v. RequestKeeps s v) (sym same) record { laws = may.laws; room = may.room; config = refl; still = λ m q waits. waits }
 
-pub request_keeps : (s u : TableState) (t named : NameTable) (k : Key) (name : List ℕ) (answer : Lock) → Laws s → Requests s t k name answer u named → RequestKeeps s u
-request_keeps s u t named k name lock.Granted laws asks = granted_keeps s u k asks.0 laws asks.2
-request_keeps s u t named k name (lock.Waits h) laws asks = waits_keeps s u k h asks.0 laws asks.2.0
-request_keeps s u t named k name (lock.Deadlock h) laws asks = waits_keeps s u k h asks.0 laws asks.2.0
-request_keeps s u t named k name lock.Held laws asks = same_keeps s u laws asks.1
+pub request_keeps : (s u : TableState) (t named : NameTable) (k : Key) (name : List ℕ) (answer : Lock) → MayRequest s → Requests s t k name answer u named → RequestKeeps s u
+request_keeps s u t named k name lock.Granted may asks = granted_keeps s u k asks.0 may asks.2
+request_keeps s u t named k name (lock.Waits h) may asks = waits_keeps s u k h asks.1.0 may asks.0 asks.1.2.0
+request_keeps s u t named k name (lock.Deadlock h) may asks = waits_keeps s u k h asks.1.0 may asks.0 asks.1.2.0
+request_keeps s u t named k name lock.Held may asks = same_keeps s u may asks.1
 
-pub asked_keeps : (s u : TableState) (t named : NameTable) (k : Key) (name : List ℕ) (reply : Result Lock Refusal) → Laws s
+pub asked_keeps : (s u : TableState) (t named : NameTable) (k : Key) (name : List ℕ) (reply : Result Lock Refusal) → MayRequest s
     → ((answer : Lock) → reply ≡ Ok answer → Requests s t k name answer u named) → ((e : Refusal) → reply ≡ Err e → u ≡ s) → RequestKeeps s u
-asked_keeps s u t named k name (Ok answer) laws made refused = request_keeps s u t named k name answer laws (made answer refl)
-asked_keeps s u t named k name (Err e) laws made refused = same_keeps s u laws (refused e refl)
+asked_keeps s u t named k name (Ok answer) may made refused = request_keeps s u t named k name answer may (made answer refl)
+asked_keeps s u t named k name (Err e) may made refused = same_keeps s u may (refused e refl)
 
-tried_keeps : (s u : TableState) (t named : NameTable) (k : Key) (name : List ℕ) (answer : TryLock) → Laws s → Tries s t k name answer u named → RequestKeeps s u
-tried_keeps s u t named k name tried.Granted laws asks = granted_keeps s u k asks.0 laws asks.2
-tried_keeps s u t named k name tried.Held laws found = same_keeps s u laws found.1
-tried_keeps s u t named k name (tried.Busy h) laws found = same_keeps s u laws found.1.1
+tried_keeps : (s u : TableState) (t named : NameTable) (k : Key) (name : List ℕ) (answer : TryLock) → MayRequest s → Tries s t k name answer u named → RequestKeeps s u
+tried_keeps s u t named k name tried.Granted may asks = granted_keeps s u k asks.0 may asks.2
+tried_keeps s u t named k name tried.Held may found = same_keeps s u may found.1
+tried_keeps s u t named k name (tried.Busy h) may found = same_keeps s u may found.1.1
 
-pub try_keeps : (s u : TableState) (t named : NameTable) (k : Key) (name : List ℕ) (reply : Result TryLock Refusal) → Laws s
+pub try_keeps : (s u : TableState) (t named : NameTable) (k : Key) (name : List ℕ) (reply : Result TryLock Refusal) → MayRequest s
     → ((answer : TryLock) → reply ≡ Ok answer → Tries s t k name answer u named) → ((e : Refusal) → reply ≡ Err e → u ≡ s) → RequestKeeps s u
-try_keeps s u t named k name (Ok answer) laws made refused = tried_keeps s u t named k name answer laws (made answer refl)
-try_keeps s u t named k name (Err e) laws made refused = same_keeps s u laws (refused e refl)
+try_keeps s u t named k name (Ok answer) may made refused = tried_keeps s u t named k name answer may (made answer refl)
+try_keeps s u t named k name (Err e) may made refused = same_keeps s u may (refused e refl)
 
 -- the marks stay, since whoever asks has none
 pub due_still : (s u : TableState) (due : List Bool) (k : Key) → RequestKeeps s u → OthersKeepVerdicts s u k.process → wait_of s k.process ≡ None → DueWait s due → DueWait u due

@@ -9,14 +9,11 @@ use Rattle.mm_names.specs.Names.{NameTable}
 use Rattle.mm_rules.specs.TableState.{TableState, is_live, wait_of}
 use Rattle.mm_rules.specs.Event.{Finish}
 use Rattle.mm_rules.specs.Laws.{Laws}
-use Rattle.mm_settled.specs.Calls.{Made}
-use Rattle.mm_settled.specs.Grants.{grants, EndsWaits}
+use Rattle.mm_settled.specs.Grants.{grants}
 use Rattle.mm_settled.specs.declared.reply.Grant.{Grant}
-use Rattle.mm_manager.specs.Calls.{EndsAll, EndIsRefused}
-use Rattle.mm_manager.specs.Refused.{RefusedBy}
+use Rattle.mm_manager.specs.Calls.{EndsAll}
 use Rattle.mm_manager.specs.declared.lists.Lists.{Lists}
-use Rattle.mm_manager.specs.declared.refusal.Refusal.{Refusal}
-use Rattle.mm_manager.specs.private.Due.{IsAmong, IsReady, EndsDue, EndsIfDue, EndsOne, Ended}
+use Rattle.mm_manager.specs.private.Due.{IsAmong, IsReady, EndsDue, EndsIfDue, EndsOne}
 use Rattle.mm_manager.specs.private.HandsDown.{HandsDown, IsEnding}
 use Rattle.mm_manager.specs.LockState.{KeepOwned}
 use Rattle.mm_manager.proofs.Lemmas.HandsDown.{finish_hands_down, made_laws}
@@ -28,6 +25,7 @@ ends_start s t l laws ready =
     let none : (k : Key) → ¬ Among k l.aborted.items = λ k among. subst (Among k) ready.none among in
     record {
       laws = laws;
+      room = ready.room;
       later = [];
       granted = sym (append-nil l.granted.items);
       ends = subst (λ ks. EndsAll s ks [] s) (sym ready.none) (refl, refl);
@@ -53,21 +51,6 @@ due_lives s t first marks next u named m so_far g among due =
     let owned = so_far.owns g among (λ ended. let never : true ≡ false = sym due ∙ (so_far.was_due g.key ended).1 in absurd (cc)) in
     so_far.laws.lawful.well_formed.owners g.resource g.key owned
 
--- who was aborted is so still, and so is who could not be
-module _ (s : TableState) (keys more : List Key) (k : Key) where
-  pub told_still : Among k keys ⊎ EndIsRefused s keys k → Among k (keys ++ more) ⊎ EndIsRefused s (keys ++ more) k
-  told_still (inl among) = inl (among_left keys more k among)
-  told_still (inr refused) = inr record {
-    before = refused.before;
-    after = refused.after ++ more;
-    parts = ap (λ ks. ks ++ more) refused.parts ∙ append_assoc refused.before refused.after more;
-    granted = refused.granted;
-    state = refused.state;
-    ends = refused.ends;
-    refusal = refused.refusal;
-    refused = refused.refused;
-  }
-
 module _ (s : TableState) (t : NameTable) (first : List Grant) (marks : List Bool) (next : ℕ) (u : TableState) (named : NameTable) (m : Lists) (so_far : EndsDue s t first marks next u named m) (g : Grant) (here : slice_index_or m.granted.items next g ≡ g)
     (inside : next < length m.granted.items) where
   -- those so far, and the next one
@@ -88,6 +71,7 @@ module _ (s : TableState) (t : NameTable) (first : List Grant) (marks : List Boo
   pub ends_skip : has m.due.items g.key.process ≡ false → EndsDue s t first marks (next + 1) u named m
   ends_skip idle = record {
     laws = so_far.laws;
+    room = so_far.room;
     later = so_far.later;
     granted = so_far.granted;
     ends = so_far.ends;
@@ -112,7 +96,7 @@ module _ (s : TableState) (t : NameTable) (first : List Grant) (marks : List Boo
     ];
   }
 
-  -- it is due: it ends, or the table refuses that
+  -- it is due, and it ends
   module _ (v : TableState) (after : NameTable) (o : Lists) (is_among : Among g m.granted.items) (due : has m.due.items g.key.process ≡ true)
       (one : EndsOne u named m g.key v after o) where
     within : g.key.process < length m.due.items
@@ -152,55 +136,25 @@ module _ (s : TableState) (t : NameTable) (first : List Grant) (marks : List Boo
           still_marked p (λ same. apart g (subst (Among g) (sym same_taken) next_is) (sym same))
           (so_far.stay p marked (λ x among. apart x (subst (Among x) (sym same_taken) (before_is x among))))
 
-      all_by : (keys : List Key) → o.aborted.items ≡ m.aborted.items ++ keys → Among g.key (m.aborted.items ++ keys) ⊎ EndIsRefused s (m.aborted.items ++ keys) g.key
-          → (x : Grant) → Among x (take (next + 1) o.granted.items) → has marks x.key.process ≡ true → Among x.key o.aborted.items ⊎ EndIsRefused s o.aborted.items x.key
-      all_by keys aborted told x among marked =
-          let Told : List Key → Key → Type 0 = λ ks k. Among k ks ⊎ EndIsRefused s ks k in
-          subst (λ ks. Told ks x.key) (sym aborted)
+      all_by : (x : Grant) → Among x (take (next + 1) o.granted.items) → has marks x.key.process ≡ true → Among x.key o.aborted.items
+      all_by x among marked =
+          subst (Among x.key) (sym one.aborted)
           (elim (by_place_now x among) [
-            | inl before ↦ told_still s m.aborted.items keys x.key (so_far.all x before marked)
-            | inr same ↦ subst (λ (y : Grant). Told (m.aborted.items ++ keys) y.key) (sym same) told
+            | inl before ↦ among_left m.aborted.items (g.key ∷ []) x.key (so_far.all x before marked)
+            | inr same ↦ among_right m.aborted.items (g.key ∷ []) x.key (inl (ap (λ (y : Grant). y.key) same))
           ])
 
-    ends_refused : v ≡ u → o.granted.items ≡ m.granted.items → o.aborted.items ≡ m.aborted.items → ((refusal : Refusal) × RefusedBy (Finish g.key) u refusal) → EndsDue s t first marks (next + 1) v after o
-    ends_refused same granted aborted refused = record {
-      laws = rw same so_far.laws;
-      later = so_far.later;
-      granted = granted ∙ so_far.granted;
-      ends = rw (same, aborted) so_far.ends;
-      config = ap (λ (w : TableState). w.config) same ∙ so_far.config;
-      down = λ n own. rw (same, aborted) (so_far.down n own);
-      names = kept;
-      numbered = one.numbered;
-      fits = one.fits;
-      are_granted = rw (same, granted) so_far.are_granted;
-      owns = rw (same, granted, aborted) so_far.owns;
-      few = omega (arith, so_far.few, ap length aborted);
-      was_due = λ k among.
-          let was = so_far.was_due k (subst (Among k) aborted among) in
-          (was.0, still_clear k.process was.1, (was.2.0, subst (Among was.2.0) (sym granted) was.2.1, was.2.2));
-      fewer = λ p marked. so_far.fewer p (marked_before p marked);
-      done = done_by [] (granted ∙ sym (append-nil m.granted.items));
-      stay = stay_by [] (granted ∙ sym (append-nil m.granted.items));
-      all = all_by [] (granted ∙ sym (append-nil m.granted.items)) [] (aborted ∙ sym (append-nil m.aborted.items)) (inr record {
-        before = m.aborted.items;
-        after = [];
-        parts = refl;
-        granted = so_far.later;
-        state = u;
-        ends = so_far.ends;
-        refusal = refused.0;
-        refused = refused.1;
-      });
-    }
-
-    ends_made : Made (Finish g.key) u tt v → EndsWaits u v g.key.process (grants u v) → o.granted.items ≡ m.granted.items ++ grants u v → o.aborted.items ≡ m.aborted.items ++ g.key ∷ [] → EndsDue s t first marks (next + 1) v after o
-    ends_made made ends granted aborted =
-        let down : HandsDown u g.key.process (IsEnding g.key) (grants u v) v = finish_hands_down u v g.key (grants u v) so_far.laws ends refl made in
+    pub ends_one_more : EndsDue s t first marks (next + 1) v after o
+    ends_one_more =
+        let granted = one.granted in
+        let aborted = one.aborted in
+        let made = one.made in
+        let down : HandsDown u g.key.process (IsEnding g.key) (grants u v) v = finish_hands_down u v g.key (grants u v) so_far.laws one.ended refl made in
         let idle : wait_of u g.key.process ≡ None = so_far.are_granted.idle g is_among in
         let laws = made_laws (Finish g.key) u v tt so_far.laws made in
         record {
           laws = laws;
+          room = one.room;
           later = so_far.later ++ grants u v;
           granted = granted ∙ ap (λ gs. gs ++ grants u v) so_far.granted ∙ append_assoc first so_far.later (grants u v);
           ends = rw aborted (ends_then m.aborted.items s u v g.key so_far.later so_far.ends made);
@@ -233,14 +187,8 @@ module _ (s : TableState) (t : NameTable) (first : List Grant) (marks : List Boo
           fewer = λ p marked. so_far.fewer p (marked_before p marked);
           done = done_by (grants u v) granted;
           stay = stay_by (grants u v) granted;
-          all = all_by (grants u v) granted (g.key ∷ []) aborted (inl (among_right m.aborted.items (g.key ∷ []) g.key (inl refl)));
+          all = all_by (grants u v) granted;
         }
-
-    pub ends_one_more : EndsDue s t first marks (next + 1) v after o
-    ends_one_more = elim one.ended [
-      | inl made ↦ ends_made made.0 made.1 made.2 made.3
-      | inr refused ↦ ends_refused refused.0 refused.1 refused.2 refused.3
-    ]
 
 -- one turn of the loop
 pub record IsTurned (s : TableState) (t : NameTable) (first : List Grant) (marks : List Bool) (next : ℕ) (v : TableState) (after : NameTable) (o : Lists) : Type 0 where
@@ -251,11 +199,7 @@ module _ (s : TableState) (t : NameTable) (first : List Grant) (marks : List Boo
     (inside : next < length m.granted.items) (is_among : Among g m.granted.items) (v : TableState) (after : NameTable) (o : Lists) where
   turn_by : (b : Bool) → has m.due.items g.key.process ≡ b → MatchBool b (EndsOne u named m g.key v after o) ((v ≡ u) × (after ≡ named) × (o ≡ m)) → IsTurned s t first marks (next + 1) v after o
   turn_by true due one = (let more = ends_one_more s t first marks next u named m so_far g here inside v after o is_among due one in
-      record { so_far = more; within = grown one.ended })
-    where
-      grown : Ended u m g.key v o → next + 1 ≤ length o.granted.items
-      grown (inl made) = omega (arith, inside, ap length made.2, length-append m.granted.items (grants u v))
-      grown (inr refused) = omega (arith, inside, ap length refused.1)
+      record { so_far = more; within = omega (arith, inside, ap length one.granted, length-append m.granted.items (grants u v)) })
   turn_by false idle same =
       let skipped = ends_skip s t first marks next u named m so_far g here inside idle in
       let Turned : TableState → NameTable → Lists → Type 0 = λ w n x. IsTurned s t first marks (next + 1) w n x in

@@ -1,16 +1,12 @@
 -- The names after some numbers were handed over, where each of these that nobody owns is forgotten.
-use Rattle.std.proofs.Common.{◌≡◌, ◌≢◌, ◌↔◌, ℕ, List, [], ◌∷◌, length, fold, Option, Some, None, Result, Ok, Err, OnErr, is_some, if◌then◌else◌, refl, sym, ap, subst, ◌∙◌, inl, inr, arith, slice_set, length-set, get_or-set_same, get_or-set_other}
+use Rattle.std.proofs.Common.{◌≡◌, ◌≢◌, ◌↔◌, ℕ, List, [], ◌∷◌, length, fold, Option, Some, None, is_some, if◌then◌else◌, refl, sym, ap, subst, ◌∙◌, inl, inr, arith, slice_set, length-set, get_or-set_same, get_or-set_other}
 use Rattle.std.proofs.lemmas.Bool.{cases_eq, cases_lt}
 use Rattle.std.proofs.lemmas.List.{get_or_past}
 use Rattle.mm_arena.specs.declared.key.Key.{Key}
 use Rattle.mm_list_lemmas.specs.Members.{Among}
 use Rattle.mm_list_lemmas.proofs.Lemmas.Among.{among_or_not}
 use Rattle.mm_names.specs.Names.{NameTable, name_of, with_name}
-use Rattle.mm_rules.specs.declared.refusal.Refusal.{Refusal}
-use Rattle.mm_rules.specs.declared.reply.Released.{Released}
 use Rattle.mm_rules.specs.TableState.{TableState, owner_of}
-use Rattle.mm_rules.specs.Event.{Release, Finish, Abort}
-use Rattle.mm_settled.specs.Calls.{Makes}
 use Rattle.mm_manager.specs.private.Numbers.{AreNumbered, forgotten}
 use Rattle.mm_manager.specs.LockState.{KeepOwned}
 use Rattle.mm_manager.proofs.Lemmas.Numbers.{some_not_none}
@@ -131,34 +127,3 @@ ended_names s u t named k ns numbered listed leaves is =
       kept = λ q. ap (λ v. name_of v q) is ∙ each_keeps_owned s u t numbered leaves.config ns owned others q;
       numbered = subst (AreNumbered u) (sym is) (numbered_each s u t numbered leaves.config ns owned others);
     }
-
--- ---- a refused call
-
-each_same : (s : TableState) (t : NameTable) (ns : List ℕ) → ((q : ℕ) → Among q ns → ¬ (owner_of s q ≡ None)) → fold (forgotten s) t ns ≡ t
-each_same s t [] owned = refl
-each_same s t (n ∷ ns) owned =
-    ap (λ v. fold (forgotten s) v ns) (forgotten_not s t n (owner_of s n) refl (owned n (inl refl))) ∙ each_same s t ns (λ q later. owned q (inr later))
-  where
-    forgotten_not : (s : TableState) (t : NameTable) (n : ℕ) (o : Option Key) → owner_of s n ≡ o → ¬ (o ≡ None) → forgotten s t n ≡ t
-    forgotten_not s t n None is some = absurd (some refl)
-    forgotten_not s t n (Some k) is some = forgotten_by s t n (Some k) is
-
--- each number is owned as before, so each name stays
-pub nothing_forgotten : (s u : TableState) (t named : NameTable) (ns : List ℕ) → u ≡ s → ((q : ℕ) → Among q ns → ¬ (owner_of s q ≡ None)) → named ≡ fold (forgotten u) t ns → named ≡ t
-nothing_forgotten s u t named ns same owned is = is ∙ ap (λ v. fold (forgotten v) t ns) same ∙ each_same s t ns owned
-
-pub release_keeps_names : (s u : TableState) (t named : NameTable) (k : Key) (n : ℕ) (reply : Result Released Refusal) → AreNumbered s t → ¬ (name_of t n ≡ None) → Makes (Release k n) s reply u → named ≡ forgotten u t n
-    → OnErr reply (named ≡ t)
-release_keeps_names s u t named k n (Ok answer) numbered has makes is = tt
-release_keeps_names s u t named k n (Err e) numbered has makes is =
-    nothing_forgotten s u t named (n ∷ []) makes.0 (λ q among none. elim among [ inl same ↦ has ((numbered.named n).1 (sym (ap (owner_of s) same) ∙ none)) | inr never ↦ never ]) is
-
-pub finish_keeps_names : (s u : TableState) (t named : NameTable) (k : Key) (ns : List ℕ) (reply : Result (Unit {0}) Refusal) → ((r : ℕ) → Among r ns ↔ (owner_of s r ≡ Some k)) → Makes (Finish k) s reply u
-    → named ≡ fold (forgotten u) t ns → OnErr reply (named ≡ t)
-finish_keeps_names s u t named k ns (Ok answer) listed makes is = tt
-finish_keeps_names s u t named k ns (Err e) listed makes is = nothing_forgotten s u t named ns makes.0 (λ q among. some_not_none (owner_of s q) k ((listed q).0 among)) is
-
-pub abort_keeps_names : (s u : TableState) (t named : NameTable) (k : Key) (ns : List ℕ) (reply : Result (Unit {0}) Refusal) → ((r : ℕ) → Among r ns ↔ (owner_of s r ≡ Some k)) → Makes (Abort k) s reply u
-    → named ≡ fold (forgotten u) t ns → OnErr reply (named ≡ t)
-abort_keeps_names s u t named k ns (Ok answer) listed makes is = tt
-abort_keeps_names s u t named k ns (Err e) listed makes is = nothing_forgotten s u t named ns makes.0 (λ q among. some_not_none (owner_of s q) k ((listed q).0 among)) is

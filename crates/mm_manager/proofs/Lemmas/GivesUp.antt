@@ -1,5 +1,5 @@
 -- A wait that is taken back.
-use Rattle.std.proofs.Common.{◌≡◌, ◌≢◌, ℕ, true, false, List, Bool, Result, Ok, Err, inl, inr, sym, ap, subst, ◌∙◌, slice_set}
+use Rattle.std.proofs.Common.{◌≡◌, ◌≢◌, ℕ, true, false, List, Bool, Ok, inl, inr, sym, ap, subst, ◌∙◌, slice_set}
 use Rattle.std.proofs.lemmas.Bool.{cases_eq}
 use Rattle.mm_arena.specs.declared.key.Key.{Key}
 use Rattle.mm_bit_set.specs.BitSet.{has}
@@ -10,12 +10,12 @@ use Rattle.mm_rules.specs.Event.{GiveUp, Step, give_up_tests}
 use Rattle.mm_rules.proofs.States.Activate.{waits_no_longer, waits_else}
 use Rattle.mm_settled.proofs.Lemmas.Accepted.{IsAccepted, accepted}
 use Rattle.mm_manager.specs.declared.lists.Lists.{Lists}
-use Rattle.mm_manager.specs.declared.refusal.Refusal.{Refusal}
 use Rattle.mm_manager.specs.declared.reply.Cancel.{Cancel}
 use Rattle.mm_manager.specs.declared.reply.Cancel.TheVariants as cancels
 use Rattle.mm_manager.specs.private.Aborts.{GaveUp}
 use Rattle.mm_manager.specs.private.Handed.{DueWait, AreParts}
 use Rattle.mm_manager.specs.private.Numbers.{AreNumbered}
+use Rattle.mm_manager.specs.private.Room.{HasRoom}
 use Rattle.mm_manager.proofs.Lemmas.Due.{was_marked}
 use Rattle.mm_manager.proofs.Lemmas.Handed.{waits_something, is_waiting_for, unmarked_here}
 use Rattle.mm_manager.proofs.Lemmas.May.{IsActive}
@@ -61,11 +61,11 @@ module _ (s u : TableState) (k : Key) (step : Step (GiveUp k) s (Ok tt) u) where
 
 -- ---- by the answer
 
-pub gave_up_parts : (s u : TableState) (t : NameTable) (l : Lists) (k : Key) (reply : Result Cancel Refusal) → has l.due.items k.process ≡ false → GaveUp s k reply u → AreParts s t l → AreParts u t l
-gave_up_parts s u t l k (Ok cancels.Withdrawn) not_due step parts = record {
+pub gave_up_parts : (s u : TableState) (t : NameTable) (l : Lists) (k : Key) (answer : Cancel) → has l.due.items k.process ≡ false → GaveUp s k answer u → HasRoom u → AreParts s t l → AreParts u t l
+gave_up_parts s u t l k cancels.Withdrawn not_due step room parts = record {
   numbered = given_up_numbered s u k step t parts.numbered;
   fits = rw (given_up_config s u k step) parts.fits;
   due = given_up_not_due s u k step l.due.items not_due parts.due;
+  room = room;
 }
-gave_up_parts s u t l k (Ok cancels.Carried) not_due (step, same) parts = subst (λ v. AreParts v t l) (sym same) parts
-gave_up_parts s u t l k (Err e) not_due (stays, same) parts = subst (λ v. AreParts v t l) (sym same) parts
+gave_up_parts s u t l k cancels.Carried not_due (step, same) room parts = subst (λ v. AreParts v t l) (sym same) parts

@@ -1,18 +1,25 @@
--- What a refusal is of a call whose caller may make it: a label or a count is at its limit.
-use Rattle.std.proofs.Common.{◌≡◌, ◌<◌, ◌⊎◌, ◌∷◌, ℕ, Bool, true, false, not, [], Some, None, is_some, nat_eq, nat_le, Result, Ok, Err, MatchBool, inl, inr, refl, sym, ap, subst, ◌∙◌}
+-- No end of a transaction is refused while there is room for it, and no request is that is made only where there is room for it.
+use Rattle.std.proofs.Common.{◌≡◌, ◌≤◌, ◌<◌, ◌+◌, ◌*◌, ◌^◌, ◌∷◌, ℕ, Bool, true, false, not, List, [], Option, Some, None, is_some, length, count_by, nat_eq, nat_le, Result, Ok, Err, MatchBool, inl, inr, refl, sym, ap, subst, ◌∙◌, arith}
 use Rattle.std.specs.List.{AllByRecursion}
 use Rattle.std.specs.Option.{option_map_or}
-use Rattle.std.proofs.lemmas.Bool.{eq-eqb, lt-leb}
+use Rattle.std.proofs.lemmas.Bool.{eq-eqb, lt-leb, le-leb, lt-ltb}
+use Rattle.std.proofs.lemmas.List.Sums.{count_by-le-length}
 use Rattle.mm_arena.specs.declared.key.Key.{Key}
+use Rattle.mm_list_lemmas.specs.Members.{Among}
+use Rattle.mm_list_lemmas.proofs.Lemmas.Among.{list_all_from}
+use Rattle.mm_list_lemmas.proofs.Lemmas.Filter.{filter_gives}
 use Rattle.mm_rules.specs.declared.refusal.Refusal.{Refusal}
 use Rattle.mm_rules.specs.declared.refusal.Refusal.TheVariants.{CountsExhausted, Carried}
-use Rattle.mm_rules.specs.TableState.{TableState, is_live, is_waiting, has_verdict, owner_of, owns, wait_of, waiters_of}
-use Rattle.mm_rules.specs.Change.{activate, hand_over, vacate, abort}
-use Rattle.mm_rules.specs.Event.{Tests, Release, Finish, Abort, GiveUp, Gives, Step, allowed, decided, outcome, acquire_tests, acquire_answer, acquire_change, release_tests, release_answer, finish_tests, abort_tests, give_up_tests}
+use Rattle.mm_rules.specs.TableState.{TableState, Wait, is_live, is_waiting, has_verdict, owner_of, owns, resources_of, wait_of, waiters_of}
+use Rattle.mm_rules.specs.Change.{activate, label_against, block_fits, give_to_fits, hand_over, hand_over_fits, vacate, vacate_fits, abort}
+use Rattle.mm_rules.specs.Event.{Tests, Release, Finish, Abort, GiveUp, Gives, Step, allowed, counts_exhausted, decided, outcome, acquire_tests, acquire_answer, acquire_change, release_tests, release_answer, finish_tests, abort_tests, give_up_tests}
+use Rattle.mm_rules.specs.Laws.{Laws}
+use Rattle.mm_rules.proofs.States.Vacate.{live_process}
 use Rattle.mm_settled.specs.Calls.{Locks, Refuses, has_room}
-use Rattle.mm_manager.specs.Permit.{refusal_of}
-use Rattle.mm_manager.specs.Refused.{IsLimit, RefusedBy}
-use Rattle.mm_manager.specs.private.Aborts.{GaveUp, stayed}
+use Rattle.mm_settled.proofs.Lemmas.Ends.{owner_in_range}
+use Rattle.mm_manager.specs.Permit.{event_limit}
+use Rattle.mm_manager.specs.private.Room.{LabelsWithin, HasRoom}
+use Rattle.mm_manager.proofs.Lemmas.Fewer.{live_to_end}
 
 -- ---- which test refuses
 
@@ -32,19 +39,80 @@ each_true P [] e each is = (let never : Ok tt ≡ Err e = is in absurd (cc))
 each_true P ((true, refusal) ∷ tests) e each is = (let same : refusal ≡ e = cc in subst P same (each.0 refl))
 each_true P ((false, refusal) ∷ tests) e each is = each_true P tests e each.1 is
 
-abbrev IsLimitOf : Refusal → Type 0
-IsLimitOf e = IsLimit (refusal_of e)
+-- no test is true
+abbrev Never : Refusal → Type 0
+Never e = ⊥
 
 never_true : {X : Type 0} (b : Bool) → b ≡ false → b ≡ true → X
 never_true b none is = (let never : false ≡ true = sym none ∙ is in absurd (cc))
+
+not_of : (b : Bool) → b ≡ true → not b ≡ false
+not_of b is = ap not is
 
 -- the process of the owner owns
 pub owner_owns : (s : TableState) (k : Key) (r : ℕ) → owner_of s r ≡ Some k → owns s k.process r ≡ true
 owner_owns s k r is = ap (λ o. option_map_or (λ (h : Key). nat_eq h.process k.process) o false) is ∙ eq-eqb k.process k.process refl
 
+-- ---- counts
+
+-- an event and a settle can be counted
+pub record CanCount (s : TableState) : Type 0 where
+  pub room : has_room s ≡ true
+  pub counts : counts_exhausted s ≡ false
+
+can_count_by : (s : TableState) → Laws s → s.totals.aborts ≤ s.totals.accepted → s.totals.accepted + 65538 ≤ 2 ^ 62 → CanCount s
+can_count_by s laws aborts below =
+    let few : count_by (λ v. v) s.verdicts ≤ 65536 = omega (arith, count_by-le-length (λ v. v) s.verdicts, laws.lawful.well_formed.sizes.verdicts, laws.lawful.well_formed.config.processes.1) in
+    let verdicts : s.totals.verdicts < 2 ^ 62 = omega (arith, few, laws.lawful.counted, aborts, below) in
+    record {
+      room = rw (lt-ltb (s.totals.accepted + 1) (2 ^ 62) (omega (arith, below)), lt-ltb s.totals.verdicts (2 ^ 62) verdicts) refl;
+      counts = rw (lt-leb (2 ^ 62) s.totals.accepted (omega (arith, below)), lt-leb (2 ^ 62) s.totals.verdicts verdicts) refl;
+    }
+
+-- so it is while somebody is live, and before a request
+pub live_can_count : (s : TableState) (k : Key) → Laws s → HasRoom s → is_live s k ≡ true → CanCount s
+live_can_count s k laws room live = can_count_by s laws room.aborts (omega (arith, live_to_end s k.process (live_process s k live), room.events))
+
+pub asked_can_count : (s : TableState) → Laws s → HasRoom s → s.totals.accepted < event_limit → CanCount s
+asked_can_count s laws room below = can_count_by s laws room.aborts (omega (arith, below))
+
+-- ---- labels
+
+-- where somebody waits, there is room for each label that a hand-over makes
+module _ (s : TableState) (labels : LabelsWithin s s.config.label_limit) where
+  block_has_room : (n h : ℕ) → 1 ≤ length s.waits → block_fits s n h ≡ true
+  block_has_room n h some = le-leb (label_against s n h).counter s.config.label_limit (omega (arith, labels n, labels h, some))
+
+  some_wait : (w : Wait) (ws : List Wait) → Among w ws → 1 ≤ length ws
+  some_wait w [] among = absurd among
+  some_wait w (v ∷ ws) among = omega arith
+
+  give_has_room : (r : ℕ) (ws : List Wait) → waiters_of s r ≡ ws → give_to_fits s ws ≡ true
+  give_has_room r [] are = refl
+  give_has_room r (first ∷ others) are =
+      let waiting : Among first s.waits = (filter_gives (λ w. nat_eq w.resource r) s.waits first (subst (Among first) (sym are) (inl refl))).0 in
+      list_all_from (λ w. block_fits s w.key.process first.key.process) others (λ w among. block_has_room w.key.process first.key.process (some_wait first s.waits waiting))
+
+  hand_over_has_room : (r : ℕ) → hand_over_fits s r ≡ true
+  hand_over_has_room r = give_has_room r (waiters_of s r) refl
+
+  vacate_has_room : (n : ℕ) → vacate_fits s n ≡ true
+  vacate_has_room n = list_all_from (hand_over_fits s) (resources_of s n) (λ r among. hand_over_has_room r)
+
 -- ---- the end of a transaction, and a release
 
-module _ (s : TableState) (k : Key) (live : is_live s k ≡ true) where
+-- where there is room, the table refuses by itself
+by_room : (b : Bool) (P Q : Type 0) → b ≡ true → MatchBool b P Q → P
+by_room true P Q is given = given
+by_room false P Q is given = absurd (cc)
+
+module _ (s : TableState) (k : Key) (laws : Laws s) (room : HasRoom s) (live : is_live s k ≡ true) where
+  can : CanCount s
+  can = live_can_count s k laws room live
+
+  not_counted : {P : Type 0} → counts_exhausted s ≡ true → P
+  not_counted = never_true (counts_exhausted s) can.counts
+
   not_stale : {P : Type 0} → not (is_live s k) ≡ true → P
   not_stale = never_true (not (is_live s k)) (ap not live)
 
@@ -52,61 +120,86 @@ module _ (s : TableState) (k : Key) (live : is_live s k ≡ true) where
     not_waiting : {P : Type 0} → is_waiting s k.process ≡ true → P
     not_waiting = never_true (is_waiting s k.process) (ap is_some idle)
 
-    finish_by : (b : Bool) (e : Refusal) → MatchBool b (Step (Finish k) s (Err e) s) (e ≡ CountsExhausted) → IsLimitOf e
-    finish_by false e same = inr (ap refusal_of same)
-    finish_by true e step =
-        each_true IsLimitOf (finish_tests s k) e ((λ is. inr refl), ((λ is. not_stale is), ((λ is. not_waiting is), ((λ is. inl refl), tt))))
-        (refused_tests (finish_tests s k) s tt (vacate s k.process) e s step)
+    pub finish_never : (u : TableState) (e : Refusal) → Refuses (Finish k) s e u → ⊥
+    finish_never u e refuses =
+        each_true Never (finish_tests s k) e
+        ((λ is. not_counted is), ((λ is. not_stale is), ((λ is. not_waiting is), ((λ is. never_true (not (vacate_fits s k.process)) (not_of (vacate_fits s k.process) (vacate_has_room s room.labels k.process)) is), tt))))
+        (refused_tests (finish_tests s k) s tt (vacate s k.process) e s (by_room (has_room s) (Step (Finish k) s (Err e) s) (e ≡ CountsExhausted) can.room refuses.1))
 
-    pub finish_refusal : (u : TableState) (e : Refusal) → Refuses (Finish k) s e u → RefusedBy (Finish k) s (refusal_of e)
-    finish_refusal u e refuses = (finish_by (has_room s) e refuses.1, (e, (refl, refuses.1), refl))
-
-    module _ (r : ℕ) (in_range : r < s.config.resources) where
-      is_resource : {P : Type 0} → nat_le s.config.resources r ≡ true → P
-      is_resource = never_true (nat_le s.config.resources r) (lt-leb s.config.resources r in_range)
-
-      release_by : owns s k.process r ≡ true → (b : Bool) (e : Refusal) → MatchBool b (Step (Release k r) s (Err e) s) (e ≡ CountsExhausted) → IsLimitOf e
-      release_by mine false e same = inr (ap refusal_of same)
-      release_by mine true e step =
-          each_true IsLimitOf (release_tests s k r) e
-          ((λ is. inr refl), ((λ is. not_stale is), ((λ is. is_resource is), ((λ is. not_waiting is), ((λ is. never_true (not (owns s k.process r)) (ap not mine) is), ((λ is. inl refl), tt))))))
-          (refused_tests (release_tests s k r) s (release_answer (waiters_of s r)) (hand_over s r) e s step)
-
-      pub release_refusal : owns s k.process r ≡ true → (u : TableState) (e : Refusal) → Refuses (Release k r) s e u → RefusedBy (Release k r) s (refusal_of e)
-      release_refusal mine u e refuses = (release_by mine (has_room s) e refuses.1, (e, (refl, refuses.1), refl))
-
-      pub lock_limit : owns s k.process r ≡ false → (u : TableState) (e : Refusal) → Locks s k r (Err e) u → IsLimit (refusal_of e)
-      lock_limit other u e locks = elim locks.1 [
-        | inr full ↦ inr (ap refusal_of full.0)
-        | inl step ↦ each_true IsLimitOf (acquire_tests s k r) e
-            ((λ is. inr refl), ((λ is. not_stale is), ((λ is. is_resource is), ((λ is. not_waiting is), ((λ is. never_true (owns s k.process r) other is), ((λ is. inl refl), tt))))))
-            (refused_tests (acquire_tests s k r) s (acquire_answer s k (owner_of s r)) (acquire_change s k r (owner_of s r)) e s step)
-      ]
+    module _ (r : ℕ) (owned : owner_of s r ≡ Some k) where
+      pub release_never : (u : TableState) (e : Refusal) → Refuses (Release k r) s e u → ⊥
+      release_never u e refuses =
+          each_true Never (release_tests s k r) e (
+            (λ is. not_counted is),
+            (
+              (λ is. not_stale is),
+              (
+                (λ is. never_true (nat_le s.config.resources r) (lt-leb s.config.resources r (owner_in_range s laws r k owned)) is),
+                (
+                  (λ is. not_waiting is),
+                  ((λ is. never_true (not (owns s k.process r)) (not_of (owns s k.process r) (owner_owns s k r owned)) is), ((λ is. never_true (not (hand_over_fits s r)) (not_of (hand_over_fits s r) (hand_over_has_room s room.labels r)) is), tt)),
+                ),
+              ),
+            ),
+          )
+          (refused_tests (release_tests s k r) s (release_answer (waiters_of s r)) (hand_over s r) e s (by_room (has_room s) (Step (Release k r) s (Err e) s) (e ≡ CountsExhausted) can.room refuses.1))
 
   -- ---- an abort, and a wait that is taken back
 
-  abort_by : has_verdict s k.process ≡ true → (b : Bool) (e : Refusal) → MatchBool b (Step (Abort k) s (Err e) s) (e ≡ CountsExhausted) → IsLimitOf e
-  abort_by verdict false e same = inr (ap refusal_of same)
-  abort_by verdict true e step =
-      each_true IsLimitOf (abort_tests s k) e ((λ is. inr refl), ((λ is. not_stale is), ((λ is. never_true (not (has_verdict s k.process)) (ap not verdict) is), ((λ is. inl refl), tt))))
-      (refused_tests (abort_tests s k) s tt (abort s k.process) e s step)
+  pub abort_never : has_verdict s k.process ≡ true → (u : TableState) (e : Refusal) → Refuses (Abort k) s e u → ⊥
+  abort_never verdict u e refuses =
+      each_true Never (abort_tests s k) e (
+        (λ is. not_counted is),
+        (
+          (λ is. not_stale is),
+          (
+            (λ is. never_true (not (has_verdict s k.process)) (not_of (has_verdict s k.process) verdict) is),
+            ((λ is. never_true (not (vacate_fits s k.process)) (not_of (vacate_fits s k.process) (vacate_has_room s room.labels k.process)) is), tt),
+          ),
+        ),
+      )
+      (refused_tests (abort_tests s k) s tt (abort s k.process) e s (by_room (has_room s) (Step (Abort k) s (Err e) s) (e ≡ CountsExhausted) can.room refuses.1))
 
-  pub abort_refusal : has_verdict s k.process ≡ true → (u : TableState) (e : Refusal) → Refuses (Abort k) s e u → RefusedBy (Abort k) s (refusal_of e)
-  abort_refusal verdict u e refuses = (abort_by verdict (has_room s) e refuses.1, (e, (refl, refuses.1), refl))
+  abbrev IsCarried : Refusal → Type 0
+  IsCarried e = e ≡ Carried
 
-  abbrev CountsOrCarried : Refusal → Type 0
-  CountsOrCarried e = (e ≡ CountsExhausted) ⊎ (e ≡ Carried)
-
-  give_up_either : is_waiting s k.process ≡ true → has_verdict s k.process ≡ false → (u : TableState) (e : Refusal) → Step (GiveUp k) s (Err e) u → CountsOrCarried e
-  give_up_either waits free u e step =
-      each_true CountsOrCarried (give_up_tests s k) e
-      ((λ is. inl refl), ((λ is. not_stale is), ((λ is. never_true (not (is_waiting s k.process)) (ap not waits) is), ((λ is. never_true (has_verdict s k.process) free is), ((λ is. inr refl), tt)))))
+  pub give_up_carried : is_waiting s k.process ≡ true → has_verdict s k.process ≡ false → (u : TableState) (e : Refusal) → Step (GiveUp k) s (Err e) u → e ≡ Carried
+  give_up_carried waits free u e step =
+      each_true IsCarried (give_up_tests s k) e
+      ((λ is. not_counted is), ((λ is. not_stale is), ((λ is. never_true (not (is_waiting s k.process)) (ap not waits) is), ((λ is. never_true (has_verdict s k.process) free is), ((λ is. refl), tt)))))
       (refused_tests (give_up_tests s k) s tt (activate s k.process) e u step)
 
-  pub refused_stays : is_waiting s k.process ≡ true → has_verdict s k.process ≡ false → (u : TableState) (e : Refusal) → u ≡ s → Step (GiveUp k) s (Err e) u → GaveUp s k (stayed e) u
-  refused_stays waits free u e same step =
-      let here : Step (GiveUp k) s (Err e) s = subst (λ v. Step (GiveUp k) s (Err e) v) same step in
-      elim (give_up_either waits free u e step) [
-        | inl counts ↦ subst (λ x. GaveUp s k (stayed x) u) (sym counts) ((refl, subst (λ x. Step (GiveUp k) s (Err x) s) counts here), same)
-        | inr carried ↦ subst (λ x. GaveUp s k (stayed x) u) (sym carried) (subst (λ x. Step (GiveUp k) s (Err x) s) carried here, same)
-      ]
+-- ---- a request
+
+module _ (s : TableState) (k : Key) (laws : Laws s) (room : HasRoom s) (live : is_live s k ≡ true) (idle : wait_of s k.process ≡ None) (below : s.totals.accepted < event_limit)
+    (r : ℕ) (in_range : r < s.config.resources) (other : owns s k.process r ≡ false) where
+  asked_can : CanCount s
+  asked_can = asked_can_count s laws room below
+
+  -- where somebody owns it, there is a label left for who waits
+  fits_by : (o : Option Key) → ((h : Key) → o ≡ Some h → 2 * s.totals.accepted + 2 ≤ s.config.label_limit) → option_map_or (λ h. not (block_fits s k.process h.process)) o false ≡ false
+  fits_by None fits = refl
+  fits_by (Some h) fits = not_of (block_fits s k.process h.process)
+      (le-leb (label_against s k.process h.process).counter s.config.label_limit (omega (arith, fits h refl, room.by_events k.process, room.by_events h.process)))
+
+  pub lock_never : ((h : Key) → owner_of s r ≡ Some h → 2 * s.totals.accepted + 2 ≤ s.config.label_limit) → (u : TableState) (e : Refusal) → Locks s k r (Err e) u → ⊥
+  lock_never fits u e locks = elim locks.1 [
+    | inr full ↦ (let never : true ≡ false = sym asked_can.room ∙ full.1 in cc)
+    | inl step ↦ each_true Never (acquire_tests s k r) e (
+      (λ is. never_true (counts_exhausted s) asked_can.counts is),
+      (
+        (λ is. never_true (not (is_live s k)) (ap not live) is),
+        (
+          (λ is. never_true (nat_le s.config.resources r) (lt-leb s.config.resources r in_range) is),
+          (
+            (λ is. never_true (is_waiting s k.process) (ap is_some idle) is),
+            (
+              (λ is. never_true (owns s k.process r) other is),
+              ((λ is. never_true (option_map_or (λ h. not (block_fits s k.process h.process)) (owner_of s r) false) (fits_by (owner_of s r) fits) is), tt),
+            ),
+          ),
+        ),
+      ),
+    )
+        (refused_tests (acquire_tests s k r) s (acquire_answer s k (owner_of s r)) (acquire_change s k r (owner_of s r)) e s step)
+  ]

@@ -1,5 +1,6 @@
 -- What is known of a transaction that may make a call.
-use Rattle.std.proofs.Common.{◌≡◌, ℕ, Bool, true, false, Option, Some, None, Ok, Err, if◌then◌else◌, refl, ap, ◌∙◌}
+use Rattle.std.proofs.Common.{◌≡◌, ◌<◌, ℕ, Bool, true, false, Option, Some, None, Ok, Err, if◌then◌else◌, inl, inr, refl, sym, ap, ◌∙◌}
+use Rattle.std.proofs.lemmas.Bool.{cases_lt, le-ltb}
 use Rattle.mm_arena.specs.declared.key.Key.{Key}
 use Rattle.mm_rules.specs.declared.reply.Mode.TheVariants as mode
 use Rattle.mm_rules.specs.declared.reply.State.{State}
@@ -7,8 +8,8 @@ use Rattle.mm_rules.specs.declared.refusal.Refusal as table
 use Rattle.mm_rules.specs.declared.refusal.Refusal.TheVariants.{Stale}
 use Rattle.mm_rules.specs.TableState.{TableState, is_live, has_verdict, wait_of, private_of, public_of}
 use Rattle.mm_rules.specs.Event.{mode_of, state_of}
-use Rattle.mm_manager.specs.Permit.{may_ask, may_ask_in, may_cancel, may_cancel_in}
-use Rattle.mm_manager.specs.declared.refusal.Refusal.TheVariants.{NoTransaction, MustAbort, Waiting, NotWaiting}
+use Rattle.mm_manager.specs.Permit.{event_limit, may_ask, may_ask_in, may_cancel, may_cancel_in, may_count}
+use Rattle.mm_manager.specs.declared.refusal.Refusal.TheVariants.{NoTransaction, MustAbort, Waiting, NotWaiting, CountsFull}
 
 -- a live transaction that waits for nothing
 pub record IsActive (s : TableState) (k : Key) : Type 0 where
@@ -114,3 +115,11 @@ may_cancel_of s k n is =
     ap (λ b. if b then may_cancel_in (wait_of s k.process) (has_verdict s k.process) else Err NoTransaction) is.live
     ∙ ap (λ o. may_cancel_in o (has_verdict s k.process)) is.waits
     ∙ ap (may_cancel_in (Some n)) is.verdict
+
+-- ---- an event may be counted
+
+pub counted : (s : TableState) → may_count s ≡ Ok tt → s.totals.accepted < event_limit
+counted s may = elim (cases_lt s.totals.accepted event_limit) [
+  | inl below ↦ below
+  | inr past ↦ (let never : Err CountsFull ≡ Ok tt = sym (ap (λ (b : Bool). if b then Ok tt else Err CountsFull) (le-ltb s.totals.accepted event_limit past)) ∙ may in absurd (cc))
+]

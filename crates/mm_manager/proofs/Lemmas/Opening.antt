@@ -1,25 +1,58 @@
 -- A manager that was just opened.
-use Rattle.std.proofs.Common.{◌≡◌, ℕ, true, false, None, replicate, sym, ap, subst, ◌∙◌}
+use Rattle.std.proofs.Common.{◌≡◌, ◌+◌, ℕ, zero, suc, Bool, true, false, cond, None, is_some, count_by, map, replicate, refl, sym, ap, subst, ◌∙◌, arith, slice_index_or}
+use Rattle.std.specs.List.{range_with_len}
+use Rattle.std.proofs.lemmas.List.Sums.{sum_by-cons}
 use Rattle.std.proofs.lemmas.List.{length-replicate}
 use Rattle.mm_list_lemmas.proofs.Lemmas.Set.{read_replicate}
 use Rattle.mm_bit_set.specs.BitSet.{has}
+use Rattle.mm_label.specs.Label.{Label, opening_label}
 use Rattle.mm_names.specs.Names.{NameTable, nameless}
 use Rattle.mm_rules.specs.declared.config.Config.{Config}
-use Rattle.mm_rules.specs.TableState.{TableState, opening}
+use Rattle.mm_rules.specs.TableState.{TableState, IsInRange, opening, public_of}
 use Rattle.mm_manager.specs.declared.lists.Lists.{Lists}
 use Rattle.mm_manager.specs.private.Handed.{AreParts}
 use Rattle.mm_manager.specs.private.Lists.{Fits}
+use Rattle.mm_manager.specs.private.Room.{HasRoom}
 
-opening_by : (c : Config) (name_bytes count : ℕ) (l : Lists) → Fits c l → l.due.items ≡ replicate count false → AreParts (opening c) (nameless c.resources name_bytes) l
-opening_by c name_bytes count l fits due = record {
+abbrev one : Bool → ℕ
+one b = cond b 1 0
+
+none_counted : {X : Type 0} (p : X → Bool) (x : X) → p x ≡ false → (n : ℕ) → count_by p (replicate n x) ≡ 0
+none_counted p x fails zero = refl
+none_counted p x fails (suc n) = omega (arith, sum_by-cons (λ y. cond (p y) 1 0) x (replicate n x), ap one fails, none_counted p x fails n)
+
+opening_counter : (c : Config) (p : ℕ) → (public_of (opening c) p).counter ≡ 0
+opening_counter c p = opening_at c.processes 0 p (opening_label p) refl
+  where
+    opening_at : (n a p : ℕ) (d : Label) → d.counter ≡ 0 → (slice_index_or (map opening_label (range_with_len a n)) p d).counter ≡ 0
+    opening_at zero a p d none = none
+    opening_at (suc n) a zero d none = refl
+    opening_at (suc n) a (suc p) d none = opening_at n (a + 1) p d none
+
+-- no label is given out, and nobody is to end
+opening_room : (c : Config) → IsInRange c → HasRoom (opening c)
+opening_room c range =
+    let labels : (p : ℕ) → (public_of (opening c) p).counter ≡ 0 = λ p. opening_counter c p in
+    let owned : count_by is_some (opening c).owners ≡ 0 = none_counted is_some None refl c.resources in
+    let live : count_by (λ b. b) (opening c).live ≡ 0 = none_counted (λ b. b) false refl c.processes in
+    record {
+      labels = λ p. omega (arith, labels p);
+      by_events = λ p. omega (arith, labels p);
+      events = omega (arith, owned, live);
+      aborts = omega arith;
+    }
+
+opening_by : (c : Config) (name_bytes count : ℕ) (l : Lists) → IsInRange c → Fits c l → l.due.items ≡ replicate count false → AreParts (opening c) (nameless c.resources name_bytes) l
+opening_by c name_bytes count l range fits due = record {
   numbered = record {
     as_many = length-replicate c.resources None;
     named = λ n. ((λ none. read_replicate None c.resources n), (λ none. read_replicate None c.resources n));
   };
   fits = fits;
+  room = opening_room c range;
   due = λ p marked. (let never : true ≡ false = sym marked ∙ ap (λ ds. has ds p) due ∙ read_replicate false count p in absurd (cc));
 }
 
-pub opening_parts : (c : Config) (name_bytes count : ℕ) (s : TableState) (t : NameTable) (l : Lists) → s ≡ opening c → t ≡ nameless c.resources name_bytes → Fits c l → l.due.items ≡ replicate count false → AreParts s t l
-opening_parts c name_bytes count s t l table names fits due =
-    subst (λ v. AreParts v t l) (sym table) (subst (λ v. AreParts (opening c) v l) (sym names) (opening_by c name_bytes count l fits due))
+pub opening_parts : (c : Config) (name_bytes count : ℕ) (s : TableState) (t : NameTable) (l : Lists) → IsInRange c → s ≡ opening c → t ≡ nameless c.resources name_bytes → Fits c l → l.due.items ≡ replicate count false → AreParts s t l
+opening_parts c name_bytes count s t l range table names fits due =
+    subst (λ v. AreParts v t l) (sym table) (subst (λ v. AreParts (opening c) v l) (sym names) (opening_by c name_bytes count l range fits due))

@@ -1,15 +1,14 @@
 -- What a release and the end of a transaction leave of owners and of the configuration.
-use Rattle.std.proofs.Common.{◌≡◌, ℕ, false, Some, None, Result, Ok, Err, IsTrue, inl, inr, ap, ◌∙◌, slice_index_or}
+use Rattle.std.proofs.Common.{◌≡◌, ℕ, false, Some, None, Ok, IsTrue, inl, inr, ap, ◌∙◌, slice_index_or}
 use Rattle.std.proofs.lemmas.Bool.{cases_Bool, ne_eqb, not-false}
 use Rattle.mm_arena.specs.declared.key.Key.{Key}
-use Rattle.mm_rules.specs.declared.refusal.Refusal.{Refusal}
 use Rattle.mm_rules.specs.declared.reply.Released.{Released}
 use Rattle.mm_rules.specs.TableState.{TableState, is_live, owner_of, owns}
 use Rattle.mm_rules.specs.Change.{vacate, abort}
 use Rattle.mm_rules.specs.Event.{Release, Finish, Abort, finish_tests, abort_tests}
 use Rattle.mm_rules.specs.Laws.{Laws}
 use Rattle.mm_rules.proofs.States.SettleKeeps.{settle_keeps}
-use Rattle.mm_settled.specs.Calls.{Makes, Rests}
+use Rattle.mm_settled.specs.Calls.{Made, Rests}
 use Rattle.mm_settled.proofs.Lemmas.Accepted.{accepted}
 use Rattle.mm_settled.proofs.Lemmas.Ends.{HandsOn, release_hands_on, finish_hands_on, abort_hands_on}
 use Rattle.mm_manager.proofs.Lemmas.Requests.{owner_is_key}
@@ -24,17 +23,13 @@ pub rests_alike : (mid new : TableState) → Rests mid new → RestsAlike mid ne
 rests_alike mid new (inl same) = record { owners = ap (λ (t : TableState). t.owners) same; waits = ap (λ (t : TableState). t.waits) same; config = ap (λ (t : TableState). t.config) same }
 rests_alike mid new (inr settle) = (let keeps = settle_keeps mid new (Ok settle.0) settle.1 in record { owners = keeps.owners; waits = keeps.waits; config = keeps.config })
 
--- whatever the reply, the configuration stays, and so do the owners of what is not handed over
+-- the configuration stays, and so do the owners of what is not handed over
 pub record LeavesOwners (s : TableState) (IsHanded : ℕ → Type 0) (new : TableState) : Type 0 where
   pub config : new.config ≡ s.config
   pub others : (q : ℕ) → ¬ IsHanded q → owner_of new q ≡ owner_of s q
 
-leaves_same : (s new : TableState) (IsHanded : ℕ → Type 0) → new ≡ s → LeavesOwners s IsHanded new
-leaves_same s new IsHanded same = record { config = ap (λ (t : TableState). t.config) same; others = λ q not. ap (λ t. owner_of t q) same }
-
-pub release_leaves : (s new : TableState) (k : Key) (r : ℕ) (reply : Result Released Refusal) → Laws s → Makes (Release k r) s reply new → LeavesOwners s (λ q. q ≡ r) new
-release_leaves s new k r (Err e) laws makes = leaves_same s new (λ q. q ≡ r) makes.0
-release_leaves s new k r (Ok answer) laws made =
+pub release_leaves : (s new : TableState) (k : Key) (r : ℕ) (answer : Released) → Laws s → Made (Release k r) s answer new → LeavesOwners s (λ q. q ≡ r) new
+release_leaves s new k r answer laws made =
     let on = release_hands_on s made.mid k r answer laws made.event in
     let alike = rests_alike made.mid new made.rests in
     record {
@@ -57,14 +52,12 @@ ended_leaves s mid new k laws live on rests =
       others = λ q other. ap (λ os. slice_index_or os q None) alike.owners ∙ on.others q (not_mine s k q laws live other);
     }
 
-pub finish_leaves : (s new : TableState) (k : Key) (reply : Result (Unit {0}) Refusal) → Laws s → Makes (Finish k) s reply new → LeavesOwners s (λ q. owner_of s q ≡ Some k) new
-finish_leaves s new k (Err e) laws makes = leaves_same s new (λ q. owner_of s q ≡ Some k) makes.0
-finish_leaves s new k (Ok answer) laws made =
+pub finish_leaves : (s new : TableState) (k : Key) → Laws s → Made (Finish k) s tt new → LeavesOwners s (λ q. owner_of s q ≡ Some k) new
+finish_leaves s new k laws made =
     let done = accepted (finish_tests s k) s tt (vacate s k.process) tt made.mid made.event in
     ended_leaves s made.mid new k laws (not-false (is_live s k) done.passed.1.0) (finish_hands_on s made.mid k laws made.event) made.rests
 
-pub abort_leaves : (s new : TableState) (k : Key) (reply : Result (Unit {0}) Refusal) → Laws s → Makes (Abort k) s reply new → LeavesOwners s (λ q. owner_of s q ≡ Some k) new
-abort_leaves s new k (Err e) laws makes = leaves_same s new (λ q. owner_of s q ≡ Some k) makes.0
-abort_leaves s new k (Ok answer) laws made =
+pub abort_leaves : (s new : TableState) (k : Key) → Laws s → Made (Abort k) s tt new → LeavesOwners s (λ q. owner_of s q ≡ Some k) new
+abort_leaves s new k laws made =
     let done = accepted (abort_tests s k) s tt (abort s k.process) tt made.mid made.event in
     ended_leaves s made.mid new k laws (not-false (is_live s k) done.passed.1.0) (abort_hands_on s made.mid k laws made.event) made.rests

@@ -1,7 +1,6 @@
 -- What a request leaves of names and owners.
 use Rattle.std.proofs.Common.{◌≡◌, ◌<◌, ◌+◌, ◌++◌, ℕ, true, false, List, [], ◌∷◌, length, Option, Some, None, Ok, IsTrue, refl, sym, ap, ◌∙◌, inl, inr, slice_set, slice_index, slice_index_or, length-set, get_or-set_same, nat_eq}
 use Rattle.std.proofs.lemmas.Bool.{and_parts, eqb-true}
-use Rattle.std.proofs.lemmas.List.{set-set, set-get_or}
 use Rattle.mm_arena.specs.declared.key.Key.{Key}
 use Rattle.mm_label.specs.Label.{Label}
 use Rattle.mm_names.specs.Names.{NameTable, name_of, with_name, Interns}
@@ -19,7 +18,7 @@ use Rattle.mm_settled.specs.Calls.{Locks, WaitsFrom}
 use Rattle.mm_settled.specs.declared.reply.Locked.{Locked}
 use Rattle.mm_settled.specs.declared.reply.Locked.TheVariants as locked
 use Rattle.mm_settled.proofs.Lemmas.Accepted.{IsAccepted, accepted}
-use Rattle.mm_manager.specs.private.Numbers.{AreNumbered, forgotten}
+use Rattle.mm_manager.specs.private.Numbers.{AreNumbered}
 use Rattle.mm_manager.proofs.Lemmas.Numbers.{some_not_none, numbered_alike, numbered_set}
 
 -- ---- what the table does
@@ -113,25 +112,6 @@ module _ (s : TableState) (t : NameTable) (numbered : AreNumbered s t) (u : Name
   pub free_is_new : owner_of s n ≡ None → Interns t name n u → (n < length t.names) × (u ≡ with_name t n (Some name))
   free_is_new free (inl known) = absurd (some_not_none (name_of t n) name known.0 ((numbered.named n).1 free))
   free_is_new free (inr fresh) = (fresh.1.0, fresh.2)
-
-  forgotten_free : (v : NameTable) → owner_of s n ≡ None → forgotten s v n ≡ with_name v n None
-  forgotten_free v is = rw is refl
-
-  forgotten_owned : (v : NameTable) (o : Option Key) → owner_of s n ≡ o → (o ≡ None → ⊥) → forgotten s v n ≡ v
-  forgotten_owned v None is some = absurd (some refl)
-  forgotten_owned v (Some k) is some = rw is refl
-
-  named_back : name_of t n ≡ None → with_name (with_name t n (Some name)) n None ≡ t
-  named_back none =
-      ap (λ names. record { names = names; name_bytes = t.name_bytes })
-      (set-set t.names n (Some name) None ∙ ap (slice_set t.names n) (sym none) ∙ set-get_or t.names n None)
-
-  -- a name that was only interned is taken back
-  pub forgotten_interned : Interns t name n u → forgotten s u n ≡ t
-  forgotten_interned (inl known) =
-      forgotten_owned u (owner_of s n) refl (λ none. some_not_none (name_of t n) name known.0 ((numbered.named n).1 none)) ∙ known.1
-  forgotten_interned (inr fresh) =
-      forgotten_free u ((numbered.named n).0 fresh.1.1) ∙ ap (λ v. with_name v n None) fresh.2 ∙ named_back fresh.1.1
 
   pub numbered_granted : Laws s → (k : Key) (v : TableState) → IsGranted s k n v → Interns t name n u → AreNumbered v u
   numbered_granted laws k v granted interned =

@@ -1,7 +1,8 @@
 -- From the parts to what a contract sees: what a request, a release and an end do.
-use Rattle.std.proofs.Common.{◌≡◌, ◌≢◌, ℕ, List, [], Some, Result, Ok, Err, IfOk, IfErr, OnErr, inl, inr, sym, ap, subst, ◌∙◌}
+use Rattle.std.proofs.Common.{◌≡◌, ◌≢◌, ℕ, true, List, [], Some, Result, Ok, Err, IfOk, IfErr, OnErr, inl, inr, sym, ap, subst, ◌∙◌}
 use Rattle.mm_arena.specs.declared.key.Key.{Key}
 use Rattle.mm_list_lemmas.specs.Members.{Among}
+use Rattle.mm_bit_set.specs.BitSet.{has}
 use Rattle.mm_names.specs.Names.{name_of, IsLawful as IsLawfulNames}
 use Rattle.mm_rules.specs.declared.reply.Released.{Released}
 use Rattle.mm_rules.specs.TableState.{owner_of}
@@ -10,7 +11,7 @@ use Rattle.mm_rules.specs.Laws.{Laws}
 use Rattle.mm_rules.proofs.States.Lookups.{waits_here, held}
 use Rattle.mm_manager.specs.LockState.{LockState, Owns, Waits, untold}
 use Rattle.mm_manager.specs.Calls.{LocksName, TriesName, Requests, Tries, LosesName, LosesAll, HandsOver, AbortsDue, Unlocks, EndsBy}
-use Rattle.mm_manager.specs.Refused.{NameRefused}
+use Rattle.mm_manager.specs.Refused.{TryRefused, LockRefused}
 use Rattle.mm_manager.specs.declared.lists.Lists.{Lists}
 use Rattle.mm_manager.specs.declared.refusal.Refusal.{Refusal}
 use Rattle.mm_manager.specs.declared.reply.Lock.{Lock}
@@ -36,19 +37,19 @@ same_untold : (old new : LockState) → new.table ≡ old.table → new.names �
 same_untold old new table names tells = λ i. record { table = table i; names = names i; due = tells.due i; granted = tells.granted i; aborted = tells.aborted i }
 
 pub asked_locks : (old new : LockState) (k : Key) (name : List ℕ) (reply : Result Lock Refusal) → AreNumbered old.table old.names → Laws old.table → Laws new.table
-    → IfOk reply (λ answer. Requests old.table old.names k name answer new.table new.names) → IfErr reply (λ refusal. NameRefused old k name refusal) → OnErr reply (new.table ≡ old.table) → OnErr reply (new.names ≡ old.names) → TellsNobody old new
+    → IfOk reply (λ answer. Requests old.table old.names k name answer new.table new.names) → IfErr reply (λ refusal. LockRefused old k name refusal) → OnErr reply (new.table ≡ old.table) → OnErr reply (new.names ≡ old.names) → TellsNobody old new
     → LocksName old k name reply new
 asked_locks old new k name (Ok lock.Granted) numbered laws after asks refused table names tells =
     gets old new k name asks.0 numbered asks.1 laws (granted_is old.table new.table k asks.0 asks.2)
 asked_locks old new k name (Ok lock.Held) numbered laws after asks refused table names tells = (asks.0, same_untold old new asks.1 asks.2 tells)
 asked_locks old new k name (Ok (lock.Waits h)) numbered laws after asks refused table names tells =
-    (queues old new k name asks.0 numbered asks.1 laws h (queued_is old.table new.table k h asks.0 asks.2.0) after, asks.2.1)
+    (queues old new k name asks.1.0 numbered asks.1.1 laws h (queued_is old.table new.table k h asks.1.0 asks.1.2.0) after, asks.1.2.1)
 asked_locks old new k name (Ok (lock.Deadlock h)) numbered laws after asks refused table names tells =
-    (queues old new k name asks.0 numbered asks.1 laws h (queued_is old.table new.table k h asks.0 asks.2.0) after, asks.2.1)
+    (queues old new k name asks.1.0 numbered asks.1.1 laws h (queued_is old.table new.table k h asks.1.0 asks.1.2.0) after, asks.1.2.1)
 asked_locks old new k name (Err e) numbered laws after asks refused table names tells = (same_untold old new table names tells, refused)
 
 pub tried_locks : (old new : LockState) (k : Key) (name : List ℕ) (reply : Result TryLock Refusal) → AreNumbered old.table old.names → Laws old.table
-    → IfOk reply (λ answer. Tries old.table old.names k name answer new.table new.names) → IfErr reply (λ refusal. NameRefused old k name refusal) → OnErr reply (new.table ≡ old.table) → OnErr reply (new.names ≡ old.names) → TellsNobody old new
+    → IfOk reply (λ answer. Tries old.table old.names k name answer new.table new.names) → IfErr reply (λ refusal. TryRefused old k name refusal) → OnErr reply (new.table ≡ old.table) → OnErr reply (new.names ≡ old.names) → TellsNobody old new
     → TriesName old k name reply new
 tried_locks old new k name (Ok tried.Granted) numbered laws asks refused table names tells =
     gets old new k name asks.0 numbered asks.1 laws (granted_is old.table new.table k asks.0 asks.2)
@@ -69,10 +70,16 @@ module _ (old new : LockState) (k : Key) (m : Lists) (granted : new.granted ≡ 
     names = handed.names;
   }
 
-  aborts_due : (e : Event) (answer : Answer e) (n : ℕ) (Loses : ℕ → Key → Type 0) (handed : Handed e old.table old.names old.due answer n Loses new.table new.names m) → AbortsDue old handed.mid new
+  aborts_due : (e : Event) (answer : Answer e) (n : ℕ) (Loses : ℕ → Key → Type 0) (handed : Handed e old.table old.names old.due answer n Loses new.table new.names m) → AbortsDue old new
   aborts_due e answer n Loses handed = record {
-    were_due = rw (granted, aborted) handed.was_due;
-    all = rw (granted, aborted) handed.all;
+    aborted = λ k. (
+      (λ among. rw granted (handed.was_due k (rw aborted at among))),
+      (λ due.
+          let g = due.1.0 in
+          let given : Among g m.granted.items = rw granted at due.1.1 in
+          let marked : has old.due g.key.process ≡ true = ap (λ (h : Key). has old.due h.process) due.1.2 ∙ due.0 in
+          rw aborted (subst (λ h. Among h m.aborted.items) due.1.2 (handed.all g given marked))),
+    );
     stay = rw (granted, marks) handed.stay;
   }
 

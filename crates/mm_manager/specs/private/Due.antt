@@ -1,5 +1,5 @@
 -- The ends of those whose abort comes due in a call.
-use Rattle.std.specs.Prelude.{◌≡◌, ◌≢◌, ◌⊎◌, ◌≤◌, ◌<◌, ℕ, Bool, true, false, List, [], ◌∷◌, ◌++◌, length, map, take, None, Some, MatchBool, slice_set}
+use Rattle.std.specs.Prelude.{◌≡◌, ◌≢◌, ◌≤◌, ◌<◌, ℕ, Bool, true, false, List, [], ◌∷◌, ◌++◌, length, map, take, None, Some, MatchBool, slice_set}
 use Rattle.mm_arena.specs.declared.key.Key.{Key}
 use Rattle.mm_list_lemmas.specs.Members.{Among, NoRepeat}
 use Rattle.mm_bit_set.specs.BitSet.{has}
@@ -10,13 +10,12 @@ use Rattle.mm_rules.specs.Laws.{Laws}
 use Rattle.mm_settled.specs.Calls.{Made}
 use Rattle.mm_settled.specs.Grants.{grants, EndsWaits}
 use Rattle.mm_settled.specs.declared.reply.Grant.{Grant}
-use Rattle.mm_manager.specs.Calls.{EndsAll, EndIsRefused}
-use Rattle.mm_manager.specs.Refused.{RefusedBy}
-use Rattle.mm_manager.specs.declared.refusal.Refusal.{Refusal}
+use Rattle.mm_manager.specs.Calls.{EndsAll}
 use Rattle.mm_manager.specs.declared.lists.Lists.{Lists}
 use Rattle.mm_manager.specs.private.HandsDown.{HandsDown}
 use Rattle.mm_manager.specs.private.Lists.{Fits}
 use Rattle.mm_manager.specs.private.Numbers.{AreNumbered}
+use Rattle.mm_manager.specs.private.Room.{HasRoom}
 use Rattle.mm_manager.specs.LockState.{KeepOwned}
 
 abbrev pub process_of : Grant → ℕ
@@ -30,6 +29,7 @@ pub record AreGranted (s : TableState) (granted : List Grant) : Type 0 where
 
 -- an event was made, and nobody is told of as aborted
 pub record IsReady (s : TableState) (t : NameTable) (l : Lists) : Type 0 where
+  pub room : HasRoom s
   pub numbered : AreNumbered s t
   pub fits : Fits s.config l
   pub none : l.aborted.items ≡ []
@@ -43,6 +43,7 @@ IsAmong keys q h = Among h keys
 -- from s, with these names, first grants and marks, those of the grants before `next` ended whose abort was due
 pub record EndsDue (s : TableState) (t : NameTable) (first : List Grant) (marks : List Bool) (next : ℕ) (u : TableState) (named : NameTable) (m : Lists) : Type 0 where
   pub laws : Laws u
+  pub room : HasRoom u
   pub later : List Grant
   pub granted : m.granted.items ≡ first ++ later
   pub ends : EndsAll s m.aborted.items later u
@@ -58,17 +59,15 @@ pub record EndsDue (s : TableState) (t : NameTable) (first : List Grant) (marks 
   pub fewer : (p : ℕ) → has m.due.items p ≡ true → has marks p ≡ true
   pub done : (g : Grant) → Among g (take next m.granted.items) → has m.due.items g.key.process ≡ false
   pub stay : (p : ℕ) → has marks p ≡ true → ((g : Grant) → Among g (take next m.granted.items) → g.key.process ≢ p) → has m.due.items p ≡ true
-  pub all : (g : Grant) → Among g (take next m.granted.items) → has marks g.key.process ≡ true → Among g.key m.aborted.items ⊎ EndIsRefused s m.aborted.items g.key
+  pub all : (g : Grant) → Among g (take next m.granted.items) → has marks g.key.process ≡ true → Among g.key m.aborted.items
 
--- the transaction ends, which is told; or the table refuses that
-abbrev pub Ended : TableState → Lists → Key → TableState → Lists → Type 0
-Ended s l k u m =
-    (Made (Finish k) s tt u × EndsWaits s u k.process (grants s u) × (m.granted.items ≡ l.granted.items ++ grants s u) × (m.aborted.items ≡ l.aborted.items ++ k ∷ []))
-    ⊎ ((u ≡ s) × (m.granted.items ≡ l.granted.items) × (m.aborted.items ≡ l.aborted.items) × ((refusal : Refusal) × RefusedBy (Finish k) s refusal))
-
--- the abort of k is due no longer, and it ends or the table refuses that
+-- the transaction ends, which is told, and its abort is due no longer
 pub record EndsOne (s : TableState) (t : NameTable) (l : Lists) (k : Key) (u : TableState) (named : NameTable) (m : Lists) : Type 0 where
-  pub ended : Ended s l k u m
+  pub made : Made (Finish k) s tt u
+  pub room : HasRoom u
+  pub ended : EndsWaits s u k.process (grants s u)
+  pub granted : m.granted.items ≡ l.granted.items ++ grants s u
+  pub aborted : m.aborted.items ≡ l.aborted.items ++ k ∷ []
   pub due : m.due.items ≡ slice_set l.due.items k.process false
   pub names : KeepOwned t u named
   pub numbered : AreNumbered u named

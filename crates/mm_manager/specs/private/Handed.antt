@@ -10,11 +10,12 @@ use Rattle.mm_rules.specs.Laws.{Laws}
 use Rattle.mm_settled.specs.Calls.{Made}
 use Rattle.mm_settled.specs.Grants.{grants}
 use Rattle.mm_settled.specs.declared.reply.Grant.{Grant}
-use Rattle.mm_manager.specs.Calls.{EndsAll, EndIsRefused}
+use Rattle.mm_manager.specs.Calls.{EndsAll}
 use Rattle.mm_manager.specs.declared.lists.Lists.{Lists}
 use Rattle.mm_manager.specs.private.HandsDown.{HandsDown}
 use Rattle.mm_manager.specs.private.Lists.{Fits}
 use Rattle.mm_manager.specs.private.Numbers.{AreNumbered}
+use Rattle.mm_manager.specs.private.Room.{HasRoom}
 use Rattle.mm_manager.specs.LockState.{KeepOwned}
 
 -- each transaction whose abort is due waits, in no deadlock
@@ -26,6 +27,7 @@ pub record AreParts (s : TableState) (t : NameTable) (l : Lists) : Type 0 where
   pub numbered : AreNumbered s t
   pub fits : Fits s.config l
   pub due : DueWait s l.due.items
+  pub room : HasRoom s
 
 -- whoever loses a number loses it by the event, or is aborted
 abbrev pub LosesOr : (ℕ → Key → Type 0) → List Key → ℕ → Key → Type 0
@@ -51,5 +53,5 @@ pub record Handed (e : Event) (s : TableState) (t : NameTable) (due : List Bool)
   pub names : KeepOwned t u named
   pub parts : AreParts u named m
   pub was_due : (k : Key) → Among k m.aborted.items → (has due k.process ≡ true) × ((g : Grant) × Among g m.granted.items × (g.key ≡ k))
-  pub all : (g : Grant) → Among g m.granted.items → has due g.key.process ≡ true → Among g.key m.aborted.items ⊎ EndIsRefused mid m.aborted.items g.key
+  pub all : (g : Grant) → Among g m.granted.items → has due g.key.process ≡ true → Among g.key m.aborted.items
   pub stay : (p : ℕ) → (has m.due.items p ≡ true) ↔ ((has due p ≡ true) × ((g : Grant) → Among g m.granted.items → g.key.process ≢ p))

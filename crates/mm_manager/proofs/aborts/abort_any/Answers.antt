@@ -27,9 +27,7 @@ returns-in-Active-clause-aborts c =
     let k = c.args.key in
     let told : state_of s k ≡ Ok c.in-Ok.state = ap (λ (t : TableState). state_of t k) (sym c.table.ensures) ∙ sym c.state.ensures ∙ c.in-Ok.is in
     let is = told_active s k c.in-Ok.state (is_told s k c.in-Ok.state told) c.in-Active.is in
-    rw c.done.ensures
-    (active_aborts s c.end.new.table.table c.args.names.now c.end.new.names c.args.lists.now c.clear.new.self c.end.new.lists k c.clear.ensures.due is.live
-    c.end.result c.end.ensures.handed c.end.ensures.untouched c.end.ensures.refused)
+    active_aborts s c.end.new.table.table c.args.names.now c.end.new.names c.args.lists.now c.clear.new.self c.end.new.lists k c.clear.ensures.due c.end.ensures
 
 pub end_convicted-requires-clause-live : goal.end_convicted-requires-clause-live
 end_convicted-requires-clause-live c =
@@ -53,9 +51,7 @@ returns-in-Convicted-clause-aborts c =
     let k = c.args.key in
     let told : state_of s k ≡ Ok c.in-Ok.state = ap (λ (t : TableState). state_of t k) (sym c.table.ensures) ∙ sym c.state.ensures ∙ c.in-Ok.is in
     let is = told_convicted s k c.in-Ok.state c.in-Convicted.field-0 (is_told s k c.in-Ok.state told) c.in-Convicted.is in
-    rw c.done-in-Convicted.ensures
-    (convicted_aborts s c.end_convicted.new.table.table c.args.names.now c.end_convicted.new.names c.args.lists.now c.clear.new.self c.end_convicted.new.lists k c.clear.ensures.due is.live
-    c.end_convicted.result c.end_convicted.ensures.handed c.end_convicted.ensures.untouched c.end_convicted.ensures.refused)
+    convicted_aborts s c.end_convicted.new.table.table c.args.names.now c.end_convicted.new.names c.args.lists.now c.clear.new.self c.end_convicted.new.lists k c.clear.ensures.due c.end_convicted.ensures
 
 pub abort_waiting-requires-clause-may : goal.abort_waiting-requires-clause-may
 abort_waiting-requires-clause-may c =
@@ -71,5 +67,5 @@ returns-in-Waiting-clause-aborts c =
     let k = c.args.key in
     let told : state_of s k ≡ Ok c.in-Ok.state = ap (λ (t : TableState). state_of t k) (sym c.table.ensures) ∙ sym c.state.ensures ∙ c.in-Ok.is in
     let is = told_waiting s k c.in-Ok.state c.in-Waiting.field-0 (is_told s k c.in-Ok.state told) c.in-Waiting.is in
-    waiting_aborts s c.abort_waiting.new.table.table c.args.names.now c.abort_waiting.new.names c.args.lists.now c.clear.new.self c.abort_waiting.new.lists k c.clear.ensures.due is.live (may_cancel_of s k c.in-Waiting.field-0 is)
+    waiting_aborts s c.abort_waiting.new.table.table c.args.names.now c.abort_waiting.new.names c.args.lists.now c.clear.new.self c.abort_waiting.new.lists k c.clear.ensures.due (may_cancel_of s k c.in-Waiting.field-0 is)
     c.abort_waiting.result c.abort_waiting.ensures.aborts

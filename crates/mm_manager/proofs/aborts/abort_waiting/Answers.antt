@@ -8,24 +8,25 @@ pub end-requires-clause-parts : goal.end-requires-clause-parts
 end-requires-clause-parts c =
     let s = c.args.table.now.table in
     let u = c.give_up.new.table.table in
-    let step : Step (GiveUp c.args.key) s (Ok tt) u = rw c.in-Ok-Withdrawn.field-0-is at c.in-Ok-Withdrawn.ensures in
+    let step : Step (GiveUp c.args.key) s (Ok tt) u = rw c.in-Withdrawn.is at c.give_up.ensures.gave_up in
     let was = c.requires.parts.fits in
     record {
       numbered = given_up_numbered s u c.args.key step c.args.names.now c.requires.parts.numbered;
       fits = rw (given_up_config s u c.args.key step) record { granted = was.granted; aborted = was.aborted; due = length-set c.args.lists.now.due.items c.args.key.process false ∙ was.due; owned = was.owned };
       due = given_up_due s u c.args.key step c.args.lists.now.due.items c.requires.parts.due;
+      room = c.give_up.ensures.left;
     }
 
 pub end-requires-clause-active : goal.end-requires-clause-active
 end-requires-clause-active c =
     let s = c.args.table.now.table in
     let u = c.give_up.new.table.table in
-    let step : Step (GiveUp c.args.key) s (Ok tt) u = rw c.in-Ok-Withdrawn.field-0-is at c.in-Ok-Withdrawn.ensures in
+    let step : Step (GiveUp c.args.key) s (Ok tt) u = rw c.in-Withdrawn.is at c.give_up.ensures.gave_up in
     (given_up_active s u c.args.key step (cancels s c.args.key c.requires.may).live).idle
 
 pub end-requires-clause-live : goal.end-requires-clause-live
 end-requires-clause-live c =
     let s = c.args.table.now.table in
     let u = c.give_up.new.table.table in
-    let step : Step (GiveUp c.args.key) s (Ok tt) u = rw c.in-Ok-Withdrawn.field-0-is at c.in-Ok-Withdrawn.ensures in
+    let step : Step (GiveUp c.args.key) s (Ok tt) u = rw c.in-Withdrawn.is at c.give_up.ensures.gave_up in
     (given_up_active s u c.args.key step (cancels s c.args.key c.requires.may).live).live

@@ -24,4 +24,4 @@ returns-then-index-clause-cancels c =
     let due : has c.args.lists.now.due.items k.process ≡ true = ap (λ v. has v.items k.process) (sym c.clear.ensures.due) ∙ marked in
     rw c.of_abort.ensures
     (due_cancels s c.abort_waiting.new.table.table c.args.names.now c.abort_waiting.new.names c.args.lists.now c.clear.new.self c.abort_waiting.new.lists k c.clear.ensures.due
-    may live c.abort_waiting.result due c.abort_waiting.ensures.aborts)
+    may c.abort_waiting.result due c.abort_waiting.ensures.aborts)

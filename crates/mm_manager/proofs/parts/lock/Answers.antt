@@ -1,13 +1,16 @@
 use Rattle.std.proofs.Common.{◌≡◌, Ok, sym, ap, ◌∙◌}
 use Rattle.mm_rules.specs.TableState.{TableState}
-use Rattle.mm_manager.specs.Permit.{may_ask}
-use Rattle.mm_manager.proofs.Lemmas.Asked.{RequestKeeps, asked_keeps, due_still}
-use Rattle.mm_manager.proofs.Lemmas.May.{asks}
+use Rattle.mm_manager.specs.Permit.{may_ask, may_count}
+use Rattle.mm_manager.proofs.Lemmas.Asked.{MayRequest, RequestKeeps, asked_keeps, due_still}
+use Rattle.mm_manager.proofs.Lemmas.May.{asks, counted}
 use Rattle.mm_manager.proofs.parts.lock.Goals as goal
+
+may : (c : goal.After-request) → MayRequest c.args.table.now.table
+may c = record { laws = c.is_at_rest.ensures.laws; room = c.requires.room; below = counted c.args.table.now.table (ap may_count (sym c.table-2.ensures) ∙ sym c.in_ok-may_count.ensures) }
 
 keeps : (c : goal.After-request) → RequestKeeps c.args.table.now.table c.request.new.table.table
 keeps c =
-    asked_keeps c.args.table.now.table c.request.new.table.table c.args.names.now c.request.new.names c.args.key c.args.name.now c.request.result c.is_at_rest.ensures.laws
+    asked_keeps c.args.table.now.table c.request.new.table.table c.args.names.now c.request.new.names c.args.key c.args.name.now c.request.result (may c)
     (λ answer is. rw is at c.request.ensures.requested) (λ e is. rw is at c.request.ensures.table)
 
 pub returns-clause-laws : goal.returns-clause-laws
@@ -18,7 +21,7 @@ returns-clause-parts c =
     let s = c.args.table.now.table in
     let was = c.requires.fits in
     let cleared = c.clear.ensures in
-    let may : may_ask s c.args.key ≡ Ok tt = ap (λ (t : TableState). may_ask t c.args.key) (sym c.table.ensures) ∙ sym c.in_ok-may_ask.ensures in
+    let asked : may_ask s c.args.key ≡ Ok tt = ap (λ (t : TableState). may_ask t c.args.key) (sym c.table.ensures) ∙ sym c.in_ok-may_ask.ensures in
     record {
       numbered = c.request.ensures.numbered;
       fits = rw (keeps c).config record {
@@ -27,5 +30,6 @@ returns-clause-parts c =
         due = rw cleared.due was.due;
         owned = rw cleared.owned was.owned;
       };
-      due = rw cleared.due (due_still s c.request.new.table.table c.args.lists.now.due.items c.args.key (keeps c) c.request.ensures.others (asks s c.args.key may).idle c.requires.due);
+      due = rw cleared.due (due_still s c.request.new.table.table c.args.lists.now.due.items c.args.key (keeps c) c.request.ensures.others (asks s c.args.key asked).idle c.requires.due);
+      room = (keeps c).room;
     }

@@ -1,61 +1,42 @@
-use Rattle.std.proofs.Common.{Ok, Err, length, sym, ap, subst, refl, List}
+use Rattle.std.proofs.Common.{length, sym, ap, subst, refl, List}
 use Rattle.mm_arena.specs.declared.key.Key.{Key}
 use Rattle.mm_rules.specs.Event.{Release}
-use Rattle.mm_settled.specs.Calls.{Makes}
 use Rattle.mm_settled.specs.Grants.{grants, EndsWaits}
 use Rattle.mm_settled.specs.declared.reply.Grant.{Grant}
-use Rattle.mm_settled.proofs.Lemmas.Ends.{owner_in_range}
 use Rattle.mm_manager.specs.private.Due.{AreGranted, EndsDue}
 use Rattle.mm_manager.specs.private.Handed.{Handed}
 use Rattle.mm_manager.specs.private.HandsDown.{IsReleased}
 use Rattle.mm_manager.proofs.Lemmas.HandsDown.{release_hands_down}
 use Rattle.mm_manager.proofs.Lemmas.Handed.{active_not_due, event_granted, handed_on}
-use Rattle.mm_manager.proofs.Lemmas.Limits.{owner_owns, release_refusal}
 use Rattle.mm_manager.proofs.Lemmas.Owners.{release_leaves}
 use Rattle.mm_manager.proofs.parts.release_number.Goals as goal
 
 pub pass_on-requires-clause-fits : goal.pass_on-requires-clause-fits
 pass_on-requires-clause-fits c =
     let was = c.requires.parts.fits in
-    rw (release_leaves c.args.table.now.table c.release.new.table.table c.args.key c.args.number c.release.result c.is_at_rest.ensures.laws c.release.ensures.makes).config
+    rw (release_leaves c.args.table.now.table c.release.new.table.table c.args.key c.args.number c.release.ensures.made.0 c.is_at_rest.ensures.laws c.release.ensures.made.1).config
     record { granted = was.granted; aborted = was.aborted; due = was.due; owned = was.owned }
 
 pub pass_on-requires-clause-granted : goal.pass_on-requires-clause-granted
 pass_on-requires-clause-granted c =
     let s = c.args.table.now.table in
     let mid = c.release.new.table.table in
-    let made : Makes (Release c.args.key c.args.number) s (Ok c.in-Ok.field-0) mid = rw c.in-Ok.is at c.release.ensures.makes in
     let ends : EndsWaits s mid c.args.key.process (grants s mid) = subst (EndsWaits s mid c.args.key.process) c.release.ensures.told.granted c.release.ensures.ended in
     subst (AreGranted mid) (sym c.release.ensures.told.granted)
-    (event_granted s mid c.args.key.process (IsReleased c.args.key c.args.number) c.is_at_rest.ensures.laws (release_hands_down s mid c.args.key (grants s mid) c.is_at_rest.ensures.laws ends refl c.args.number c.in-Ok.field-0 made))
+    (event_granted s mid c.args.key.process (IsReleased c.args.key c.args.number) c.is_at_rest.ensures.laws (release_hands_down s mid c.args.key (grants s mid) c.is_at_rest.ensures.laws ends refl c.args.number c.release.ensures.made.0 c.release.ensures.made.1))
 
 handed : (c : goal.After-pass_on)
-    → Handed (Release c.args.key c.args.number) c.args.table.now.table c.args.names.now c.args.lists.now.due.items c.in-Ok.field-0 c.args.key.process (IsReleased c.args.key c.args.number) c.pass_on.new.table.table c.pass_on.new.names c.pass_on.new.lists
+    → Handed (Release c.args.key c.args.number) c.args.table.now.table c.args.names.now c.args.lists.now.due.items c.release.ensures.made.0 c.args.key.process (IsReleased c.args.key c.args.number) c.pass_on.new.table.table c.pass_on.new.names c.pass_on.new.lists
 handed c =
     let s = c.args.table.now.table in
     let mid = c.release.new.table.table in
     let k = c.args.key in
-    let made : Makes (Release k c.args.number) s (Ok c.in-Ok.field-0) mid = rw c.in-Ok.is at c.release.ensures.makes in
     let ends : EndsWaits s mid k.process (grants s mid) = subst (EndsWaits s mid k.process) c.release.ensures.told.granted c.release.ensures.ended in
     let passed : EndsDue mid c.release.new.names (grants s mid) c.args.lists.now.due.items (length c.pass_on.new.lists.granted.items) c.pass_on.new.table.table c.pass_on.new.names c.pass_on.new.lists
     = subst (λ (gs : List Grant). EndsDue mid c.release.new.names gs c.args.lists.now.due.items (length c.pass_on.new.lists.granted.items) c.pass_on.new.table.table c.pass_on.new.names c.pass_on.new.lists) c.release.ensures.told.granted c.pass_on.ensures in
-    handed_on (Release k c.args.number) s c.args.names.now c.args.lists.now.due.items c.in-Ok.field-0 k.process (IsReleased c.args.key c.args.number) mid c.release.new.names made
-    (release_hands_down s mid k (grants s mid) c.is_at_rest.ensures.laws ends refl c.args.number c.in-Ok.field-0 made) c.release.ensures.names c.release.ensures.numbered (λ q h is. ap (λ (i : Key). i.process) is.0) c.requires.parts.due (active_not_due s c.args.lists.now.due.items k.process c.requires.parts.due c.requires.active) (length c.pass_on.new.lists.granted.items)
+    handed_on (Release k c.args.number) s c.args.names.now c.args.lists.now.due.items c.release.ensures.made.0 k.process (IsReleased c.args.key c.args.number) mid c.release.new.names c.release.ensures.made.1
+    (release_hands_down s mid k (grants s mid) c.is_at_rest.ensures.laws ends refl c.args.number c.release.ensures.made.0 c.release.ensures.made.1) c.release.ensures.names c.release.ensures.numbered (λ q h is. ap (λ (i : Key). i.process) is.0) c.requires.parts.due (active_not_due s c.args.lists.now.due.items k.process c.requires.parts.due c.requires.active) (length c.pass_on.new.lists.granted.items)
     c.pass_on.new.table.table c.pass_on.new.names c.pass_on.new.lists passed refl
 
-pub returns-in-Ok-clause-handed : goal.returns-in-Ok-clause-handed
-returns-in-Ok-clause-handed c = (c.in-Ok.field-0, handed c)
-
-pub returns-in-Ok-clause-parts : goal.returns-in-Ok-clause-parts
-returns-in-Ok-clause-parts c = (handed c).parts
-
-pub returns-in-Err-clause-refused : goal.returns-in-Err-clause-refused
-returns-in-Err-clause-refused c =
-    let s = c.args.table.now.table in
-    let k = c.args.key in
-    let e = c.in-Err.refusal in
-    let refuses : Makes (Release c.args.key c.args.number) s (Err e) c.release.new.table.table = rw c.in-Err.is at c.release.ensures.makes in
-    let laws = c.is_at_rest.ensures.laws in
-    let live = laws.lawful.well_formed.owners c.args.number k c.requires.owned in
-    let mine = owner_owns s k c.args.number c.requires.owned in
-    rw c.of_table.ensures (release_refusal s k live c.requires.active c.args.number (owner_in_range s laws c.args.number k c.requires.owned) mine c.release.new.table.table e refuses)
+pub returns : goal.returns
+returns c = (c.release.ensures.made.0, handed c)

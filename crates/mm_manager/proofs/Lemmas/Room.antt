@@ -1,0 +1,219 @@
+-- What is left for the ends of transactions stays: no end takes from it, and a request is made only where there is enough after it.
+use Rattle.std.proofs.Common.{◌≡◌, ◌≤◌, ◌<◌, ◌+◌, ◌*◌, ℕ, zero, suc, Bool, true, false, not, List, [], ◌∷◌, length, map, fold, count_by, Option, Some, None, is_some, Ok, MatchBool, inl, inr, refl, sym, ap, subst, ◌∙◌, arith, drop, slice_set, slice_index, slice_index_or}
+use Rattle.std.specs.Option.{option_map_or}
+use Rattle.std.proofs.lemmas.Bool.{cases_Bool, not-false}
+use Rattle.mm_label.specs.Label.{Label}
+use Rattle.mm_arena.specs.declared.key.Key.{Key}
+use Rattle.mm_list_lemmas.specs.Members.{NoRepeat}
+use Rattle.mm_list_lemmas.proofs.Lemmas.NoRepeat.{no_repeat_filter}
+use Rattle.mm_rules.specs.declared.reply.Acquired.TheVariants as acquired
+use Rattle.mm_rules.specs.declared.reply.Acquired.{Acquired}
+use Rattle.mm_rules.specs.declared.reply.Released.{Released}
+use Rattle.mm_rules.specs.declared.reply.Settled.{Settled}
+use Rattle.mm_rules.specs.declared.config.Config.{Config}
+use Rattle.mm_rules.specs.TableState.{TableState, is_live, is_of, is_waiting, key_of, owner_of, resources_of, wait_of, waiters_of, waiting_processes}
+use Rattle.mm_rules.specs.Change.{activate, hand_over, vacate, take_back, abort, greater_label, transmit, can_detect, detect, swept, total_raises}
+use Rattle.mm_rules.specs.Event.{Event, Begin, Acquire, Release, Finish, Abort, Settle, GiveUp, Answer, Step, Gives, Settles, settled, counts_exhausted, settle_tests, begin_tests, acquire_tests, acquire_answer, acquire_change, release_tests, release_answer, finish_tests, abort_tests, give_up_tests}
+use Rattle.mm_rules.specs.Laws.{Laws}
+use Rattle.mm_rules.proofs.States.Block.{process_of}
+use Rattle.mm_rules.proofs.States.Config.{event_config}
+use Rattle.mm_rules.proofs.States.Counts.{event_counts}
+use Rattle.mm_rules.proofs.States.SettleKeeps.{settle_keeps}
+use Rattle.mm_rules.proofs.States.Vacate.{live_process}
+use Rattle.mm_settled.specs.Calls.{Made, Rests, WaitsFrom}
+use Rattle.mm_settled.proofs.Lemmas.Accepted.{IsAccepted, accepted}
+use Rattle.mm_settled.proofs.Lemmas.Ends.{owner_in_range}
+use Rattle.mm_manager.specs.Permit.{event_limit}
+use Rattle.mm_manager.specs.private.Room.{LabelsWithin, to_end, HasRoom}
+use Rattle.mm_manager.proofs.Lemmas.Labels.{hand_over_keeps_labels, vacate_within, activate_within, settled_within, waits_within}
+use Rattle.mm_manager.proofs.Lemmas.Fewer.{hand_over_less, hand_over_live, vacate_less, activate_held, activate_less, few_to_end}
+
+-- ---- what follows an event
+
+-- from mid to u no label passes what there was, and as many are live, wait and are owned
+record RestsWithin (mid u : TableState) : Type 0 where
+  config : u.config ≡ mid.config
+  labels : (most : ℕ) → LabelsWithin mid most → LabelsWithin u most
+  to_end : to_end u ≡ to_end mid
+  more : mid.totals.accepted ≤ u.totals.accepted
+  few : u.totals.accepted ≤ mid.totals.accepted + 1
+  aborts : u.totals.aborts ≡ mid.totals.aborts
+
+transmit_live : (s : TableState) (o : Option Label) (n : ℕ) → (option_map_or (λ l. record s { public = slice_set s.public n l }) o s).live ≡ s.live
+transmit_live s None n = refl
+transmit_live s (Some l) n = refl
+
+transmits_live : (s : TableState) (ns : List ℕ) → (fold transmit s ns).live ≡ s.live
+transmits_live s [] = refl
+transmits_live s (n ∷ ns) = transmits_live (transmit s n) ns ∙ transmit_live s (greater_label s n) n
+
+swept_live : (s : TableState) (n : ℕ) → (swept s n).live ≡ s.live
+swept_live s zero = refl
+swept_live s (suc n) = transmits_live (swept s n) (waiting_processes (swept s n)) ∙ swept_live s n
+
+detect_live : (s : TableState) (n : ℕ) → (detect s n).live ≡ s.live
+detect_live s n = elim (cases_Bool (can_detect s n)) [ inl can ↦ rw can refl | inr no_detect ↦ rw no_detect refl ]
+
+detects_live : (s : TableState) (ns : List ℕ) → (fold detect s ns).live ≡ s.live
+detects_live s [] = refl
+detects_live s (n ∷ ns) = detects_live (detect s n) ns ∙ detect_live s n
+
+record SettledWithin (mid u : TableState) : Type 0 where
+  labels : (most : ℕ) → LabelsWithin mid most → LabelsWithin u most
+  live : u.live ≡ mid.live
+
+settled_gives : (mid u : TableState) (n : ℕ) (answer : Settled) → Gives (settled mid n) (Ok answer) u → SettledWithin mid u
+settled_gives mid u n answer gives =
+    let t = swept mid n in
+    let new = fold detect t (waiting_processes t) in
+    let made : Settled = record { raises = total_raises mid n; verdicts = count_by (can_detect t) (waiting_processes t) } in
+    let done : IsAccepted Settled (settle_tests mid) made new answer u = accepted (settle_tests mid) mid made new answer u gives in
+    record {
+      labels = λ most labels. subst (λ v. LabelsWithin v most) (sym done.state) (settled_within mid most n labels);
+      live = ap (λ (v : TableState). v.live) done.state ∙ detects_live t (waiting_processes t) ∙ swept_live mid n;
+    }
+
+settle_within : (mid u : TableState) (answer : Settled) (b : Bool) → MatchBool b (Gives (settled mid 0) (Ok answer) u) ((n : ℕ) × Settles mid n × Gives (settled mid n) (Ok answer) u) → SettledWithin mid u
+settle_within mid u answer true gives = settled_gives mid u 0 answer gives
+settle_within mid u answer false (n, settles, gives) = settled_gives mid u n answer gives
+
+rests_within : (mid u : TableState) → Rests mid u → RestsWithin mid u
+rests_within mid u (inl same) = subst (λ v. RestsWithin mid v) (sym same) record { config = refl; labels = λ most labels. labels; to_end = refl; more = omega arith; few = omega arith; aborts = refl }
+rests_within mid u (inr (answer, step)) =
+    let within = settle_within mid u answer (counts_exhausted mid) step in
+    let keeps = settle_keeps mid u (Ok answer) step in
+    let counts = event_counts Settle mid u (Ok answer) step in
+    record {
+      config = keeps.config;
+      labels = within.labels;
+      to_end = omega (arith, ap length keeps.waits, ap (count_by is_some) keeps.owners, ap (count_by (λ b. b)) within.live);
+      more = omega (arith, counts.0);
+      few = omega (arith, counts.0);
+      aborts = omega (arith, counts.2);
+    }
+
+-- ---- an end
+
+-- from s to mid no label passes what the waits that ended leave room for, and fewer are live, wait or are owned
+record EndsWithin (s mid : TableState) : Type 0 where
+  labels : (most : ℕ) → LabelsWithin s most → LabelsWithin mid most
+  fewer : to_end mid + 1 ≤ to_end s
+
+room_by : (s mid u : TableState) → HasRoom s → mid.config ≡ s.config → EndsWithin s mid → mid.totals.accepted ≡ s.totals.accepted + 1 → mid.totals.aborts ≤ s.totals.aborts + 1 → RestsWithin mid u → HasRoom u
+room_by s mid u room config ends counted aborts rests =
+    let most : (m : ℕ) → LabelsWithin s m → LabelsWithin u m = λ m labels. rests.labels m (ends.labels m labels) in
+    record {
+      labels = subst (λ (c : Config). LabelsWithin u c.label_limit) (sym (rests.config ∙ config)) (most s.config.label_limit room.labels);
+      by_events = λ p. omega (arith, most (2 * s.totals.accepted) room.by_events p, counted, rests.more);
+      events = omega (arith, room.events, ends.fewer, rests.to_end, counted, rests.few);
+      aborts = omega (arith, room.aborts, aborts, counted, rests.more, rests.aborts);
+    }
+
+made_room : (e : Event) (s u : TableState) (answer : Answer e) (made : Made e s answer u) → HasRoom s → EndsWithin s made.mid → made.mid.totals.aborts ≤ s.totals.aborts + 1 → HasRoom u
+made_room e s u answer made room ends aborts =
+    room_by s made.mid u room (event_config e s made.mid (Ok answer) made.event) ends (event_counts e s made.mid (Ok answer) made.event).0 aborts (rests_within made.mid u made.rests)
+
+abbrev once_of : (s : TableState) → Laws s → NoRepeat (map process_of s.waits)
+once_of s laws = laws.lawful.well_formed.waits_once
+
+pub release_room : (s u : TableState) (k : Key) (r : ℕ) (answer : Released) → Laws s → owner_of s r ≡ Some k → HasRoom s → Made (Release k r) s answer u → HasRoom u
+release_room s u k r answer laws owned room made =
+    let done : IsAccepted Released (release_tests s k r) (release_answer (waiters_of s r)) (hand_over s r) answer made.mid
+    = accepted (release_tests s k r) s (release_answer (waiters_of s r)) (hand_over s r) answer made.mid made.event in
+    let within : r < length s.owners = omega (arith, owner_in_range s laws r k owned, laws.lawful.well_formed.sizes.owners) in
+    let less : to_end (hand_over s r) + 1 ≤ to_end s = omega (arith, hand_over_less s r k owned within, ap (count_by (λ b. b)) (hand_over_live s r)) in
+    made_room (Release k r) s u answer made room record {
+      labels = λ most labels. subst (λ t. LabelsWithin t most) (sym done.state) ((hand_over_keeps_labels s r (once_of s laws)).within most labels);
+      fewer = omega (arith, less, ap to_end done.state);
+    } (omega (arith, (event_counts (Release k r) s made.mid (Ok answer) made.event).2))
+
+pub finish_room : (s u : TableState) (k : Key) → Laws s → HasRoom s → Made (Finish k) s tt u → HasRoom u
+finish_room s u k laws room made =
+    let n = k.process in
+    let done : IsAccepted (Unit {0}) (finish_tests s k) tt (vacate s n) tt made.mid = accepted (finish_tests s k) s tt (vacate s n) tt made.mid made.event in
+    let live : slice_index_or s.live n false ≡ true = live_process s k (not-false (is_live s k) done.passed.1.0) in
+    made_room (Finish k) s u tt made room record {
+      labels = λ most labels. subst (λ t. LabelsWithin t most) (sym done.state) (vacate_within s n most (resources_of s n) (once_of s laws) labels);
+      fewer = omega (arith, vacate_less s n (resources_of s n) live, ap to_end done.state);
+    } (omega (arith, (event_counts (Finish k) s made.mid (Ok tt) made.event).2))
+
+pub abort_room : (s u : TableState) (k : Key) → Laws s → HasRoom s → Made (Abort k) s tt u → HasRoom u
+abort_room s u k laws room made =
+    let n = k.process in
+    let t = take_back s n in
+    let done : IsAccepted (Unit {0}) (abort_tests s k) tt (abort s n) tt made.mid = accepted (abort_tests s k) s tt (abort s n) tt made.mid made.event in
+    let live : slice_index_or s.live n false ≡ true = live_process s k (not-false (is_live s k) done.passed.1.0) in
+    let once : NoRepeat (map process_of t.waits) = no_repeat_filter process_of (λ w. not (is_of n w)) s.waits (once_of s laws) in
+    made_room (Abort k) s u tt made room record {
+      labels = λ most labels. subst (λ v. LabelsWithin v most) (sym done.state) (vacate_within t n most (resources_of t n) once (activate_within s n most labels));
+      fewer = omega (arith, vacate_less t n (resources_of t n) live, activate_held s n, ap to_end done.state);
+    } (omega (arith, (event_counts (Abort k) s made.mid (Ok tt) made.event).2))
+
+some_of_waiting : (s : TableState) (n : ℕ) → is_waiting s n ≡ true → (r : ℕ) × (wait_of s n ≡ Some r)
+some_of_waiting s n waits = by_wait (wait_of s n) refl
+  where
+    by_wait : (o : Option ℕ) → wait_of s n ≡ o → (r : ℕ) × (wait_of s n ≡ Some r)
+    by_wait (Some r) is = (r, is)
+    by_wait None is = absurd (let never : true ≡ false = sym waits ∙ ap is_some is in cc)
+
+pub give_up_room : (s u : TableState) (k : Key) → HasRoom s → Step (GiveUp k) s (Ok tt) u → HasRoom u
+give_up_room s u k room step =
+    let n = k.process in
+    let done : IsAccepted (Unit {0}) (give_up_tests s k) tt (activate s n) tt u = accepted (give_up_tests s k) s tt (activate s n) tt u step in
+    let waits = some_of_waiting s n (not-false (is_waiting s n) done.passed.1.1.0) in
+    room_by s u u room (event_config (GiveUp k) s u (Ok tt) step) record {
+      labels = λ most labels. subst (λ t. LabelsWithin t most) (sym done.state) (activate_within s n most labels);
+      fewer = omega (arith, activate_less s n waits.0 waits.1, ap to_end done.state);
+    } (event_counts (GiveUp k) s u (Ok tt) step).0 (omega (arith, (event_counts (GiveUp k) s u (Ok tt) step).2))
+    record { config = refl; labels = λ most labels. labels; to_end = refl; more = omega arith; few = omega arith; aborts = refl }
+
+-- ---- a request
+
+pub asked_room : (s u : TableState) → HasRoom s → Laws u → u.config ≡ s.config → s.totals.accepted < event_limit → LabelsWithin u s.config.label_limit → LabelsWithin u (2 * u.totals.accepted)
+    → u.totals.accepted ≤ s.totals.accepted + 2 → u.totals.aborts ≤ u.totals.accepted → HasRoom u
+asked_room s u room laws config below labels by_events few aborts = record {
+  labels = subst (λ (c : Config). LabelsWithin u c.label_limit) (sym config) labels;
+  by_events = by_events;
+  events = omega (arith, few_to_end u laws, few, below);
+  aborts = aborts;
+}
+
+pub begin_room : (s u : TableState) (k : Key) → HasRoom s → Laws u → s.totals.accepted < event_limit → Step Begin s (Ok k) u → HasRoom u
+begin_room s u k room laws below step =
+    let n = slice_index s.free 0 in
+    let new : TableState = record s { free = drop 1 s.free; live = slice_set s.live n true } in
+    let done : IsAccepted Key (begin_tests s) (key_of s n) new k u = accepted (begin_tests s) s (key_of s n) new k u step in
+    let counts = event_counts Begin s u (Ok k) step in
+    let same : (most : ℕ) → LabelsWithin s most → LabelsWithin u most = λ most labels. subst (λ t. LabelsWithin t most) (sym done.state) labels in
+    asked_room s u room laws (event_config Begin s u (Ok k) step) below (same s.config.label_limit room.labels) (λ p. omega (arith, same (2 * s.totals.accepted) room.by_events p, counts.0))
+    (omega (arith, counts.0)) (omega (arith, counts.0, counts.2, room.aborts))
+
+granted_labels : (s : TableState) (k : Key) (r most : ℕ) (o : Option Key) → acquire_answer s k o ≡ acquired.Granted → LabelsWithin s most → LabelsWithin (acquire_change s k r o) most
+granted_labels s k r most None is labels = labels
+granted_labels s k r most (Some h) is labels = absurd (cc)
+
+waits_labels : (s : TableState) (k : Key) (r most : ℕ) (o : Option Key) → LabelsWithin s most → LabelsWithin (acquire_change s k r o) (most + 2)
+waits_labels s k r most None labels p = omega (arith, labels p)
+waits_labels s k r most (Some h) labels p = waits_within s (record { key = k; resource = r }) h.process most labels p
+
+pub granted_room : (s u : TableState) (k : Key) (r : ℕ) → HasRoom s → Laws u → s.totals.accepted < event_limit → Step (Acquire k r) s (Ok acquired.Granted) u → HasRoom u
+granted_room s u k r room laws below step =
+    let done : IsAccepted Acquired (acquire_tests s k r) (acquire_answer s k (owner_of s r)) (acquire_change s k r (owner_of s r)) acquired.Granted u
+    = accepted (acquire_tests s k r) s (acquire_answer s k (owner_of s r)) (acquire_change s k r (owner_of s r)) acquired.Granted u step in
+    let counts = event_counts (Acquire k r) s u (Ok acquired.Granted) step in
+    let same : (most : ℕ) → LabelsWithin s most → LabelsWithin u most = λ most labels. subst (λ t. LabelsWithin t most) (sym done.state) (granted_labels s k r most (owner_of s r) done.answer labels) in
+    asked_room s u room laws (event_config (Acquire k r) s u (Ok acquired.Granted) step) below (same s.config.label_limit room.labels) (λ p. omega (arith, same (2 * s.totals.accepted) room.by_events p, counts.0))
+    (omega (arith, counts.0)) (omega (arith, counts.0, counts.2, room.aborts))
+
+pub waits_room : (s u : TableState) (k h : Key) (r : ℕ) → HasRoom s → Laws u → s.totals.accepted < event_limit → 2 * s.totals.accepted + 2 ≤ s.config.label_limit → WaitsFrom s k r h u → HasRoom u
+waits_room s u k h r room laws below fits from =
+    let answer : Acquired = acquired.Waits h from.label in
+    let mid = from.mid in
+    let done : IsAccepted Acquired (acquire_tests s k r) (acquire_answer s k (owner_of s r)) (acquire_change s k r (owner_of s r)) answer mid
+    = accepted (acquire_tests s k r) s (acquire_answer s k (owner_of s r)) (acquire_change s k r (owner_of s r)) answer mid from.event in
+    let counts = event_counts (Acquire k r) s mid (Ok answer) from.event in
+    let rests : RestsWithin mid u = rests_within mid u (inr (from.answer, from.settle)) in
+    let most = 2 * s.totals.accepted in
+    let labels : LabelsWithin u (most + 2) = rests.labels (most + 2) (subst (λ t. LabelsWithin t (most + 2)) (sym done.state) (waits_labels s k r most (owner_of s r) room.by_events)) in
+    asked_room s u room laws (rests.config ∙ event_config (Acquire k r) s mid (Ok answer) from.event) below
+    (λ p. omega (arith, labels p, fits)) (λ p. omega (arith, labels p, counts.0, rests.more)) (omega (arith, counts.0, rests.few)) (omega (arith, counts.0, counts.2, room.aborts, rests.more, rests.aborts))
