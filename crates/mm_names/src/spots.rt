@@ -34,7 +34,8 @@ impl Spots {
     }
 
     /// The spot of a name, in `O(length)`.
-    #[inline]
+    // In place, as the hash is.
+    #[inline(always)]
     pub(crate) fn of(&self, name: &[u8]) -> Key
         ensures spot { result ≡ spot_of self.now name.now }
         ensures in_range { result.process < self.now.lists }
