@@ -116,13 +116,24 @@ impl Names {
         ensures forgotten { OnTrue result (self.new ≡ with_name self.old number None) }
         ensures unchanged { OnFalse result (self.new ≡ self.old) }
     {
-        if self.name(number).is_none() {
+        if !self.has_name(number) {
             return false;
         }
         self.index.remove(number);
         self.places.clear(number);
         self.free.push_reserved(number);
         true
+    }
+
+    /// Whether a number has a name: it stands in a list exactly then. Constant time.
+    #[inline]
+    fn has_name(&self, number: u32) -> bool
+        ensures { IsTrue result ↔ IsSome (name_of self.now number) }
+    {
+        if number >= self.capacity() {
+            return false;
+        }
+        self.index.owner(number).is_some()
     }
 
     /// How many names there are, in constant time.
@@ -219,7 +230,7 @@ fn find_at(places: &Places, index: &Owned, spot: Key, name: &[u8]) -> Option<u32
 {
     let mut next = index.first(spot.process);
     'list: while let Some(number) = next {
-        if has_name(places, index, number, spot, name) {
+        if is_name_of(places, index, number, spot, name) {
             return Some(number);
         }
         next = index.next(number);
@@ -227,13 +238,17 @@ fn find_at(places: &Places, index: &Owned, spot: Key, name: &[u8]) -> Option<u32
     None
 }
 
-/// Whether a number has this name, whose spot this is. Spots are compared first: most other names are not read.
+/// Whether a number of the list of this spot has this name, whose spot it is. The parts of the hashes are compared first: most other names are
+/// not read.
 #[inline]
-fn has_name(places: &Places, index: &Owned, number: u32, spot: Key, name: &[u8]) -> bool
+fn is_name_of(places: &Places, index: &Owned, number: u32, spot: Key, name: &[u8]) -> bool
     requires in_range { number < length index.now.owners }
     requires numbers { length index.now.owners ≡ length places.now.names }
     requires at_spot { name_of places.now number ≡ Some name.now → owner_at index.now number ≡ Some spot }
     ensures { IsTrue result ↔ (name_of places.now number ≡ Some name.now) }
 {
-    index.owner(number) == Some(spot) && places.has(number, name)
+    let Some(owner) = index.owner(number) else {
+        return false;
+    };
+    owner.generation == spot.generation && places.has(number, name)
 }
