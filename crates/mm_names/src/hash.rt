@@ -19,10 +19,12 @@ pub(crate) struct NameHash {
 }
 
 impl NameHash {
-    ghost use Rattle.mm_names.specs.private.Hash.{hash_of, last_step};
+    ghost use Rattle.mm_names.specs.private.Hash.{hash_by, hash_of, last_step};
 
     /// The hash by the numbers that SipHash-1-3 makes of this seed.
-    pub(crate) fn new(seed: u64) -> NameHash {
+    pub(crate) fn new(seed: u64) -> NameHash
+        ensures { result ≡ hash_by seed }
+    {
         let mut hasher = DefaultHasher::new();
         hasher.write_u64(seed);
         let first = hasher.finish();
