@@ -20,6 +20,7 @@ pub fn owner_of(table: &Table, number: u32) -> Option<Key>
 }
 
 /// The number of a name, which it has already, or gets.
+#[inline(always)]
 pub fn number_of(names: &mut Names, name: &[u8]) -> Result<u32, Refusal>
     ensures interned { IfOk result (λ n. Interns names.old name.now n names.new) }
     ensures allowed { OnOk result (may_name names.old.name_bytes name.now ≡ Ok tt) }
@@ -34,7 +35,8 @@ pub fn number_of(names: &mut Names, name: &[u8]) -> Result<u32, Refusal>
     }
 }
 
-/// The number of a name that the transaction owns.
+/// The number of a name that the transaction owns. Whether these bytes can be a name is asked only where no number has it.
+#[inline(always)]
 pub fn owned_number(table: &Table, names: &Names, key: Key, name: &[u8]) -> Result<u32, Refusal>
     ensures named { IfOk result (λ n. name_of names.now n ≡ Some name.now) }
     ensures owned { IfOk result (λ n. owner_of table.now n ≡ Some key) }
@@ -43,15 +45,25 @@ pub fn owned_number(table: &Table, names: &Names, key: Key, name: &[u8]) -> Resu
         ⊎ ((may_ask_for table.now names.now.name_bytes key name.now ≡ Ok tt) × (refusal ≡ Refusal.NotOwner) × ¬ Owns (bare table.now names.now) key name.now)) }
 {
     may_ask(table, key)?;
-    may_name(names, name)?;
-    let Some(number) = names.find(name) else {
-        return Err(Refusal::NotOwner);
-    };
     names.keeps_laws();
+    let Some(number) = names.find(name) else {
+        return Err(unnamed(names, name));
+    };
     if owner_of(table, number) != Some(key) {
         return Err(Refusal::NotOwner);
     }
     Ok(number)
+}
+
+/// What is said of a name that no number has.
+#[inline(never)]
+fn unnamed(names: &Names, name: &[u8]) -> Refusal
+    ensures { (may_name names.now.name_bytes name.now ≡ Err result) ⊎ ((may_name names.now.name_bytes name.now ≡ Ok tt) × (result ≡ Refusal.NotOwner)) }
+{
+    match may_name(names, name) {
+        Ok(()) => Refusal::NotOwner,
+        Err(refusal) => refusal,
+    }
 }
 
 /// Takes its name from a number that nobody owns.

@@ -1,5 +1,5 @@
 //! The hash of a name.
-ghost use Rattle.std.specs.Prelude.{◌≡◌, ◌+◌, ◌≤◌, length};
+ghost use Rattle.std.specs.Prelude.{◌≡◌, ◌+◌, ◌<◌, ◌≤◌, length, bit_xor};
 ghost use Rattle.std.specs.Hash.FoldHasher.{folded_multiply, read_u32, read_u64, read_short};
 
 use std::hash::{DefaultHasher, Hasher};
@@ -19,10 +19,12 @@ pub(crate) struct NameHash {
 }
 
 impl NameHash {
-    ghost use Rattle.mm_names.specs.private.Hash.{hash_of, last_step};
+    ghost use Rattle.mm_names.specs.private.Hash.{hash_by, hash_of, last_step};
 
     /// The hash by the numbers that SipHash-1-3 makes of this seed.
-    pub(crate) fn new(seed: u64) -> NameHash {
+    pub(crate) fn new(seed: u64) -> NameHash
+        ensures { result ≡ hash_by seed }
+    {
         let mut hasher = DefaultHasher::new();
         hasher.write_u64(seed);
         let first = hasher.finish();
@@ -39,8 +41,21 @@ impl NameHash {
     pub(crate) fn of(&self, name: &[u8]) -> u64
         ensures { result ≡ hash_of self.now name.now }
     {
-        let blocks = name.len().saturating_sub(1) / BLOCK;
-        let mut state = self.first ^ name.len() as u64;
+        let state = self.first ^ name.len() as u64;
+        if name.len() <= BLOCK {
+            return self.last_step(state, name);
+        }
+        self.of_long(state, name)
+    }
+
+    /// The hash of a name of more than one block, in `O(length)`.
+    fn of_long(&self, start: u64, name: &[u8]) -> u64
+        requires long { 16 < length name.now }
+        requires start { start ≡ bit_xor self.now.first (length name.now) }
+        ensures { result ≡ hash_of self.now name.now }
+    {
+        let blocks = (name.len() - 1) / BLOCK;
+        let mut state = start;
         for block in 0..blocks {
             let at = BLOCK * block;
             state = folded(word(name, at) ^ state, word(name, at + 8) ^ self.second);

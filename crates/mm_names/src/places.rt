@@ -1,5 +1,6 @@
 //! Where the bytes of each name stand.
-ghost use Rattle.std.specs.Prelude.{◌≡◌, ◌≤◌, ◌<◌, ◌↔◌, None, Some, length, IsTrue, IfOk, option_copied};
+ghost use Rattle.std.specs.Prelude.{◌≡◌, ◌+◌, ◌≤◌, ◌<◌, ◌↔◌, None, Some, length, take, drop, IsTrue, IfOk, option_copied};
+ghost use borrow.Rule.Slice.PartMut.{put_mid};
 ghost use Rattle.mm_names.specs.Names.{nameless, name_of, with_name, IsInRange};
 
 use crate::NamesConfig;
@@ -97,7 +98,7 @@ impl Places {
         ensures { self.new ≡ with_name self.old number (Some name.now) }
     {
         let start = number as usize * self.name_bytes as usize;
-        self.bytes[start..start + name.len()].copy_from_slice(name);
+        copy(&mut self.bytes[start..start + name.len()], name);
         self.lengths[number as usize] = Some(name.len() as u16);
     }
 
@@ -119,6 +120,40 @@ impl Places {
     }
 }
 
+/// Writes a name to its place, eight bytes at a time: for most names that costs less than a call of the C library.
+#[inline]
+fn copy(place: &mut [u8], name: &[u8])
+    requires { length place.old ≡ length name.now }
+    ensures { place.new ≡ name.now }
+{
+    if name.len() < 8 {
+        place.copy_from_slice(name);
+        return;
+    }
+    let mut done = 0;
+    'words: while name.len() - done >= 8 {
+        copy_word(place, name, done);
+        done += 8;
+    }
+    if done < name.len() {
+        copy_word(place, name, name.len() - 8);
+    }
+}
+
+/// Writes the eight bytes of a name from `at` on to the same bytes of its place.
+#[inline]
+fn copy_word(place: &mut [u8], name: &[u8], at: usize)
+    requires within { at + 8 ≤ length name.now }
+    requires long { length place.old ≡ length name.now }
+    ensures { place.new ≡ put_mid at 8 place.old (take 8 (drop at name.now)) }
+{
+    let Some(word) = name[at..].first_chunk::<8>() else {
+        return;
+    };
+    let word = *word;
+    place[at..at + 8].copy_from_slice(&word);
+}
+
 /// Whether two names are one, eight bytes at a time.
 #[inline]
 fn are_equal(first: &[u8], second: &[u8]) -> bool
@@ -138,8 +173,25 @@ fn are_equal(first: &[u8], second: &[u8]) -> bool
         first = rest;
         second = others;
     }
-    if first.is_empty() {
-        return second.is_empty();
+    are_equal_bytes(first, second)
+}
+
+/// Whether the last bytes of two names are equal.
+#[inline]
+fn are_equal_bytes(first: &[u8], second: &[u8]) -> bool
+    requires { length first.now ≡ length second.now }
+    ensures { IsTrue result ↔ (first.now ≡ second.now) }
+{
+    let (mut first, mut second) = (first, second);
+    'bytes: while let Some((byte, rest)) = first.split_first() {
+        let Some((other, others)) = second.split_first() else {
+            return false;
+        };
+        if byte != other {
+            return false;
+        }
+        first = rest;
+        second = others;
     }
-    first == second
+    true
 }

@@ -20,12 +20,15 @@ pub(crate) struct Spots {
 }
 
 impl Spots {
+    ghost use Rattle.mm_names.specs.private.Hash.{hash_by};
     ghost use Rattle.mm_names.specs.private.Spots.{spot_of};
 
     /// Spots for this many names, by the hash of this seed.
     pub(crate) fn new(seed: u64, names: u32) -> Spots
         requires some_names { 1 ≤ names }
         requires few_names { names ≤ MAX_NAMES }
+        ensures hash { result.hash ≡ hash_by seed }
+        ensures lists { result.lists ≡ LISTS_A_NAME * names }
     {
         Spots {
             hash: NameHash::new(seed),
@@ -34,7 +37,8 @@ impl Spots {
     }
 
     /// The spot of a name, in `O(length)`.
-    #[inline]
+    // In place, as the hash is.
+    #[inline(always)]
     pub(crate) fn of(&self, name: &[u8]) -> Key
         ensures spot { result ≡ spot_of self.now name.now }
         ensures in_range { result.process < self.now.lists }

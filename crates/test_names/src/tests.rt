@@ -16,6 +16,12 @@ const CONFIG: NamesConfig = NamesConfig {
     seed: 7,
 };
 
+/// For the calls by chance: names of less than a word, of words, of a block of the hash and of more.
+const CHANCE_CONFIG: NamesConfig = NamesConfig {
+    name_bytes: 20,
+    ..CONFIG
+};
+
 /// A call of a test, and what it is to answer.
 enum Call {
     Intern(&'static [u8], Result<u32, NamesError>),
@@ -153,7 +159,7 @@ fn intern(
     let known = maps.numbers.get(name).copied();
     match names.intern(name) {
         Err(NamesError::Empty) => same(rt, name.len(), 0),
-        Err(NamesError::TooLong) => same(rt, name.len() > CONFIG.name_bytes as usize, true),
+        Err(NamesError::TooLong) => same(rt, name.len() > CHANCE_CONFIG.name_bytes as usize, true),
         Err(NamesError::Full) => same(rt, (known, maps.names.len()), (None, CONFIG.names as usize)),
         Ok(number) => match known {
             Some(known) => same(rt, number, known),
@@ -206,7 +212,8 @@ fn next_number(number: u32) -> u32 {
     number ^ number << 5
 }
 
-/// A call by this number: of up to five bytes, each of them 0 or 255. There are more such names than there is room for.
+/// A call by this number: of up to 21 bytes, of which the last five are 0 or 255 and the others 0. There are more such names than there is
+/// room for.
 fn call_by_chance(
     rt: &impl Abort,
     alloc: Global,
@@ -214,11 +221,11 @@ fn call_by_chance(
     maps: &mut Maps,
     chance: u32,
 ) -> Result<(), AllocError> {
-    let mut bytes = [0u8; 5];
-    for (place, byte) in bytes.iter_mut().enumerate() {
+    let mut bytes = [0u8; 21];
+    for (place, byte) in bytes[16..].iter_mut().enumerate() {
         *byte = if chance >> place & 1 == 0 { 0 } else { 255 };
     }
-    let name = &bytes[..(chance >> 8) as usize % 6];
+    let name = &bytes[(chance >> 8) as usize % 22..];
     let number = (chance >> 16) % (CONFIG.names + 2);
     match (chance >> 28) % 4 {
         0 => forget(rt, names, maps, number),
@@ -231,7 +238,7 @@ fn call_by_chance(
 #[test]
 fn answers_as_maps_do(rt: HostRuntime) -> Result<(), Fail> {
     let alloc = rt.alloc();
-    let mut names = Names::open(alloc, CONFIG)?;
+    let mut names = Names::open(alloc, CHANCE_CONFIG)?;
     let mut maps = Maps {
         numbers: HashMap::new(alloc),
         names: BTreeMap::new(alloc),

@@ -1,7 +1,15 @@
 -- The hash of a name. All that is proved of it is that it is a function of the bytes.
-use Rattle.std.specs.Prelude.{ℕ, zero, suc, ◌+◌, ◌-◌, ◌*◌, ◌/◌, List, length, drop, if◌then◌else◌, nat_lt, bit_xor}
+use Rattle.std.specs.Prelude.{ℕ, zero, suc, ◌+◌, ◌-◌, ◌*◌, ◌/◌, List, length, drop, fold, if◌then◌else◌, nat_lt, bit_or, bit_xor}
+use Rattle.std.specs.Hash
+use Rattle.std.specs.Hash.DefaultHasher.{initial, write, finish}
 use Rattle.std.specs.Hash.FoldHasher.{folded_multiply, read_u64, read_short}
 use Rattle.mm_names.specs.declared.hash.NameHash.{NameHash}
+
+-- the two numbers that SipHash-1-3 makes of a seed
+abbrev pub hash_by : ℕ → NameHash
+hash_by seed =
+    let once = fold write initial (Hash.u64 seed) in
+    record { first = finish once; second = bit_or (finish (fold write once (Hash.u64 (finish once)))) 1 }
 
 -- the state after the words at i and at j
 abbrev pub step : NameHash → List ℕ → ℕ → ℕ → ℕ → ℕ

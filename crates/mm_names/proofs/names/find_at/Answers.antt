@@ -15,8 +15,8 @@ list-init c =
       left = λ n is. subst (Among n) (sym (ap (rest_from list) first ∙ rest_from-head list)) (in_its_list c.args.index.now c.first-next.ensures.matched n c.args.spot (c.requires.at_spot n is));
     }
 
-pub has_name-requires-clause-in_range : goal.has_name-requires-clause-in_range
-has_name-requires-clause-in_range c =
+pub is_name_of-requires-clause-in_range : goal.is_name_of-requires-clause-in_range
+is_name_of-requires-clause-in_range c =
     in_range c.args.index.now c.first-next.ensures.matched c.args.spot.process c.in-Some.number (c.list.invariant.among c.in-Some.number c.in-Some.is)
 
 pub next-next-requires : goal.next-next-requires
@@ -40,7 +40,7 @@ list-preserved c =
     record {
       among = λ q is. Among-next s c.args.spot.process c.in-Some.number c.next-next.result among c.next-next.ensures.listed q is;
       left = λ n is. elim (subst (Among n) here (c.list.invariant.left n is)) [
-        | inl same ↦ (let yes : IsTrue c.has_name.result = c.has_name.ensures.1 (ap (name_of c.args.places.now) (sym same) ∙ is) in absurd (search (rules, yes, c.if-has_name.false)))
+        | inl same ↦ (let yes : IsTrue c.is_name_of.result = c.is_name_of.ensures.1 (ap (name_of c.args.places.now) (sym same) ∙ is) in absurd (search (rules, yes, c.if-is_name_of.false)))
         | inr later ↦ later
       ];
     }
