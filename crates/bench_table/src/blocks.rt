@@ -1,6 +1,6 @@
 //! Chains of transactions that come to wait, one after another, at one end.
-use crate::PROCESSES;
-use crate::rings::owners;
+use crate::rings::own_each;
+use crate::{PROCESSES, open};
 use mm_table::{Key, Refusal, Table};
 use std::alloc::Global;
 
@@ -30,7 +30,7 @@ fn extend(table: &mut Table, first: u32, waiting: u32, is_at_head: bool) -> Resu
 }
 
 fn blocks(alloc: Global, room: u32, waiting: u32, is_at_head: bool) -> Result<u64, Refusal> {
-    let mut table = owners(alloc, PROCESSES)?;
+    let mut table = open(alloc, PROCESSES, PROCESSES)?;
     let accepted = chains(&mut table, room, waiting, is_at_head);
     drop(table);
     accepted
@@ -38,6 +38,7 @@ fn blocks(alloc: Global, room: u32, waiting: u32, is_at_head: bool) -> Result<u6
 
 /// Makes all chains that there is room for. Answers how many events were accepted.
 fn chains(table: &mut Table, room: u32, waiting: u32, is_at_head: bool) -> Result<u64, Refusal> {
+    own_each(table, PROCESSES)?;
     for chain in 0..PROCESSES.checked_div(room).unwrap_or(0) {
         extend(table, chain.wrapping_mul(room), waiting, is_at_head)?;
     }

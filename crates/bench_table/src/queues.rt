@@ -13,11 +13,9 @@ fn pass_on(table: &mut Table, owner: Key) -> Result<Key, Refusal> {
     })
 }
 
-/// A table in which one transaction owns resource 0 and `waiters` wait for it. Answers the owner too.
-fn queue(alloc: Global, waiters: u32) -> Result<(Table, Key), Refusal> {
-    let mut table = open(alloc, PROCESSES.max(waiters.saturating_add(1)), 1)?;
-    let owner = fill(&mut table, waiters)?;
-    Ok((table, owner))
+/// A table with room for one transaction that owns resource 0 and so many that wait for it.
+fn open_for(alloc: Global, waiters: u32) -> Result<Table, Refusal> {
+    open(alloc, PROCESSES.max(waiters.saturating_add(1)), 1)
 }
 
 /// One transaction acquires resource 0, and `waiters` wait for it. Answers the owner.
@@ -32,10 +30,16 @@ fn fill(table: &mut Table, waiters: u32) -> Result<Key, Refusal> {
 }
 
 fn hand_overs(alloc: Global, waiters: u32, count: u64) -> Result<u64, Refusal> {
-    let (mut table, owner) = queue(alloc, waiters)?;
-    let accepted = pass_around(&mut table, owner, count);
+    let mut table = open_for(alloc, waiters)?;
+    let accepted = fill_and_pass_around(&mut table, waiters, count);
     drop(table);
     accepted
+}
+
+/// Fills the queue, and passes resource 0 on.
+fn fill_and_pass_around(table: &mut Table, waiters: u32, count: u64) -> Result<u64, Refusal> {
+    let owner = fill(table, waiters)?;
+    pass_around(table, owner, count)
 }
 
 /// Passes resource 0 on so many times. Answers how many events were accepted.
@@ -54,10 +58,16 @@ pub extern "C" fn mm_bench_hand_overs(alloc: Global, waiters: u32, count: u64) -
 }
 
 fn give_ups(alloc: Global, waiters: u32, count: u64) -> Result<u64, Refusal> {
-    let (mut table, _) = queue(alloc, waiters)?;
-    let accepted = take_turns(&mut table, waiters, count);
+    let mut table = open_for(alloc, waiters)?;
+    let accepted = fill_and_take_turns(&mut table, waiters, count);
     drop(table);
     accepted
+}
+
+/// Fills the queue, and lets the waiters take turns.
+fn fill_and_take_turns(table: &mut Table, waiters: u32, count: u64) -> Result<u64, Refusal> {
+    fill(table, waiters)?;
+    take_turns(table, waiters, count)
 }
 
 /// The waiters from the middle of the queue on take turns, so it is always the one in the middle that gives up. Answers how many events

@@ -22,15 +22,8 @@ fn wait(table: &mut Table, size: u32, is_rising: bool, from: u32, to: u32) -> Re
     Ok(())
 }
 
-/// `size` transactions, each of which owns the resource of its own number.
-pub fn owners(alloc: Global, size: u32) -> Result<Table, Refusal> {
-    let mut table = open(alloc, size, size)?;
-    own_each(&mut table, size)?;
-    Ok(table)
-}
-
 /// Begins `size` transactions, each of which acquires the resource of its own number.
-fn own_each(table: &mut Table, size: u32) -> Result<(), Refusal> {
+pub fn own_each(table: &mut Table, size: u32) -> Result<(), Refusal> {
     for process in 0..size {
         let key = table.begin()?;
         table.acquire(key, process)?;
@@ -38,14 +31,7 @@ fn own_each(table: &mut Table, size: u32) -> Result<(), Refusal> {
     Ok(())
 }
 
-/// A row of `size` transactions. The waits come from the end on, so that no label is below its holder's.
-fn row(alloc: Global, size: u32, is_rising: bool) -> Result<Table, Refusal> {
-    let mut table = owners(alloc, size)?;
-    wait_in_row(&mut table, size, is_rising)?;
-    Ok(table)
-}
-
-/// Each transaction but the last comes to wait for its neighbour, from the end on.
+/// Each transaction but the last comes to wait for its neighbour, from the end on, so that no label is below its holder's.
 fn wait_in_row(table: &mut Table, size: u32, is_rising: bool) -> Result<(), Refusal> {
     for place in (1..size).rev() {
         wait(table, size, is_rising, place - 1, place)?;
@@ -61,10 +47,23 @@ fn ring(
     settles: u32,
     is_closed: bool,
 ) -> Result<u64, Refusal> {
-    let mut table = row(alloc, size, is_rising)?;
-    let counted = settle_ring(&mut table, size, is_rising, settles, is_closed);
+    let mut table = open(alloc, size, size)?;
+    let counted = wait_and_settle(&mut table, size, is_rising, settles, is_closed);
     drop(table);
     counted
+}
+
+/// Makes a row of `size` transactions, and does so.
+fn wait_and_settle(
+    table: &mut Table,
+    size: u32,
+    is_rising: bool,
+    settles: u32,
+    is_closed: bool,
+) -> Result<u64, Refusal> {
+    own_each(table, size)?;
+    wait_in_row(table, size, is_rising)?;
+    settle_ring(table, size, is_rising, settles, is_closed)
 }
 
 /// Settles a row so many times, closes it where `is_closed`, and settles it again.
@@ -107,7 +106,7 @@ pub extern "C" fn mm_bench_rings(
 
 /// A row whose waits come from its head on, so that each label is below its holder's, settled so many times.
 fn chain(alloc: Global, size: u32, settles: u32) -> Result<u64, Refusal> {
-    let mut table = owners(alloc, size)?;
+    let mut table = open(alloc, size, size)?;
     let accepted = settle_chain(&mut table, size, settles);
     drop(table);
     accepted
@@ -115,6 +114,7 @@ fn chain(alloc: Global, size: u32, settles: u32) -> Result<u64, Refusal> {
 
 /// Makes a row whose waits come from its head on, and settles it so many times. Answers how many events were accepted.
 fn settle_chain(table: &mut Table, size: u32, settles: u32) -> Result<u64, Refusal> {
+    own_each(table, size)?;
     for place in 1..size {
         wait(table, size, true, place - 1, place)?;
     }

@@ -1,6 +1,6 @@
 //! Transactions that begin and end in one table, over and over.
 use crate::open;
-use mm_table::{Refusal, Table};
+use mm_table::{Key, Refusal, Table};
 use std::alloc::Global;
 
 /// From one resource to the next. It is odd, so resources whose number is a power of two are gone through whole.
@@ -66,14 +66,28 @@ pub extern "C" fn mm_bench_rounds(
     rounds(alloc, processes, resources, mask, others, count).unwrap_or(0)
 }
 
-/// Two transactions wait for each other; the one that gets the verdict is aborted, and the other one finishes.
-fn wait_crosswise(table: &mut Table) -> Result<(), Refusal> {
+/// Begins two transactions.
+#[inline(always)]
+fn begin_two(table: &mut Table) -> Result<(Key, Key), Refusal> {
     let first = table.begin()?;
     let second = table.begin()?;
+    Ok((first, second))
+}
+
+/// Each of two acquires a resource, and asks for that of the other.
+#[inline(always)]
+fn cross(table: &mut Table, first: Key, second: Key) -> Result<(), Refusal> {
     table.acquire(first, 0)?;
     table.acquire(second, 1)?;
     table.acquire(first, 1)?;
     table.acquire(second, 0)?;
+    Ok(())
+}
+
+/// Two transactions wait for each other; the one that gets the verdict is aborted, and the other one finishes.
+fn wait_crosswise(table: &mut Table) -> Result<(), Refusal> {
+    let (first, second) = begin_two(table)?;
+    cross(table, first, second)?;
     table.transmit(first)?;
     table.detect(second)?;
     table.abort(second)?;

@@ -16,12 +16,17 @@ const CONFIG: Config = Config {
     generation_limit: 9,
 };
 
+/// Begins a transaction that owns this resource.
+fn begin_with(table: &mut Table, resource: u32) -> Result<Key, Refusal> {
+    let key = table.begin()?;
+    table.acquire(key, resource)?;
+    Ok(key)
+}
+
 /// Two transactions own a resource each, and then each asks for the other's.
 fn lock_crosswise(table: &mut Table) -> Result<(), Refusal> {
-    let first = table.begin()?;
-    let second = table.begin()?;
-    table.acquire(first, 0)?;
-    table.acquire(second, 1)?;
+    let first = begin_with(table, 0)?;
+    let second = begin_with(table, 1)?;
     table.acquire(first, 1)?;
     table.acquire(second, 0)?;
     Ok(())

@@ -52,21 +52,21 @@ pub struct Call {
     resource: u32,
 }
 
+/// What a call answered, or how it was refused.
 #[derive(Clone, Copy)]
 pub enum Answer {
-    Begun(Key),
-    Acquired(Acquired),
-    Released(Released),
-    Transmitted(Transmitted),
-    Detected(Detected),
-    Settled(Settled),
-    State(State),
-    Owner(Option<Key>),
+    Begun(Result<Key, Refusal>),
+    Acquired(Result<Acquired, Refusal>),
+    Released(Result<Released, Refusal>),
+    Transmitted(Result<Transmitted, Refusal>),
+    Detected(Result<Detected, Refusal>),
+    Settled(Result<Settled, Refusal>),
+    State(Result<State, Refusal>),
+    Owner(Result<Option<Key>, Refusal>),
     Totals(Totals),
-    Finished,
-    Aborted,
-    Withdrawn,
-    Refused(Refusal),
+    Finished(Result<(), Refusal>),
+    Aborted(Result<(), Refusal>),
+    Withdrawn(Result<(), Refusal>),
 }
 
 /// The number of a word.
@@ -126,27 +126,6 @@ pub fn call_of(line: &str) -> Option<Call> {
     Some(call)
 }
 
-/// The answer, or why there is none.
-fn told<T: Drop, AsAnswer: FnOnce(T) -> Answer>(
-    answer: Result<T, Refusal>,
-    as_answer: AsAnswer,
-) -> Answer
-    requires { AsAnswer.IsAlwaysCallable as_answer }
-{
-    match answer {
-        Ok(answer) => as_answer(answer),
-        Err(refusal) => Answer::Refused(refusal),
-    }
-}
-
-/// That the call was accepted, or why not.
-fn done(answer: Result<(), Refusal>, accepted: Answer) -> Answer {
-    match answer {
-        Ok(()) => accepted,
-        Err(refusal) => Answer::Refused(refusal),
-    }
-}
-
 impl Call {
     /// The verb, by process 0 and for resource 0.
     fn of(verb: Verb) -> Call {
@@ -178,17 +157,17 @@ impl Call {
             resource,
         } = self;
         match verb {
-            Verb::Begin => told(table.begin(), Answer::Begun),
-            Verb::Acquire => told(table.acquire(key, resource), Answer::Acquired),
-            Verb::Release => told(table.release(key, resource), Answer::Released),
-            Verb::Finish => done(table.finish(key), Answer::Finished),
-            Verb::Transmit => told(table.transmit(key), Answer::Transmitted),
-            Verb::Detect => told(table.detect(key), Answer::Detected),
-            Verb::Abort => done(table.abort(key), Answer::Aborted),
-            Verb::GiveUp => done(table.give_up(key), Answer::Withdrawn),
-            Verb::Settle => told(table.settle(), Answer::Settled),
-            Verb::State => told(table.state(key), Answer::State),
-            Verb::Owner => told(table.owner(resource), Answer::Owner),
+            Verb::Begin => Answer::Begun(table.begin()),
+            Verb::Acquire => Answer::Acquired(table.acquire(key, resource)),
+            Verb::Release => Answer::Released(table.release(key, resource)),
+            Verb::Finish => Answer::Finished(table.finish(key)),
+            Verb::Transmit => Answer::Transmitted(table.transmit(key)),
+            Verb::Detect => Answer::Detected(table.detect(key)),
+            Verb::Abort => Answer::Aborted(table.abort(key)),
+            Verb::GiveUp => Answer::Withdrawn(table.give_up(key)),
+            Verb::Settle => Answer::Settled(table.settle()),
+            Verb::State => Answer::State(table.state(key)),
+            Verb::Owner => Answer::Owner(table.owner(resource)),
             Verb::Totals => Answer::Totals(table.totals()),
         }
     }
@@ -206,17 +185,17 @@ impl Call {
             resource,
         } = self;
         match verb {
-            Verb::Begin => told(table.begin(rt, pass), Answer::Begun),
-            Verb::Acquire => told(table.acquire(rt, pass, key, resource), Answer::Acquired),
-            Verb::Release => told(table.release(rt, pass, key, resource), Answer::Released),
-            Verb::Finish => done(table.finish(rt, pass, key), Answer::Finished),
-            Verb::Transmit => told(table.transmit(rt, pass, key), Answer::Transmitted),
-            Verb::Detect => told(table.detect(rt, pass, key), Answer::Detected),
-            Verb::Abort => done(table.abort(rt, pass, key), Answer::Aborted),
-            Verb::GiveUp => done(table.give_up(rt, pass, key), Answer::Withdrawn),
-            Verb::Settle => told(table.settle(rt, pass), Answer::Settled),
-            Verb::State => told(table.state(rt, pass, key), Answer::State),
-            Verb::Owner => told(table.owner(rt, pass, resource), Answer::Owner),
+            Verb::Begin => Answer::Begun(table.begin(rt, pass)),
+            Verb::Acquire => Answer::Acquired(table.acquire(rt, pass, key, resource)),
+            Verb::Release => Answer::Released(table.release(rt, pass, key, resource)),
+            Verb::Finish => Answer::Finished(table.finish(rt, pass, key)),
+            Verb::Transmit => Answer::Transmitted(table.transmit(rt, pass, key)),
+            Verb::Detect => Answer::Detected(table.detect(rt, pass, key)),
+            Verb::Abort => Answer::Aborted(table.abort(rt, pass, key)),
+            Verb::GiveUp => Answer::Withdrawn(table.give_up(rt, pass, key)),
+            Verb::Settle => Answer::Settled(table.settle(rt, pass)),
+            Verb::State => Answer::State(table.state(rt, pass, key)),
+            Verb::Owner => Answer::Owner(table.owner(rt, pass, resource)),
             Verb::Totals => Answer::Totals(Totals {
                 accepted: 0,
                 verdicts: 0,
@@ -244,13 +223,10 @@ impl Call {
             resource,
         } = self;
         match verb {
-            Verb::Release => told(
-                table.release_waking(rt, pass, key, resource, wake),
-                Answer::Released,
-            ),
-            Verb::Finish => done(table.finish_waking(rt, pass, key, wake), Answer::Finished),
-            Verb::Abort => done(table.abort_waking(rt, pass, key, wake), Answer::Aborted),
-            Verb::Settle => told(table.settle_waking(rt, pass, wake), Answer::Settled),
+            Verb::Release => Answer::Released(table.release_waking(rt, pass, key, resource, wake)),
+            Verb::Finish => Answer::Finished(table.finish_waking(rt, pass, key, wake)),
+            Verb::Abort => Answer::Aborted(table.abort_waking(rt, pass, key, wake)),
+            Verb::Settle => Answer::Settled(table.settle_waking(rt, pass, wake)),
             _ => self.on_shared(rt, table, pass),
         }
     }
@@ -260,19 +236,18 @@ impl Answer {
     /// The answer as a script's reply has it.
     fn text(self, alloc: Global) -> Result<String, AllocError> {
         match self {
-            Answer::Begun(key) => format!(in alloc; "key {key}"),
+            Answer::Begun(answer) => begun_text(alloc, answer),
             Answer::Acquired(answer) => acquired_text(alloc, answer),
             Answer::Released(answer) => released_text(alloc, answer),
             Answer::Transmitted(answer) => transmitted_text(alloc, answer),
             Answer::Detected(answer) => detected_text(alloc, answer),
             Answer::Settled(answer) => settled_text(alloc, answer),
-            Answer::State(state) => state_text(alloc, state),
-            Answer::Owner(owner) => owner_text(alloc, owner),
+            Answer::State(answer) => state_text(alloc, answer),
+            Answer::Owner(answer) => owner_text(alloc, answer),
             Answer::Totals(totals) => totals_text(alloc, totals),
-            Answer::Finished => format!(in alloc; "finished"),
-            Answer::Aborted => format!(in alloc; "aborted"),
-            Answer::Withdrawn => format!(in alloc; "withdrawn"),
-            Answer::Refused(refusal) => refused_text(alloc, refusal),
+            Answer::Finished(answer) => done_text(alloc, answer, "finished"),
+            Answer::Aborted(answer) => done_text(alloc, answer, "aborted"),
+            Answer::Withdrawn(answer) => done_text(alloc, answer, "withdrawn"),
         }
     }
 }
@@ -289,46 +264,98 @@ pub fn is_told(
     Ok(())
 }
 
-fn settled_text(alloc: Global, answer: Settled) -> Result<String, AllocError> {
-    let Settled { raises, verdicts } = answer;
-    format!(in alloc; "settled {raises} {verdicts}")
-}
-
 fn refused_text(alloc: Global, refusal: Refusal) -> Result<String, AllocError> {
     let (number, name) = (refusal.number(), refusal.name());
     format!(in alloc; "refused {number} {name}")
 }
 
-fn acquired_text(alloc: Global, answer: Acquired) -> Result<String, AllocError> {
+fn done_text(
+    alloc: Global,
+    answer: Result<(), Refusal>,
+    accepted: &str,
+) -> Result<String, AllocError> {
     match answer {
+        Ok(()) => format!(in alloc; "{accepted}"),
+        Err(refusal) => refused_text(alloc, refusal),
+    }
+}
+
+fn begun_text(alloc: Global, answer: Result<Key, Refusal>) -> Result<String, AllocError> {
+    match answer {
+        Ok(key) => format!(in alloc; "key {key}"),
+        Err(refusal) => refused_text(alloc, refusal),
+    }
+}
+
+fn settled_text(alloc: Global, answer: Result<Settled, Refusal>) -> Result<String, AllocError> {
+    match answer {
+        Ok(Settled { raises, verdicts }) => format!(in alloc; "settled {raises} {verdicts}"),
+        Err(refusal) => refused_text(alloc, refusal),
+    }
+}
+
+fn acquired_text(alloc: Global, answer: Result<Acquired, Refusal>) -> Result<String, AllocError> {
+    match answer {
+        Ok(acquired) => wait_text(alloc, acquired),
+        Err(refusal) => refused_text(alloc, refusal),
+    }
+}
+
+fn wait_text(alloc: Global, acquired: Acquired) -> Result<String, AllocError> {
+    match acquired {
         Acquired::Granted => format!(in alloc; "granted"),
         Acquired::Waits { holder, label } => format!(in alloc; "waits {holder} {label}"),
     }
 }
 
-fn released_text(alloc: Global, answer: Released) -> Result<String, AllocError> {
+fn released_text(alloc: Global, answer: Result<Released, Refusal>) -> Result<String, AllocError> {
     match answer {
-        Released::Free => format!(in alloc; "free"),
-        Released::To(key) => format!(in alloc; "to {key}"),
+        Ok(Released::Free) => format!(in alloc; "free"),
+        Ok(Released::To(key)) => format!(in alloc; "to {key}"),
+        Err(refusal) => refused_text(alloc, refusal),
     }
 }
 
-fn transmitted_text(alloc: Global, answer: Transmitted) -> Result<String, AllocError> {
+fn transmitted_text(
+    alloc: Global,
+    answer: Result<Transmitted, Refusal>,
+) -> Result<String, AllocError> {
     match answer {
+        Ok(transmitted) => raise_text(alloc, transmitted),
+        Err(refusal) => refused_text(alloc, refusal),
+    }
+}
+
+fn raise_text(alloc: Global, transmitted: Transmitted) -> Result<String, AllocError> {
+    match transmitted {
         Transmitted::Raised(label) => format!(in alloc; "raised {label}"),
         Transmitted::Still => format!(in alloc; "still"),
     }
 }
 
-fn detected_text(alloc: Global, answer: Detected) -> Result<String, AllocError> {
+fn detected_text(alloc: Global, answer: Result<Detected, Refusal>) -> Result<String, AllocError> {
     match answer {
+        Ok(detected) => verdict_text(alloc, detected),
+        Err(refusal) => refused_text(alloc, refusal),
+    }
+}
+
+fn verdict_text(alloc: Global, detected: Detected) -> Result<String, AllocError> {
+    match detected {
         Detected::Deadlock(label) => format!(in alloc; "deadlock {label}"),
         Detected::Standing => format!(in alloc; "standing"),
         Detected::Clear => format!(in alloc; "clear"),
     }
 }
 
-fn state_text(alloc: Global, state: State) -> Result<String, AllocError> {
+fn state_text(alloc: Global, answer: Result<State, Refusal>) -> Result<String, AllocError> {
+    match answer {
+        Ok(state) => known_text(alloc, state),
+        Err(refusal) => refused_text(alloc, refusal),
+    }
+}
+
+fn known_text(alloc: Global, state: State) -> Result<String, AllocError> {
     let State {
         mode,
         private,
@@ -341,10 +368,11 @@ fn state_text(alloc: Global, state: State) -> Result<String, AllocError> {
     }
 }
 
-fn owner_text(alloc: Global, owner: Option<Key>) -> Result<String, AllocError> {
-    match owner {
-        Some(key) => format!(in alloc; "owner {key}"),
-        None => format!(in alloc; "free"),
+fn owner_text(alloc: Global, answer: Result<Option<Key>, Refusal>) -> Result<String, AllocError> {
+    match answer {
+        Ok(Some(key)) => format!(in alloc; "owner {key}"),
+        Ok(None) => format!(in alloc; "free"),
+        Err(refusal) => refused_text(alloc, refusal),
     }
 }
 

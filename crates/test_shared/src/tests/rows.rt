@@ -10,7 +10,6 @@ use std::process::Abort;
 use std::sync::Wait;
 use std::sync::ledger::Ledger;
 use std::test::Fail;
-use std::thread::Threads;
 use test_support::{ROWS, Row};
 
 /// Ends the test unless each process has the same tenant in both tables.
@@ -88,11 +87,7 @@ pub fn beside_a_table<N: Name, A: Ledger, V: Ledger, B: Ledger, R: Wait + Abort>
 }
 
 /// Opens a shared table for the script, and makes its calls.
-fn on_both<R: Threads + Wait + Abort + Sync>(
-    rt: &R,
-    alloc: Global,
-    row: &'static Row,
-) -> Result<(), Fail> {
+fn on_both<R: Wait + Abort>(rt: &R, alloc: Global, row: &'static Row) -> Result<(), Fail> {
     let first = row.input.lines().next().ok_or("a line")?;
     let config = config_of(first).ok_or("a configuration")?;
     on_a_table(rt, alloc, config, Work::Script(config, row))

@@ -1,17 +1,10 @@
 //! A table that threads share. `on_a_table` opens one for each piece of work, under names of its own, lends it, and closes it: so the
 //! tests here own no table, but for those of `close`.
-ghost use Rattle.std.specs.Prelude.{◌≡◌, ◌<◌};
+ghost use Rattle.std.specs.Prelude.{◌≡◌};
 
 mod close;
-mod deadlocks;
-mod exhausted;
-mod labels;
 mod look;
-mod old_key;
-mod retired;
-mod threads;
 mod wakes;
-mod worker;
 
 use crate::tests::rows::beside_a_table;
 use crate::tests::same::same;
@@ -23,10 +16,9 @@ use std::process::Abort;
 use std::sync::Wait;
 use std::sync::ledger::Ledger;
 use std::test::Fail;
-use std::thread::Threads;
 use test_support::Row;
 
-/// How many parts the pass has that is split off at the opening. Work that needs a pass of its own has as many.
+/// How many parts the pass has that is split off at the opening.
 const PARTS: u64 = 1000;
 
 /// What is done with a table, by two passes that have all its parts together.
@@ -36,42 +28,23 @@ pub enum Work {
     Script(Config, &'static Row),
     /// Calls, and looks at the board, and what the table has counted then.
     Turns(&'static [Turn], Report),
-    TwoThreads,
-    KeptKey,
-    Deadlocks,
-    ReadLabels,
-    AllLabels,
-    AllSlots,
+    /// Calls that list whom to wake.
     Wakes,
 }
 
 impl Work {
     /// Does the work, and returns what the table is to have counted.
-    fn done<
-        N: Name + Send + Sync,
-        A: Ledger + Send + Sync,
-        V: Ledger + Send + Sync,
-        B: Ledger + Send + Sync,
-        R: Threads + Wait + Abort + Sync,
-    >(
+    fn done<N: Name, A: Ledger, V: Ledger, B: Ledger, R: Wait + Abort>(
         self,
         rt: &R,
         alloc: Global,
         table: &SharedTable<N, A, V, B>,
         pass: &mut Pass<N, A, V, B>,
         other: &mut Pass<N, A, V, B>,
-    ) -> Result<Report, AllocError>
-        requires { (1000 < pass.old.parts) × (1 < other.old.parts) }
-    {
+    ) -> Result<Report, AllocError> {
         match self {
             Work::Script(config, row) => beside_a_table(rt, alloc, config, table, pass, row),
             Work::Turns(turns, report) => watch(rt, alloc, table, pass, other, turns, report),
-            Work::TwoThreads => Ok(threads::begin_and_finish_both(rt, table, pass, other)),
-            Work::KeptKey => Ok(old_key::keep_a_key(rt, table, pass)),
-            Work::Deadlocks => deadlocks::break_all(rt, alloc, table, pass),
-            Work::ReadLabels => labels::read_beside_deadlocks(rt, alloc, table, pass, other),
-            Work::AllLabels => exhausted::use_up_labels(rt, alloc, table, pass),
-            Work::AllSlots => retired::use_up_slots(rt, alloc, table, pass),
             Work::Wakes => wakes::list_all(rt, alloc, table, pass),
         }
     }
@@ -117,13 +90,12 @@ fn closes_with_both<N: Name, A: Ledger, V: Ledger, B: Ledger>(
 }
 
 /// Opens the table, does the work with two passes, and closes it.
-fn on_named<
-    N: Name + Send + Sync,
-    A: Ledger + Send + Sync,
-    V: Ledger + Send + Sync,
-    B: Ledger + Send + Sync,
-    R: Threads + Wait + Abort + Sync,
->(rt: &R, alloc: Global, prepared: Prepared, work: Work) -> Result<(), AllocError>
+fn on_named<N: Name, A: Ledger, V: Ledger, B: Ledger, R: Wait + Abort>(
+    rt: &R,
+    alloc: Global,
+    prepared: Prepared,
+    work: Work,
+) -> Result<(), AllocError>
     requires board { prepared.board ≡ N.board }
     requires accepted { (prepared.accepted.name ≡ A.name) × (prepared.accepted.parts ≡ A.parts) }
     requires verdicts { (prepared.verdicts.name ≡ V.name) × (prepared.verdicts.parts ≡ V.parts) }
@@ -137,7 +109,7 @@ fn on_named<
 }
 
 /// Opens a table of this configuration, and does the work on it. Ends the test unless the table is closed with what the work is to make.
-pub fn on_a_table<R: Threads + Wait + Abort + Sync>(
+pub fn on_a_table<R: Wait + Abort>(
     rt: &R,
     alloc: Global,
     config: Config,

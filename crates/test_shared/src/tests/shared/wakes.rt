@@ -39,7 +39,29 @@ const COUNTED: Report = Report {
     aborts: 1,
 };
 
-/// Makes these calls. Ends the test where one has another reply, or lists other processes. `wake` has room for each process.
+/// Makes the call of a line. Ends the test where it has another reply, or lists other processes. `wake` has room for each process.
+fn make<N: Name, A: Ledger, V: Ledger, B: Ledger, R: Wait + Abort>(
+    rt: &R,
+    alloc: Global,
+    table: &SharedTable<N, A, V, B>,
+    pass: &mut Pass<N, A, V, B>,
+    wake: &mut Vec<u32>,
+    line: &str,
+    reply: &str,
+    woken: &[u32],
+) -> Result<(), AllocError>
+    requires { table.now ≤ vec_capacity wake.old }
+    ensures { table.now ≤ vec_capacity wake.new }
+{
+    let call = call_of(line).expect(rt, "a call");
+    wake.clear();
+    let answer = call.on_shared_waking(rt, table, pass, wake);
+    is_told(rt, alloc, answer, reply)?;
+    same(rt, wake.as_slice(), woken);
+    Ok(())
+}
+
+/// Makes these calls. `wake` has room for each process.
 fn make_all<N: Name, A: Ledger, V: Ledger, B: Ledger, R: Wait + Abort>(
     rt: &R,
     alloc: Global,
@@ -50,11 +72,7 @@ fn make_all<N: Name, A: Ledger, V: Ledger, B: Ledger, R: Wait + Abort>(
     requires { table.now ≤ vec_capacity wake.old }
 {
     for (line, reply, woken) in CALLS {
-        let call = call_of(line).expect(rt, "a call");
-        wake.clear();
-        let answer = call.on_shared_waking(rt, table, pass, wake);
-        is_told(rt, alloc, answer, reply)?;
-        same(rt, wake.as_slice(), woken);
+        make(rt, alloc, table, pass, wake, line, reply, woken)?;
     }
     Ok(())
 }

@@ -1,0 +1,4 @@
+//! `shared`: threads at a shared table.
+
+mod same;
+mod shared;

@@ -1,0 +1,154 @@
+//! A table that threads share. `on_a_table` opens one for each piece of work, under names of its own, lends it, and closes it: so the
+//! tests here own no table.
+ghost use Rattle.std.specs.Prelude.{◌≡◌, ◌<◌};
+
+mod deadlocks;
+mod exhausted;
+mod labels;
+mod old_key;
+mod retired;
+mod threads;
+mod worker;
+
+use crate::tests::same::same;
+use mm_shared::{CloseRefused, Config, Name, Pass, Prepared, Refusal, Report, SharedTable};
+use std::alloc::{AllocError, Global};
+use std::marker::Brand;
+use std::process::Abort;
+use std::sync::Wait;
+use std::sync::ledger::Ledger;
+use std::test::Fail;
+use std::thread::Threads;
+
+/// How many parts the pass has that is split off at the opening. Work that needs a pass of its own has as many.
+const PARTS: u64 = 1000;
+
+/// What is done with a table, by two passes that have all its parts together.
+#[derive(Clone, Copy)]
+pub enum Work {
+    TwoThreads,
+    KeptKey,
+    Deadlocks,
+    ReadLabels,
+    AllLabels,
+    AllSlots,
+}
+
+impl Work {
+    /// Does the work, and returns what the table is to have counted.
+    fn done<
+        N: Name + Send + Sync,
+        A: Ledger + Send + Sync,
+        V: Ledger + Send + Sync,
+        B: Ledger + Send + Sync,
+        R: Threads + Wait + Abort + Sync,
+    >(
+        self,
+        rt: &R,
+        alloc: Global,
+        table: &SharedTable<N, A, V, B>,
+        pass: &mut Pass<N, A, V, B>,
+        other: &mut Pass<N, A, V, B>,
+    ) -> Result<Report, AllocError>
+        requires { (1000 < pass.old.parts) × (1 < other.old.parts) }
+    {
+        match self {
+            Work::TwoThreads => Ok(threads::begin_and_finish_both(rt, table, pass, other)),
+            Work::KeptKey => Ok(old_key::keep_a_key(rt, table, pass)),
+            Work::Deadlocks => deadlocks::break_all(rt, alloc, table, pass),
+            Work::ReadLabels => labels::read_beside_deadlocks(rt, alloc, table, pass, other),
+            Work::AllLabels => exhausted::use_up_labels(rt, alloc, table, pass),
+            Work::AllSlots => retired::use_up_slots(rt, alloc, table, pass),
+        }
+    }
+}
+
+/// Ends the test unless the table is not closed for want of a pass, and gives both back.
+fn refused_close<N: Name, A: Ledger, V: Ledger, B: Ledger>(
+    rt: &impl Abort,
+    table: SharedTable<N, A, V, B>,
+    pass: Pass<N, A, V, B>,
+) -> CloseRefused<N, A, V, B> {
+    let refused = table.close(pass).err().expect(rt, "a pass is missing");
+    same(rt, refused.refusal, Refusal::SharesMissing);
+    same(rt, refused.refusal.number(), 12);
+    refused
+}
+
+/// Ends the test unless the table is closed with this report.
+fn closes_with<N: Name, A: Ledger, V: Ledger, B: Ledger>(
+    rt: &impl Abort,
+    table: SharedTable<N, A, V, B>,
+    pass: Pass<N, A, V, B>,
+    report: Option<Report>,
+) {
+    same(rt, table.close(pass).ok(), report);
+}
+
+/// Ends the test unless the table is not closed with one pass alone, and is closed with this report once the other is joined to it.
+fn closes_with_both<N: Name, A: Ledger, V: Ledger, B: Ledger>(
+    rt: &impl Abort,
+    table: SharedTable<N, A, V, B>,
+    pass: Pass<N, A, V, B>,
+    other: Pass<N, A, V, B>,
+    report: Option<Report>,
+) {
+    let CloseRefused {
+        refusal: _,
+        table,
+        mut pass,
+    } = refused_close(rt, table, pass);
+    pass.join(&table, other);
+    closes_with(rt, table, pass, report);
+}
+
+/// Opens the table, does the work with two passes, and closes it.
+fn on_named<
+    N: Name + Send + Sync,
+    A: Ledger + Send + Sync,
+    V: Ledger + Send + Sync,
+    B: Ledger + Send + Sync,
+    R: Threads + Wait + Abort + Sync,
+>(rt: &R, alloc: Global, prepared: Prepared, work: Work) -> Result<(), AllocError>
+    requires board { prepared.board ≡ N.board }
+    requires accepted { (prepared.accepted.name ≡ A.name) × (prepared.accepted.parts ≡ A.parts) }
+    requires verdicts { (prepared.verdicts.name ≡ V.name) × (prepared.verdicts.parts ≡ V.parts) }
+    requires aborts { (prepared.aborts.name ≡ B.name) × (prepared.aborts.parts ≡ B.parts) }
+{
+    let (table, mut pass) = prepared.open::<N, A, V, B>();
+    let mut other = pass.split(&table, PARTS);
+    let done = work.done(rt, alloc, &table, &mut pass, &mut other);
+    closes_with_both(rt, table, pass, other, done.ok());
+    done.map(|_| ())
+}
+
+/// Opens a table of this configuration, and does the work on it. Ends the test unless the table is closed with what the work is to make.
+pub fn on_a_table<R: Threads + Wait + Abort + Sync>(
+    rt: &R,
+    alloc: Global,
+    config: Config,
+    work: Work,
+) -> Result<(), Fail> {
+    let prepared = Prepared::new(alloc, config)?;
+    on_named::<Brand, Brand, Brand, Brand, R>(rt, alloc, prepared, work)?;
+    Ok(())
+}
+
+/// So many processes and resources, where labels and keys last for any test.
+fn config(processes: u32, resources: u32) -> Config {
+    Config {
+        processes,
+        resources,
+        label_limit: 1_000_000,
+        generation_limit: 4_294_967_295,
+    }
+}
+
+/// The report of a table that accepted so many calls, no verdict or abort among them.
+fn accepted(calls: u64) -> Report {
+    Report {
+        accepted: calls,
+        verdicts: 0,
+        aborts: 0,
+    }
+}
