@@ -29,7 +29,7 @@ pub enum Verb {
 }
 
 /// The words of the verbs.
-const VERBS: [(&str, Verb); 12] = [
+static VERBS: [(&str, Verb); 12] = [
     ("begin", Verb::Begin),
     ("acquire", Verb::Acquire),
     ("release", Verb::Release),
@@ -99,7 +99,8 @@ pub fn config_of(line: &str) -> Option<Config> {
 
 /// The verb of a word.
 fn verb_of(word: &str) -> Option<Verb> {
-    for (name, verb) in VERBS {
+    for row in &VERBS {
+        let (name, verb) = *row;
         if name == word {
             return Some(verb);
         }

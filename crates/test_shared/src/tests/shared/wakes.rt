@@ -13,7 +13,7 @@ use std::test::Fail;
 
 /// Calls, as a script has them, each with its reply, and the processes that it lists. Process 2 waits for 1, and then 0 and 1 wait for each
 /// other.
-const CALLS: [(&str, &str, &[u32]); 16] = [
+static CALLS: [(&str, &str, &[u32]); 16] = [
     ("begin", "key 0.1", &[]),
     ("begin", "key 1.1", &[]),
     ("begin", "key 2.1", &[]),
@@ -71,7 +71,8 @@ fn make_all<N: Name, A: Ledger, V: Ledger, B: Ledger, R: Wait + Abort>(
 ) -> Result<(), AllocError>
     requires { table.now ≤ vec_capacity wake.old }
 {
-    for (line, reply, woken) in CALLS {
+    for call in &CALLS {
+        let (line, reply, woken) = *call;
         make(rt, alloc, table, pass, wake, line, reply, woken)?;
     }
     Ok(())
