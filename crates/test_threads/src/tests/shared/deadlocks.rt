@@ -16,7 +16,7 @@ const THREADS: u32 = 8;
 
 /// How many transactions each thread makes. Each one meets one of its partner's in a deadlock, which one of the two breaks, and makes at
 /// least four calls that are accepted. That takes some seconds on one processor that has twice as much else to do.
-const ROUNDS: u64 = 250;
+const ROUNDS: u64 = 1_000;
 
 /// Ends the test unless each two threads made and broke a deadlock in each round.
 fn are_broken(rt: &impl Abort, made: Report) {

@@ -20,7 +20,7 @@ use std::thread::{Threads, join};
 const THREADS: u32 = 6;
 
 /// How many transactions each of these threads makes, and how many deadlocks each two, before they ask whether enough labels were read.
-const ROUNDS: u64 = 250;
+const ROUNDS: u64 = 1_000;
 
 /// How many labels are read at least, from the first one on that rose.
 const READS: u64 = 1_000_000;
