@@ -198,8 +198,16 @@ impl Desk {
         answer
     }
 
-    pub fn totals(&self) -> Totals {
+    pub fn totals(&self) -> Totals
+        ensures { result ≡ self.now.manager.totals }
+    {
         self.manager.totals()
+    }
+
+    pub fn events(&self) -> u64
+        ensures { result ≡ self.now.manager.table.totals.accepted }
+    {
+        self.manager.events()
     }
 
     /// Notes whom the last call told something: those for whom there is no room in `wakes`, here.

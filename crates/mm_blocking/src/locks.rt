@@ -234,6 +234,11 @@ impl Locks {
         self.locked(rt).totals()
     }
 
+    /// How many events of the table were counted since the opening, as `LockManager::events`. Constant time.
+    pub fn events<R: Wait>(&self, rt: &R) -> u64 {
+        self.locked(rt).events()
+    }
+
     /// Wakes these, and then those for whom there was no room among them. The lock is free.
     fn wake<R: Wait>(&self, rt: &R, wakes: &Wakes) {
         self.parkers.wake(wakes);

@@ -42,3 +42,5 @@ pub mod Labels
 pub mod Fewer
 -- what is left for the ends of transactions
 pub mod Room
+-- no count passes that of the table's events
+pub mod Counted

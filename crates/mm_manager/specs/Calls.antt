@@ -30,9 +30,9 @@ use Rattle.mm_manager.specs.declared.reply.TryLock.TheVariants as tried
 
 -- ---- begin
 
--- a transaction starts, and nothing else changes
+-- a transaction starts, and nothing else changes but the counts
 abbrev pub Begins : LockState → Result Key Refusal → LockState → Type 0
-Begins old (Ok key) new = (may_begin old.table ≡ Ok tt) × Step Begin old.table (Ok key) new.table × (new ≡ record (untold old) { table = new.table })
+Begins old (Ok key) new = (may_begin old.table ≡ Ok tt) × Step Begin old.table (Ok key) new.table × (new ≡ record (untold old) { table = new.table; totals = new.totals })
 Begins old (Err refusal) new = (new ≡ untold old) × (may_begin old.table ≡ Err refusal)
 
 -- ---- lock

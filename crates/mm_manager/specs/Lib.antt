@@ -8,6 +8,8 @@ pub mod Permit
 pub mod Refused
 -- what the calls do
 pub mod Calls
+-- what each call adds to the counts
+pub mod Totals
 -- what the reads answer
 pub mod Reads
 -- private: what private functions' contracts cite; no public clause cites these

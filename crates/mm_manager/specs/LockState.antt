@@ -1,11 +1,13 @@
 -- What a contract sees of a lock manager, and who owns and who waits for which name. A name is a list of bytes.
-use Rattle.std.specs.Prelude.{◌≡◌, ◌≢◌, ◌↔◌, ℕ, Bool, true, false, List, [], Some, None, is_some, if◌then◌else◌}
+use Rattle.std.specs.Prelude.{◌≡◌, ◌≢◌, ◌↔◌, ◌≤◌, ℕ, Bool, true, false, List, [], Some, None, is_some, if◌then◌else◌}
 use Rattle.mm_arena.specs.declared.key.Key.{Key}
 use Rattle.mm_bit_set.specs.BitSet.{has}
 use Rattle.mm_names.specs.Names.{NameTable, name_of, IsLawful as IsLawfulNames}
 use Rattle.mm_rules.specs.TableState.{TableState, owner_of, wait_of, is_waiting, has_verdict}
 use Rattle.mm_rules.specs.Laws.{Laws, AtRest}
 use Rattle.mm_settled.specs.declared.reply.Grant.{Grant}
+use Rattle.mm_manager.specs.Totals.{all_of}
+use Rattle.mm_manager.specs.declared.totals.Totals.{Totals}
 
 pub record LockState : Type 0 where
   pub table : TableState  -- its resources are the numbers of names
@@ -13,6 +15,7 @@ pub record LockState : Type 0 where
   pub due : List Bool  -- by process: whether its transaction is aborted as soon as its wait ends
   pub granted : List Grant  -- whom the last call granted what, in order
   pub aborted : List Key  -- whose abort came due in the last call, in order
+  pub totals : Totals  -- what was counted since the opening
 
 -- k owns the name
 abbrev pub Owns : LockState → Key → List ℕ → Type 0
@@ -42,3 +45,4 @@ pub record IsLawful (m : LockState) : Type 0 where
   pub numbered : (n : ℕ) → (name_of m.names n ≡ None) ↔ (owner_of m.table n ≡ None)  -- a number has a name exactly while it has an owner
   pub due : (n : ℕ) → has m.due n ≡ true → (is_waiting m.table n ≡ true) × (has_verdict m.table n ≡ false)  -- each transaction whose abort is due waits, in no deadlock
   pub waited : (k : Key) (name : List ℕ) → Waits m k name → (h : Key) × Owns m h name × (h.process ≢ k.process)  -- who waits, waits for an owner
+  pub counted : all_of m.totals ≤ m.table.totals.accepted  -- the counts together are no more than the events

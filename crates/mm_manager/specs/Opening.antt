@@ -4,6 +4,7 @@ use Rattle.mm_names.specs.Names.{nameless}
 use Rattle.mm_rules.specs.declared.config.Config.{Config}
 use Rattle.mm_rules.specs.TableState.{opening}
 use Rattle.mm_manager.specs.LockState.{LockState}
+use Rattle.mm_manager.specs.Totals.{nothing_counted}
 use Rattle.mm_manager.specs.declared.config.ManagerConfig.{ManagerConfig}
 
 -- the table has a resource for each name
@@ -18,6 +19,7 @@ opening_state c = record {
   due = replicate c.transactions false;
   granted = [];
   aborted = [];
+  totals = nothing_counted;
 }
 
 -- there are to be no transactions, or too many

@@ -1,13 +1,15 @@
 //! The ends of transactions that wait.
-ghost use Rattle.std.specs.Prelude.{◌≡◌, true, [], Ok};
+ghost use Rattle.std.specs.Prelude.{◌≡◌, true, [], Ok, length};
 ghost use Rattle.mm_rules.specs.TableState.{is_live, has_verdict};
 ghost use Rattle.mm_rules.specs.Event.{Abort};
 ghost use Rattle.mm_manager.specs.Permit.{may_cancel};
 ghost use Rattle.mm_manager.specs.private.Aborts.{AbortsWaiting, GaveUp, seen};
 ghost use Rattle.mm_manager.specs.Calls.{Aborts};
+ghost use Rattle.mm_manager.specs.Totals.{after_abort};
+ghost use Rattle.mm_manager.specs.declared.totals.Totals.{Totals as TotalsValue};
 ghost use Rattle.mm_manager.specs.private.Handed.{AreParts, Handed};
 ghost use Rattle.mm_manager.specs.private.HandsDown.{IsEnding};
-ghost use Rattle.mm_manager.specs.private.Room.{HasRoom};
+ghost use Rattle.mm_manager.specs.private.Room.{HasReserve};
 
 use crate::hand_over::abort;
 use crate::lists::Lists;
@@ -63,9 +65,9 @@ pub fn abort_waiting(
 /// Takes back the wait of a transaction that waits in no deadlock, unless it carries another's label.
 pub fn give_up(table: &mut SettledTable, key: Key) -> Cancel
     requires may { may_cancel table.old.table key ≡ Ok tt }
-    requires left { HasRoom table.old.table }
+    requires left { HasReserve table.old.table }
     ensures gave_up { GaveUp table.old.table key result table.new.table }
-    ensures left { HasRoom table.new.table }
+    ensures left { HasReserve table.new.table }
 {
     table.is_at_rest();
     match table.give_up(key) {
@@ -82,7 +84,7 @@ pub fn abort_any(
     key: Key,
 ) -> Result<Aborted, Refusal>
     requires { AreParts table.old.table names.old lists.old }
-    ensures aborts { Aborts (seen table.old.table names.old lists.old) key result (seen table.new.table names.new lists.new) }
+    ensures aborts { (before : TotalsValue) → Aborts (seen table.old.table names.old lists.old before) key result (seen table.new.table names.new lists.new (after_abort before result (length lists.new.aborted.items))) }
     ensures parts { AreParts table.new.table names.new lists.new }
 {
     lists.clear();

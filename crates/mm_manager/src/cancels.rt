@@ -1,8 +1,10 @@
 //! The waits that are taken back.
-ghost use Rattle.std.specs.Prelude.{◌≡◌, Ok, false, []};
+ghost use Rattle.std.specs.Prelude.{◌≡◌, Ok, false, [], length};
 ghost use Rattle.mm_bit_set.specs.BitSet.{has};
 ghost use Rattle.mm_manager.specs.Calls.{Cancels};
 ghost use Rattle.mm_manager.specs.Permit.{may_cancel};
+ghost use Rattle.mm_manager.specs.Totals.{after_cancel};
+ghost use Rattle.mm_manager.specs.declared.totals.Totals.{Totals as TotalsValue};
 ghost use Rattle.mm_manager.specs.private.Aborts.{GaveUp, cancel_of, seen};
 ghost use Rattle.mm_manager.specs.private.Handed.{AreParts};
 
@@ -21,7 +23,7 @@ pub fn cancel_any(
     key: Key,
 ) -> Result<Cancel, Refusal>
     requires { AreParts table.old.table names.old lists.old }
-    ensures cancels { Cancels (seen table.old.table names.old lists.old) key result (seen table.new.table names.new lists.new) }
+    ensures cancels { (before : TotalsValue) → Cancels (seen table.old.table names.old lists.old before) key result (seen table.new.table names.new lists.new (after_cancel before result (has lists.old.due.items key.process) (length lists.new.aborted.items))) }
     ensures parts { AreParts table.new.table names.new lists.new }
 {
     lists.clear();
@@ -42,6 +44,16 @@ fn cancel_waiting(table: &mut SettledTable, names: &Names, lists: &Lists, key: K
     ensures parts { AreParts table.new.table names.now lists.now }
 {
     give_up(table, key)
+}
+
+/// Whether the abort of the transaction in this key's process is due.
+pub fn is_due(lists: &Lists, key: Key) -> bool
+    ensures { result ≡ has lists.now.due.items key.process }
+{
+    match lists.due.get(key.process as usize) {
+        Some(is_due) => *is_due,
+        None => false,
+    }
 }
 
 /// What a cancel answers whose abort had this answer.

@@ -5,7 +5,7 @@ ghost use Rattle.mm_rules.specs.TableState.{is_live, wait_of};
 ghost use Rattle.mm_manager.specs.private.Due.{AreGranted, IsReady, EndsDue, EndsIfDue, EndsOne};
 ghost use Rattle.mm_manager.specs.private.Lists.{Fits};
 ghost use Rattle.mm_manager.specs.private.Numbers.{AreNumbered};
-ghost use Rattle.mm_manager.specs.private.Room.{HasRoom};
+ghost use Rattle.mm_manager.specs.private.Room.{HasReserve};
 
 use crate::Key;
 use crate::hand_over::finish;
@@ -36,7 +36,7 @@ fn end_if_due(table: &mut SettledTable, names: &mut Names, lists: &mut Lists, ke
     requires within { key.process < table.old.table.config.processes }
     requires idle { wait_of table.old.table key.process ≡ None }
     requires live { has lists.old.due.items key.process ≡ true → is_live table.old.table key ≡ true }
-    requires left { HasRoom table.old.table }
+    requires left { HasReserve table.old.table }
     ensures { EndsIfDue table.old.table names.old lists.old key table.new.table names.new lists.new }
 {
     if !lists.due[key.process as usize] {
@@ -54,7 +54,7 @@ fn end_one(table: &mut SettledTable, names: &mut Names, lists: &mut Lists, key: 
     requires within { key.process < table.old.table.config.processes }
     requires idle { wait_of table.old.table key.process ≡ None }
     requires live { is_live table.old.table key ≡ true }
-    requires left { HasRoom table.old.table }
+    requires left { HasReserve table.old.table }
     ensures { EndsOne table.old.table names.old lists.old key table.new.table names.new lists.new }
 {
     table.is_at_rest();

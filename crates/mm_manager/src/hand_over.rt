@@ -7,7 +7,7 @@ ghost use Rattle.mm_rules.specs.declared.reply.Released.{Released};
 ghost use Rattle.mm_settled.specs.Calls.{Made, OthersKeepVerdicts};
 ghost use Rattle.mm_settled.specs.Grants.{Tells, EndsWaits};
 ghost use Rattle.mm_manager.specs.private.Numbers.{AreNumbered};
-ghost use Rattle.mm_manager.specs.private.Room.{HasRoom};
+ghost use Rattle.mm_manager.specs.private.Room.{HasReserve};
 ghost use Rattle.mm_manager.specs.LockState.{KeepOwned};
 
 use crate::Key;
@@ -21,14 +21,14 @@ pub fn release(table: &mut SettledTable, names: &mut Names, key: Key, number: u3
     requires named { IsSome (name_of names.old number) }
     requires owned { owner_of table.old.table number ≡ Some key }
     requires active { wait_of table.old.table key.process ≡ None }
-    requires left { HasRoom table.old.table }
+    requires left { HasReserve table.old.table }
     ensures made { (answer : Released) × Made (Release key number) table.old.table answer table.new.table }
     ensures others { OthersKeepVerdicts table.old.table table.new.table key.process }
     ensures told { Tells table.old.table table.new }
     ensures ended { EndsWaits table.old.table table.new.table key.process table.new.granted }
     ensures names { KeepOwned names.old table.new.table names.new }
     ensures numbered { AreNumbered table.new.table names.new }
-    ensures left { HasRoom table.new.table }
+    ensures left { HasReserve table.new.table }
 {
     table.is_at_rest();
     let Ok(_) = table.release(key, number) else {
@@ -43,7 +43,7 @@ pub fn finish(table: &mut SettledTable, names: &mut Names, owned: &mut Vec<u32>,
     requires room { table.old.table.config.resources ≤ vec_capacity owned.old }
     requires live { is_live table.old.table key ≡ true }
     requires active { wait_of table.old.table key.process ≡ None }
-    requires left { HasRoom table.old.table }
+    requires left { HasReserve table.old.table }
     ensures made { Made (Finish key) table.old.table tt table.new.table }
     ensures others { OthersKeepVerdicts table.old.table table.new.table key.process }
     ensures told { Tells table.old.table table.new }
@@ -51,7 +51,7 @@ pub fn finish(table: &mut SettledTable, names: &mut Names, owned: &mut Vec<u32>,
     ensures names { KeepOwned names.old table.new.table names.new }
     ensures numbered { AreNumbered table.new.table names.new }
     ensures room { vec_capacity owned.new ≡ vec_capacity owned.old }
-    ensures left { HasRoom table.new.table }
+    ensures left { HasReserve table.new.table }
 {
     table.is_at_rest();
     table.table().owned_by(key, owned);
@@ -67,7 +67,7 @@ pub fn abort(table: &mut SettledTable, names: &mut Names, owned: &mut Vec<u32>, 
     requires room { table.old.table.config.resources ≤ vec_capacity owned.old }
     requires live { is_live table.old.table key ≡ true }
     requires verdict { has_verdict table.old.table key.process ≡ true }
-    requires left { HasRoom table.old.table }
+    requires left { HasReserve table.old.table }
     ensures made { Made (Abort key) table.old.table tt table.new.table }
     ensures others { OthersKeepVerdicts table.old.table table.new.table key.process }
     ensures told { Tells table.old.table table.new }
@@ -75,7 +75,7 @@ pub fn abort(table: &mut SettledTable, names: &mut Names, owned: &mut Vec<u32>, 
     ensures names { KeepOwned names.old table.new.table names.new }
     ensures numbered { AreNumbered table.new.table names.new }
     ensures room { vec_capacity owned.new ≡ vec_capacity owned.old }
-    ensures left { HasRoom table.new.table }
+    ensures left { HasReserve table.new.table }
 {
     table.is_at_rest();
     table.table().owned_by(key, owned);

@@ -14,6 +14,7 @@
 //! - `request`: a request for a name.
 //! - `reads`: what can be read of a manager.
 //! - `graph`: the wait-for graph.
+//! - `totals`: what is counted.
 #![tactic(auto)]
 
 mod aborts;
@@ -32,11 +33,12 @@ mod reads;
 mod refusal;
 mod reply;
 mod request;
+mod totals;
 
 pub use config::ManagerConfig;
 pub use graph::Graph;
 pub use manager::LockManager;
 pub use mm_settled::{Grant, Key};
-pub use mm_table::Totals;
 pub use refusal::{OpenError, Refusal};
 pub use reply::{Abort, Cancel, Lock, Status, TryLock, Wait};
+pub use totals::Totals;

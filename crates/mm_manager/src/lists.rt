@@ -52,6 +52,14 @@ impl Lists {
         self.granted.clear();
         self.aborted.clear();
     }
+
+    /// How many aborts came due in the call.
+    #[inline]
+    pub fn came_due(&self) -> u64
+        ensures { result ≡ length self.now.aborted.items }
+    {
+        self.aborted.len() as u64
+    }
 }
 
 /// Empty lists with room for a grant and a key of each transaction.

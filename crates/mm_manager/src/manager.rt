@@ -1,6 +1,7 @@
 //! The lock manager.
-ghost use Rattle.std.specs.Prelude.{◌≡◌, ◌↔◌, ◌≤◌, ℕ, List, [], Some, Ok, Err, IfOk, OnOk, option_copied, vec_capacity};
+ghost use Rattle.std.specs.Prelude.{◌≡◌, ◌↔◌, ◌≤◌, ℕ, List, [], Some, Ok, Err, IfOk, OnOk, option_copied, vec_capacity, length};
 ghost use Rattle.mm_arena.specs.declared.key.Key.{Key as KeyValue};
+ghost use Rattle.mm_bit_set.specs.BitSet.{has};
 ghost use Rattle.mm_list_lemmas.specs.Members.{Among, NoRepeat};
 ghost use Rattle.mm_names.specs.Names.{name_of};
 ghost use Rattle.mm_settled.specs.Calls.{OthersKeepVerdicts};
@@ -9,9 +10,10 @@ ghost use Rattle.mm_manager.specs.Permit.{may_request};
 ghost use Rattle.mm_manager.specs.Opening.{opening_state, IsTransactionsOut, IsNamesOut, IsNameBytesOut};
 ghost use Rattle.mm_manager.specs.Calls.{Begins, LocksName, TriesName, Requests, Tries, UnlocksName, Commits, Aborts, Cancels};
 ghost use Rattle.mm_manager.specs.Reads.{HasStatus, waits_of};
+ghost use Rattle.mm_manager.specs.Totals.{after_begin, after_lock, after_unlock, after_commit, after_abort, after_cancel};
 
 use crate::aborts::abort_any;
-use crate::cancels::cancel_any;
+use crate::cancels::{cancel_any, is_due};
 use crate::lists::Lists;
 use crate::numbers::owner_of;
 use crate::open::{open_names, open_table};
@@ -27,12 +29,14 @@ use std::marker::Model;
 /// Exclusive locks on names, for transactions. A request is answered at once and for good.
 ///
 /// A contract sees it as a `LockState` (`specs/LockState.antt`). A name has a number exactly while somebody owns it. Each call tells what
-/// it did for others, in `granted` and in `aborted`; a refused call changes nothing, and tells of nobody. No call but `open` takes memory.
+/// it did for others, in `granted` and in `aborted`; a refused call changes nothing, tells of nobody and counts nothing. No call but `open`
+/// takes memory.
 #[derive(Drop)]
 pub struct LockManager {
     table: SettledTable,
     names: Names,
     lists: Lists,
+    totals: Totals,
 }
 
 impl Model for LockManager {
@@ -66,6 +70,7 @@ impl LockManager {
             table,
             names,
             lists,
+            totals: Totals::NONE,
         })
     }
 
@@ -74,9 +79,12 @@ impl LockManager {
     /// Refused as `CountsFull` where 4,611,686,018,426,339,328 events were counted or more, and as `TransactionsFull` where there are as
     /// many transactions as there can be, which is tested second. Constant time.
     pub fn begin(&mut self) -> Result<Key, Refusal>
-        ensures { Begins self.old result self.new }
+        ensures begins { Begins self.old result self.new }
+        ensures totals { self.new.totals ≡ after_begin self.old.totals result }
     {
-        parts::begin(&mut self.table, &self.names, &mut self.lists)
+        let answer = parts::begin(&mut self.table, &self.names, &mut self.lists);
+        self.totals.count_begin(&answer);
+        answer
     }
 
     /// Asks for a name, and is told at once what comes of it.
@@ -99,8 +107,11 @@ impl LockManager {
         ensures due { self.new.due ≡ self.old.due }
         ensures granted { self.new.granted ≡ [] }
         ensures aborted { self.new.aborted ≡ [] }
+        ensures totals { self.new.totals ≡ after_lock self.old.totals result }
     {
-        parts::lock(&mut self.table, &mut self.names, &mut self.lists, key, name)
+        let answer = parts::lock(&mut self.table, &mut self.names, &mut self.lists, key, name);
+        self.totals.count_lock(&answer);
+        answer
     }
 
     /// Asks for a name, and gets it where nobody owns it. It never waits.
@@ -119,6 +130,7 @@ impl LockManager {
         ensures due { self.new.due ≡ self.old.due }
         ensures granted { self.new.granted ≡ [] }
         ensures aborted { self.new.aborted ≡ [] }
+        ensures totals { self.new.totals ≡ self.old.totals }
     {
         parts::try_lock(&mut self.table, &mut self.names, &mut self.lists, key, name)
     }
@@ -129,9 +141,12 @@ impl LockManager {
     /// Refused as `NoTransaction`, `MustAbort`, `Waiting`, `NameEmpty`, `NameTooLong` or `NotOwner`, which are tested in this order.
     /// `O(length + waiters of the name)`, the settle that follows, and the ends.
     pub fn unlock(&mut self, key: Key, name: &[u8]) -> Result<(), Refusal>
-        ensures { UnlocksName self.old key name.now result self.new }
+        ensures unlocks { UnlocksName self.old key name.now result self.new }
+        ensures totals { self.new.totals ≡ after_unlock self.old.totals result (length self.new.aborted) }
     {
-        parts::unlock(&mut self.table, &mut self.names, &mut self.lists, key, name)
+        let answer = parts::unlock(&mut self.table, &mut self.names, &mut self.lists, key, name);
+        self.totals.count_unlock(&answer, self.lists.came_due());
+        answer
     }
 
     /// Ends a transaction that does not wait: hands over all names that it owns, each as `unlock` does.
@@ -139,9 +154,12 @@ impl LockManager {
     /// Then those end whose abort is due by that, as after `unlock`. Refused as `NoTransaction`, `MustAbort` or
     /// `Waiting`. `O(its names + their waiters)`, the settle that follows, and the ends.
     pub fn commit(&mut self, key: Key) -> Result<(), Refusal>
-        ensures { Commits self.old key result self.new }
+        ensures commits { Commits self.old key result self.new }
+        ensures totals { self.new.totals ≡ after_commit self.old.totals result (length self.new.aborted) }
     {
-        parts::commit(&mut self.table, &mut self.names, &mut self.lists, key)
+        let answer = parts::commit(&mut self.table, &mut self.names, &mut self.lists, key);
+        self.totals.count_commit(&answer, self.lists.came_due());
+        answer
     }
 
     /// Ends any live transaction: what it waited for is withdrawn, and all that it owns is handed over, as by `commit`.
@@ -152,9 +170,12 @@ impl LockManager {
     ///
     /// Refused only as `NoTransaction`, where the transaction is not live. It costs what `commit` costs.
     pub fn abort(&mut self, key: Key) -> Result<Abort, Refusal>
-        ensures { Aborts self.old key result self.new }
+        ensures aborts { Aborts self.old key result self.new }
+        ensures totals { self.new.totals ≡ after_abort self.old.totals result (length self.new.aborted) }
     {
-        abort_any(&mut self.table, &mut self.names, &mut self.lists, key)
+        let answer = abort_any(&mut self.table, &mut self.names, &mut self.lists, key);
+        self.totals.count_abort(&answer, self.lists.came_due());
+        answer
     }
 
     /// Takes back the wait of a transaction, which is active from now on and keeps what it owns.
@@ -164,9 +185,14 @@ impl LockManager {
     ///
     /// Refused as `NoTransaction`, `MustAbort` or `NotWaiting`. Constant time where no abort is due.
     pub fn cancel(&mut self, key: Key) -> Result<Cancel, Refusal>
-        ensures { Cancels self.old key result self.new }
+        ensures cancels { Cancels self.old key result self.new }
+        ensures totals { self.new.totals ≡ after_cancel self.old.totals result (has self.old.due key.process) (length self.new.aborted) }
     {
-        cancel_any(&mut self.table, &mut self.names, &mut self.lists, key)
+        let was_due = is_due(&self.lists, key);
+        let answer = cancel_any(&mut self.table, &mut self.names, &mut self.lists, key);
+        self.totals
+            .count_cancel(&answer, was_due, self.lists.came_due());
+        answer
     }
 
     /// Whom the last call granted what, in order. `Grant::resource` is the number of the name. Constant time.
@@ -230,11 +256,19 @@ impl LockManager {
         self.names.name(number)
     }
 
-    /// What was counted since the opening: events of the table, deadlocks, and aborts of those that were in one. Constant time.
+    /// What was counted since the opening. Constant time.
     pub fn totals(&self) -> Totals
-        ensures { result ≡ self.now.table.totals }
+        ensures { result ≡ self.now.totals }
     {
-        self.table.table().totals()
+        self.totals
+    }
+
+    /// How many events of the table were counted since the opening: each begin, request, hand-over, end and wait that is taken back, and
+    /// each settle. By this number `begin`, `lock` and `try_lock` are refused as `CountsFull`. Constant time.
+    pub fn events(&self) -> u64
+        ensures { result ≡ self.now.table.totals.accepted }
+    {
+        self.table.table().totals().accepted
     }
 
     /// Does nothing. Its contract is what holds of any manager that a caller can hold, whatever was called.

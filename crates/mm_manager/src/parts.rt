@@ -17,7 +17,7 @@ ghost use Rattle.mm_manager.specs.private.Handed.{AreParts, Handed, IsUntouched}
 ghost use Rattle.mm_manager.specs.private.HandsDown.{IsEnding, IsReleased};
 ghost use Rattle.mm_manager.specs.private.Lists.{Fits};
 ghost use Rattle.mm_manager.specs.private.Numbers.{AreNumbered, bare};
-ghost use Rattle.mm_manager.specs.private.Room.{HasRoom};
+ghost use Rattle.mm_manager.specs.private.Room.{HasReserve};
 
 use crate::due::end_due;
 use crate::hand_over::{finish, release};
@@ -33,7 +33,7 @@ use mm_settled::SettledTable;
 pub fn pass_on(table: &mut SettledTable, names: &mut Names, lists: &mut Lists)
     requires numbered { AreNumbered table.old.table names.old }
     requires fits { Fits table.old.table.config lists.old }
-    requires left { HasRoom table.old.table }
+    requires left { HasReserve table.old.table }
     requires none_granted { lists.old.granted.items ≡ [] }
     requires none_aborted { lists.old.aborted.items ≡ [] }
     requires granted { AreGranted table.old.table table.old.granted }

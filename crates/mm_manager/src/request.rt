@@ -8,7 +8,7 @@ ghost use Rattle.mm_manager.specs.Permit.{event_limit, may_ask, may_name, may_wa
 ghost use Rattle.mm_manager.specs.Refused.{TryRefused, LockRefused};
 ghost use Rattle.mm_manager.specs.private.Numbers.{AreNumbered, bare};
 ghost use Rattle.mm_manager.specs.private.Requests.{tried_by};
-ghost use Rattle.mm_manager.specs.private.Room.{HasRoom};
+ghost use Rattle.mm_manager.specs.private.Room.{HasReserve};
 
 use crate::numbers::{number_of, owner_of};
 use crate::permit::may_wait;
@@ -26,7 +26,7 @@ pub fn request(
     requires numbered { AreNumbered table.old.table names.old }
     requires may { may_ask table.old.table key ≡ Ok tt }
     requires counted { table.old.table.totals.accepted < event_limit }
-    requires left { HasRoom table.old.table }
+    requires left { HasReserve table.old.table }
     ensures requested { IfOk result (λ answer. Requests table.old.table names.old key name.now answer table.new.table names.new) }
     ensures named { OnOk result (may_name names.old.name_bytes name.now ≡ Ok tt) }
     ensures refused { IfErr result (λ refusal. LockRefused (bare table.old.table names.old) key name.now refusal) }
@@ -57,7 +57,7 @@ pub fn try_request(
     requires numbered { AreNumbered table.old.table names.old }
     requires may { may_ask table.old.table key ≡ Ok tt }
     requires counted { table.old.table.totals.accepted < event_limit }
-    requires left { HasRoom table.old.table }
+    requires left { HasReserve table.old.table }
     ensures tried { IfOk result (λ answer. Tries table.old.table names.old key name.now answer table.new.table names.new) }
     ensures named { OnOk result (may_name names.old.name_bytes name.now ≡ Ok tt) }
     ensures refused { IfErr result (λ refusal. TryRefused (bare table.old.table names.old) key name.now refusal) }
@@ -118,7 +118,7 @@ fn lock_number(table: &mut SettledTable, key: Key, number: u32) -> Locked
     requires in_range { number < table.old.table.config.resources }
     requires may { may_ask table.old.table key ≡ Ok tt }
     requires counted { table.old.table.totals.accepted < event_limit }
-    requires left { HasRoom table.old.table }
+    requires left { HasReserve table.old.table }
     requires another { ¬ (owner_of table.old.table number ≡ Some key) }
     requires label { (h : KeyValue) → owner_of table.old.table number ≡ Some h → may_wait table.old.table ≡ true }
     ensures locks { Locks table.old.table key number (Ok result) table.new.table }

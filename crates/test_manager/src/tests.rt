@@ -31,7 +31,7 @@ fn make_chosen(rt: &impl Abort, alloc: Global, both: &mut Both, count: u32) -> R
             both.look_at_names(rt, alloc)?;
         }
     }
-    both.same_totals(rt);
+    both.shows_enough(rt);
     Ok(())
 }
 

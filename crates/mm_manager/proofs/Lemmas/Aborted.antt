@@ -11,7 +11,9 @@ use Rattle.mm_manager.specs.LockState.{LockState, untold}
 use Rattle.mm_manager.specs.Permit.{may_ask, may_cancel}
 use Rattle.mm_manager.specs.Refused.{UnlockRefused}
 use Rattle.mm_manager.specs.Calls.{EndsBy, UnlocksName, Commits, Aborts, Cancels}
+use Rattle.mm_manager.specs.Totals.{after_unlock, after_commit, after_abort, after_cancel}
 use Rattle.mm_manager.specs.declared.lists.Lists.{Lists}
+use Rattle.mm_manager.specs.declared.totals.Totals.{Totals}
 use Rattle.mm_manager.specs.declared.refusal.Refusal.{Refusal}
 use Rattle.mm_manager.specs.declared.reply.Abort as reply
 use Rattle.mm_manager.specs.declared.reply.Cancel as cancel
@@ -22,36 +24,36 @@ use Rattle.mm_manager.specs.private.Handed.{Handed, IsUntouched}
 use Rattle.mm_manager.specs.private.HandsDown.{IsEnding, IsReleased}
 use Rattle.mm_manager.proofs.Lemmas.Told.{released_unlocks, ended_by}
 
--- l are the lists before the call, and those that it cleared have the same marks
-module _ (s u : TableState) (t named : NameTable) (l cleared m : Lists) (k : Key) (same : cleared.due ≡ l.due) where
+-- l are the lists before the call, and those that it cleared have the same marks; so much was counted before and after it
+module _ (s u : TableState) (t named : NameTable) (l cleared m : Lists) (before after : Totals) (k : Key) (same : cleared.due ≡ l.due) where
   marks : cleared.due.items ≡ l.due.items
   marks = ap (λ v. v.items) same
 
   abbrev old : LockState
-  old = seen s t l
+  old = seen s t l before
 
   abbrev new : LockState
-  new = seen u named m
+  new = seen u named m after
 
-  untouched : IsUntouched s t cleared u named m → new ≡ untold old
-  untouched is = (let due = is.due ∙ marks in λ i. record { table = is.table i; names = is.names i; due = due i; granted = is.granted i; aborted = is.aborted i })
+  untouched : IsUntouched s t cleared u named m → after ≡ before → new ≡ untold old
+  untouched is totals = (let due = is.due ∙ marks in λ i. record { table = is.table i; names = is.names i; due = due i; granted = is.granted i; aborted = is.aborted i; totals = totals i })
 
   -- ---- an unlock and a commit
 
-  pub unlocks : (name : List ℕ) (ended : Result (Unit {0}) Refusal) → IsLawfulNames t
+  pub unlocks : (name : List ℕ) (ended : Result (Unit {0}) Refusal) (came_due : ℕ) → after ≡ after_unlock before ended came_due → IsLawfulNames t
       → OnOk ended ((n : ℕ) × (name_of t n ≡ Some name) × (owner_of s n ≡ Some k) × ((answer : Released) × Handed (Release k n) s t cleared.due.items answer k.process (IsReleased k n) u named m))
       → OnErr ended (IsUntouched s t cleared u named m) → IfErr ended (λ refusal. UnlockRefused old k name refusal) → UnlocksName old k name ended new
-  unlocks name (Ok x) names (n, is, owned, (answer, handed)) same_parts refused =
+  unlocks name (Ok x) came_due totals names (n, is, owned, (answer, handed)) same_parts refused =
       released_unlocks old new k m refl refl refl name n answer names owned is (subst (λ ds. Handed (Release k n) s t ds answer k.process (IsReleased k n) u named m) marks handed)
-  unlocks name (Err e) names handed same_parts refused = (untouched same_parts, refused)
+  unlocks name (Err e) came_due totals names handed same_parts refused = (untouched same_parts totals, refused)
 
   ended : (e : Event) (answer : Answer e) → Handed e s t cleared.due.items answer k.process (IsEnding k) u named m → EndsBy e old answer k new
   ended e answer handed = ended_by old new k m refl refl refl e answer (subst (λ ds. Handed e s t ds answer k.process (IsEnding k) u named m) marks handed)
 
-  pub commits : (done : Result (Unit {0}) Refusal) → OnOk done (Handed (Finish k) s t cleared.due.items tt k.process (IsEnding k) u named m) → OnErr done (IsUntouched s t cleared u named m)
+  pub commits : (done : Result (Unit {0}) Refusal) (came_due : ℕ) → after ≡ after_commit before done came_due → OnOk done (Handed (Finish k) s t cleared.due.items tt k.process (IsEnding k) u named m) → OnErr done (IsUntouched s t cleared u named m)
       → IfErr done (λ refusal. may_ask s k ≡ Err refusal) → Commits old k done new
-  commits (Ok x) handed same_parts refused = ended (Finish k) tt handed
-  commits (Err e) handed same_parts refused = (untouched same_parts, refused)
+  commits (Ok x) came_due totals handed same_parts refused = ended (Finish k) tt handed
+  commits (Err e) came_due totals handed same_parts refused = (untouched same_parts totals, refused)
 
   -- ---- an abort
 
@@ -61,8 +63,8 @@ module _ (s u : TableState) (t named : NameTable) (l cleared m : Lists) (k : Key
   pub convicted_aborts : Handed (Abort k) s t cleared.due.items tt k.process (IsEnding k) u named m → Aborts old k (Ok Done) new
   convicted_aborts handed = inr (inl (ended (Abort k) tt handed))
 
-  pub waiting_aborts : may_cancel s k ≡ Ok tt → (answer : reply.Abort) → AbortsWaiting s t cleared k answer u named m → Aborts old k (Ok answer) new
-  waiting_aborts may Done (mid, step, handed) =
+  pub waiting_aborts : may_cancel s k ≡ Ok tt → (answer : reply.Abort) (came_due : ℕ) → after ≡ after_abort before (Ok answer) came_due → AbortsWaiting s t cleared k answer u named m → Aborts old k (Ok answer) new
+  waiting_aborts may Done came_due totals (mid, step, handed) =
       let between : LockState = record (untold old) { table = mid; due = slice_set l.due.items k.process false } in
       inr (inr (
         between,
@@ -70,22 +72,22 @@ module _ (s u : TableState) (t named : NameTable) (l cleared m : Lists) (k : Key
         ended_by between new k m refl refl refl (Finish k) tt
             (subst (λ ds. Handed (Finish k) mid t (slice_set ds k.process false) tt k.process (IsEnding k) u named m) marks handed),
       ))
-  waiting_aborts may Later (step, table, names, due, nobody) =
+  waiting_aborts may Later came_due totals (step, table, names, due, nobody) =
       let marked = due ∙ ap (λ ds. slice_set ds k.process true) marks in
-      (may, step, λ i. record { table = table i; names = names i; due = marked i; granted = nobody.granted i; aborted = nobody.aborted i })
+      (may, step, λ i. record { table = table i; names = names i; due = marked i; granted = nobody.granted i; aborted = nobody.aborted i; totals = totals i })
 
   -- ---- a cancel
 
-  pub due_cancels : may_cancel s k ≡ Ok tt → (answer : reply.Abort) → has l.due.items k.process ≡ true → AbortsWaiting s t cleared k answer u named m → Cancels old k (Ok (cancel_of answer)) new
-  due_cancels may Done is_due aborts = inr (is_due, waiting_aborts may Done aborts)
-  due_cancels may Later is_due (step, table, names, due, nobody) =
+  pub due_cancels : may_cancel s k ≡ Ok tt → (answer : reply.Abort) (came_due : ℕ) → after ≡ after_cancel before (Ok (cancel_of answer)) (has l.due.items k.process) came_due → has l.due.items k.process ≡ true → AbortsWaiting s t cleared k answer u named m → Cancels old k (Ok (cancel_of answer)) new
+  due_cancels may Done came_due totals is_due aborts = inr (is_due, waiting_aborts may Done came_due (totals ∙ ap (λ b. after_cancel before (Ok cancels.Withdrawn) b came_due) is_due) aborts)
+  due_cancels may Later came_due totals is_due (step, table, names, due, nobody) =
       let still = due ∙ ap (λ ds. slice_set ds k.process true) marks ∙ ap (slice_set l.due.items k.process) (sym is_due) ∙ set-get_or l.due.items k.process false in
-      (step, λ i. record { table = table i; names = names i; due = still i; granted = nobody.granted i; aborted = nobody.aborted i })
+      (step, λ i. record { table = table i; names = names i; due = still i; granted = nobody.granted i; aborted = nobody.aborted i; totals = totals i })
 
--- where no abort is due: the names and the marks stay, and nobody is told of
-pub waiting_cancels : (s u : TableState) (t : NameTable) (l m : Lists) (k : Key) → m.due ≡ l.due → m.granted.items ≡ [] → m.aborted.items ≡ [] → has l.due.items k.process ≡ false
-    → (answer : cancel.Cancel) → GaveUp s k answer u → Cancels (seen s t l) k (Ok answer) (seen u t m)
-waiting_cancels s u t l m k due granted aborted not_due cancels.Withdrawn step =
-    inl (not_due, (step, λ i. record { table = u; names = t; due = (due i).items; granted = granted i; aborted = aborted i }))
-waiting_cancels s u t l m k due granted aborted not_due cancels.Carried (step, same) =
-    (step, λ i. record { table = same i; names = t; due = (due i).items; granted = granted i; aborted = aborted i })
+-- where no abort is due: the names, the marks and the counts stay, and nobody is told of
+pub waiting_cancels : (s u : TableState) (t : NameTable) (l m : Lists) (before : Totals) (k : Key) (came_due : ℕ) → m.due ≡ l.due → m.granted.items ≡ [] → m.aborted.items ≡ [] → has l.due.items k.process ≡ false
+    → (answer : cancel.Cancel) → GaveUp s k answer u → Cancels (seen s t l before) k (Ok answer) (seen u t m (after_cancel before (Ok answer) (has l.due.items k.process) came_due))
+waiting_cancels s u t l m before k came_due due granted aborted not_due cancels.Withdrawn step =
+    inl (not_due, (step, λ i. record { table = u; names = t; due = (due i).items; granted = granted i; aborted = aborted i; totals = after_cancel before (Ok cancels.Withdrawn) (not_due i) came_due }))
+waiting_cancels s u t l m before k came_due due granted aborted not_due cancels.Carried (step, same) =
+    (step, λ i. record { table = same i; names = t; due = (due i).items; granted = granted i; aborted = aborted i; totals = before })

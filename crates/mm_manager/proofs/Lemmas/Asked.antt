@@ -22,7 +22,7 @@ use Rattle.mm_manager.specs.declared.reply.Lock.{Lock}
 use Rattle.mm_manager.specs.declared.reply.Lock.TheVariants as lock
 use Rattle.mm_manager.specs.private.Handed.{DueWait}
 use Rattle.mm_manager.specs.private.Numbers.{AreNumbered}
-use Rattle.mm_manager.specs.private.Room.{HasRoom}
+use Rattle.mm_manager.specs.private.Room.{HasReserve}
 use Rattle.mm_manager.specs.declared.reply.TryLock.{TryLock}
 use Rattle.mm_manager.specs.declared.reply.TryLock.TheVariants as tried
 use Rattle.mm_manager.proofs.Lemmas.Handed.{waits_something, is_waiting_for}
@@ -38,7 +38,7 @@ queued_else s u k h n queued m apart = ap (λ ws. waited_for ws m) queued.waits 
 
 pub record RequestKeeps (s u : TableState) : Type 0 where
   pub laws : Laws u
-  pub room : HasRoom u
+  pub room : HasReserve u
   pub config : u.config ≡ s.config
   pub still : (m q : ℕ) → wait_of s m ≡ Some q → wait_of u m ≡ Some q
 
@@ -48,7 +48,7 @@ label_left s label = (let below : s.totals.accepted < s.config.label_limit / 2 =
 -- what holds before a request
 pub record MayRequest (s : TableState) : Type 0 where
   pub laws : Laws s
-  pub room : HasRoom s
+  pub room : HasReserve s
   pub below : s.totals.accepted < event_limit
 
 granted_keeps : (s u : TableState) (k : Key) (n : ℕ) → MayRequest s → Locks s k n (Ok locked.Granted) u → RequestKeeps s u

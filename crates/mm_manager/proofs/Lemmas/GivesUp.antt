@@ -15,7 +15,7 @@ use Rattle.mm_manager.specs.declared.reply.Cancel.TheVariants as cancels
 use Rattle.mm_manager.specs.private.Aborts.{GaveUp}
 use Rattle.mm_manager.specs.private.Handed.{DueWait, AreParts}
 use Rattle.mm_manager.specs.private.Numbers.{AreNumbered}
-use Rattle.mm_manager.specs.private.Room.{HasRoom}
+use Rattle.mm_manager.specs.private.Room.{HasReserve}
 use Rattle.mm_manager.proofs.Lemmas.Due.{was_marked}
 use Rattle.mm_manager.proofs.Lemmas.Handed.{waits_something, is_waiting_for, unmarked_here}
 use Rattle.mm_manager.proofs.Lemmas.May.{IsActive}
@@ -61,7 +61,7 @@ module _ (s u : TableState) (k : Key) (step : Step (GiveUp k) s (Ok tt) u) where
 
 -- ---- by the answer
 
-pub gave_up_parts : (s u : TableState) (t : NameTable) (l : Lists) (k : Key) (answer : Cancel) → has l.due.items k.process ≡ false → GaveUp s k answer u → HasRoom u → AreParts s t l → AreParts u t l
+pub gave_up_parts : (s u : TableState) (t : NameTable) (l : Lists) (k : Key) (answer : Cancel) → has l.due.items k.process ≡ false → GaveUp s k answer u → HasReserve u → AreParts s t l → AreParts u t l
 gave_up_parts s u t l k cancels.Withdrawn not_due step room parts = record {
   numbered = given_up_numbered s u k step t parts.numbered;
   fits = rw (given_up_config s u k step) parts.fits;

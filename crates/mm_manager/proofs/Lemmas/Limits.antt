@@ -18,7 +18,7 @@ use Rattle.mm_rules.proofs.States.Vacate.{live_process}
 use Rattle.mm_settled.specs.Calls.{Locks, Refuses, has_room}
 use Rattle.mm_settled.proofs.Lemmas.Ends.{owner_in_range}
 use Rattle.mm_manager.specs.Permit.{event_limit}
-use Rattle.mm_manager.specs.private.Room.{LabelsWithin, HasRoom}
+use Rattle.mm_manager.specs.private.Room.{LabelsWithin, HasReserve}
 use Rattle.mm_manager.proofs.Lemmas.Fewer.{live_to_end}
 
 -- ---- which test refuses
@@ -70,10 +70,10 @@ can_count_by s laws aborts below =
     }
 
 -- so it is while somebody is live, and before a request
-pub live_can_count : (s : TableState) (k : Key) → Laws s → HasRoom s → is_live s k ≡ true → CanCount s
+pub live_can_count : (s : TableState) (k : Key) → Laws s → HasReserve s → is_live s k ≡ true → CanCount s
 live_can_count s k laws room live = can_count_by s laws room.aborts (omega (arith, live_to_end s k.process (live_process s k live), room.events))
 
-pub asked_can_count : (s : TableState) → Laws s → HasRoom s → s.totals.accepted < event_limit → CanCount s
+pub asked_can_count : (s : TableState) → Laws s → HasReserve s → s.totals.accepted < event_limit → CanCount s
 asked_can_count s laws room below = can_count_by s laws room.aborts (omega (arith, below))
 
 -- ---- labels
@@ -106,7 +106,7 @@ by_room : (b : Bool) (P Q : Type 0) → b ≡ true → MatchBool b P Q → P
 by_room true P Q is given = given
 by_room false P Q is given = absurd (cc)
 
-module _ (s : TableState) (k : Key) (laws : Laws s) (room : HasRoom s) (live : is_live s k ≡ true) where
+module _ (s : TableState) (k : Key) (laws : Laws s) (room : HasReserve s) (live : is_live s k ≡ true) where
   can : CanCount s
   can = live_can_count s k laws room live
 
@@ -171,7 +171,7 @@ module _ (s : TableState) (k : Key) (laws : Laws s) (room : HasRoom s) (live : i
 
 -- ---- a request
 
-module _ (s : TableState) (k : Key) (laws : Laws s) (room : HasRoom s) (live : is_live s k ≡ true) (idle : wait_of s k.process ≡ None) (below : s.totals.accepted < event_limit)
+module _ (s : TableState) (k : Key) (laws : Laws s) (room : HasReserve s) (live : is_live s k ≡ true) (idle : wait_of s k.process ≡ None) (below : s.totals.accepted < event_limit)
     (r : ℕ) (in_range : r < s.config.resources) (other : owns s k.process r ≡ false) where
   asked_can : CanCount s
   asked_can = asked_can_count s laws room below

@@ -12,7 +12,7 @@ use Rattle.mm_rules.specs.TableState.{TableState, IsInRange, opening, public_of}
 use Rattle.mm_manager.specs.declared.lists.Lists.{Lists}
 use Rattle.mm_manager.specs.private.Handed.{AreParts}
 use Rattle.mm_manager.specs.private.Lists.{Fits}
-use Rattle.mm_manager.specs.private.Room.{HasRoom}
+use Rattle.mm_manager.specs.private.Room.{HasReserve}
 
 abbrev one : Bool → ℕ
 one b = cond b 1 0
@@ -30,7 +30,7 @@ opening_counter c p = opening_at c.processes 0 p (opening_label p) refl
     opening_at (suc n) a (suc p) d none = opening_at n (a + 1) p d none
 
 -- no label is given out, and nobody is to end
-opening_room : (c : Config) → IsInRange c → HasRoom (opening c)
+opening_room : (c : Config) → IsInRange c → HasReserve (opening c)
 opening_room c range =
     let labels : (p : ℕ) → (public_of (opening c) p).counter ≡ 0 = λ p. opening_counter c p in
     let owned : count_by is_some (opening c).owners ≡ 0 = none_counted is_some None refl c.resources in

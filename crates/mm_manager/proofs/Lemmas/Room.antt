@@ -24,7 +24,7 @@ use Rattle.mm_settled.specs.Calls.{Made, Rests, WaitsFrom}
 use Rattle.mm_settled.proofs.Lemmas.Accepted.{IsAccepted, accepted}
 use Rattle.mm_settled.proofs.Lemmas.Ends.{owner_in_range}
 use Rattle.mm_manager.specs.Permit.{event_limit}
-use Rattle.mm_manager.specs.private.Room.{LabelsWithin, to_end, HasRoom}
+use Rattle.mm_manager.specs.private.Room.{LabelsWithin, to_end, HasReserve}
 use Rattle.mm_manager.proofs.Lemmas.Labels.{hand_over_keeps_labels, vacate_within, activate_within, settled_within, waits_within}
 use Rattle.mm_manager.proofs.Lemmas.Fewer.{hand_over_less, hand_over_live, vacate_less, activate_held, activate_less, few_to_end}
 
@@ -99,7 +99,7 @@ record EndsWithin (s mid : TableState) : Type 0 where
   labels : (most : ℕ) → LabelsWithin s most → LabelsWithin mid most
   fewer : to_end mid + 1 ≤ to_end s
 
-room_by : (s mid u : TableState) → HasRoom s → mid.config ≡ s.config → EndsWithin s mid → mid.totals.accepted ≡ s.totals.accepted + 1 → mid.totals.aborts ≤ s.totals.aborts + 1 → RestsWithin mid u → HasRoom u
+room_by : (s mid u : TableState) → HasReserve s → mid.config ≡ s.config → EndsWithin s mid → mid.totals.accepted ≡ s.totals.accepted + 1 → mid.totals.aborts ≤ s.totals.aborts + 1 → RestsWithin mid u → HasReserve u
 room_by s mid u room config ends counted aborts rests =
     let most : (m : ℕ) → LabelsWithin s m → LabelsWithin u m = λ m labels. rests.labels m (ends.labels m labels) in
     record {
@@ -109,14 +109,14 @@ room_by s mid u room config ends counted aborts rests =
       aborts = omega (arith, room.aborts, aborts, counted, rests.more, rests.aborts);
     }
 
-made_room : (e : Event) (s u : TableState) (answer : Answer e) (made : Made e s answer u) → HasRoom s → EndsWithin s made.mid → made.mid.totals.aborts ≤ s.totals.aborts + 1 → HasRoom u
+made_room : (e : Event) (s u : TableState) (answer : Answer e) (made : Made e s answer u) → HasReserve s → EndsWithin s made.mid → made.mid.totals.aborts ≤ s.totals.aborts + 1 → HasReserve u
 made_room e s u answer made room ends aborts =
     room_by s made.mid u room (event_config e s made.mid (Ok answer) made.event) ends (event_counts e s made.mid (Ok answer) made.event).0 aborts (rests_within made.mid u made.rests)
 
 abbrev once_of : (s : TableState) → Laws s → NoRepeat (map process_of s.waits)
 once_of s laws = laws.lawful.well_formed.waits_once
 
-pub release_room : (s u : TableState) (k : Key) (r : ℕ) (answer : Released) → Laws s → owner_of s r ≡ Some k → HasRoom s → Made (Release k r) s answer u → HasRoom u
+pub release_room : (s u : TableState) (k : Key) (r : ℕ) (answer : Released) → Laws s → owner_of s r ≡ Some k → HasReserve s → Made (Release k r) s answer u → HasReserve u
 release_room s u k r answer laws owned room made =
     let done : IsAccepted Released (release_tests s k r) (release_answer (waiters_of s r)) (hand_over s r) answer made.mid
     = accepted (release_tests s k r) s (release_answer (waiters_of s r)) (hand_over s r) answer made.mid made.event in
@@ -127,7 +127,7 @@ release_room s u k r answer laws owned room made =
       fewer = omega (arith, less, ap to_end done.state);
     } (omega (arith, (event_counts (Release k r) s made.mid (Ok answer) made.event).2))
 
-pub finish_room : (s u : TableState) (k : Key) → Laws s → HasRoom s → Made (Finish k) s tt u → HasRoom u
+pub finish_room : (s u : TableState) (k : Key) → Laws s → HasReserve s → Made (Finish k) s tt u → HasReserve u
 finish_room s u k laws room made =
     let n = k.process in
     let done : IsAccepted (Unit {0}) (finish_tests s k) tt (vacate s n) tt made.mid = accepted (finish_tests s k) s tt (vacate s n) tt made.mid made.event in
@@ -137,7 +137,7 @@ finish_room s u k laws room made =
       fewer = omega (arith, vacate_less s n (resources_of s n) live, ap to_end done.state);
     } (omega (arith, (event_counts (Finish k) s made.mid (Ok tt) made.event).2))
 
-pub abort_room : (s u : TableState) (k : Key) → Laws s → HasRoom s → Made (Abort k) s tt u → HasRoom u
+pub abort_room : (s u : TableState) (k : Key) → Laws s → HasReserve s → Made (Abort k) s tt u → HasReserve u
 abort_room s u k laws room made =
     let n = k.process in
     let t = take_back s n in
@@ -156,7 +156,7 @@ some_of_waiting s n waits = by_wait (wait_of s n) refl
     by_wait (Some r) is = (r, is)
     by_wait None is = absurd (let never : true ≡ false = sym waits ∙ ap is_some is in cc)
 
-pub give_up_room : (s u : TableState) (k : Key) → HasRoom s → Step (GiveUp k) s (Ok tt) u → HasRoom u
+pub give_up_room : (s u : TableState) (k : Key) → HasReserve s → Step (GiveUp k) s (Ok tt) u → HasReserve u
 give_up_room s u k room step =
     let n = k.process in
     let done : IsAccepted (Unit {0}) (give_up_tests s k) tt (activate s n) tt u = accepted (give_up_tests s k) s tt (activate s n) tt u step in
@@ -169,8 +169,8 @@ give_up_room s u k room step =
 
 -- ---- a request
 
-pub asked_room : (s u : TableState) → HasRoom s → Laws u → u.config ≡ s.config → s.totals.accepted < event_limit → LabelsWithin u s.config.label_limit → LabelsWithin u (2 * u.totals.accepted)
-    → u.totals.accepted ≤ s.totals.accepted + 2 → u.totals.aborts ≤ u.totals.accepted → HasRoom u
+pub asked_room : (s u : TableState) → HasReserve s → Laws u → u.config ≡ s.config → s.totals.accepted < event_limit → LabelsWithin u s.config.label_limit → LabelsWithin u (2 * u.totals.accepted)
+    → u.totals.accepted ≤ s.totals.accepted + 2 → u.totals.aborts ≤ u.totals.accepted → HasReserve u
 asked_room s u room laws config below labels by_events few aborts = record {
   labels = subst (λ (c : Config). LabelsWithin u c.label_limit) (sym config) labels;
   by_events = by_events;
@@ -178,7 +178,7 @@ asked_room s u room laws config below labels by_events few aborts = record {
   aborts = aborts;
 }
 
-pub begin_room : (s u : TableState) (k : Key) → HasRoom s → Laws u → s.totals.accepted < event_limit → Step Begin s (Ok k) u → HasRoom u
+pub begin_room : (s u : TableState) (k : Key) → HasReserve s → Laws u → s.totals.accepted < event_limit → Step Begin s (Ok k) u → HasReserve u
 begin_room s u k room laws below step =
     let n = slice_index s.free 0 in
     let new : TableState = record s { free = drop 1 s.free; live = slice_set s.live n true } in
@@ -196,7 +196,7 @@ waits_labels : (s : TableState) (k : Key) (r most : ℕ) (o : Option Key) → La
 waits_labels s k r most None labels p = omega (arith, labels p)
 waits_labels s k r most (Some h) labels p = waits_within s (record { key = k; resource = r }) h.process most labels p
 
-pub granted_room : (s u : TableState) (k : Key) (r : ℕ) → HasRoom s → Laws u → s.totals.accepted < event_limit → Step (Acquire k r) s (Ok acquired.Granted) u → HasRoom u
+pub granted_room : (s u : TableState) (k : Key) (r : ℕ) → HasReserve s → Laws u → s.totals.accepted < event_limit → Step (Acquire k r) s (Ok acquired.Granted) u → HasReserve u
 granted_room s u k r room laws below step =
     let done : IsAccepted Acquired (acquire_tests s k r) (acquire_answer s k (owner_of s r)) (acquire_change s k r (owner_of s r)) acquired.Granted u
     = accepted (acquire_tests s k r) s (acquire_answer s k (owner_of s r)) (acquire_change s k r (owner_of s r)) acquired.Granted u step in
@@ -205,7 +205,7 @@ granted_room s u k r room laws below step =
     asked_room s u room laws (event_config (Acquire k r) s u (Ok acquired.Granted) step) below (same s.config.label_limit room.labels) (λ p. omega (arith, same (2 * s.totals.accepted) room.by_events p, counts.0))
     (omega (arith, counts.0)) (omega (arith, counts.0, counts.2, room.aborts))
 
-pub waits_room : (s u : TableState) (k h : Key) (r : ℕ) → HasRoom s → Laws u → s.totals.accepted < event_limit → 2 * s.totals.accepted + 2 ≤ s.config.label_limit → WaitsFrom s k r h u → HasRoom u
+pub waits_room : (s u : TableState) (k h : Key) (r : ℕ) → HasReserve s → Laws u → s.totals.accepted < event_limit → 2 * s.totals.accepted + 2 ≤ s.config.label_limit → WaitsFrom s k r h u → HasReserve u
 waits_room s u k h r room laws below fits from =
     let answer : Acquired = acquired.Waits h from.label in
     let mid = from.mid in

@@ -12,6 +12,7 @@ use Rattle.mm_rules.proofs.States.Lookups.{waits_here, held}
 use Rattle.mm_manager.specs.LockState.{LockState, Owns, Waits, untold}
 use Rattle.mm_manager.specs.Calls.{LocksName, TriesName, Requests, Tries, LosesName, LosesAll, HandsOver, AbortsDue, Unlocks, EndsBy}
 use Rattle.mm_manager.specs.Refused.{TryRefused, LockRefused}
+use Rattle.mm_manager.specs.Totals.{after_lock}
 use Rattle.mm_manager.specs.declared.lists.Lists.{Lists}
 use Rattle.mm_manager.specs.declared.refusal.Refusal.{Refusal}
 use Rattle.mm_manager.specs.declared.reply.Lock.{Lock}
@@ -33,29 +34,29 @@ pub record TellsNobody (old new : LockState) : Type 0 where
   pub granted : new.granted ≡ []
   pub aborted : new.aborted ≡ []
 
-same_untold : (old new : LockState) → new.table ≡ old.table → new.names ≡ old.names → TellsNobody old new → new ≡ untold old
-same_untold old new table names tells = λ i. record { table = table i; names = names i; due = tells.due i; granted = tells.granted i; aborted = tells.aborted i }
+same_untold : (old new : LockState) → new.table ≡ old.table → new.names ≡ old.names → TellsNobody old new → new.totals ≡ old.totals → new ≡ untold old
+same_untold old new table names tells totals = λ i. record { table = table i; names = names i; due = tells.due i; granted = tells.granted i; aborted = tells.aborted i; totals = totals i }
 
 pub asked_locks : (old new : LockState) (k : Key) (name : List ℕ) (reply : Result Lock Refusal) → AreNumbered old.table old.names → Laws old.table → Laws new.table
     → IfOk reply (λ answer. Requests old.table old.names k name answer new.table new.names) → IfErr reply (λ refusal. LockRefused old k name refusal) → OnErr reply (new.table ≡ old.table) → OnErr reply (new.names ≡ old.names) → TellsNobody old new
-    → LocksName old k name reply new
-asked_locks old new k name (Ok lock.Granted) numbered laws after asks refused table names tells =
+    → new.totals ≡ after_lock old.totals reply → LocksName old k name reply new
+asked_locks old new k name (Ok lock.Granted) numbered laws after asks refused table names tells totals =
     gets old new k name asks.0 numbered asks.1 laws (granted_is old.table new.table k asks.0 asks.2)
-asked_locks old new k name (Ok lock.Held) numbered laws after asks refused table names tells = (asks.0, same_untold old new asks.1 asks.2 tells)
-asked_locks old new k name (Ok (lock.Waits h)) numbered laws after asks refused table names tells =
+asked_locks old new k name (Ok lock.Held) numbered laws after asks refused table names tells totals = (asks.0, same_untold old new asks.1 asks.2 tells totals)
+asked_locks old new k name (Ok (lock.Waits h)) numbered laws after asks refused table names tells totals =
     (queues old new k name asks.1.0 numbered asks.1.1 laws h (queued_is old.table new.table k h asks.1.0 asks.1.2.0) after, asks.1.2.1)
-asked_locks old new k name (Ok (lock.Deadlock h)) numbered laws after asks refused table names tells =
+asked_locks old new k name (Ok (lock.Deadlock h)) numbered laws after asks refused table names tells totals =
     (queues old new k name asks.1.0 numbered asks.1.1 laws h (queued_is old.table new.table k h asks.1.0 asks.1.2.0) after, asks.1.2.1)
-asked_locks old new k name (Err e) numbered laws after asks refused table names tells = (same_untold old new table names tells, refused)
+asked_locks old new k name (Err e) numbered laws after asks refused table names tells totals = (same_untold old new table names tells totals, refused)
 
 pub tried_locks : (old new : LockState) (k : Key) (name : List ℕ) (reply : Result TryLock Refusal) → AreNumbered old.table old.names → Laws old.table
     → IfOk reply (λ answer. Tries old.table old.names k name answer new.table new.names) → IfErr reply (λ refusal. TryRefused old k name refusal) → OnErr reply (new.table ≡ old.table) → OnErr reply (new.names ≡ old.names) → TellsNobody old new
-    → TriesName old k name reply new
-tried_locks old new k name (Ok tried.Granted) numbered laws asks refused table names tells =
+    → new.totals ≡ old.totals → TriesName old k name reply new
+tried_locks old new k name (Ok tried.Granted) numbered laws asks refused table names tells totals =
     gets old new k name asks.0 numbered asks.1 laws (granted_is old.table new.table k asks.0 asks.2)
-tried_locks old new k name (Ok tried.Held) numbered laws asks refused table names tells = (asks.0, same_untold old new asks.1 asks.2 tells)
-tried_locks old new k name (Ok (tried.Busy h)) numbered laws asks refused table names tells = (asks.1.0, asks.0, same_untold old new asks.1.1 asks.1.2 tells)
-tried_locks old new k name (Err e) numbered laws asks refused table names tells = (same_untold old new table names tells, refused)
+tried_locks old new k name (Ok tried.Held) numbered laws asks refused table names tells totals = (asks.0, same_untold old new asks.1 asks.2 tells totals)
+tried_locks old new k name (Ok (tried.Busy h)) numbered laws asks refused table names tells totals = (asks.1.0, asks.0, same_untold old new asks.1.1 asks.1.2 tells totals)
+tried_locks old new k name (Err e) numbered laws asks refused table names tells totals = (same_untold old new table names tells totals, refused)
 
 -- ---- hand-overs
 

@@ -7,6 +7,7 @@ use Rattle.mm_rules.specs.TableState.{TableState}
 use Rattle.mm_rules.specs.Event.{Finish, GiveUp, Step}
 use Rattle.mm_manager.specs.LockState.{LockState}
 use Rattle.mm_manager.specs.declared.lists.Lists.{Lists}
+use Rattle.mm_manager.specs.declared.totals.Totals.{Totals}
 use Rattle.mm_manager.specs.declared.reply.Abort.{Abort}
 use Rattle.mm_manager.specs.declared.reply.Cancel as cancel
 use Rattle.mm_manager.specs.declared.reply.Cancel.TheVariants as cancels
@@ -25,8 +26,8 @@ AbortsWaiting s t l k Done u named m =
 AbortsWaiting s t l k Later u named m = Step (GiveUp k) s (Err Carried) s × (u ≡ s) × (named ≡ t) × (m.due.items ≡ slice_set l.due.items k.process true) × TellNobody m
 
 -- what a contract sees of these parts
-abbrev pub seen : TableState → NameTable → Lists → LockState
-seen s t l = record { table = s; names = t; due = l.due.items; granted = l.granted.items; aborted = l.aborted.items }
+abbrev pub seen : TableState → NameTable → Lists → Totals → LockState
+seen s t l c = record { table = s; names = t; due = l.due.items; granted = l.granted.items; aborted = l.aborted.items; totals = c }
 
 -- what a cancel answers whose abort had this answer
 abbrev pub cancel_of : Abort → cancel.Cancel

@@ -15,7 +15,7 @@ use Rattle.mm_manager.specs.declared.lists.Lists.{Lists}
 use Rattle.mm_manager.specs.private.HandsDown.{HandsDown}
 use Rattle.mm_manager.specs.private.Lists.{Fits}
 use Rattle.mm_manager.specs.private.Numbers.{AreNumbered}
-use Rattle.mm_manager.specs.private.Room.{HasRoom}
+use Rattle.mm_manager.specs.private.Room.{HasReserve}
 use Rattle.mm_manager.specs.LockState.{KeepOwned}
 
 abbrev pub process_of : Grant → ℕ
@@ -29,7 +29,7 @@ pub record AreGranted (s : TableState) (granted : List Grant) : Type 0 where
 
 -- an event was made, and nobody is told of as aborted
 pub record IsReady (s : TableState) (t : NameTable) (l : Lists) : Type 0 where
-  pub room : HasRoom s
+  pub room : HasReserve s
   pub numbered : AreNumbered s t
   pub fits : Fits s.config l
   pub none : l.aborted.items ≡ []
@@ -43,7 +43,7 @@ IsAmong keys q h = Among h keys
 -- from s, with these names, first grants and marks, those of the grants before `next` ended whose abort was due
 pub record EndsDue (s : TableState) (t : NameTable) (first : List Grant) (marks : List Bool) (next : ℕ) (u : TableState) (named : NameTable) (m : Lists) : Type 0 where
   pub laws : Laws u
-  pub room : HasRoom u
+  pub room : HasReserve u
   pub later : List Grant
   pub granted : m.granted.items ≡ first ++ later
   pub ends : EndsAll s m.aborted.items later u
@@ -64,7 +64,7 @@ pub record EndsDue (s : TableState) (t : NameTable) (first : List Grant) (marks 
 -- the transaction ends, which is told, and its abort is due no longer
 pub record EndsOne (s : TableState) (t : NameTable) (l : Lists) (k : Key) (u : TableState) (named : NameTable) (m : Lists) : Type 0 where
   pub made : Made (Finish k) s tt u
-  pub room : HasRoom u
+  pub room : HasReserve u
   pub ended : EndsWaits s u k.process (grants s u)
   pub granted : m.granted.items ≡ l.granted.items ++ grants s u
   pub aborted : m.aborted.items ≡ l.aborted.items ++ k ∷ []

@@ -15,7 +15,7 @@ use Rattle.mm_manager.specs.declared.lists.Lists.{Lists}
 use Rattle.mm_manager.specs.private.HandsDown.{HandsDown}
 use Rattle.mm_manager.specs.private.Lists.{Fits}
 use Rattle.mm_manager.specs.private.Numbers.{AreNumbered}
-use Rattle.mm_manager.specs.private.Room.{HasRoom}
+use Rattle.mm_manager.specs.private.Room.{HasReserve}
 use Rattle.mm_manager.specs.LockState.{KeepOwned}
 
 -- each transaction whose abort is due waits, in no deadlock
@@ -27,7 +27,7 @@ pub record AreParts (s : TableState) (t : NameTable) (l : Lists) : Type 0 where
   pub numbered : AreNumbered s t
   pub fits : Fits s.config l
   pub due : DueWait s l.due.items
-  pub room : HasRoom s
+  pub room : HasReserve s
 
 -- whoever loses a number loses it by the event, or is aborted
 abbrev pub LosesOr : (ℕ → Key → Type 0) → List Key → ℕ → Key → Type 0

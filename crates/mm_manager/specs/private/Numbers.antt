@@ -3,6 +3,7 @@ use Rattle.std.specs.Prelude.{◌≡◌, ◌↔◌, ℕ, [], None, length, is_so
 use Rattle.mm_names.specs.Names.{NameTable, name_of, with_name}
 use Rattle.mm_rules.specs.TableState.{TableState, owner_of}
 use Rattle.mm_manager.specs.LockState.{LockState}
+use Rattle.mm_manager.specs.Totals.{nothing_counted}
 
 -- there is a number for each resource, and one has a name exactly while it has an owner
 pub record AreNumbered (s : TableState) (t : NameTable) : Type 0 where
@@ -13,6 +14,6 @@ pub record AreNumbered (s : TableState) (t : NameTable) : Type 0 where
 abbrev pub forgotten : TableState → NameTable → ℕ → NameTable
 forgotten s t n = if is_some (owner_of s n) then t else with_name t n None
 
--- a manager of these, in which no abort is due and nothing is told
+-- a manager of these, in which no abort is due, nothing is told and nothing is counted
 abbrev pub bare : TableState → NameTable → LockState
-bare s t = record { table = s; names = t; due = []; granted = []; aborted = [] }
+bare s t = record { table = s; names = t; due = []; granted = []; aborted = []; totals = nothing_counted }

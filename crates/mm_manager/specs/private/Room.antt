@@ -15,7 +15,7 @@ abbrev pub to_end : TableState → ℕ
 to_end s = held s + count_by (λ b. b) s.live
 
 -- labels and counts are left for every end
-pub record HasRoom (s : TableState) : Type 0 where
+pub record HasReserve (s : TableState) : Type 0 where
   pub labels : LabelsWithin s s.config.label_limit
   pub by_events : LabelsWithin s (2 * s.totals.accepted)
   pub events : s.totals.accepted + 2 * to_end s + 65536 ≤ 2 ^ 62

@@ -1,6 +1,6 @@
 //! Work that is done again after a deadlock.
 use crate::tests::helpers::{await_events, open, same};
-use mm_blocking::{LockError, Locks, Transaction};
+use mm_blocking::{LockError, Locks, Totals, Transaction};
 use std::process::Abort;
 use std::sync::{Barrier, Wait};
 use std::test::Fail;
@@ -45,10 +45,18 @@ fn outcomes<R: Wait + Abort>(rt: &R, locks: &Locks) {
     );
     same(rt, locks.run(rt, 3, |one| rich(one)), Ok(7));
     same(rt, locks.run(rt, 0, |one| rich(one)), Ok(7));
-    let totals = locks.totals(rt);
+    same(
+        rt,
+        locks.totals(rt),
+        Totals {
+            begun: 4,
+            committed: 2,
+            aborted: 2,
+            deadlocks: 0,
+        },
+    );
     // Four begins and locks, four ends.
-    same(rt, totals.accepted, 12);
-    same(rt, totals.verdicts, 0);
+    same(rt, locks.events(rt), 12);
 }
 
 #[test]
@@ -104,9 +112,10 @@ fn both_commit(rt: HostRuntime) -> Result<(), Fail> {
         || cross_often(&rt, &locks, &gate, [b"b", b"a"]),
     );
     let totals = locks.totals(&rt);
-    same(&rt, one.saturating_add(two), totals.verdicts);
-    same(&rt, totals.verdicts >= u64::from(ROUNDS), true);
-    same(&rt, totals.aborts, totals.verdicts);
+    same(&rt, totals.committed, 2 * u64::from(ROUNDS));
+    same(&rt, one.saturating_add(two), totals.deadlocks);
+    same(&rt, totals.deadlocks >= u64::from(ROUNDS), true);
+    same(&rt, totals.aborted, totals.deadlocks);
     Ok(())
 }
 
@@ -131,7 +140,7 @@ fn gives_up<R: Wait + Abort>(rt: &R, locks: &Locks, gate: &Barrier) -> u32 {
         attempts = attempts.saturating_add(1);
         transaction.lock(b"a")?;
         gate.wait(rt);
-        let events = locks.totals(rt).accepted;
+        let events = locks.events(rt);
         gate.wait(rt);
         await_events(rt, locks, events.saturating_add(2));
         transaction.lock(b"b")
@@ -151,6 +160,6 @@ fn ends_after_so_many_attempts(rt: HostRuntime) -> Result<(), Fail> {
         || gives_up(&rt, &locks, &gate),
     );
     same(&rt, attempts, ATTEMPTS);
-    same(&rt, locks.totals(&rt).aborts, u64::from(ATTEMPTS));
+    same(&rt, locks.totals(&rt).aborted, u64::from(ATTEMPTS));
     Ok(())
 }

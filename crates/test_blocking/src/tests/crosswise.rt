@@ -1,6 +1,6 @@
 //! Two threads that lock the same two names in opposite orders.
 use crate::tests::helpers::{open, same};
-use mm_blocking::{LockError, Locks};
+use mm_blocking::{LockError, Locks, Totals};
 use std::process::Abort;
 use std::sync::{Barrier, Wait};
 use std::test::Fail;
@@ -49,8 +49,16 @@ fn one_of_two_is_told(rt: HostRuntime) -> Result<(), Fail> {
         || cross_often(&rt, &locks, &gate, [b"b", b"a"]),
     );
     same(&rt, one.saturating_add(two), ROUNDS);
-    let totals = locks.totals(&rt);
-    same(&rt, totals.verdicts, u64::from(ROUNDS));
-    same(&rt, totals.aborts, u64::from(ROUNDS));
+    let rounds = u64::from(ROUNDS);
+    same(
+        &rt,
+        locks.totals(&rt),
+        Totals {
+            begun: 2 * rounds,
+            committed: rounds,
+            aborted: rounds,
+            deadlocks: rounds,
+        },
+    );
     Ok(())
 }

@@ -144,7 +144,10 @@ fn a_crowd_ends(rt: HostRuntime) -> Result<(), Fail> {
         sum = sum.wrapping_add(*count);
     }
     let totals = locks.totals(&rt);
-    same(&rt, totals.verdicts, sum);
-    same(&rt, totals.aborts, sum);
+    let commits = THREADS as u64 * u64::from(COMMITS);
+    same(&rt, totals.committed, commits);
+    same(&rt, totals.begun, commits.wrapping_add(sum));
+    same(&rt, totals.deadlocks, sum);
+    same(&rt, totals.aborted, sum);
     Ok(())
 }

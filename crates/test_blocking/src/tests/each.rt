@@ -1,6 +1,6 @@
 //! Names that are locked by one call, and work that is done again.
 use crate::tests::helpers::{await_events, open, same};
-use mm_blocking::{LockError, Locks, Transaction};
+use mm_blocking::{LockError, Locks, Totals, Transaction};
 use std::process::Abort;
 use std::sync::{Barrier, Wait};
 use std::test::Fail;
@@ -112,6 +112,16 @@ fn meet<R: Wait + Abort + Threads + Sync>(rt: &R, locks: &Locks) {
 fn stops_at_a_deadlock(rt: HostRuntime) -> Result<(), Fail> {
     let locks = open(rt.alloc(), 3, 8)?;
     meet(&rt, &locks);
-    same(&rt, locks.totals(&rt).verdicts, 1);
+    // The transaction that tries is rolled back, as the one that closes the cycle is.
+    same(
+        &rt,
+        locks.totals(&rt),
+        Totals {
+            begun: 3,
+            committed: 1,
+            aborted: 2,
+            deadlocks: 1,
+        },
+    );
     Ok(())
 }

@@ -94,10 +94,6 @@ fn a_commit_wakes_all(rt: HostRuntime) -> Result<(), Fail> {
             None => own_all(&rt, &locks, &gate),
         },
     )?;
-    same(
-        &rt,
-        locks.totals(&rt).accepted,
-        13 + 12 * (1 + EVENTS_OF_WAIT) + 13,
-    );
+    same(&rt, locks.events(&rt), 13 + 12 * (1 + EVENTS_OF_WAIT) + 13);
     Ok(())
 }

@@ -27,7 +27,7 @@ pub fn same<T: PartialEq + Debug + Drop>(rt: &impl Abort, came: T, expected: T) 
 /// Waits until the manager has counted so many events.
 pub fn await_events<R: Wait>(rt: &R, locks: &Locks, events: u64) {
     for _ in rt.forever() {
-        if locks.totals(rt).accepted >= events {
+        if locks.events(rt) >= events {
             return;
         }
         thread::yield_now();

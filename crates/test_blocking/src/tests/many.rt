@@ -125,7 +125,8 @@ fn meet<R: Wait + Abort + Threads + Sync>(
         &|number| client(rt, &crowd, number, commits),
     )?;
     let totals = locks.totals(rt);
-    same(rt, totals.aborts, totals.verdicts);
+    same(rt, totals.committed, (THREADS as u64).wrapping_mul(commits));
+    same(rt, totals.aborted, totals.deadlocks);
     Ok(())
 }
 

@@ -1,7 +1,7 @@
 //! The same call on a lock manager and on a plain one, with the same answer.
 ghost use Rattle.std.specs.Prelude.{◌≤◌, vec_capacity};
 
-use super::plain::{Plain, Told};
+use super::plain::{Plain, Told, count_one};
 use crate::tests::same::same;
 use mm_manager::{
     Abort as Aborted, Cancel, Key, Lock, LockManager, ManagerConfig, Refusal, Status, TryLock,
@@ -32,7 +32,6 @@ pub struct Both {
     numbered: Vec<Option<u32>>,
     /// The names that had a number before the call, by rising number.
     order: Vec<u32>,
-    deadlocks: u64,
     /// How many ended since their abort was due.
     ended_later: u64,
 }
@@ -56,7 +55,6 @@ pub fn open_both(alloc: Global) -> Result<Both, Fail> {
         last,
         numbered: Vec::new(alloc),
         order: Vec::new(alloc),
-        deadlocks: 0,
         ended_later: 0,
     })
 }
@@ -104,7 +102,7 @@ fn misnamed(name: &[u8]) -> Option<Refusal> {
 }
 
 impl Both {
-    /// Makes the call that this number chooses, and compares its answer and whom it told of.
+    /// Makes the call that this number chooses, and compares its answer, whom it told of, and what was counted.
     pub fn make(&mut self, rt: &impl Abort, chance: u32) -> Result<(), AllocError> {
         self.plain.clear();
         self.list_numbers()?;
@@ -113,6 +111,7 @@ impl Both {
         let name = name % NAMES.len() as u32;
         self.make_kind(rt, key, name, chance >> 16 & 15)?;
         self.same_lists(rt);
+        same(rt, self.manager.totals(), self.plain.totals);
         self.count_ended();
         Ok(())
     }
@@ -181,6 +180,7 @@ impl Both {
                 same(rt, (is_full, self.plain.key(key.process)), (false, None));
                 same(rt, Some(key), self.next_key(key.process));
                 self.plain.set_key(key.process, Some(key));
+                count_one(&mut self.plain.totals.begun);
                 if let Some(place) = self.last.get_mut(key.process as usize) {
                     *place = key;
                 }
@@ -228,9 +228,6 @@ impl Both {
             Ok(Lock::Deadlock { holder }) => Told::Deadlock(self.known(rt, holder)),
             Err(refusal) => Told::Refused(refusal),
         };
-        if let Told::Deadlock(_) = came {
-            self.deadlocks = self.deadlocks.wrapping_add(1);
-        }
         let is_same = came == expected;
         same(rt, is_same, true);
         Ok(())
@@ -277,6 +274,12 @@ impl Both {
             return Ok(());
         }
         same(rt, came, Ok(()));
+        count_one(&mut self.plain.totals.committed);
+        self.end(key)
+    }
+
+    fn roll_back(&mut self, key: Key) -> Result<(), AllocError> {
+        count_one(&mut self.plain.totals.aborted);
         self.end(key)
     }
 
@@ -294,7 +297,7 @@ impl Both {
             return Ok(());
         }
         same(rt, came, Ok(Aborted::Done));
-        self.end(key)
+        self.roll_back(key)
     }
 
     /// Only labels tell whether one that waits is in the way of others.
@@ -309,7 +312,7 @@ impl Both {
         }
         same(rt, came, Ok(Cancel::Withdrawn));
         if self.plain.is_due(key.process) {
-            return self.end(key);
+            return self.roll_back(key);
         }
         self.plain.end_wait(key.process);
         Ok(())
@@ -451,10 +454,9 @@ impl Both {
         }
     }
 
-    /// As many deadlocks as there were, and enough of them and of later ends to show something.
-    pub fn same_totals(&self, rt: &impl Abort) {
-        same(rt, self.manager.totals().verdicts, self.deadlocks);
-        same(rt, self.deadlocks > 1_000, true);
+    /// Enough deadlocks and later ends to show something.
+    pub fn shows_enough(&self, rt: &impl Abort) {
+        same(rt, self.plain.totals.deadlocks > 1_000, true);
         same(rt, self.ended_later > 1_000, true);
     }
 }

@@ -1,7 +1,7 @@
 //! A lock manager as anybody would write it: a deadlock is found by a walk from owner to owner. Names are numbered as in a list that the
 //! test has, and transactions by their process.
 
-use mm_manager::{Key, Refusal};
+use mm_manager::{Key, Refusal, Totals};
 use std::alloc::{AllocError, Global};
 
 /// A transaction, and the name that it waits for or was granted.
@@ -40,6 +40,13 @@ pub struct Plain {
     pub granted: Vec<Given>,
     /// Who ended in the last call since its wait had ended.
     pub aborted: Vec<Key>,
+    /// What was counted so far.
+    pub totals: Totals,
+}
+
+/// Counts one more.
+pub fn count_one(count: &mut u64) {
+    *count = count.wrapping_add(1);
 }
 
 impl Plain {
@@ -53,6 +60,12 @@ impl Plain {
             due: Vec::new(alloc),
             granted: Vec::new(alloc),
             aborted: Vec::new(alloc),
+            totals: Totals {
+                begun: 0,
+                committed: 0,
+                aborted: 0,
+                deadlocks: 0,
+            },
         }
     }
 
@@ -161,6 +174,7 @@ impl Plain {
             return Ok(Told::Waits(owner));
         }
         self.mark(transaction, true);
+        count_one(&mut self.totals.deadlocks);
         Ok(Told::Deadlock(owner))
     }
 
@@ -245,6 +259,7 @@ impl Plain {
         }
         if let Some(key) = self.key(transaction) {
             self.aborted.push(key)?;
+            count_one(&mut self.totals.aborted);
         }
         self.end(transaction, order)
     }

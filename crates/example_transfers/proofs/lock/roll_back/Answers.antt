@@ -13,5 +13,5 @@ owns_nothing old new k (inr (inr by)) name owns = (by.2.passes.gains k name owns
 
 pub returns : goal.returns
 returns c =
-    let ended : Aborts c.args.locks.now c.args.key (Ok Done) c.abort.new.self = rw c.in-Done.is at c.in_ok-abort.ensures in
+    let ended : Aborts c.args.locks.now c.args.key (Ok Done) c.abort.new.self = rw c.in-Done.is at c.in_ok-abort.ensures.aborts in
     owns_nothing c.args.locks.now c.abort.new.self c.args.key ended

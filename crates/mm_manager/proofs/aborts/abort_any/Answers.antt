@@ -1,4 +1,4 @@
-use Rattle.std.proofs.Common.{◌≡◌, Ok, sym, ap, ◌∙◌}
+use Rattle.std.proofs.Common.{◌≡◌, Ok, refl, sym, ap, ◌∙◌}
 use Rattle.mm_rules.specs.TableState.{TableState}
 use Rattle.mm_rules.specs.Event.{state_of}
 use Rattle.mm_manager.proofs.Lemmas.Aborted.{active_aborts, convicted_aborts, waiting_aborts}
@@ -22,12 +22,12 @@ end-requires-clause-active c =
     is.idle
 
 pub returns-in-Active-clause-aborts : goal.returns-in-Active-clause-aborts
-returns-in-Active-clause-aborts c =
+returns-in-Active-clause-aborts c before =
     let s = c.args.table.now.table in
     let k = c.args.key in
     let told : state_of s k ≡ Ok c.in-Ok.state = ap (λ (t : TableState). state_of t k) (sym c.table.ensures) ∙ sym c.state.ensures ∙ c.in-Ok.is in
     let is = told_active s k c.in-Ok.state (is_told s k c.in-Ok.state told) c.in-Active.is in
-    active_aborts s c.end.new.table.table c.args.names.now c.end.new.names c.args.lists.now c.clear.new.self c.end.new.lists k c.clear.ensures.due c.end.ensures
+    active_aborts s c.end.new.table.table c.args.names.now c.end.new.names c.args.lists.now c.clear.new.self c.end.new.lists before _ k c.clear.ensures.due c.end.ensures
 
 pub end_convicted-requires-clause-live : goal.end_convicted-requires-clause-live
 end_convicted-requires-clause-live c =
@@ -46,12 +46,12 @@ end_convicted-requires-clause-verdict c =
     is.verdict
 
 pub returns-in-Convicted-clause-aborts : goal.returns-in-Convicted-clause-aborts
-returns-in-Convicted-clause-aborts c =
+returns-in-Convicted-clause-aborts c before =
     let s = c.args.table.now.table in
     let k = c.args.key in
     let told : state_of s k ≡ Ok c.in-Ok.state = ap (λ (t : TableState). state_of t k) (sym c.table.ensures) ∙ sym c.state.ensures ∙ c.in-Ok.is in
     let is = told_convicted s k c.in-Ok.state c.in-Convicted.field-0 (is_told s k c.in-Ok.state told) c.in-Convicted.is in
-    convicted_aborts s c.end_convicted.new.table.table c.args.names.now c.end_convicted.new.names c.args.lists.now c.clear.new.self c.end_convicted.new.lists k c.clear.ensures.due c.end_convicted.ensures
+    convicted_aborts s c.end_convicted.new.table.table c.args.names.now c.end_convicted.new.names c.args.lists.now c.clear.new.self c.end_convicted.new.lists before _ k c.clear.ensures.due c.end_convicted.ensures
 
 pub abort_waiting-requires-clause-may : goal.abort_waiting-requires-clause-may
 abort_waiting-requires-clause-may c =
@@ -62,10 +62,10 @@ abort_waiting-requires-clause-may c =
     may_cancel_of s k c.in-Waiting.field-0 is
 
 pub returns-in-Waiting-clause-aborts : goal.returns-in-Waiting-clause-aborts
-returns-in-Waiting-clause-aborts c =
+returns-in-Waiting-clause-aborts c before =
     let s = c.args.table.now.table in
     let k = c.args.key in
     let told : state_of s k ≡ Ok c.in-Ok.state = ap (λ (t : TableState). state_of t k) (sym c.table.ensures) ∙ sym c.state.ensures ∙ c.in-Ok.is in
     let is = told_waiting s k c.in-Ok.state c.in-Waiting.field-0 (is_told s k c.in-Ok.state told) c.in-Waiting.is in
-    waiting_aborts s c.abort_waiting.new.table.table c.args.names.now c.abort_waiting.new.names c.args.lists.now c.clear.new.self c.abort_waiting.new.lists k c.clear.ensures.due (may_cancel_of s k c.in-Waiting.field-0 is)
-    c.abort_waiting.result c.abort_waiting.ensures.aborts
+    waiting_aborts s c.abort_waiting.new.table.table c.args.names.now c.abort_waiting.new.names c.args.lists.now c.clear.new.self c.abort_waiting.new.lists before _ k c.clear.ensures.due (may_cancel_of s k c.in-Waiting.field-0 is)
+    c.abort_waiting.result _ refl c.abort_waiting.ensures.aborts

@@ -2,7 +2,7 @@ use Rattle.std.proofs.Common.{Ok, Err, is_some, ap, sym, subst}
 use Rattle.mm_rules.specs.declared.refusal.Refusal.TheVariants.{Carried}
 use Rattle.mm_rules.specs.Event.{GiveUp, Step}
 use Rattle.mm_settled.proofs.Lemmas.Refused.{give_up_refused}
-use Rattle.mm_manager.specs.private.Room.{HasRoom}
+use Rattle.mm_manager.specs.private.Room.{HasReserve}
 use Rattle.mm_manager.proofs.Lemmas.Limits.{give_up_carried}
 use Rattle.mm_manager.proofs.Lemmas.May.{cancels}
 use Rattle.mm_manager.proofs.Lemmas.Room.{give_up_room}
@@ -32,4 +32,4 @@ returns-in-Err-clause-left c =
     let s = c.args.table.now.table in
     let u = c.give_up.new.self.table in
     let step : Step (GiveUp c.args.key) s (Err c.in-Err.field-0) u = rw c.in-Err.is at c.give_up.ensures.step in
-    subst (λ v. HasRoom v) (sym (give_up_refused s u c.args.key c.in-Err.field-0 step)) c.requires.left
+    subst (λ v. HasReserve v) (sym (give_up_refused s u c.args.key c.in-Err.field-0 step)) c.requires.left
