@@ -34,6 +34,7 @@ pub mod Requests
 pub mod May
 -- what a refusal is of a call that may be made
 pub mod Limits
+pub mod Unlocks
 -- who waits, and for what
 pub mod Reads
 -- what an event leaves of labels and waits

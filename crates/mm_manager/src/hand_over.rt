@@ -1,9 +1,9 @@
 //! The calls by which names are handed over: a release, and the end of a transaction. There is room for each, so none is refused.
-ghost use Rattle.std.specs.Prelude.{◌≡◌, ◌≤◌, Some, None, true, IsSome, vec_capacity};
+ghost use Rattle.std.specs.Prelude.{◌≡◌, ◌≤◌, Ok, Some, None, true, IsSome, IfSome, IfNone, OnSome, vec_capacity};
 ghost use Rattle.mm_names.specs.Names.{name_of};
 ghost use Rattle.mm_rules.specs.TableState.{is_live, has_verdict, owner_of, wait_of};
 ghost use Rattle.mm_rules.specs.Event.{Release, Finish, Abort};
-ghost use Rattle.mm_rules.specs.declared.reply.Released.{Released};
+ghost use Rattle.mm_manager.specs.Permit.{may_ask};
 ghost use Rattle.mm_settled.specs.Calls.{Made, OthersKeepVerdicts};
 ghost use Rattle.mm_settled.specs.Grants.{Tells, EndsWaits};
 ghost use Rattle.mm_manager.specs.private.Numbers.{AreNumbered};
@@ -13,28 +13,36 @@ ghost use Rattle.mm_manager.specs.LockState.{KeepOwned};
 use crate::Key;
 use crate::numbers::{forget_each, forget_unowned};
 use mm_names::Names;
-use mm_settled::SettledTable;
+use mm_settled::{Released, SettledTable};
 
-/// `SettledTable::release` of a number that has a name: it keeps the name exactly where somebody owns it then.
-pub fn release(table: &mut SettledTable, names: &mut Names, key: Key, number: u32)
+/// `SettledTable::release` of a number that has a name: it keeps the name exactly where somebody owns it then. `None` exactly where the
+/// transaction may not ask or does not own the number, and then nothing changes.
+pub fn release(
+    table: &mut SettledTable,
+    names: &mut Names,
+    key: Key,
+    number: u32,
+) -> Option<Released>
     requires numbered { AreNumbered table.old.table names.old }
     requires named { IsSome (name_of names.old number) }
-    requires owned { owner_of table.old.table number ≡ Some key }
-    requires active { wait_of table.old.table key.process ≡ None }
     requires left { HasReserve table.old.table }
-    ensures made { (answer : Released) × Made (Release key number) table.old.table answer table.new.table }
+    ensures made { IfSome result (λ answer. Made (Release key number) table.old.table answer table.new.table) }
     ensures others { OthersKeepVerdicts table.old.table table.new.table key.process }
     ensures told { Tells table.old.table table.new }
     ensures ended { EndsWaits table.old.table table.new.table key.process table.new.granted }
-    ensures names { KeepOwned names.old table.new.table names.new }
-    ensures numbered { AreNumbered table.new.table names.new }
-    ensures left { HasReserve table.new.table }
+    ensures names { OnSome result (KeepOwned names.old table.new.table names.new) }
+    ensures numbered { OnSome result (AreNumbered table.new.table names.new) }
+    ensures left { OnSome result (HasReserve table.new.table) }
+    ensures refused { IfNone result ((may_ask table.old.table key ≡ Ok tt) → ¬ (owner_of table.old.table number ≡ Some key)) }
+    ensures table { IfNone result (table.new.table ≡ table.old.table) }
+    ensures same { IfNone result (names.new ≡ names.old) }
 {
     table.is_at_rest();
-    let Ok(_) = table.release(key, number) else {
-        unreachable!();
+    let Ok(answer) = table.release(key, number) else {
+        return None;
     };
     forget_unowned(table.table(), names, number);
+    Some(answer)
 }
 
 /// `SettledTable::finish`: each name of the transaction keeps its number exactly where somebody owns it then.

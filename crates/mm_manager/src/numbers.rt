@@ -2,8 +2,8 @@
 ghost use Rattle.std.specs.Prelude.{◌≡◌, ◌⊎◌, Ok, Err, Some, fold, IfOk, IfErr, OnOk, OnErr};
 ghost use Rattle.mm_names.specs.Names.{name_of, Interns, IsRefusedAsFull};
 ghost use Rattle.mm_rules.specs.TableState.{owner_of};
-ghost use Rattle.mm_manager.specs.LockState.{Owns};
-ghost use Rattle.mm_manager.specs.Permit.{may_name, may_ask_for};
+ghost use Rattle.mm_manager.specs.Permit.{may_ask, may_name, may_ask_for};
+ghost use Rattle.mm_manager.specs.Refused.{UnlockRefused};
 ghost use Rattle.mm_manager.specs.private.Numbers.{forgotten, bare};
 
 use crate::permit::{may_ask, may_name};
@@ -35,32 +35,39 @@ pub fn number_of(names: &mut Names, name: &[u8]) -> Result<u32, Refusal>
     }
 }
 
-/// The number of a name that the transaction owns. Whether these bytes can be a name is asked only where no number has it.
+/// The number of a name. Where no number has it, the answer is why the transaction cannot unlock it.
 #[inline(always)]
-pub fn owned_number(table: &Table, names: &Names, key: Key, name: &[u8]) -> Result<u32, Refusal>
+pub fn named_number(table: &Table, names: &Names, key: Key, name: &[u8]) -> Result<u32, Refusal>
     ensures named { IfOk result (λ n. name_of names.now n ≡ Some name.now) }
-    ensures owned { IfOk result (λ n. owner_of table.now n ≡ Some key) }
-    ensures allowed { OnOk result (may_ask_for table.now names.now.name_bytes key name.now ≡ Ok tt) }
-    ensures refused { IfErr result (λ refusal. (may_ask_for table.now names.now.name_bytes key name.now ≡ Err refusal)
-        ⊎ ((may_ask_for table.now names.now.name_bytes key name.now ≡ Ok tt) × (refusal ≡ Refusal.NotOwner) × ¬ Owns (bare table.now names.now) key name.now)) }
+    ensures refused { IfErr result (λ refusal. UnlockRefused (bare table.now names.now) key name.now refusal) }
 {
-    may_ask(table, key)?;
-    names.keeps_laws();
-    let Some(number) = names.find(name) else {
-        return Err(unnamed(names, name));
-    };
-    if owner_of(table, number) != Some(key) {
-        return Err(Refusal::NotOwner);
+    match names.find(name) {
+        Some(number) => Ok(number),
+        None => Err(unnamed(table, names, key, name)),
     }
-    Ok(number)
 }
 
-/// What is said of a name that no number has.
+/// Why a transaction cannot unlock a name that no number has.
 #[inline(never)]
-fn unnamed(names: &Names, name: &[u8]) -> Refusal
-    ensures { (may_name names.now.name_bytes name.now ≡ Err result) ⊎ ((may_name names.now.name_bytes name.now ≡ Ok tt) × (result ≡ Refusal.NotOwner)) }
+fn unnamed(table: &Table, names: &Names, key: Key, name: &[u8]) -> Refusal
+    ensures { (may_ask_for table.now names.now.name_bytes key name.now ≡ Err result)
+        ⊎ ((may_ask_for table.now names.now.name_bytes key name.now ≡ Ok tt) × (result ≡ Refusal.NotOwner)) }
 {
-    match may_name(names, name) {
+    match may_ask(table, key) {
+        Err(refusal) => refusal,
+        Ok(()) => match may_name(names, name) {
+            Ok(()) => Refusal::NotOwner,
+            Err(refusal) => refusal,
+        },
+    }
+}
+
+/// Why a transaction cannot unlock a name that a number has.
+#[inline(never)]
+pub fn not_released(table: &Table, key: Key) -> Refusal
+    ensures { (may_ask table.now key ≡ Err result) ⊎ ((may_ask table.now key ≡ Ok tt) × (result ≡ Refusal.NotOwner)) }
+{
+    match may_ask(table, key) {
         Ok(()) => Refusal::NotOwner,
         Err(refusal) => refusal,
     }

@@ -1,5 +1,5 @@
 //! The calls over the parts of a manager.
-ghost use Rattle.std.specs.Prelude.{◌≡◌, ℕ, [], Some, None, Ok, Err, true, length, IfOk, IfErr, OnOk, OnErr, IsSome};
+ghost use Rattle.std.specs.Prelude.{◌≡◌, ◌⊎◌, ℕ, [], Some, None, Ok, Err, true, length, IfOk, IfErr, OnOk, OnErr, IsSome};
 ghost use Rattle.mm_arena.specs.declared.key.Key.{Key as KeyValue};
 ghost use Rattle.mm_list_lemmas.specs.Members.{Among};
 ghost use Rattle.mm_names.specs.Names.{name_of, IsLawful as IsLawfulNames};
@@ -22,7 +22,7 @@ ghost use Rattle.mm_manager.specs.private.Room.{HasReserve};
 use crate::due::end_due;
 use crate::hand_over::{finish, release};
 use crate::lists::{Lists, add_grants};
-use crate::numbers::owned_number;
+use crate::numbers::{named_number, not_released};
 use crate::permit::{may_ask, may_count};
 use crate::request::{request, try_request};
 use crate::{Key, Lock, Refusal, TryLock};
@@ -51,18 +51,24 @@ pub fn release_number(
     lists: &mut Lists,
     key: Key,
     number: u32,
-)
+) -> Result<(), Refusal>
     requires parts { AreParts table.old.table names.old lists.old }
     requires none_granted { lists.old.granted.items ≡ [] }
     requires none_aborted { lists.old.aborted.items ≡ [] }
     requires named { IsSome (name_of names.old number) }
-    requires owned { owner_of table.old.table number ≡ Some key }
-    requires active { wait_of table.old.table key.process ≡ None }
-    ensures { (answer : ReleasedValue) × Handed (Release key number) table.old.table names.old lists.old.due.items answer key.process (IsReleased key number) table.new.table names.new lists.new }
+    ensures owned { OnOk result (owner_of table.old.table number ≡ Some key) }
+    ensures handed { OnOk result ((answer : ReleasedValue) × Handed (Release key number) table.old.table names.old lists.old.due.items answer key.process (IsReleased key number) table.new.table names.new lists.new) }
+    ensures untouched { OnErr result (IsUntouched table.old.table names.old lists.old table.new.table names.new lists.new) }
+    ensures refused { IfErr result (λ refusal. (may_ask table.old.table key ≡ Err refusal)
+        ⊎ ((may_ask table.old.table key ≡ Ok tt) × (refusal ≡ Refusal.NotOwner) × ¬ (owner_of table.old.table number ≡ Some key))) }
+    ensures parts { AreParts table.new.table names.new lists.new }
 {
     table.is_at_rest();
-    release(table, names, key, number);
+    let Some(_) = release(table, names, key, number) else {
+        return Err(not_released(table.table(), key));
+    };
     pass_on(table, names, lists);
+    Ok(())
 }
 
 /// Ends an active transaction.
@@ -173,9 +179,8 @@ pub fn unlock(
 {
     lists.clear();
     names.keeps_laws();
-    let number = owned_number(table.table(), names, key, name)?;
-    release_number(table, names, lists, key, number);
-    Ok(())
+    let number = named_number(table.table(), names, key, name)?;
+    release_number(table, names, lists, key, number)
 }
 
 /// Ends a transaction that does not wait.
