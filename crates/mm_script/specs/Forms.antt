@@ -3,7 +3,7 @@ use Rattle.std.specs.Prelude.{option_map, ℕ, ◌-◌, ◌^◌, List, [], ◌�
 use Rattle.std.specs.Map.{lookup}
 use Rattle.std.specs.Str.{bytes_eq}
 use Rattle.mm_arena.specs.declared.key.Key.{Key}
-use Rattle.mm_script.specs.Words.{◌>>=◌, number_at_most, key_of}
+use Rattle.mm_lines.specs.Words.{◌>>=◌, number_at_most, key_of}
 use Rattle.mm_script.specs.declared.line.Call.{Call}
 use Rattle.mm_script.specs.declared.line.Call.TheVariants as calls
 use Rattle.mm_script.specs.declared.line.Header.{Header}

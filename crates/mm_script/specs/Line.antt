@@ -3,7 +3,7 @@ use Rattle.std.specs.Prelude.{ℕ, List, [], ◌∷◌, length, nat_eq, nat_lt, 
 use Rattle.std.specs.Option.{option_map_or}
 use Rattle.std.specs.Str.Lines.{strip_carriage_return}
 use Rattle.mm_script.specs.Forms.{call_of}
-use Rattle.mm_script.specs.Words.{words_of}
+use Rattle.mm_lines.specs.Words.{words_of}
 use Rattle.mm_script.specs.declared.line.Line.{Line}
 use Rattle.mm_script.specs.declared.line.Line.TheVariants as kind
 

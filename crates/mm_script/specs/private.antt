@@ -1,5 +1,2 @@
 pub mod Forms
-pub mod Input
-pub mod Prints
 pub mod Session
-pub mod WordsLeft

@@ -1,16 +1,14 @@
 //! Answers the lines of a script.
 ghost use Rattle.std.specs.Prelude.{◌≡◌, ℕ, ◌+◌, ◌≤◌, ◌<◌, ◌^◌, List, [], None, length, drop, OnOk, IfOk, IsOkUnless};
-ghost use Rattle.mm_script.specs.Lines.{lines_of};
+ghost use Rattle.mm_lines.specs.Lines.{lines_of, IsOpen};
+ghost use Rattle.mm_lines.specs.Output.{Writes};
 ghost use Rattle.mm_script.specs.Text.{Text};
 ghost use Rattle.arrayvec.specs.ArrayVec.{array_vec_len};
 
-use super::ScriptFault;
 use super::calls::make;
-use super::cut::index_of;
 use super::line::{Line, line_of};
-use super::output::{make_room, write_replies};
-use super::reply::{MAX_REPLY, REPLIES_LEN, Replies, Reply, print_reply};
-use arrayvec::ArrayVec;
+use super::reply::{MAX_REPLY, Reply, print_reply};
+use mm_lines::{Fault, OUTPUT_LEN, Output, index_of, make_room, write_output};
 use mm_table::Table;
 use std::alloc::Global;
 use std::io::Write;
@@ -24,11 +22,11 @@ pub struct Session {
     /// How many lines were malformed.
     malformed: u64,
     /// Those that are not yet written.
-    replies: Replies,
+    replies: Output,
 }
 
 impl Session {
-    ghost use Rattle.mm_script.specs.private.Session.{AnswersLine, AnswersLines, AnswersOpen, IsOpen, Writes};
+    ghost use Rattle.mm_script.specs.private.Session.{AnswersLine, AnswersLines, AnswersOpen};
 
     pub fn new(alloc: Global) -> Self
         ensures table { result.table ≡ None }
@@ -39,13 +37,13 @@ impl Session {
             alloc,
             table: None,
             malformed: 0,
-            replies: ArrayVec::new(),
+            replies: Output::new(),
         }
     }
 
     /// Answers a line.
     fn answer(&mut self, line: &[u8])
-        requires room { array_vec_len self.old.replies + MAX_REPLY ≤ REPLIES_LEN }
+        requires room { array_vec_len self.old.replies + MAX_REPLY ≤ OUTPUT_LEN }
         requires count { self.old.malformed < u64.MAX }
         ensures { AnswersLine self.old line.now self.new }
     {
@@ -62,11 +60,11 @@ impl Session {
 
     /// Answers the lines whose newline is among the bytes, and returns how many bytes they have.
     /// Replies are written where there may be no room for one more; at a fault some are lost.
-    fn answer_lines<W: Write>(&mut self, bytes: &[u8], writer: &mut W) -> Result<usize, ScriptFault>
+    fn answer_lines<W: Write>(&mut self, bytes: &[u8], writer: &mut W) -> Result<usize, Fault>
         requires { self.old.malformed + length bytes.now < 2 ^ 64 }
         ensures answered { (rest : List ℕ) × (lost : List ℕ) × AnswersLines (W.contents writer.old) (W.contents writer.new) self.old bytes.now self.new rest lost
             × IfOk result (λ count. (count ≤ length bytes.now) × (rest ≡ drop count bytes.now) × IsOpen rest × (lost ≡ self.new.replies.items)) }
-        ensures fault { IsOkUnless result ScriptFault.Write }
+        ensures fault { IsOkUnless result Fault.Write }
     {
         let mut count = 0;
         loop {
@@ -75,7 +73,7 @@ impl Session {
             if newline == rest.len() {
                 return Ok(count);
             }
-            make_room(&mut self.replies, writer)?;
+            make_room(&mut self.replies, MAX_REPLY, writer)?;
             self.answer(rest.split_at(newline).0);
             count += newline + 1;
         }
@@ -86,22 +84,22 @@ impl Session {
         &mut self,
         bytes: &[u8],
         writer: &mut W,
-    ) -> Result<usize, ScriptFault>
+    ) -> Result<usize, Fault>
         requires { self.old.malformed + length bytes.now < 2 ^ 64 }
         ensures answered { (rest : List ℕ) × (lost : List ℕ) × AnswersLines (W.contents writer.old) (W.contents writer.new) self.old bytes.now self.new rest lost
             × IfOk result (λ count. (count ≤ length bytes.now) × (rest ≡ drop count bytes.now) × IsOpen rest × (lost ≡ [])) }
-        ensures fault { IsOkUnless result ScriptFault.Write }
+        ensures fault { IsOkUnless result Fault.Write }
         ensures replies { OnOk result (self.new.replies.items ≡ []) }
     {
         let count = self.answer_lines(bytes, writer)?;
-        write_replies(&mut self.replies, writer)?;
+        write_output(&mut self.replies, writer)?;
         Ok(count)
     }
 
     /// Answers the line that no newline ends, unless it is empty.
     fn answer_open(&mut self, line: &[u8])
         requires open { IsOpen line.now }
-        requires room { array_vec_len self.old.replies + MAX_REPLY ≤ REPLIES_LEN }
+        requires room { array_vec_len self.old.replies + MAX_REPLY ≤ OUTPUT_LEN }
         requires count { self.old.malformed < u64.MAX }
         ensures { AnswersOpen self.old line.now self.new }
     {
@@ -111,20 +109,20 @@ impl Session {
     }
 
     /// Answers the line that no newline ends, writes the replies and flushes; returns how many lines were malformed.
-    pub fn finish<W: Write>(&mut self, line: &[u8], writer: &mut W) -> Result<u64, ScriptFault>
+    pub fn finish<W: Write>(&mut self, line: &[u8], writer: &mut W) -> Result<u64, Fault>
         requires open { IsOpen line.now }
         requires replies { self.old.replies.items ≡ [] }
         requires count { self.old.malformed < u64.MAX }
         ensures finished { (out : List ℕ) × (lost : List ℕ) × (count : ℕ) × Text self.old.table (lines_of line.now) out count
             × Writes (W.contents writer.old) (W.contents writer.new) out lost
             × IfOk result (λ malformed. (malformed ≡ self.old.malformed + count) × (lost ≡ [])) }
-        ensures fault { IsOkUnless result ScriptFault.Write }
+        ensures fault { IsOkUnless result Fault.Write }
     {
         self.answer_open(line);
-        write_replies(&mut self.replies, writer)?;
+        write_output(&mut self.replies, writer)?;
         match writer.flush() {
             Ok(()) => Ok(self.malformed),
-            Err(_) => Err(ScriptFault::Write),
+            Err(_) => Err(Fault::Write),
         }
     }
 }

@@ -4,10 +4,10 @@ ghost use Rattle.std.specs.Map.{lookup};
 ghost use Rattle.std.specs.Str.{bytes_eq};
 ghost use Rattle.mm_script.specs.Forms.{call_of, forms};
 ghost use Rattle.mm_script.specs.private.Forms.{ReadsConfig};
-ghost use Rattle.mm_script.specs.private.WordsLeft.{words_left};
+ghost use Rattle.mm_lines.specs.WordsLeft.{words_left};
 
 use super::line::{Call, Header};
-use super::words::Words;
+use mm_lines::Words;
 use mm_table::{Config, Key};
 
 /// What stands behind the word of a call, and the call that they make.

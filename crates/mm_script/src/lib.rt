@@ -1,47 +1,37 @@
 //! Scripts: lines that call a table, and the replies to them, from any reader to any writer. It has no threads.
 //!
 //! - `line`: what a line is.
-//! - `forms`: the calls that a line can make: a word, and what stands behind it. Below it, `words` cuts words and reads numbers and keys.
+//! - `forms`: the calls that a line can make: a word, and what stands behind it.
 //! - `calls`: makes a call of the table that stands, if one does.
 //! - `reply`: replies, and how they are printed.
-//! - `input`: the bytes that are read and not yet answered.
 //! - `engine`: a script as far as it is answered.
-//! - `output`: writes the replies that wait.
-//! - `cut`: where bytes are cut.
+//!
+//! Lines are read, cut and written by `mm_lines`.
 #![tactic(auto)]
 
 ghost use Rattle.std.specs.Prelude.{◌≡◌, ◌≤◌, ℕ, List, [], None, length, OnOk};
 ghost use Rattle.std.specs.Io.KnownBytes.{Appends, Consumes, IsAtEnd};
 ghost use Rattle.mm_script.specs.Script.{Ends};
-ghost use Rattle.mm_script.specs.private.Input.{held, IsReady};
+ghost use Rattle.mm_lines.specs.Input.{unread};
 
 mod calls;
-mod cut;
 mod engine;
 mod forms;
-mod input;
 mod line;
-mod output;
 mod reply;
-mod words;
 
 use engine::Session;
 pub use forms::usages;
-use input::Input;
+pub use mm_lines::Fault as ScriptFault;
+use mm_lines::{Input, Limits};
 use std::alloc::Global;
 use std::io::{Read, Write};
-use thiserror::Error;
 
-/// Why a script was not answered to its end.
-#[derive(Clone, Copy, Debug, PartialEq, Eq, Error)]
-pub enum ScriptFault {
-    #[error("read fault")]
-    Read,
-    #[error("write fault")]
-    Write,
-    #[error("input too long")]
-    TooLong,
-}
+/// The longest line in bytes, with its carriage return.
+const MAX_LINE: usize = 128;
+
+/// A script has at most so many bytes: 16 MiB.
+const INPUT_LIMIT: usize = 16_777_216;
 
 /// Reads a script to the reader's end, writes one reply for each call and each malformed line, in their order, and returns how many
 /// lines are malformed. A script has at most 16,777,216 bytes.
@@ -64,7 +54,10 @@ pub fn run_script<R: Read, W: Write>(
     ensures end { OnOk result (IsAtEnd (R.remaining reader.new)) }
     ensures limit { (read : List ℕ) × Consumes (R.remaining reader.old) (R.remaining reader.new) read × (length read ≤ 16777217) }
 {
-    let mut input = Input::new();
+    let mut input = Input::new(Limits {
+        input: INPUT_LIMIT,
+        line: MAX_LINE,
+    });
     let mut session = Session::new(alloc);
     let outcome = answer_all(&mut input, &mut session, reader, writer);
     // The proof is short where the session, with its table, is dropped by a call.
@@ -79,9 +72,9 @@ fn answer_all<R: Read, W: Write>(
     reader: &mut R,
     writer: &mut W,
 ) -> Result<u64, ScriptFault>
-    requires held { held input.old ≡ [] }
-    requires taken { input.old.taken ≡ 0 }
-    requires ready { IsReady input.old }
+    requires input { input.old ≡ unread input.old.limits }
+    requires line { input.old.limits.line ≡ MAX_LINE }
+    requires limit { input.old.limits.input ≡ INPUT_LIMIT }
     requires table { session.old.table ≡ None }
     requires malformed { session.old.malformed ≡ 0 }
     requires replies { session.old.replies.items ≡ [] }

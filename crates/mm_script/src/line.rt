@@ -1,14 +1,11 @@
 //! What a line of a script is.
 ghost use Rattle.std.specs.Prelude.{◌≡◌};
-ghost use Rattle.std.specs.Str.Lines.{strip_carriage_return};
 ghost use Rattle.mm_script.specs.Line.{line_of};
 
+use super::MAX_LINE;
 use super::forms::call_of;
-use super::words::Words;
+use mm_lines::{Words, without_carriage_return};
 use mm_table::{Config, Key};
-
-/// The longest line in bytes, with its carriage return.
-pub const MAX_LINE: usize = 128;
 
 /// What a line is.
 #[derive(Clone, Copy)]
@@ -64,15 +61,5 @@ pub fn line_of(line: &[u8]) -> Line
     match call_of(word, &mut words) {
         Some(call) => Line::Call(call),
         None => Line::Malformed,
-    }
-}
-
-/// The line without the one carriage return at its end, if it has one.
-fn without_carriage_return(line: &[u8]) -> &[u8]
-    ensures { result.now ≡ strip_carriage_return line.now }
-{
-    match line {
-        [front @ .., b'\r'] => front,
-        _ => line,
     }
 }

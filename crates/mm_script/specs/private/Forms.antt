@@ -2,7 +2,7 @@
 use Rattle.std.specs.Prelude.{◌≡◌, ℕ, List, Option, option_map}
 use Rattle.mm_arena.specs.declared.key.Key.{Key}
 use Rattle.mm_table.specs.config.Config.{Config}
-use Rattle.mm_script.specs.Words.{◌>>=◌}
+use Rattle.mm_lines.specs.Words.{◌>>=◌}
 use Rattle.mm_script.specs.Forms.{table_call, alone, with_key, with_key_and_resource, with_resource}
 use Rattle.mm_script.specs.declared.line.Call.{Call}
 use Rattle.mm_script.specs.declared.line.Header.{Header}

@@ -1,6 +1,0 @@
-use Rattle.mm_script.proofs.Lemmas.Session.{writes_more}
-use Rattle.mm_script.proofs.output.write_all.Goals as goal
-
-pub loop-rest-preserved : goal.loop-rest-preserved
-loop-rest-preserved g c =
-    rw c.split_at.ensures.back (writes_more _ _ _ _ _ c.in-Ok.count c.loop-rest.invariant c.in-Ok.ensures.bytes)

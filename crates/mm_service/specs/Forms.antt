@@ -1,0 +1,69 @@
+-- The requests that a line can make: a word, and what stands behind it.
+use Rattle.std.specs.Prelude.{ℕ, Bool, ◌&&◌, ◌||◌, not, List, [], ◌∷◌, length, Option, Some, None, codes, nat_eq, nat_le, if◌then◌else◌, option_map}
+use Rattle.std.specs.List.{list_all}
+use Rattle.std.specs.Map.{lookup}
+use Rattle.std.specs.Str.{bytes_eq}
+use Rattle.mm_arena.specs.declared.key.Key.{Key}
+use Rattle.mm_lines.specs.Words.{◌>>=◌, key_of}
+use Rattle.mm_service.specs.declared.line.Request.{Request}
+use Rattle.mm_service.specs.declared.line.Request.TheVariants as requests
+use Rattle.mm_service.specs.declared.line.NameRequest.TheVariants as of_name
+use Rattle.mm_service.specs.declared.line.KeyRequest.TheVariants as of_key
+
+-- a request, and the name that it is about
+pub record AskedFor : Type 0 where
+  pub request : Request
+  pub name : List ℕ
+
+-- from ! to ~, or 80 and above
+abbrev pub is_name_byte : ℕ → Bool
+is_name_byte b = (nat_le 0x21 b && nat_le b 0x7e) || nat_le 0x80 b
+
+abbrev pub name_of_word : List ℕ → Option (List ℕ)
+name_of_word word = if list_all is_name_byte word then Some word else None
+
+-- nothing: this request
+abbrev pub alone : Request → List (List ℕ) → Option AskedFor
+alone request [] = Some (record { request = request; name = [] })
+alone _ _ = None
+
+-- K: this request of a key
+abbrev pub with_key : (Key → Request) → List (List ℕ) → Option AskedFor
+with_key request (k ∷ []) = option_map (λ key. record { request = request key; name = [] }) (key_of k)
+with_key _ _ = None
+
+-- NAME: this request of a name
+abbrev pub with_name : Request → List (List ℕ) → Option AskedFor
+with_name request (n ∷ []) = option_map (λ name. record { request = request; name = name }) (name_of_word n)
+with_name _ _ = None
+
+-- K NAME: this request of a key and a name
+abbrev pub with_key_and_name : (Key → Request) → List (List ℕ) → Option AskedFor
+with_key_and_name request (k ∷ n ∷ []) = do
+  key ← key_of k
+  name ← name_of_word n
+  Some (record { request = request key; name = name })
+with_key_and_name _ _ = None
+
+-- each word that asks, with what stands behind it
+abbrev pub forms : List (List ℕ × (List (List ℕ) → Option AskedFor))
+forms =
+    (codes "begin", alone requests.Begin)
+    ∷ (codes "lock", with_key_and_name (requests.OfName of_name.Lock))
+    ∷ (codes "try", with_key_and_name (requests.OfName of_name.Try))
+    ∷ (codes "unlock", with_key_and_name (requests.OfName of_name.Unlock))
+    ∷ (codes "commit", with_key (requests.OfKey of_key.Commit))
+    ∷ (codes "abort", with_key (requests.OfKey of_key.Abort))
+    ∷ (codes "cancel", with_key (requests.OfKey of_key.Cancel))
+    ∷ (codes "owner", with_name requests.Owner)
+    ∷ (codes "status", with_key (requests.OfKey of_key.Status))
+    ∷ (codes "holds", with_key (requests.OfKey of_key.Holds))
+    ∷ (codes "graph", alone requests.Graph)
+    ∷ (codes "totals", alone requests.Totals)
+    ∷ []
+
+-- the request that a word makes with these arguments
+abbrev pub request_of : List ℕ → List (List ℕ) → Option AskedFor
+request_of word arguments = do
+  form ← lookup (bytes_eq word) forms
+  form arguments

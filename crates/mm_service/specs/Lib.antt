@@ -1,0 +1,12 @@
+-- the requests that a line can make
+pub mod Forms
+-- what a line is
+pub mod Line
+-- how replies are printed
+pub mod Reply
+-- what a service is answered
+pub mod Text
+-- what a run of a service reads and writes
+pub mod Service
+-- private: how a service is kept; no public clause cites these
+pub mod private

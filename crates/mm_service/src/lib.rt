@@ -1,0 +1,18 @@
+//! A lock service: requests, one a line, to a lock manager, and the replies to them, from any reader to any writer. It has no threads.
+//!
+//! - `line`: what a line is.
+//! - `forms`: the requests that a line can make: a word, and what stands behind it.
+//! - `calls`: makes a request, and writes its reply and what it caused for others.
+//! - `lists`: the replies that list something: names that are held, the wait-for graph, and what a request caused.
+//! - `reply`: how replies are printed.
+//! - `service`: a service as far as it is answered.
+//!
+//! Lines are read, cut and written by `mm_lines`.
+#![tactic(auto)]
+
+mod calls;
+mod forms;
+mod line;
+mod lists;
+mod reply;
+mod service;

@@ -1,0 +1,105 @@
+//! What a line is.
+ghost use Rattle.std.specs.Prelude.{◌≡◌};
+ghost use Rattle.mm_service.specs.Line.{line_of};
+
+use crate::forms::request_of;
+use mm_lines::{Words, without_carriage_return};
+use mm_manager::Key;
+
+/// The longest line in bytes, with its carriage return: that of an unlock of the longest name by the longest key.
+pub const MAX_LINE: usize = 1_054;
+
+/// What a line is.
+#[derive(Clone, Copy)]
+pub enum Line {
+    /// No reply is due.
+    Silent,
+    /// Not in the language.
+    Malformed,
+    /// A request; the name that it is about stands beside it.
+    Request(Request),
+}
+
+/// A request to a lock manager, without the name that it is about.
+#[derive(Clone, Copy)]
+pub enum Request {
+    Begin,
+    /// Of a transaction and a name.
+    OfName(NameRequest, Key),
+    /// Of a transaction.
+    OfKey(KeyRequest, Key),
+    /// Of a name: its owner is read.
+    Owner,
+    /// The wait-for graph is read.
+    Graph,
+    /// The counts are read.
+    Totals,
+}
+
+/// What a transaction asks of a name.
+#[derive(Clone, Copy)]
+pub enum NameRequest {
+    Lock,
+    Try,
+    Unlock,
+}
+
+/// What is asked of a transaction.
+#[derive(Clone, Copy)]
+pub enum KeyRequest {
+    Commit,
+    Abort,
+    Cancel,
+    Status,
+    Holds,
+}
+
+/// A request and the name that it is about; no bytes where it is about none.
+#[derive(Clone, Copy)]
+pub struct Asked<'a> {
+    pub request: Request,
+    pub name: &'a [u8],
+}
+
+/// A line, and the name that its request is about; no bytes where there is none.
+#[derive(Clone, Copy)]
+pub struct Named<'a> {
+    pub line: Line,
+    pub name: &'a [u8],
+}
+
+/// What a line is, without its newline.
+pub fn line_of(line: &[u8]) -> Named<'_>
+    ensures line { result.line ≡ (line_of line.now).line }
+    ensures name { result.name.now ≡ (line_of line.now).name }
+{
+    if line.len() > MAX_LINE {
+        return Named::MALFORMED;
+    }
+    let mut words = Words::new(without_carriage_return(line));
+    let Some(word) = words.next() else {
+        return Named::SILENT;
+    };
+    if word.first() == Some(&b'#') {
+        return Named::SILENT;
+    }
+    match request_of(word, &mut words) {
+        Some(asked) => Named {
+            line: Line::Request(asked.request),
+            name: asked.name,
+        },
+        None => Named::MALFORMED,
+    }
+}
+
+impl Named<'static> {
+    const SILENT: Named<'static> = Named {
+        line: Line::Silent,
+        name: &[],
+    };
+
+    const MALFORMED: Named<'static> = Named {
+        line: Line::Malformed,
+        name: &[],
+    };
+}
