@@ -111,7 +111,7 @@ pashkure_result pashkure_open(pashkure_connection *connection, const char *path)
     return PASHKURE_NO_SERVICE;
 }
 
-/* Sends a request, and reads the first word of its reply. News that come before it are passed over: pashkure_wait asks the service. */
+/* Sends a request, and reads the first word of its reply. News that come before it are dropped: pashkure_wait asks the service. */
 static void request(pashkure_connection *connection, const char *verb, const char *key, const char *name, char *word)
 {
     pashkure_transaction other;
@@ -123,7 +123,7 @@ static void request(pashkure_connection *connection, const char *verb, const cha
     }
 }
 
-/* Reads the rest of a refusal. What this client sends is malformed only where the line, and so the name, is longer than the service takes. */
+/* Reads the rest of a refusal. What this client sends is malformed only where the name makes the line longer than the service takes. */
 static pashkure_result read_refusal(pashkure_connection *connection, char *word)
 {
     size_t place = 0;

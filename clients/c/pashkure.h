@@ -1,7 +1,7 @@
 /* Pashkure over a Unix socket: exclusive locks on names, for transactions that lock several names one after another. C11 and POSIX.
  *
- * A connection belongs to one thread at a time; threads that lock at the same time have a connection each. No call takes memory: a program
- * keeps its connections and transactions where it likes. When a connection ends, also because its program is killed, the service aborts each
+ * One thread at a time uses a connection; threads that lock at the same time have a connection each. No call takes memory: a program keeps
+ * its connections and transactions where it likes. When a connection ends, also because its program is killed, the service aborts each
  * transaction that was begun on it.
  *
  * Each call returns a pashkure_result. After PASHKURE_CLOSED or PASHKURE_BAD_REPLY the connection is closed, and each further call returns
@@ -98,12 +98,12 @@ void pashkure_close(pashkure_connection *connection);
 /* Begins a transaction. */
 pashkure_result pashkure_begin(pashkure_connection *connection, pashkure_transaction *transaction);
 
-/* Waits until the transaction owns the name: PASHKURE_OK, also where it owned it before; or PASHKURE_DEADLOCK, at once. A thread that waits
- * for a transaction of its own waits for ever: use pashkure_ask there. */
+/* Waits until the transaction owns the name: PASHKURE_OK, also where it owned it before; or PASHKURE_DEADLOCK, at once. A thread that
+ * waits for a transaction of its own waits for ever: use pashkure_ask there. */
 pashkure_result pashkure_lock(pashkure_connection *connection, const pashkure_transaction *transaction, const char *name);
 
-/* As pashkure_lock, and PASHKURE_TIMED_OUT where the name was not granted in time. The time is a lower bound: while the service answers that
- * the wait cannot be taken back now, the call asks again after pauses of 1 to 100 milliseconds, and may return PASHKURE_OK in the end. */
+/* As pashkure_lock, and PASHKURE_TIMED_OUT where the name was not granted in time. The time is a lower bound: while the service answers
+ * that the wait cannot be taken back now, the call asks again after pauses of 1 to 100 milliseconds, and may return PASHKURE_OK then. */
 pashkure_result pashkure_lock_for(
     pashkure_connection *connection, const pashkure_transaction *transaction, const char *name, unsigned milliseconds);
 
@@ -120,9 +120,9 @@ pashkure_result pashkure_commit(pashkure_connection *connection, const pashkure_
  * back now: it ends as soon as its wait does, and nothing more has to be done. */
 pashkure_result pashkure_abort(pashkure_connection *connection, const pashkure_transaction *transaction);
 
-/* For several transactions of one thread. pashkure_ask asks for a name and does not wait: PASHKURE_OK, PASHKURE_WAITS or PASHKURE_DEADLOCK.
- * pashkure_wait waits until the transaction owns what it asked for; what was granted in the meantime, during other calls, is not lost.
- * pashkure_cancel takes the wait back: PASHKURE_OK, PASHKURE_CARRIED (not now), or PASHKURE_NOT_WAITING where the name was granted before. */
+/* For several transactions of one thread. pashkure_ask asks for a name and does not wait: PASHKURE_OK, PASHKURE_WAITS or
+ * PASHKURE_DEADLOCK. pashkure_wait waits until the transaction owns what it asked for: a grant that came during other calls is not lost.
+ * pashkure_cancel takes the wait back: PASHKURE_OK, PASHKURE_CARRIED (not now), or PASHKURE_NOT_WAITING where it was granted before. */
 pashkure_result pashkure_ask(pashkure_connection *connection, const pashkure_transaction *transaction, const char *name);
 pashkure_result pashkure_wait(pashkure_connection *connection, const pashkure_transaction *transaction);
 pashkure_result pashkure_cancel(pashkure_connection *connection, const pashkure_transaction *transaction);

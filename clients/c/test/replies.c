@@ -181,8 +181,9 @@ static void test_lists(void)
 
 static void test_bad_replies(void)
 {
-    static const char *const bad[] = {"\n", "hello\n", "committed\n", "granted again\n", "waits\n", "waits 1.1 2.1\n", "refused\n", "* moved 0.1 a\n",
-        "* granted 1.1\n", "* aborted 1.1 a\n", "*\n", "waits 1.1\ngranted\n", "waits 123456789012345678901234567890\n", "refused a b\n"};
+    static const char *const bad[] = {"\n", "hello\n", "committed\n", "granted again\n", "waits\n", "waits 1.1 2.1\n", "refused\n",
+        "refused a b\n", "* moved 0.1 a\n", "* granted 1.1\n", "* aborted 1.1 a\n", "*\n", "waits 1.1\ngranted\n",
+        "waits 123456789012345678901234567890\n"};
     size_t place;
     for (place = 0; place < sizeof bad / sizeof *bad; place++) {
         replies(bad[place]);

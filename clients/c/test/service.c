@@ -155,68 +155,88 @@ static void test_one_connection(void)
     GIVES(OK, pashkure_commit(&one, &third));
 }
 
-/* Raises the label of a transaction: each of its waits gives it a greater one. */
+/* Raises the label of a transaction above all others: each of its waits gives it a greater one, and each call makes more of them. */
 static void raise_label(key *transaction)
 {
+    static int waits = 200;
     int count;
     key owner = begun(&two);
     GIVES(OK, pashkure_lock(&two, &owner, "r"));
-    for (count = 0; count < 200; count++) {
+    for (count = 0; count < waits; count++) {
         GIVES(WAITS, pashkure_ask(&two, transaction, "r"));
         GIVES(OK, pashkure_cancel(&two, transaction));
     }
     GIVES(OK, pashkure_commit(&two, &owner));
+    waits *= 4;
 }
 
-/* A waiter carries another's label: last owns z, owner owns x and asks for z, and the waiter asks for x. */
-static void carry(key *owner, key *last)
+/* Who owns x and who owns z. Where the first one waits for z, those who wait for x carry its label. */
+struct chain {
+    key owner, last;
+};
+
+static struct chain chained(void)
 {
-    *owner = begun(&one);
-    *last = begun(&two);
-    raise_label(last);
-    GIVES(OK, pashkure_lock(&one, owner, "x"));
-    GIVES(OK, pashkure_lock(&two, last, "z"));
+    struct chain chain = {begun(&one), begun(&two)};
+    raise_label(&chain.last);
+    GIVES(OK, pashkure_lock(&one, &chain.owner, "x"));
+    GIVES(OK, pashkure_lock(&two, &chain.last, "z"));
+    return chain;
 }
 
-static void test_carried(void)
+static void end_chain(struct chain *chain)
 {
-    key owner, last, waiter;
-    struct asker asker, ahead;
-    carry(&owner, &last);
-    start(&asker, "x", 20);
+    GIVES(OK, pashkure_commit(&two, &chain->last));
+    GIVES(OK, pashkure_wait(&one, &chain->owner));
+    GIVES(OK, pashkure_commit(&one, &chain->owner));
+}
+
+/* Its time is up while it carries a label: it waits on, and is granted the name. */
+static void test_granted_late(void)
+{
+    struct chain chain = chained();
+    struct asker asker;
+    start(&asker, "x", 300);
     until_waiting(1);
-    GIVES(WAITS, pashkure_ask(&one, &owner, "z"));
-    rest(100);
-    until_waiting(2); /* its time is up, and it waits on */
-    GIVES(OK, pashkure_commit(&two, &last));
-    GIVES(OK, pashkure_wait(&one, &owner));
-    GIVES(OK, pashkure_commit(&one, &owner));
+    GIVES(WAITS, pashkure_ask(&one, &chain.owner, "z"));
+    rest(500);
+    until_waiting(2);
+    end_chain(&chain);
     GIVES(OK, joined(&asker));
     pashkure_close(&asker.connection);
-    carry(&owner, &last);
+}
+
+/* The name is handed over to another one, by which the asker gets a label of its own: now its wait can be taken back. */
+static void test_timed_out_late(void)
+{
+    struct chain chain = chained();
+    struct asker asker, ahead;
     start(&ahead, "x", 0);
     until_waiting(1);
-    start(&asker, "x", 20);
+    start(&asker, "x", 300);
     until_waiting(2);
-    GIVES(WAITS, pashkure_ask(&one, &owner, "z"));
-    rest(100);
+    GIVES(WAITS, pashkure_ask(&one, &chain.owner, "z"));
+    rest(500);
     until_waiting(3);
-    GIVES(OK, pashkure_commit(&two, &last));
-    GIVES(OK, pashkure_wait(&one, &owner));
-    GIVES(OK, pashkure_commit(&one, &owner));
+    end_chain(&chain);
     GIVES(OK, joined(&ahead));
-    GIVES(TIMED_OUT, joined(&asker)); /* it has a new label since the name was handed over */
+    GIVES(TIMED_OUT, joined(&asker));
     pashkure_close(&ahead.connection);
     pashkure_close(&asker.connection);
-    carry(&owner, &last);
-    waiter = begun(&two);
+}
+
+static void test_aborted_later(void)
+{
+    struct chain chain = chained();
+    key waiter = begun(&two);
+    pashkure_status status;
     GIVES(WAITS, pashkure_ask(&two, &waiter, "x"));
-    GIVES(WAITS, pashkure_ask(&one, &owner, "z"));
+    GIVES(WAITS, pashkure_ask(&one, &chain.owner, "z"));
     GIVES(CARRIED, pashkure_cancel(&two, &waiter));
     GIVES(LATER, pashkure_abort(&two, &waiter));
-    GIVES(OK, pashkure_commit(&two, &last));
-    GIVES(OK, pashkure_wait(&one, &owner));
-    GIVES(OK, pashkure_commit(&one, &owner));
+    GIVES(OK, pashkure_status_of(&two, &waiter, &status));
+    CHECK(status.mode == PASHKURE_IS_WAITING && status.is_aborting);
+    end_chain(&chain);
     GIVES(NO_TRANSACTION, pashkure_wait(&two, &waiter));
 }
 
@@ -334,7 +354,9 @@ int main(int count, char *words[])
     test_two();
     test_deadlock();
     test_one_connection();
-    test_carried();
+    test_granted_late();
+    test_timed_out_late();
+    test_aborted_later();
     test_hang_up();
     test_limits();
     test_totals();

@@ -1,9 +1,9 @@
 #!/usr/bin/env python3
-"""stand_in.py [--socket PATH] [--transactions N] [--names N] [--name-bytes N]: answers the requests of docs/SERVICE.md, for tests of clients.
+"""stand_in.py [--socket PATH] [--transactions N] [--names N] [--name-bytes N]: answers the requests of docs/SERVICE.md, to test clients.
 
-It is written from that page, and is slow: a deadlock is found by a search of the wait-for graph, queues are lists. Only whether a wait can be
-taken back it asks the labels. Without --socket it answers standard input; with it, each connection to the socket, and who hangs up has its
-transactions aborted.
+It is written from that page, and is slow: a deadlock is found by a search of the wait-for graph, queues are lists. Labels tell it only
+whether a wait can be taken back. Without --socket it answers standard input; with it, each connection to the socket, and who hangs up has
+its transactions aborted.
 """
 import argparse
 import os
