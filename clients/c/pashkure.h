@@ -89,7 +89,7 @@ typedef struct pashkure_counts {
 /* What a result means, in English. */
 const char *pashkure_message(pashkure_result result);
 
-/* Connects to the service on this path. */
+/* Connects to the service on this path. Whatever it returns, the connection may be used and closed then. */
 pashkure_result pashkure_open(pashkure_connection *connection, const char *path);
 
 /* Closes the connection: the service aborts what was begun on it. A closed one may be closed again. */
