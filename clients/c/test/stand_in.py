@@ -1,5 +1,5 @@
 #!/usr/bin/env python3
-"""stand_in.py [--socket PATH] [--transactions N] [--names N] [--name-bytes N]: answers the requests of docs/SERVICE.md, to test clients.
+"""stand_in.py [locks] [--socket PATH] [--transactions N] [--names N] [--name-bytes N]: answers requests of docs/SERVICE.md, to try clients.
 
 It is written from that page, and is slow: a deadlock is found by a search of the wait-for graph, queues are lists. Labels tell it only
 whether a wait can be taken back. Without --socket it answers standard input; with it, each connection to the socket, and who hangs up has
@@ -359,6 +359,8 @@ def answer_input(locks):
 
 def main():
     parser = argparse.ArgumentParser()
+    parser.add_argument("command", nargs="?", choices=["locks"])  # so that it can stand in for ./mmdetect too
+    parser.add_argument("--seed")
     parser.add_argument("--socket")
     parser.add_argument("--transactions", type=int, default=65536)
     parser.add_argument("--names", type=int, default=65536)
