@@ -128,16 +128,27 @@ class Locks:
         return grants
 
     def tell(self, grants):
-        """Tells of the grants. Then those end whose abort is due, and what they owned is granted in turn."""
-        self.news += [(one.key(), b"* granted %s %s" % (one.key(), name)) for one, name in grants]
-        for one, _ in grants:
+        """Tells of the grants. Then those end whose abort is due, one after the other, and those whose abort comes due by that."""
+        self.tell_granted(grants)
+        self.end_each([one for one, _ in grants])
+
+    def end_each(self, freed):
+        """Ends those whose abort is due, of those whose waits ended."""
+        while freed:
+            one = freed.pop(0)
             if one.is_due:
-                self.end_due(one)
+                freed += self.end_due(one)
+
+    def tell_granted(self, grants):
+        self.news += [(one.key(), b"* granted %s %s" % (one.key(), name)) for one, name in grants]
 
     def end_due(self, one):
+        """Returns those whose waits ended by that."""
         self.news.append((one.key(), b"* aborted " + one.key()))
         self.counts[2] += 1
-        self.tell(self.end(one))
+        grants = self.end(one)
+        self.tell_granted(grants)
+        return [one for one, _ in grants]
 
     def give_up(self, one):
         if one.private != one.public:
@@ -223,8 +234,7 @@ class Locks:
             raise Refused("not-waiting")
         if not self.give_up(one):
             return b"carried"
-        if one.is_due:
-            self.end_due(one)
+        self.end_each([one])
         return b"cancelled"
 
     def owner(self, name):
