@@ -26,10 +26,10 @@ def of_script(top, given):
     return tried(f"{top}/crates/example_script", [], given)
 
 
-def of_words(top, words, data=()):
-    """Tries the whole program with these words. Data: files, each a name in the folder that it runs in with a path."""
+def of_words(top, words, data=(), given=b""):
+    """Tries the whole program with these words and this input. Data: files, each a name in the folder that it runs in with a path."""
     flags = [flag for name, path in data for flag in ("--data", f"{name}={path}")]
-    return tried(f"{top}/crates/mm_detect", words, b"", flags)
+    return tried(f"{top}/crates/mm_detect", words, given, flags)
 
 
 def tried(folder, words, given, flags=()):

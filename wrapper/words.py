@@ -1,15 +1,17 @@
 """What the words of a command line ask for, where no program is built that could say it.
 
-`asked(words)` gives a Script, Threads or Storm where the words ask for a run, a Help with the name of its text, or a Wrong with the
+`asked(words)` gives a Script, Threads, Storm or Locks where the words ask for a run, a Help with the name of its text, or a Wrong with the
 program's text (without its tips, which guess at what was meant). tests/try/words.sh holds these texts against the program's own."""
 from dataclasses import dataclass, field
 
 U64_MOST = 2**64 - 1
-# each number of a storm, with its range
-NUMBERS = {"seed": (0, U64_MOST), "clients": (1, 64), "transmitters": (0, 64)}
+# each number of a subcommand, with its range
+STORM_NUMBERS = {"seed": (0, U64_MOST), "clients": (1, 64), "transmitters": (0, 64)}
+LOCKS_NUMBERS = {"transactions": (1, 65536), "names": (1, 65536), "name-bytes": (1, 1024), "seed": (0, U64_MOST)}
 NONE_USAGE = "mmdetect [COMMAND]"
 THREADS_USAGE = "mmdetect threads [OPTIONS] <FILE>"
 STORM_USAGE = "mmdetect storm [OPTIONS]"
+LOCKS_USAGE = "mmdetect locks [OPTIONS]"
 
 
 @dataclass
@@ -25,6 +27,11 @@ class Threads:
 
 @dataclass
 class Storm:
+    pass
+
+
+@dataclass
+class Locks:
     pass
 
 
@@ -149,24 +156,34 @@ def of_storm(words):
         if word in ("-h", "--help"):
             return Help("storm")
         if not reading.take_flag(word):
-            take_number(reading, word)
+            take_number(reading, word, STORM_NUMBERS)
     return Storm()
 
 
-def take_number(reading, word):
+def of_locks(words):
+    reading = Reading(list(words), LOCKS_USAGE)
+    while reading.left:
+        word = reading.left.pop(0)
+        if word in ("-h", "--help"):
+            return Help("locks")
+        take_number(reading, word, LOCKS_NUMBERS)
+    return Locks()
+
+
+def take_number(reading, word, numbers):
     name, has_value, value = word.partition("=")
-    if name[:2] != "--" or name[2:] not in NUMBERS:
-        raise unexpected(name, STORM_USAGE)
+    if name[:2] != "--" or name[2:] not in numbers:
+        raise unexpected(name, reading.usage)
     if not has_value:
         if not reading.left:
             raise wrong(f"a value is required for '{name} <N>' but none was supplied")
         value = reading.left.pop(0)
         if value.startswith("-") and value != "-":
-            raise unexpected(value, STORM_USAGE)
+            raise unexpected(value, reading.usage)
     if name in reading.given:
-        raise wrong(f"the argument '{name} <N>' cannot be used multiple times", STORM_USAGE)
+        raise wrong(f"the argument '{name} <N>' cannot be used multiple times", reading.usage)
     reading.given.add(name)
-    fault = fault_of(value, *NUMBERS[name[2:]])
+    fault = fault_of(value, *numbers[name[2:]])
     if fault:
         raise wrong(f"invalid value '{value}' for '{name} <N>': {fault}")
 
@@ -183,4 +200,4 @@ def fault_of(text, least, most):
     return None if least <= int(digits) <= most else f"{text} is not in {least}..={most}"
 
 
-PARTS = {"script": of_script, "threads": of_threads, "storm": of_storm}
+PARTS = {"script": of_script, "threads": of_threads, "storm": of_storm, "locks": of_locks}

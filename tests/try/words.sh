@@ -10,7 +10,7 @@ as_unbuilt() {
 }
 
 # Help goes to standard output.
-for line in --help -h help "script --help" "script -h" "help script" "threads --help" "storm -h" "help storm" "help help" "threads a -h"; do
+for line in --help -h help "script --help" "script -h" "help script" "threads --help" "storm -h" "help storm" "locks --help" "locks --names 2 -h" "help locks" "help help" "threads a -h"; do
   read -ra words <<< "$line"
   case_is "$line"
   run "${words[@]}" < "$work/script" > "$work/out" 2> "$work/err"
@@ -25,7 +25,7 @@ for words in --help -h help "help script" "script --help" "script -h"; do
   run $words > "$work/out" 2> "$work/err"
   status=$?
   ends 0 "$(cat "$work/out")" "" $status
-  for call in "table P R L G" "table2 P R L G" "begin" "acquire K r" "release K r" "finish K" "transmit K" "detect K" "abort K" "give_up K" "settle" "state K" "owner r" "totals" "refused N Name" threads storm "Exit statuses:" "1 to 17592186044415" " 7 LabelsExhausted " "15 CountsExhausted "; do
+  for call in "table P R L G" "table2 P R L G" "begin" "acquire K r" "release K r" "finish K" "transmit K" "detect K" "abort K" "give_up K" "settle" "state K" "owner r" "totals" "refused N Name" threads storm "Exit statuses:" "1 to 17592186044415" " 7 LabelsExhausted " "15 CountsExhausted " locks; do
     says "$call"
   done
 done

@@ -8,7 +8,7 @@ use Rattle.clap.specs.declared.error.Error.{Error}
 use Rattle.clap.specs.declared.error.kind.ErrorKind.{ErrorKind}
 use Rattle.clap.specs.declared.error.kind.ErrorKind.TheVariants as kind
 use Rattle.mm_command.specs.declared.command_line.Request.{Request}
-use Rattle.mm_command.specs.declared.command_line.Request.TheVariants.{Script, Threads, Storm, Help, Wrong, Memory}
+use Rattle.mm_command.specs.declared.command_line.Request.TheVariants.{Script, Threads, Storm, Locks, Help, Wrong, Memory}
 
 -- the flag `--verbose`, or `-v`
 abbrev pub verbose_rule : Rule
@@ -22,6 +22,15 @@ number_rule name least most default = record (new_rule name) {
   action = Some Set;
   parser = Some (Unsigned least most);
   defaults = default ∷ [];
+}
+
+-- the same without a value where it is not given
+abbrev pub free_number_rule : Text → ℕ → ℕ → Rule
+free_number_rule name least most = record (new_rule name) {
+  long = Some name;
+  value_names = 1;
+  action = Some Set;
+  parser = Some (Unsigned least most);
 }
 
 -- the one file that has to be named
@@ -46,9 +55,24 @@ transmitters_rule = number_rule (codes "transmitters") 0 64 (codes "2")
 abbrev pub storm_app : App
 storm_app = with_rule (with_rule (with_rule (with_rule (new_app (codes "storm")) seed_rule) clients_rule) transmitters_rule) verbose_rule
 
+abbrev pub transactions_rule : Rule
+transactions_rule = number_rule (codes "transactions") 1 65536 (codes "65536")
+
+abbrev pub names_rule : Rule
+names_rule = number_rule (codes "names") 1 65536 (codes "65536")
+
+abbrev pub name_bytes_rule : Rule
+name_bytes_rule = number_rule (codes "name-bytes") 1 1024 (codes "64")
+
+abbrev pub locks_seed_rule : Rule
+locks_seed_rule = free_number_rule (codes "seed") 0 18446744073709551615
+
+abbrev pub locks_app : App
+locks_app = with_rule (with_rule (with_rule (with_rule (new_app (codes "locks")) transactions_rule) names_rule) name_bytes_rule) locks_seed_rule
+
 -- the words that there are, as clap sees them, and what clap adds, which is `help`, `--help` and `-h`
 abbrev pub program : App
-program = with_subcommand (with_subcommand (with_subcommand (new_app (codes "mmdetect")) script_app.top) threads_app.top) storm_app.top
+program = with_subcommand (with_subcommand (with_subcommand (with_subcommand (new_app (codes "mmdetect")) script_app.top) threads_app.top) storm_app.top) locks_app.top
 
 -- no word, or `script`
 abbrev pub AsksForScript : List Text → Type 0
@@ -81,6 +105,7 @@ abbrev pub runs : Request → Bool
 runs Script = true
 runs (Threads file verbose) = true
 runs (Storm options verbose) = true
+runs (Locks options) = true
 runs _ = false
 
 -- something is run, or memory was refused
@@ -99,9 +124,13 @@ HasNumber name low high rows = (text : Text) × (one_of name rows ≡ Some text)
 abbrev pub HasNumbers : List Row → Type 0
 HasNumbers rows = HasNumber (codes "seed") 0 18446744073709551615 rows × HasNumber (codes "clients") 1 64 rows × HasNumber (codes "transmitters") 0 64 rows
 
+-- they have the numbers of a lock service
+abbrev pub HasLimits : List Row → Type 0
+HasLimits rows = HasNumber (codes "transactions") 1 65536 rows × HasNumber (codes "names") 1 65536 rows × HasNumber (codes "name-bytes") 1 1024 rows
+
 -- what the matches of the subcommand of this name have to have
 abbrev pub HasWanted : Text → List Row → Type 0
-HasWanted name rows = (name ≡ codes "threads" → HasText (codes "FILE") rows) × (name ≡ codes "storm" → HasNumbers rows)
+HasWanted name rows = (name ≡ codes "threads" → HasText (codes "FILE") rows) × (name ≡ codes "storm" → HasNumbers rows) × (name ≡ codes "locks" → HasLimits rows)
 
 -- the request, where memory was not refused
 abbrev pub IsScript : Request → Type 0

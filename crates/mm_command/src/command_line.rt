@@ -1,17 +1,18 @@
 //! What the words of the command line ask for.
 //!
 //! - `program`: the words that there are.
-//! - `options`: the numbers of a generated workload.
-ghost use Rattle.std.specs.Prelude.{◌≡◌, ◌≢◌, List, [], IfOk, codes, true, map};
+//! - `options`: the numbers of a generated workload, and those of a lock service.
+ghost use Rattle.std.specs.Prelude.{◌≡◌, ◌≢◌, ◌↔◌, List, [], IfOk, IsTrue, codes, true, map};
 ghost use Rattle.clap.specs.Words.{FailsBy, HasMatchesOf, Text, fault_of, found_of, rows_of, subcommand_name_of};
-ghost use Rattle.mm_command.specs.CommandLine.{AsksForHelp, AsksForScript, HasNumbers, HasText, HasWanted, IsByFault, IsHelp, IsRun, IsScript, IsScriptName, program, request_at, runs};
+ghost use Rattle.mm_command.specs.CommandLine.{AsksForHelp, AsksForScript, HasLimits, HasNumbers, HasText, HasWanted, IsByFault, IsHelp, IsRun, IsScript, IsScriptName, program, request_at, runs};
+ghost use Rattle.mm_command.specs.Limits.{AreLimits};
 
 mod options;
 mod program;
 
 use clap::error::ErrorKind;
 use clap::{ArgMatches, Error};
-pub use options::StormOptions;
+pub use options::{LocksOptions, StormOptions};
 use program::{MAX_CLIENTS, MAX_TRANSMITTERS, command};
 use std::alloc::{AllocError, Global};
 use std::convert::AsStr;
@@ -32,6 +33,8 @@ pub enum Request {
         options: StormOptions,
         verbose: bool,
     },
+    /// A lock service is to be run.
+    Locks(LocksOptions),
     /// Help, with its text.
     Help(Error),
     /// The words are no command line of this program; the text says why.
@@ -108,6 +111,7 @@ fn by_subcommand(alloc: Global, name: &str, own: &ArgMatches<'_>) -> Request
     let asked = match name {
         "threads" => threads(alloc, own),
         "storm" => storm(alloc, own),
+        "locks" => locks(alloc, own),
         _ => return Request::Script,
     };
     asked.unwrap_or(Request::Memory)
@@ -146,6 +150,36 @@ fn storm(alloc: Global, own: &ArgMatches<'_>) -> Result<Request, AllocError>
         },
         verbose: own.get_flag("verbose"),
     })
+}
+
+fn locks(alloc: Global, own: &ArgMatches<'_>) -> Result<Request, AllocError>
+    ensures { HasLimits (rows_of (found_of own.now)) → IfOk result (λ request. runs request ≡ true) }
+{
+    let (Some(transactions), Some(names), Some(name_bytes)) = (
+        own.get_one::<u32>("transactions"),
+        own.get_one::<u32>("names"),
+        own.get_one::<u32>("name-bytes"),
+    ) else {
+        return wrong(alloc, "a number is missing");
+    };
+    if !are_limits(transactions, names, name_bytes) {
+        return wrong(alloc, "a number is out of range");
+    }
+    Ok(Request::Locks(LocksOptions {
+        transactions,
+        names,
+        name_bytes,
+        seed: own.get_one::<u64>("seed"),
+    }))
+}
+
+/// Whether a lock service can have these limits.
+fn are_limits(transactions: u32, names: u32, name_bytes: u32) -> bool
+    ensures { IsTrue result ↔ AreLimits transactions names name_bytes }
+{
+    (1..=65_536).contains(&transactions)
+        && (1..=65_536).contains(&names)
+        && (1..=1_024).contains(&name_bytes)
 }
 
 fn wrong(alloc: Global, text: &str) -> Result<Request, AllocError> {

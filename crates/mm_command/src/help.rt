@@ -10,6 +10,8 @@ pub const THREADS: &str = "Runs the workload in FILE, each client and transmitte
 
 pub const STORM: &str = "Runs a generated workload: the same one for the same numbers";
 
+pub const LOCKS: &str = "Answers lock requests by name from standard input, a line each";
+
 /// What the flag does.
 pub const VERBOSE: &str = "Says on standard error how the run goes";
 

@@ -5,11 +5,19 @@ use Rattle.mm_command.specs.declared.command_line.Request.TheVariants as request
 use Rattle.mm_detect.specs.declared.ending.Ending.{Ending}
 use Rattle.mm_detect.specs.declared.ending.Ending.TheVariants as ending
 
+-- a lock service is run, or memory for it is refused; or it has no seed
+abbrev pub EndsService : Ending → Type 0
+EndsService (ending.Ran lines) = ⊤
+EndsService (ending.Refused printed) = ⊤
+EndsService ending.Wrong = ⊤
+EndsService _ = ⊥
+
 -- each request has an end of its own, but for the two kinds of workload, which end alike
 abbrev pub IsEndOf : Request → Ending → Type 0
 IsEndOf request.Script (ending.Ran lines) = ⊤
 IsEndOf (request.Threads file verbose) (ending.Worked status) = ⊤
 IsEndOf (request.Storm options verbose) (ending.Worked status) = ⊤
+IsEndOf (request.Locks options) end = EndsService end
 IsEndOf (request.Help text) (ending.Helped printed) = ⊤
 IsEndOf (request.Wrong text) ending.Wrong = ⊤
 IsEndOf request.Memory (ending.Refused printed) = ⊤

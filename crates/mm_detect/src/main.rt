@@ -1,6 +1,7 @@
 //! A deadlock detector for transactions. `mm_command` says what the words of the command line ask for.
 //!
 //! - `file`: the bytes of a file.
+//! - `locks`: a lock service.
 //! - `work`: runs of workloads. `work_end`: what came of one. `verbose`: what is printed meanwhile for a person.
 //! - `ending`: how a run of the program ends, and the status that it exits with.
 #![tactic(auto)]
@@ -9,12 +10,14 @@ ghost use Rattle.mm_detect.specs.Answer.{IsEndOf};
 
 mod ending;
 mod file;
+mod locks;
 mod verbose;
 mod work;
 mod work_end;
 
 use ending::{Ending, fault, status};
 use file::{Taken, taken_from};
+use locks::run_locks;
 use mm_command::{Request, StormOptions, asked};
 use mm_script::{ScriptFault, run_script};
 use mm_table::Refusal;
@@ -22,6 +25,7 @@ use mm_workload::Workload;
 use std::alloc::Global;
 use std::io::{Read, Write};
 use std::process::ExitCode;
+use std::random::RandomSource;
 use std::rt::Runtime;
 use std::sync::Wait;
 use std::thread::Threads;
@@ -40,7 +44,7 @@ fn main(rt: HostRuntime) -> ExitCode {
 }
 
 /// Does what is asked for, and returns how that ended.
-fn answer<R: Runtime + Threads + Wait + Sync, I: Read, W: Write>(
+fn answer<R: Runtime + RandomSource + Threads + Wait + Sync, I: Read, W: Write>(
     rt: &R,
     alloc: Global,
     request: &Request,
@@ -51,6 +55,7 @@ fn answer<R: Runtime + Threads + Wait + Sync, I: Read, W: Write>(
 {
     match request {
         Request::Script => Ending::Ran(run_script(alloc, input, output)),
+        Request::Locks(options) => run_locks(rt, alloc, options, input, output),
         Request::Threads { file, verbose } => {
             Ending::Worked(run_file(rt, alloc, file.as_str(), *verbose, output))
         }

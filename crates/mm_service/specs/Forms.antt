@@ -19,8 +19,9 @@ pub record AskedFor : Type 0 where
 abbrev pub is_name_byte : ℕ → Bool
 is_name_byte b = (nat_le 0x21 b && nat_le b 0x7e) || nat_le 0x80 b
 
+-- at most 1,024 such bytes
 abbrev pub name_of_word : List ℕ → Option (List ℕ)
-name_of_word word = if list_all is_name_byte word then Some word else None
+name_of_word word = if nat_le (length word) 1024 && list_all is_name_byte word then Some word else None
 
 -- nothing: this request
 abbrev pub alone : Request → List (List ℕ) → Option AskedFor

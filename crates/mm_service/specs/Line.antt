@@ -27,12 +27,14 @@ line_of_words (word ∷ arguments) =
     if nat_eq (slice_index word 0) 0x23 then nameless kind.Silent
     else line_by (request_of word arguments)
 
--- the longest line in bytes, with its carriage return
-abbrev pub max_line : ℕ
-max_line = 1054
+-- the longest request in bytes: `unlock`, a key of 16 bytes, a name of 1,024, and two spaces
+abbrev pub max_request : ℕ
+max_request = 1048
+
+-- a line without its newline and its carriage return
+abbrev pub request_line : List ℕ → NamedLine
+request_line line = if nat_lt max_request (length line) then nameless kind.Malformed else line_of_words (words_of line)
 
 -- a line without its newline; one carriage return at its end is dropped
 abbrev pub line_of : List ℕ → NamedLine
-line_of bytes =
-    if nat_lt max_line (length bytes) then nameless kind.Malformed
-    else line_of_words (words_of (strip_carriage_return bytes))
+line_of bytes = request_line (strip_carriage_return bytes)

@@ -1,4 +1,133 @@
 -- What a service is answered.
-use Rattle.std.specs.Prelude.{◌≡◌, ◌⊎◌, ◌↔◌, ℕ, ◌+◌, Bool, true, false, List, [], ◌∷◌, ◌++◌, length, Option, Result, Ok, Err, codes, decimal, IsTrue, if◌then◌else◌}
-use Rattle.std.specs.List.Sorted.{IsSortedByKey}
-use Rattle.std.specs.Cmp.Slice.{slice_cmp}
+use Rattle.std.specs.Prelude.{◌≡◌, ◌⊎◌, ◌↔◌, ℕ, ◌+◌, Bool, true, false, List, [], ◌∷◌, ◌++◌, length, Option, Some, Result, Ok, Err, codes, decimal, if◌then◌else◌}
+use Rattle.std.specs.Cmp.Lexicographic.{slice_cmp}
+use Rattle.std.specs.List.Sorted.{IsPermutation, IsSortedByKey}
+use Rattle.std.specs.Ordering.{nat_cmp}
+use Rattle.mm_arena.specs.declared.key.Key.{Key}
+use Rattle.mm_list_lemmas.specs.Members.{Among, NoRepeat}
+use Rattle.mm_names.specs.Names.{name_of}
+use Rattle.mm_rules.specs.TableState.{is_live}
+use Rattle.mm_settled.specs.declared.reply.Grant.{Grant}
+use Rattle.mm_manager.specs.LockState.{LockState, Owns}
+use Rattle.mm_manager.specs.Reads.{HasStatus, waits_of}
+use Rattle.mm_manager.specs.declared.refusal.Refusal.{Refusal}
+use Rattle.mm_manager.specs.declared.refusal.Refusal.TheVariants.{NoTransaction}
+use Rattle.mm_manager.specs.declared.reply.Abort as abort
+use Rattle.mm_manager.specs.declared.reply.Cancel as cancel
+use Rattle.mm_manager.specs.declared.reply.Cancel.TheVariants as cancels
+use Rattle.mm_manager.specs.declared.reply.Lock.{Lock}
+use Rattle.mm_manager.specs.declared.reply.Status.{Status}
+use Rattle.mm_manager.specs.declared.reply.TryLock.{TryLock}
+use Rattle.mm_manager.specs.declared.reply.Wait.{Wait}
+use Rattle.mm_service.specs.Line.{line_of}
+use Rattle.mm_service.specs.Made.{Begun, Locked, Tried, Unlocked, Committed, Aborted, Cancelled}
+use Rattle.mm_service.specs.Reply.{line_text, refusal_word, answer_text, begun_text, lock_text, try_text, unlocked_text, committed_text, abort_text, cancel_text, owner_text, totals_text, status_text, granted_text, aborted_text, arrow_text, name_at}
+use Rattle.mm_service.specs.declared.line.KeyRequest.{KeyRequest}
+use Rattle.mm_service.specs.declared.line.KeyRequest.TheVariants as of_key
+use Rattle.mm_service.specs.declared.line.Line.{Line}
+use Rattle.mm_service.specs.declared.line.Line.TheVariants as kind
+use Rattle.mm_service.specs.declared.line.NameRequest.{NameRequest}
+use Rattle.mm_service.specs.declared.line.NameRequest.TheVariants as of_name
+use Rattle.mm_service.specs.declared.line.Request.{Request}
+use Rattle.mm_service.specs.declared.line.Request.TheVariants as requests
+
+-- ---- what a request caused for others
+
+-- by a grant a wait ended: its transaction owns the name; or it is live no longer, since its abort was due
+abbrev pub told_line : LockState → Grant → List ℕ
+told_line m g = if is_live m.table g.key then line_text (granted_text g.key (name_at m g.resource)) else line_text (aborted_text g.key)
+
+abbrev pub told_lines : LockState → List Grant → List ℕ
+told_lines m [] = []
+told_lines m (g ∷ gs) = told_line m g ++ told_lines m gs
+
+-- the waits that the last call ended, in order
+abbrev pub told_text : LockState → List ℕ
+told_text m = told_lines m m.granted
+
+-- the transaction whose wait was taken back is live no longer where its abort was due
+abbrev pub due_line : LockState → Key → Result cancel.Cancel Refusal → List ℕ
+due_line m k (Ok cancels.Withdrawn) = if is_live m.table k then [] else line_text (aborted_text k)
+due_line m k (Ok cancels.Carried) = []
+due_line m k (Err refusal) = []
+
+-- ---- what is read
+
+-- these are the numbers of the names that k owns, each once, in the order of the names' bytes
+pub record AreHeld (m : LockState) (k : Key) (numbers : List ℕ) : Type 0 where
+  pub held : List ℕ
+  pub holds : (name : List ℕ) → Owns m k name ↔ ((n : ℕ) × Among n held × (name_of m.names n ≡ Some name))
+  pub once : NoRepeat held
+  pub same : IsPermutation held numbers
+  pub sorted : IsSortedByKey (name_at m) (slice_cmp nat_cmp) numbers
+
+abbrev pub names_text : LockState → List ℕ → List ℕ
+names_text m [] = []
+names_text m (n ∷ ns) = codes " " ++ name_at m n ++ names_text m ns
+
+-- the names that a transaction owns, where it is live
+abbrev pub HoldsText : LockState → Key → List ℕ → Type 0
+HoldsText m k out =
+    ((is_live m.table k ≡ true) × ((numbers : List ℕ) × AreHeld m k numbers × (out ≡ line_text (codes "holds" ++ names_text m numbers))))
+    ⊎ ((is_live m.table k ≡ false) × (out ≡ line_text (codes "refused " ++ refusal_word NoTransaction)))
+
+-- a line for each wait
+abbrev pub arrow_lines : LockState → List Wait → List ℕ
+arrow_lines m [] = []
+arrow_lines m (w ∷ ws) = line_text (arrow_text w.key (name_at m w.number) w.holder) ++ arrow_lines m ws
+
+-- the wait-for graph: how many wait, and a line for each
+abbrev pub graph_text : LockState → List ℕ
+graph_text m = line_text (codes "graph " ++ decimal (length (waits_of m.table))) ++ arrow_lines m (waits_of m.table)
+
+-- the owner of a name
+abbrev pub OwnerText : LockState → List ℕ → List ℕ → Type 0
+OwnerText m name out = (owner : Option Key) × ((k : Key) → (owner ≡ Some k) ↔ Owns m k name) × (out ≡ line_text (owner_text owner))
+
+-- ---- what a line is answered
+
+-- a request of a name
+abbrev pub AnswersName : NameRequest → Key → List ℕ → LockState → List ℕ → LockState → Type 0
+AnswersName of_name.Lock k name old out new = (answer : Result Lock Refusal) × Locked old k name answer new × (out ≡ line_text (answer_text lock_text answer))
+AnswersName of_name.Try k name old out new = (answer : Result TryLock Refusal) × Tried old k name answer new × (out ≡ line_text (answer_text try_text answer))
+AnswersName of_name.Unlock k name old out new = (answer : Result (Unit {0}) Refusal) × Unlocked old k name answer new × (out ≡ line_text (answer_text unlocked_text answer) ++ told_text new)
+
+-- a request of a transaction
+abbrev pub AnswersKey : KeyRequest → Key → LockState → List ℕ → LockState → Type 0
+AnswersKey of_key.Commit k old out new = (answer : Result (Unit {0}) Refusal) × Committed old k answer new × (out ≡ line_text (answer_text committed_text answer) ++ told_text new)
+AnswersKey of_key.Abort k old out new = (answer : Result abort.Abort Refusal) × Aborted old k answer new × (out ≡ line_text (answer_text abort_text answer) ++ told_text new)
+AnswersKey of_key.Cancel k old out new = (answer : Result cancel.Cancel Refusal) × Cancelled old k answer new × (out ≡ line_text (answer_text cancel_text answer) ++ due_line new k answer ++ told_text new)
+AnswersKey of_key.Status k old out new = (answer : Result Status Refusal) × HasStatus old k answer × (new ≡ old) × (out ≡ line_text (answer_text (status_text old) answer))
+AnswersKey of_key.Holds k old out new = HoldsText old k out × (new ≡ old)
+
+-- a request, of this name where it is of one
+abbrev pub AnswersRequest : Request → List ℕ → LockState → List ℕ → LockState → Type 0
+AnswersRequest requests.Begin name old out new = (answer : Result Key Refusal) × Begun old answer new × (out ≡ line_text (answer_text begun_text answer))
+AnswersRequest (requests.OfName request k) name old out new = AnswersName request k name old out new
+AnswersRequest (requests.OfKey request k) name old out new = AnswersKey request k old out new
+AnswersRequest requests.Owner name old out new = OwnerText old name out × (new ≡ old)
+AnswersRequest requests.Graph name old out new = (out ≡ graph_text old) × (new ≡ old)
+AnswersRequest requests.Totals name old out new = (out ≡ line_text (totals_text old.totals)) × (new ≡ old)
+
+-- the bytes that a line is answered, 1 if it is malformed, and the manager after it
+abbrev pub AnswersLine : Line → List ℕ → LockState → List ℕ → ℕ → LockState → Type 0
+AnswersLine kind.Silent name old out malformed new = (out ≡ []) × (malformed ≡ 0) × (new ≡ old)
+AnswersLine kind.Malformed name old out malformed new = (out ≡ line_text (codes "malformed")) × (malformed ≡ 1) × (new ≡ old)
+AnswersLine (kind.Request request) name old out malformed new = AnswersRequest request name old out new × (malformed ≡ 0)
+
+-- the same of the bytes of a line
+abbrev pub Answers : LockState → List ℕ → List ℕ → ℕ → LockState → Type 0
+Answers old line out malformed new = AnswersLine (line_of line).line (line_of line).name old out malformed new
+
+-- the bytes that lines are answered, and how many of them are malformed: all lines where `whole` holds, and else perhaps only some at the front
+abbrev pub Text : Bool → LockState → List (List ℕ) → List ℕ → ℕ → Type 0
+Text whole m [] out malformed = (out ≡ []) × (malformed ≡ 0)
+Text true m (line ∷ lines) out malformed =
+    (next : LockState) × (reply : List ℕ) × (rest : List ℕ) × (one : ℕ) × (more : ℕ)
+    × Answers m line reply one next × Text true next lines rest more
+    × (out ≡ reply ++ rest) × (malformed ≡ one + more)
+Text false m (line ∷ lines) out malformed =
+    ((out ≡ []) × (malformed ≡ 0))
+    ⊎ ((next : LockState) × (reply : List ℕ) × (rest : List ℕ) × (one : ℕ) × (more : ℕ)
+    × Answers m line reply one next × Text false next lines rest more
+    × (out ≡ reply ++ rest) × (malformed ≡ one + more))

@@ -1,5 +1,6 @@
 //! The requests that a line can make: a word, and what stands behind it.
-ghost use Rattle.std.specs.Prelude.{◌≡◌, map, drop, option_map, option_copied, []};
+ghost use Rattle.std.specs.Prelude.{◌≡◌, ◌&&◌, nat_le, length, map, drop, option_map, option_copied, []};
+ghost use Rattle.std.specs.List.{list_all};
 ghost use Rattle.std.specs.Map.{lookup};
 ghost use Rattle.std.specs.Str.{bytes_eq};
 ghost use Rattle.mm_lines.specs.WordsLeft.{words_left, first_spells};
@@ -7,6 +8,7 @@ ghost use Rattle.mm_service.specs.Forms.{forms, request_of, is_name_byte, name_o
 ghost use Rattle.mm_service.specs.private.Forms.{asked_for};
 
 use crate::line::{Asked, KeyRequest, NameRequest, Request};
+use crate::reply::MAX_NAME;
 use mm_lines::Words;
 use mm_manager::Key;
 
@@ -139,7 +141,20 @@ fn next_name<'a>(arguments: &mut Words<'a>) -> Option<&'a [u8]>
     ensures left { words_left arguments.new ≡ drop 1 (words_left arguments.old) }
 {
     let word = arguments.next()?;
-    word.iter().all(|&b| is_name_byte(b)).then_some(word)
+    is_name(word).then_some(word)
+}
+
+/// Whether a word can be a name.
+fn is_name(word: &[u8]) -> bool
+    ensures { result ≡ (nat_le (length word.now) MAX_NAME && list_all is_name_byte word.now) }
+{
+    word.len() <= MAX_NAME && are_name_bytes(word)
+}
+
+fn are_name_bytes(word: &[u8]) -> bool
+    ensures { result ≡ list_all is_name_byte word.now }
+{
+    word.iter().all(|&byte| is_name_byte(byte))
 }
 
 /// Whether a name may have this byte: from `!` to `~`, or 80 (hexadecimal) and above.

@@ -5,7 +5,7 @@
 //! - `calls`: makes a request, and writes its reply and what it caused for others.
 //! - `lists`: the replies that list something: names that are held, the wait-for graph, and what a request caused.
 //! - `reply`: how replies are printed.
-//! - `service`: a service as far as it is answered.
+//! - `service`: a service as far as it is answered. `lock_service`: `LockService`, what callers open and run.
 //!
 //! Lines are read, cut and written by `mm_lines`.
 #![tactic(auto)]
@@ -14,5 +14,11 @@ mod calls;
 mod forms;
 mod line;
 mod lists;
+mod lock_service;
 mod reply;
 mod service;
+
+pub use forms::usages;
+pub use lock_service::LockService;
+pub use mm_lines::Fault as ServiceFault;
+pub use mm_manager::{ManagerConfig, OpenError};

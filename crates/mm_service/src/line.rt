@@ -6,8 +6,11 @@ use crate::forms::request_of;
 use mm_lines::{Words, without_carriage_return};
 use mm_manager::Key;
 
-/// The longest line in bytes, with its carriage return: that of an unlock of the longest name by the longest key.
-pub const MAX_LINE: usize = 1_054;
+/// The longest request in bytes: `unlock`, a key of 16 bytes, a name of 1,024, and two spaces.
+const MAX_REQUEST: usize = 1_048;
+
+/// The longest line that can be a request, in bytes: the longest request and a carriage return.
+pub const MAX_LINE: usize = MAX_REQUEST + 1;
 
 /// What a line is.
 #[derive(Clone, Copy)]
@@ -73,10 +76,11 @@ pub fn line_of(line: &[u8]) -> Named<'_>
     ensures line { result.line ≡ (line_of line.now).line }
     ensures name { result.name.now ≡ (line_of line.now).name }
 {
-    if line.len() > MAX_LINE {
+    let line = without_carriage_return(line);
+    if line.len() > MAX_REQUEST {
         return Named::MALFORMED;
     }
-    let mut words = Words::new(without_carriage_return(line));
+    let mut words = Words::new(line);
     let Some(word) = words.next() else {
         return Named::SILENT;
     };

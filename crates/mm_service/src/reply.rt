@@ -14,7 +14,7 @@ pub const MAX_REPLY: usize = 128;
 pub const MAX_NAMED: usize = 1_200;
 
 /// A name has at most so many bytes.
-const MAX_NAME: usize = 1_024;
+pub const MAX_NAME: usize = 1_024;
 
 /// Ends a line.
 pub fn end_line(output: &mut Output)

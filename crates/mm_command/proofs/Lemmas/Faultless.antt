@@ -31,11 +31,11 @@ use Rattle.clap.specs.Values.{IsUnsignedIn}
 use Rattle.clap.specs.declared.parser.matches.Found.{Found}
 use Rattle.clap.proofs.WalkLemmas.{first_value-rows, one_text-rows}
 use Rattle.clap.proofs.ValueTestLemmas.{accepts-Accepts}
-use Rattle.mm_command.specs.CommandLine.{HasNumber, HasNumbers, HasText, HasWanted, IsRun, program, runs}
+use Rattle.mm_command.specs.CommandLine.{HasLimits, HasNumber, HasNumbers, HasText, HasWanted, IsRun, program, runs}
 use Rattle.mm_command.proofs.Lemmas.Walked.{Listed, find_listed, or_none}
 use Rattle.mm_command.proofs.Lemmas.Filled.{EachFits, HasOne, default_has, given_has, has_found, leaf_fits}
 
--- a subcommand as clap builds it: `script`, `threads`, `storm` and `help`
+-- a subcommand as clap builds it: `script`, `threads`, `storm`, `locks` and `help`
 abbrev sub_at : ℕ → Shape
 sub_at i = slice_index_or (built program).subs i (new_shape [])
 
@@ -134,6 +134,43 @@ numbers_there words none =
       number_there storm_rules (codes "transmitters") 0 64 rows reads_transmitters (default_has (sub_at 2) words (rule_at 2) (inr (inr (inl refl))) tt) fits.0,
     )
 
+abbrev locks_rules : List Rule
+locks_rules = (sub_at 3).rules
+
+reads_transactions : ReadNumbers (codes "transactions") 1 65536 locks_rules
+reads_transactions a (inl is) named = ap (λ (r : Rule). r.parser) (sym is)
+reads_transactions a (inr (inl is)) named = absurd (other _ a _ is refl named)
+reads_transactions a (inr (inr (inl is))) named = absurd (other _ a _ is refl named)
+reads_transactions a (inr (inr (inr (inl is)))) named = absurd (other _ a _ is refl named)
+reads_transactions a (inr (inr (inr (inr (inl is))))) named = absurd (other _ a _ is refl named)
+reads_transactions a (inr (inr (inr (inr (inr x))))) named = absurd x
+
+reads_names : ReadNumbers (codes "names") 1 65536 locks_rules
+reads_names a (inl is) named = absurd (other _ a _ is refl named)
+reads_names a (inr (inl is)) named = ap (λ (r : Rule). r.parser) (sym is)
+reads_names a (inr (inr (inl is))) named = absurd (other _ a _ is refl named)
+reads_names a (inr (inr (inr (inl is)))) named = absurd (other _ a _ is refl named)
+reads_names a (inr (inr (inr (inr (inl is))))) named = absurd (other _ a _ is refl named)
+reads_names a (inr (inr (inr (inr (inr x))))) named = absurd x
+
+reads_name_bytes : ReadNumbers (codes "name-bytes") 1 1024 locks_rules
+reads_name_bytes a (inl is) named = absurd (other _ a _ is refl named)
+reads_name_bytes a (inr (inl is)) named = absurd (other _ a _ is refl named)
+reads_name_bytes a (inr (inr (inl is))) named = ap (λ (r : Rule). r.parser) (sym is)
+reads_name_bytes a (inr (inr (inr (inl is)))) named = absurd (other _ a _ is refl named)
+reads_name_bytes a (inr (inr (inr (inr (inl is))))) named = absurd (other _ a _ is refl named)
+reads_name_bytes a (inr (inr (inr (inr (inr x))))) named = absurd x
+
+limits_there : (words : List Text) → level_fault (sub_at 3) [] nothing_held words false [] ≡ [] → HasLimits (rows_after locks_rules [] words)
+limits_there words none =
+    let rows = rows_after locks_rules [] words in
+    let fits = leaf_fits (sub_at 3) words refl refl none in
+    let rule = λ (i : ℕ). slice_index_or locks_rules i (new_rule []) in (
+      number_there locks_rules (codes "transactions") 1 65536 rows reads_transactions (default_has (sub_at 3) words (rule 0) (inl refl) tt) fits.0,
+      number_there locks_rules (codes "names") 1 65536 rows reads_names (default_has (sub_at 3) words (rule 1) (inr (inl refl)) tt) fits.0,
+      number_there locks_rules (codes "name-bytes") 1 1024 rows reads_name_bytes (default_has (sub_at 3) words (rule 2) (inr (inr (inl refl))) tt) fits.0,
+    )
+
 -- ---- the subcommand that clap enters
 
 misnamed : (s t : Shape) (name : Text) → s ≡ t → bytes_eq s.name name ≡ false → t.name ≡ name → ⊥
@@ -141,20 +178,33 @@ misnamed s t name is differs named =
     let bad : false ≡ true = sym differs ∙ (ap (λ (x : Shape). bytes_eq x.name name) is ∙ (bytes_eq-Decides t.name name).1 named) in
     cc
 
-wanted_by : (s : Shape) (words : List Text) → Listed s (built program).subs → level_fault s [] nothing_held words false [] ≡ [] → HasWanted s.name (rows_after s.rules [] words)
-wanted_by s words (inl is) none = (λ named. absurd (misnamed (sub_at 0) s _ is refl named), λ named. absurd (misnamed (sub_at 0) s _ is refl named))
+-- a subcommand of another name
+not_named : (i : ℕ) (s : Shape) (name : Text) → sub_at i ≡ s → bytes_eq (sub_at i).name name ≡ false → {P : Type 0} → s.name ≡ name → P
+not_named i s name is differs named = absurd (misnamed (sub_at i) s name is differs named)
+
+-- the words behind the name of a subcommand have no fault
+abbrev NoFault : List Text → Shape → Type 0
+NoFault words s = level_fault s [] nothing_held words false [] ≡ []
+
+wanted_by : (s : Shape) (words : List Text) → Listed s (built program).subs → NoFault words s → HasWanted s.name (rows_after s.rules [] words)
+wanted_by s words (inl is) none = (not_named 0 s _ is refl, not_named 0 s _ is refl, not_named 0 s _ is refl)
 wanted_by s words (inr (inl is)) none = (
-  λ named. subst (λ (x : Shape). HasText (codes "FILE") (rows_after x.rules [] words)) is
-      (file_there words (subst (λ (x : Shape). level_fault x [] nothing_held words false [] ≡ []) (sym is) none)),
-  λ named. absurd (misnamed (sub_at 1) s _ is refl named),
+  λ named. subst (λ (x : Shape). HasText (codes "FILE") (rows_after x.rules [] words)) is (file_there words (subst (NoFault words) (sym is) none)),
+  not_named 1 s _ is refl,
+  not_named 1 s _ is refl,
 )
 wanted_by s words (inr (inr (inl is))) none = (
-  λ named. absurd (misnamed (sub_at 2) s _ is refl named),
-  λ named. subst (λ (x : Shape). HasNumbers (rows_after x.rules [] words)) is
-      (numbers_there words (subst (λ (x : Shape). level_fault x [] nothing_held words false [] ≡ []) (sym is) none)),
+  not_named 2 s _ is refl,
+  λ named. subst (λ (x : Shape). HasNumbers (rows_after x.rules [] words)) is (numbers_there words (subst (NoFault words) (sym is) none)),
+  not_named 2 s _ is refl,
 )
-wanted_by s words (inr (inr (inr (inl is)))) none = (λ named. absurd (misnamed (sub_at 3) s _ is refl named), λ named. absurd (misnamed (sub_at 3) s _ is refl named))
-wanted_by s words (inr (inr (inr (inr x)))) none = absurd x
+wanted_by s words (inr (inr (inr (inl is)))) none = (
+  not_named 3 s _ is refl,
+  not_named 3 s _ is refl,
+  λ named. subst (λ (x : Shape). HasLimits (rows_after x.rules [] words)) is (limits_there words (subst (NoFault words) (sym is) none)),
+)
+wanted_by s words (inr (inr (inr (inr (inl is))))) none = (not_named 4 s _ is refl, not_named 4 s _ is refl, not_named 4 s _ is refl)
+wanted_by s words (inr (inr (inr (inr (inr x))))) none = absurd x
 
 entered_wanted : (stop : Option (Text × List Text)) (name : Text) (rows : List Row) → entered_fault (built program) stop ≡ [] → entered (built program) stop ≡ Some (name, rows) → HasWanted name rows
 entered_wanted None name rows none is = cc

@@ -1,5 +1,6 @@
-//! The numbers of a generated workload.
+//! The numbers of a generated workload, and those of a lock service.
 ghost use Rattle.std.specs.Prelude.{◌≤◌};
+ghost use Rattle.mm_command.specs.Limits.{AreLimits};
 
 /// From what a workload is generated: any seed, 1 to 64 clients and 0 to 64 transmitters.
 #[derive(Clone, Copy)]
@@ -8,4 +9,14 @@ pub struct StormOptions {
     pub clients: u32,
     pub transmitters: u32,
     ghost in_range: { (1 ≤ clients) × (clients ≤ 64) × (transmitters ≤ 64) },
+}
+
+/// With what a lock service is opened: 1 to 65,536 transactions and names, names of 1 to 1,024 bytes, and a seed where one is given.
+#[derive(Clone, Copy)]
+pub struct LocksOptions {
+    pub transactions: u32,
+    pub names: u32,
+    pub name_bytes: u32,
+    pub seed: Option<u64>,
+    ghost in_range: { AreLimits transactions names name_bytes },
 }

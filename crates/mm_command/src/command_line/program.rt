@@ -2,9 +2,9 @@
 ghost use Rattle.std.specs.Prelude.{◌≡◌, IfOk, false};
 ghost use Rattle.clap.specs.Words.{app_of, rule_of};
 ghost use Rattle.clap.specs.declared.builder.command.Command.TheViews.{out-Command as fields_of};
-ghost use Rattle.mm_command.specs.CommandLine.{number_rule, program, script_app, storm_app, threads_app, verbose_rule};
+ghost use Rattle.mm_command.specs.CommandLine.{free_number_rule, locks_app, number_rule, program, script_app, storm_app, threads_app, verbose_rule};
 
-use crate::help::{ABOUT, AFTER, SCRIPT, STORM, THREADS, VERBOSE};
+use crate::help::{ABOUT, AFTER, LOCKS, SCRIPT, STORM, THREADS, VERBOSE};
 use clap::builder::ValueParser;
 use clap::{Arg, ArgAction, Command};
 use std::alloc::{AllocError, Global};
@@ -22,13 +22,15 @@ pub fn command<'a>(alloc: Global) -> Result<Command<'a>, AllocError>
     let script = script_command(alloc);
     let threads = threads_command(alloc)?;
     let storm = storm_command(alloc)?;
+    let locks = locks_command(alloc)?;
     Command::new(alloc, "mmdetect")
         .bin_name("mmdetect")?
         .about(ABOUT)
         .after_help(AFTER)
         .subcommand(script)?
         .subcommand(threads)?
-        .subcommand(storm)
+        .subcommand(storm)?
+        .subcommand(locks)
 }
 
 fn script_command<'a>(alloc: Global) -> Command<'a>
@@ -62,6 +64,17 @@ fn storm_command<'a>(alloc: Global) -> Result<Command<'a>, AllocError>
         .arg(verbose(alloc))
 }
 
+fn locks_command<'a>(alloc: Global) -> Result<Command<'a>, AllocError>
+    ensures { IfOk result (λ made. (app_of made ≡ locks_app) × ((fields_of made).has_globals ≡ false)) }
+{
+    Command::new(alloc, "locks")
+        .about(LOCKS)
+        .arg(number(alloc, "transactions", 1, 65_536, "65536"))?
+        .arg(number(alloc, "names", 1, 65_536, "65536"))?
+        .arg(number(alloc, "name-bytes", 1, 1_024, "64"))?
+        .arg(free_number(alloc, "seed", 0, u64::MAX))
+}
+
 /// The flag `--verbose`.
 fn verbose<'a>(alloc: Global) -> Arg<'a>
     ensures rule { rule_of result ≡ verbose_rule }
@@ -85,4 +98,16 @@ fn number<'a>(alloc: Global, name: &'a str, least: u64, most: u64, default: &'a 
         .action(ArgAction::Set)
         .value_parser(ValueParser::unsigned(least, most))
         .default_value(default)
+}
+
+/// The same without a value where it is not given.
+fn free_number<'a>(alloc: Global, name: &'a str, least: u64, most: u64) -> Arg<'a>
+    ensures rule { rule_of result ≡ free_number_rule name.entry.now least most }
+    ensures local { result.global ≡ false }
+{
+    Arg::new(alloc, name)
+        .long(name)
+        .value_name("N")
+        .action(ArgAction::Set)
+        .value_parser(ValueParser::unsigned(least, most))
 }

@@ -27,11 +27,11 @@ long_line t a b lines out m long_a long_b text =
     (text.0, text.1, text.2, text.3, text.4, subst (λ l. Answers l t text.1 text.3 text.0) same text.5, text.6, text.7, text.8)
 
 -- the text of a script is made line by line
-pub script_text : IsText AnswersBytes 128 Text
+pub script_text : IsText AnswersBytes 128 (λ _. Text)
 script_text = record {
-  none = λ s. (refl, refl);
-  next = λ s t line reply one lines out malformed answer text. (t, reply, out, one, malformed, answer, text, refl, refl);
-  long = long_line;
+  none = λ whole s. (refl, refl);
+  next = λ whole s t line reply one lines out malformed answer text. (t, reply, out, one, malformed, answer, text, refl, refl);
+  long = λ whole. long_line;
 }
 
 pub answers_line : (old new : Session) (line : List ℕ) (kind : Line) (reply : List ℕ) (one : ℕ) → kind ≡ line_of line → Answers kind old.table reply one new.table

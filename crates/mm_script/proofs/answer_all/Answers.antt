@@ -18,7 +18,7 @@ loop-session-init g c =
     let nothing = ap (λ (i : InputState). length i.held) c.requires.input in
     let none_taken = ap (λ (i : InputState). i.taken) c.requires.input in
     let ready : IsReady input = record { room = omega (arith, nothing); within_limit = omega (arith, none_taken) } in
-    let first = progress_first Text IsLawful (g.R.Read.remaining c.args.reader.now) (g.W.Write.contents c.args.writer.now) input None c.args.session.now.replies.items
+    let first = progress_first (λ _. Text) IsLawful (g.R.Read.remaining c.args.reader.now) (g.W.Write.contents c.args.writer.now) input None c.args.session.now.replies.items
         (ap (λ (i : InputState). i.held) c.requires.input) none_taken ready tt c.requires.replies in
     record {
       so_far = rw (c.requires.malformed, c.requires.table) first;

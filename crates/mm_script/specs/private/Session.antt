@@ -28,7 +28,7 @@ pub record AnswersLine (old : Session) (line : List ℕ) (new : Session) : Type 
 
 -- the session answered the lines at the front of the bytes, wrote what it did not keep or lose, and the rest is left
 abbrev pub AnswersLines : Option (List ℕ) → Option (List ℕ) → Session → List ℕ → Session → List ℕ → List ℕ → Type 0
-AnswersLines before after old bytes new rest lost = Answered Text IsLawful before after old.table old.malformed old.replies.items bytes new.table new.malformed rest lost
+AnswersLines before after old bytes new rest lost = Answered (λ _. Text) IsLawful before after old.table old.malformed old.replies.items bytes new.table new.malformed rest lost
 
 -- the session answered the line that no newline ends, if there is one
 pub record AnswersOpen (old : Session) (bytes : List ℕ) (new : Session) : Type 0 where

@@ -1,13 +1,13 @@
 use Rattle.std.proofs.Common.{◌≡◌, ◌⊎◌, inl, inr, ℕ, sym, subst, Result, Ok, IfOk}
-use Rattle.mm_script.specs.declared.ScriptFault.{ScriptFault}
+use Rattle.mm_lines.specs.declared.fault.Fault.{Fault}
 use Rattle.mm_detect.specs.WorkEnd.{work_status}
 use Rattle.mm_detect.specs.declared.work_end.WorkEnd.{WorkEnd}
 use Rattle.mm_detect.proofs.Lemmas.Workload.{ends_as_malformed, ends_as_run}
 use Rattle.mm_detect.proofs.work.threads_on.Goals as goal
 
 -- the status that was returned is that of the end
-told : (end : WorkEnd) (r : Result ℕ ScriptFault) (n : ℕ) → IfOk r (λ status. status ≡ work_status end) → r ≡ Ok n → work_status end ≡ n
-told end r n is e = sym (subst (λ (q : Result ℕ ScriptFault). IfOk q (λ status. status ≡ work_status end)) e is)
+told : (end : WorkEnd) (r : Result ℕ Fault) (n : ℕ) → IfOk r (λ status. status ≡ work_status end) → r ≡ Ok n → work_status end ≡ n
+told end r n is e = sym (subst (λ (q : Result ℕ Fault). IfOk q (λ status. status ≡ work_status end)) e is)
 
 pub returns-clause-malformed : goal.returns-clause-malformed
 returns-clause-malformed g c is =

@@ -10,7 +10,7 @@ use Rattle.mm_script.proofs.Lemmas.Session.{answers_more, if_ok-at_err}
 use Rattle.mm_script.proofs.engine.Session.answer_lines.Goals as goal
 
 pub loop-rest-init : goal.loop-rest-init
-loop-rest-init g c = record { answered = answered_none Text IsLawful _ _ _ _ _; in_range = omega arith }
+loop-rest-init g c = record { answered = answered_none (λ _. Text) IsLawful _ _ _ _ _; in_range = omega arith }
 
 -- the replies so far are written or kept, and the next line is answered
 pub loop-rest-preserved : goal.loop-rest-preserved

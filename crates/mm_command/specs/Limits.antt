@@ -1,0 +1,8 @@
+-- The limits that a lock service can have.
+use Rattle.std.specs.Prelude.{ℕ, ◌≤◌}
+
+-- how many transactions and names there can be at once, and how many bytes a name may have
+pub record AreLimits (transactions names name_bytes : ℕ) : Type 0 where
+  pub few_transactions : (1 ≤ transactions) × (transactions ≤ 65536)
+  pub few_names : (1 ≤ names) × (names ≤ 65536)
+  pub short_names : (1 ≤ name_bytes) × (name_bytes ≤ 1024)

@@ -1,0 +1,51 @@
+//! A lock service, on any reader and writer.
+ghost use Rattle.mm_detect.specs.Answer.{EndsService};
+
+use crate::ending::Ending;
+use mm_command::LocksOptions;
+use mm_script::ScriptFault;
+use mm_service::{LockService, ManagerConfig};
+use std::alloc::Global;
+use std::io;
+use std::io::{Eprint, Print, Read, Write};
+use std::random::RandomSource;
+
+/// Opens a lock service and answers the requests that the reader gives. Where no seed is given and the system has no random bytes to give,
+/// that is told, and nothing is read.
+pub fn run_locks<R: Print + Eprint + RandomSource, I: Read, W: Write>(
+    rt: &R,
+    alloc: Global,
+    options: &LocksOptions,
+    input: &mut I,
+    output: &mut W,
+) -> Ending
+    ensures { EndsService result }
+{
+    let Ok(seed) = seed_of(rt, options.seed) else {
+        // Where standard error cannot be written either, the status alone reports it.
+        let _ = eprintln!(rt; "no random seed; give one by --seed");
+        return Ending::Wrong;
+    };
+    let config = ManagerConfig {
+        transactions: options.transactions,
+        names: options.names,
+        name_bytes: options.name_bytes,
+        seed,
+    };
+    match LockService::open(alloc, config) {
+        Ok(mut service) => Ending::Ran(service.run(input, output)),
+        Err(_) => {
+            Ending::Refused(println!(rt; "refused 10 Memory").map_err(|_| ScriptFault::Write))
+        }
+    }
+}
+
+/// The seed that is given, or else random bytes of the system.
+fn seed_of(rt: &impl RandomSource, given: Option<u64>) -> io::Result<u64> {
+    if let Some(seed) = given {
+        return Ok(seed);
+    }
+    let mut bytes = [0; 8];
+    rt.fill_bytes(&mut bytes)?;
+    Ok(u64::from_le_bytes(bytes))
+}

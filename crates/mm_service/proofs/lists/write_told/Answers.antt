@@ -1,0 +1,24 @@
+use Rattle.std.proofs.Common.{◌≡◌, ap, refl, subst, List, ℕ, ◌++◌, drop, arith}
+use Rattle.mm_lines.specs.Output.{Writes}
+use Rattle.mm_settled.specs.declared.reply.Grant.{Grant}
+use Rattle.mm_service.specs.Text.{told_line, told_lines}
+use Rattle.mm_service.proofs.Lemmas.Pieces.{writes_kept, writes_next}
+use Rattle.mm_service.proofs.Lemmas.Run.{on_ok-at_err}
+use Rattle.mm_service.proofs.lists.write_told.Goals as goal
+
+pub loop-grant-preserved : goal.loop-grant-preserved
+loop-grant-preserved g c =
+    let m = c.args.manager.now in
+    let none : Grant = record { key = record { process = 0; generation = 0 }; resource = 0 } in
+    writes_next (told_lines m) (told_line m) (λ x xs. refl) _ _ _ _ c.loop-grant.output.items c.make_room.new.output.items c.print_told.new.output.items
+    c.granted-grant-items.result.now c.loop-grant.grant-index none c.loop-grant-test.true c.loop-grant.invariant c.in_ok-make_room.ensures.written c.print_told.ensures.added
+
+pub returns-in_err-make_room-clause-written : goal.returns-in_err-make_room-clause-written
+returns-in_err-make_room-clause-written g c =
+    let m = c.args.manager.now in
+    let room = c.in_err-make_room.ensures.written in
+    let items = c.granted-grant-items.result.now in
+    let rest = told_lines m (drop c.loop-grant.grant-index items) in
+    let all = ap (told_lines m) c.granted-grant-items.ensures in
+    let P = λ (l : List ℕ). Writes (g.W.Write.contents c.args.writer.now) (g.W.Write.contents c.make_room.new.writer) (c.args.output.now.items ++ l) (room.0 ++ rest) in
+    (room.0 ++ rest, subst P all (writes_kept _ _ _ _ c.loop-grant.output.items rest room.0 c.loop-grant.invariant room.1), on_ok-at_err _ _ c.from_residual.ensures.0)

@@ -1,0 +1,105 @@
+//! `LockService`: what callers open and run.
+ghost use Rattle.std.specs.Prelude.{◌≡◌, ◌↔◌, ◌<◌, ◌^◌, ℕ, List, [], Err, OnOk, IfOk};
+ghost use Rattle.std.specs.Io.KnownBytes.{Appends, Consumes, IsAtEnd};
+ghost use Rattle.mm_lines.specs.Input.{unread};
+ghost use Rattle.mm_manager.specs.Opening.{opening_state, IsTransactionsOut, IsNamesOut, IsNameBytesOut};
+ghost use Rattle.mm_service.specs.Service.{Ends};
+
+use crate::line::MAX_LINE;
+use crate::lists::Numbers;
+use crate::service::Service;
+use crate::{ManagerConfig, OpenError, ServiceFault};
+use mm_lines::{Input, Limits};
+use mm_manager::LockManager;
+use std::alloc::Global;
+use std::io::{Read, Write};
+use std::marker::Model;
+
+/// A run reads at most so many bytes: 2 to the 64, less two. That is no limit in practice: at 10 GB a second it lasts 58 years.
+const INPUT_LIMIT: usize = usize::MAX - 1;
+
+/// A lock manager that answers requests, one a line. A contract sees the manager.
+#[derive(Drop)]
+pub struct LockService {
+    service: Service,
+}
+
+impl Model for LockService {
+    ghost use Rattle.mm_manager.specs.LockState.{LockState};
+
+    ghost Value = { LockState };
+
+    ghost view = { λ it. it.service.manager };
+}
+
+impl LockService {
+    /// A service of this configuration: no transaction is live, and nobody owns a name.
+    ///
+    /// Refused as `LockManager::open` is. This is the one call that takes memory: that of the manager, and 256 KiB.
+    pub fn open(alloc: Global, config: ManagerConfig) -> Result<LockService, OpenError>
+        ensures opened { IfOk result (λ service. service ≡ opening_state config) }
+        ensures transactions { (result ≡ Err OpenError.Transactions) ↔ IsTransactionsOut config }
+        ensures names { (result ≡ Err OpenError.Names) ↔ (¬ IsTransactionsOut config × IsNamesOut config) }
+        ensures name_bytes { (result ≡ Err OpenError.NameBytes) ↔ (¬ IsTransactionsOut config × ¬ IsNamesOut config × IsNameBytesOut config) }
+    {
+        let manager = LockManager::open(alloc, config)?;
+        let numbers = Numbers::new(alloc)?;
+        Ok(LockService {
+            service: Service::new(manager, numbers),
+        })
+    }
+
+    /// Reads requests to the reader's end, writes one reply for each request and each malformed line, and a line for each wait that a
+    /// request ended, in their order, and returns how many lines are malformed. A later run goes on with the manager as this one left it.
+    ///
+    /// The replies to the lines of a piece of input are written before the next read, and the writer is flushed once, at the end.
+    /// After a fault nothing is read or written:
+    ///
+    /// - `Read`: a read failed. The replies to all lines whose newline was read are written.
+    /// - `TooLong`: a byte past 2 to the 64, less two, was read, which is no case in practice.
+    /// - `Write`: a write or the flush failed, or a write took no byte. A part of the replies from the front on is written.
+    ///
+    /// O(bytes) time beside that of the manager's calls. It takes no memory; input and replies take about 100 KiB of the stack.
+    pub fn run<R: Read, W: Write>(
+        &mut self,
+        reader: &mut R,
+        writer: &mut W,
+    ) -> Result<u64, ServiceFault>
+        ensures ends { (read : List ℕ) × (written : List ℕ) × Consumes (R.remaining reader.old) (R.remaining reader.new) read
+            × Appends (W.contents writer.old) (W.contents writer.new) written × Ends self.old result read written }
+        ensures end { OnOk result (IsAtEnd (R.remaining reader.new)) }
+    {
+        let mut input = Input::new(Limits {
+            input: INPUT_LIMIT,
+            line: MAX_LINE,
+        });
+        self.service.start();
+        answer_all(&mut input, &mut self.service, reader, writer)
+    }
+}
+
+/// Reads and answers requests from the first byte on.
+fn answer_all<R: Read, W: Write>(
+    input: &mut Input,
+    service: &mut Service,
+    reader: &mut R,
+    writer: &mut W,
+) -> Result<u64, ServiceFault>
+    requires input { input.old ≡ unread input.old.limits }
+    requires line { input.old.limits.line ≡ MAX_LINE }
+    requires limit { input.old.limits.input ≡ INPUT_LIMIT }
+    requires malformed { service.old.malformed ≡ 0 }
+    requires output { service.old.output.items ≡ [] }
+    ensures ends { (read : List ℕ) × (written : List ℕ) × Consumes (R.remaining reader.old) (R.remaining reader.new) read
+        × Appends (W.contents writer.old) (W.contents writer.new) written × Ends service.old.manager result read written }
+    ensures end { OnOk result (IsAtEnd (R.remaining reader.new)) }
+{
+    while input.read(reader)? {
+        let count = service.answer_piece(input.within_limit(), writer)?;
+        if input.is_past_limit() {
+            return Err(ServiceFault::TooLong);
+        }
+        input.drop_front(count);
+    }
+    service.finish(input.within_limit(), writer)
+}
