@@ -1,0 +1,99 @@
+"""Finds out which request each line of the service belongs to."""
+from __future__ import annotations
+
+from collections import deque
+from typing import Deque, Dict, Generic, List, Optional, Tuple, TypeVar
+
+GONE = b""
+"""The reply to a call whose connection was closed."""
+
+
+class Call:
+    """A request, and the reply to it once it is there.
+
+    The reply to a lock that has to wait is what ends the wait: `granted`, `cancelled` or `aborted`.
+    """
+
+    __slots__ = ("key", "reply", "lines", "is_lock")
+
+    def __init__(self, key: bytes = b"", is_lock: bool = False) -> None:
+        self.key = key
+        self.reply: Optional[bytes] = None
+        self.lines: List[bytes] = []  # the lines that belong to the reply of `graph`
+        self.is_lock = is_lock
+
+
+C = TypeVar("C", bound=Call)
+
+
+class Dialogue(Generic[C]):
+    """The calls that have no reply yet, in their order, and those that wait for a lock, by key."""
+
+    def __init__(self) -> None:
+        self.pending: Deque[C] = deque()
+        self.waiting: Dict[bytes, C] = {}
+        self._rest = b""  # the beginning of a line whose end is not there yet
+        self._graph: Optional[Tuple[C, int]] = None  # a call whose reply goes on, and for how many lines
+
+    def feed(self, data: bytes) -> List[C]:
+        """Takes what the service wrote, and returns the calls that are over by that."""
+        lines = (self._rest + data).split(b"\n")
+        self._rest = lines.pop()
+        over: List[C] = []
+        for line in lines:
+            if line.startswith(b"* "):
+                self._caused(line, over)
+            else:
+                self._reply(line, over)
+        return over
+
+    def close(self) -> List[C]:
+        """Ends all calls: they get the reply `GONE`."""
+        over = [*self.pending, *self.waiting.values()]
+        if self._graph is not None:
+            over.append(self._graph[0])
+        self.pending.clear()
+        self.waiting.clear()
+        for call in over:
+            call.reply = GONE
+        return over
+
+    def _reply(self, line: bytes, over: List[C]) -> None:
+        call = self.pending.popleft()
+        if call.is_lock and line.startswith(b"waits "):
+            self.waiting[call.key] = call
+            return
+        if line.startswith(b"graph "):
+            count = int(line[6:])
+            if count > 0:
+                self._graph = (call, count)
+                call.lines.append(line)
+                return
+        call.reply = line
+        over.append(call)
+        if line == b"cancelled" or line == b"aborted":
+            self._end_wait(call.key, line, over)
+
+    def _caused(self, line: bytes, over: List[C]) -> None:
+        if self._graph is not None:
+            self._graph_line(line, over)
+            return
+        words = line.split(b" ")
+        self._end_wait(words[2], words[1], over)
+
+    def _graph_line(self, line: bytes, over: List[C]) -> None:
+        assert self._graph is not None
+        call, count = self._graph
+        call.lines.append(line)
+        if count > 1:
+            self._graph = (call, count - 1)
+            return
+        self._graph = None
+        call.reply = call.lines.pop(0)
+        over.append(call)
+
+    def _end_wait(self, key: bytes, reply: bytes, over: List[C]) -> None:
+        waiter = self.waiting.pop(key, None)
+        if waiter is not None:
+            waiter.reply = reply
+            over.append(waiter)
