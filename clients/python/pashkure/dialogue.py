@@ -14,13 +14,14 @@ class Call:
     The reply to a lock that has to wait is what ends the wait: `granted`, `cancelled` or `aborted`.
     """
 
-    __slots__ = ("key", "reply", "lines", "is_lock")
+    __slots__ = ("key", "reply", "lines", "is_lock", "is_due")
 
     def __init__(self, key: bytes = b"", is_lock: bool = False) -> None:
         self.key = key
         self.reply: Optional[bytes] = None
         self.lines: List[bytes] = []  # the lines that belong to the reply of `graph`
         self.is_lock = is_lock
+        self.is_due = False  # the transaction waits, and is aborted when its wait ends
 
 
 C = TypeVar("C", bound=Call)
@@ -73,6 +74,8 @@ class Dialogue(Generic[C]):
         over.append(call)
         if line == b"cancelled" or line == b"aborted":
             self._end_wait(call.key, line, over)
+        elif line == b"later" and call.key in self.waiting:
+            self.waiting[call.key].is_due = True
 
     def _caused(self, line: bytes, over: List[C]) -> None:
         if self._graph is not None:
@@ -95,5 +98,5 @@ class Dialogue(Generic[C]):
     def _end_wait(self, key: bytes, reply: bytes, over: List[C]) -> None:
         waiter = self.waiting.pop(key, None)
         if waiter is not None:
-            waiter.reply = reply
+            waiter.reply = b"aborted" if waiter.is_due else reply
             over.append(waiter)

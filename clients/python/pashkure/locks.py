@@ -20,6 +20,12 @@ R = TypeVar("R")
 Path = Union[str, "os.PathLike[str]"]
 
 
+def check_options(socket: Optional[Path], *options: object) -> None:
+    """Raises where options of the program are given for a server that runs already."""
+    if socket is not None and any(option is not None for option in options):
+        raise ValueError("a server that runs already takes no options: say socket= alone")
+
+
 class Locks:
     """A lock service: exclusive locks on names, for transactions.
 
@@ -45,13 +51,11 @@ class Locks:
         name_bytes: Optional[int] = None,
         seed: Optional[int] = None,
     ) -> None:
+        check_options(socket, program, transactions, names, name_bytes, seed)
         stream: Stream
         if socket is None:
             stream = Pipes(command(program, transactions, names, name_bytes, seed))
         else:
-            for option in program, transactions, names, name_bytes, seed:
-                if option is not None:
-                    raise ValueError("a server that runs already takes no options: say socket= alone")
             stream = UnixSocket(os.fspath(socket))
         self._channel = Channel(stream)
 

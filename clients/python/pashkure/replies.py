@@ -3,7 +3,7 @@ from __future__ import annotations
 
 from typing import List, NamedTuple, NoReturn, Optional
 
-from .errors import REFUSALS, Malformed, NameTooLong
+from .errors import REFUSALS, Aborted, Deadlock, Malformed, NameTooLong, Timeout
 from .names import MOST_BYTES, decoded
 
 
@@ -63,6 +63,28 @@ def key_of_begin(reply: bytes) -> bytes:
     if not reply.startswith(b"begun "):
         fail(reply)
     return reply[6:]
+
+
+def told_of_lock(reply: bytes, name: bytes) -> None:
+    """Returns where the lock was granted, and raises what else its end says."""
+    if reply == b"granted" or reply == b"held":
+        return
+    if reply.startswith(b"deadlock "):
+        raise Deadlock(decoded(name), reply[9:].decode("ascii"))
+    if reply == b"cancelled":
+        raise Timeout(decoded(name))
+    if reply == b"aborted":
+        raise Aborted(f"the transaction was aborted while it waited for {decoded(name)!r}")
+    fail_of_name(reply, name)
+
+
+def told_of_try(reply: bytes, name: bytes) -> bool:
+    """Whether a try got its lock."""
+    if reply == b"granted" or reply == b"held":
+        return True
+    if not reply.startswith(b"busy "):
+        fail_of_name(reply, name)
+    return False
 
 
 def owner(reply: bytes, name: bytes) -> Optional[str]:

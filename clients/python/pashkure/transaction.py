@@ -3,17 +3,14 @@ from __future__ import annotations
 
 import time
 from types import TracebackType
-from typing import TYPE_CHECKING, List, Optional, Type
+from typing import List, Optional, Type
 
 from . import replies
-from .channel import Waiter
-from .errors import Aborted, Closed, Deadlock, LockError, NoTransaction, Timeout
-from .names import Name, decoded, encoded
+from .channel import Channel, Waiter
+from .errors import Closed, LockError, NoTransaction
+from .names import Name, encoded
 from .pauses import before_cancel
 from .replies import Status
-
-if TYPE_CHECKING:
-    from .channel import Channel
 
 
 class Transaction:
@@ -28,7 +25,7 @@ class Transaction:
     A transaction serves one thread at a time. Another thread may call `abort`, `status` and `holds` meanwhile.
     """
 
-    def __init__(self, channel: "Channel", key: bytes) -> None:
+    def __init__(self, channel: Channel, key: bytes) -> None:
         self._channel = channel
         self._key = key
         self._is_over = False
@@ -54,17 +51,12 @@ class Transaction:
         self._channel.send(b"lock %b %b\n" % (self._key, data), call)
         if not self._channel.wait(call, deadline):
             self._give_up(call)
-        self._told(self._channel.reply(call), data)
+        replies.told_of_lock(self._channel.reply(call), data)
 
     def try_lock(self, name: Name) -> bool:
         """Whether the transaction owns the name now: it did, or nobody did. This never waits."""
         data = encoded(name)
-        reply = self._channel.ask(b"try %b %b\n" % (self._key, data))
-        if reply == b"granted" or reply == b"held":
-            return True
-        if not reply.startswith(b"busy "):
-            replies.fail_of_name(reply, data)
-        return False
+        return replies.told_of_try(self._channel.ask(b"try %b %b\n" % (self._key, data)), data)
 
     def unlock(self, name: Name) -> None:
         """Gives one name back before the end. The next one who waits for it gets it."""
@@ -125,18 +117,6 @@ class Transaction:
 
     def __repr__(self) -> str:
         return f"<Transaction {self.key}>"
-
-    def _told(self, reply: bytes, name: bytes) -> None:
-        """Returns or raises what the reply to a lock says."""
-        if reply == b"granted" or reply == b"held":
-            return
-        if reply.startswith(b"deadlock "):
-            raise Deadlock(decoded(name), reply[9:].decode("ascii"))
-        if reply == b"cancelled":
-            raise Timeout(decoded(name))
-        if reply == b"aborted":
-            raise Aborted(f"the transaction was aborted while it waited for {decoded(name)!r}")
-        replies.fail_of_name(reply, name)
 
     def _give_up(self, call: Waiter) -> None:
         """Tries to take the request back until it is, or is granted."""

@@ -1,0 +1,20 @@
+"""All cases, in their order."""
+from __future__ import annotations
+
+from . import beside, beside_socket, calls, ends, wires
+from .cases import Cases
+from .world import World
+
+
+def run(cases: Cases, world: World, seconds: float, requests: int) -> None:
+    cases.run(beside.random_over_pipes, world, requests)
+    cases.run(beside_socket.random_over_socket, world, requests // 5)
+    for case in calls.CASES:
+        cases.run_named(f"{case.__doc__} (pipes)", calls.over_pipes, world, case)
+        cases.run_named(f"{case.__doc__} (socket)", calls.over_socket, world, case)
+    cases.run(calls.carried, world)
+    for wire_case in wires.CASES:
+        cases.run(wire_case, world)
+    cases.run(wires.many_connections, world, requests // 10)
+    for end_case in ends.CASES:
+        cases.run(end_case, world)
