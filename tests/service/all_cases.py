@@ -1,7 +1,7 @@
 """All cases, in their order."""
 from __future__ import annotations
 
-from . import beside, beside_socket, calls, ends, wires
+from . import bank, beside, beside_socket, calls, ends, wires
 from .cases import Cases
 from .world import World
 
@@ -18,3 +18,4 @@ def run(cases: Cases, world: World, seconds: float, requests: int) -> None:
     cases.run(wires.many_connections, world, requests // 10)
     for end_case in ends.CASES:
         cases.run(end_case, world)
+    cases.run(bank.bank, world, seconds)
