@@ -1,7 +1,7 @@
 """All cases, in their order."""
 from __future__ import annotations
 
-from . import bank, beside, beside_socket, calls, ends, wires
+from . import bank, beside, beside_socket, calls, ends, tasks, wires
 from .cases import Cases
 from .world import World
 
@@ -13,6 +13,10 @@ def run(cases: Cases, world: World, seconds: float, requests: int) -> None:
         cases.run_named(f"{case.__doc__} (pipes)", calls.over_pipes, world, case)
         cases.run_named(f"{case.__doc__} (socket)", calls.over_socket, world, case)
     cases.run(calls.carried, world)
+    for task in tasks.CASES:
+        cases.run_named(f"{task.__doc__} (pipes)", tasks.over_pipes, world, task)
+        cases.run_named(f"{task.__doc__} (socket)", tasks.over_socket, world, task)
+    cases.run(tasks.killed, world)
     for wire_case in wires.CASES:
         cases.run(wire_case, world)
     cases.run(wires.many_connections, world, requests // 10)
