@@ -1,6 +1,7 @@
 """What a server does with clients that send halves of lines, read slowly, hang up, or use the keys of others."""
 from __future__ import annotations
 
+import os
 import socket
 import time
 from typing import List
@@ -38,6 +39,7 @@ def long_lines(world: World) -> str:
         same(wire.ask(b"status 0.1"), b"active")
         for length in 5_000, 65_536, 1_000_000:
             same(wire.ask(b"lock 0.1 " + b"x" * length), b"malformed")
+            same(wire.ask(b"#" * length), b"malformed")
         before = server.memory()
         for _ in range(64):
             wire.send(b"x" * 1_000_000)
@@ -226,8 +228,6 @@ def many_connections(world: World, count: int) -> str:
 
 def descriptors(server: Server) -> int:
     """How many files the server has open."""
-    import os
-
     return len(os.listdir(f"/proc/{server.process.pid}/fd"))
 
 

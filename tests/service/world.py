@@ -15,6 +15,7 @@ from .cases import until
 TOP = os.path.dirname(os.path.dirname(os.path.dirname(os.path.abspath(__file__))))
 CLIENT = os.path.join(TOP, "clients", "python")
 STAND_IN = os.path.join(TOP, "tests", "service", "stand_in")
+PATIENCE = 120  # seconds for the end of a server
 sys.path.insert(0, CLIENT)
 
 from pashkure import Locks  # noqa: E402
@@ -58,7 +59,11 @@ class Server:
         """Ends the server and returns its status."""
         if self.process.poll() is None:
             self.process.send_signal(signal.SIGTERM)
-        return self.process.wait()
+        try:
+            return self.process.wait(PATIENCE)
+        except subprocess.TimeoutExpired:
+            self.process.kill()
+            raise
 
     def __enter__(self) -> "Server":
         return self

@@ -11,7 +11,7 @@ from typing import List, Optional
 from .program import ended, started
 
 SIZE = 65536
-LONGEST_POLL = 1_000_000_000  # milliseconds; poll takes no more than 31 bits
+LONGEST_POLL = 1e9  # milliseconds; poll takes no more than 31 bits
 
 
 class Stream:
@@ -29,8 +29,8 @@ class Stream:
             self._poll.poll()
             return True
         while True:
-            milliseconds = int((deadline - time.monotonic()) * 1000) + 1
-            if self._poll.poll(min(max(0, milliseconds), LONGEST_POLL)):
+            milliseconds = (deadline - time.monotonic()) * 1000 + 1
+            if self._poll.poll(int(min(max(0.0, milliseconds), LONGEST_POLL))):
                 return True
             if time.monotonic() >= deadline:
                 return False

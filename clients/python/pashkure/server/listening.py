@@ -51,6 +51,7 @@ def _remove_stale(path: str) -> None:
     except FileNotFoundError:
         return
     with socket.socket(socket.AF_UNIX, socket.SOCK_STREAM) as trial:
+        trial.settimeout(5.0)
         try:
             trial.connect(path)
         except ConnectionRefusedError:

@@ -50,13 +50,14 @@ class Passing:
 
     def _other(self, connection: Connection, line: bytes) -> None:
         """Passes on a line of which it is not sure what it is. Empty lines and comments have no reply, so they are dropped."""
+        if len(line) > LIMIT:
+            self.add(b"malformed", connection.plain)  # which it is: the program says so when its turn comes
+            return
         words = [word for word in _without_return(line).split(b" ") if word]
         if not words or words[0].startswith(b"#"):
             return
         entry = connection.plain
-        if len(line) > LIMIT:
-            words = [b"malformed"]  # which it is: the program says so when its turn comes
-        elif len(words) > 1 and (words[0] in CHANGES or words[0] in ENDS):
+        if len(words) > 1 and (words[0] in CHANGES or words[0] in ENDS):
             words[1] = self._own(connection, words[1])
             if words[0] in ENDS:
                 entry = (connection, words[1])
