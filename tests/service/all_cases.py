@@ -13,6 +13,7 @@ def run(cases: Cases, world: World, seconds: float, requests: int) -> None:
         cases.run_named(f"{case.__doc__} (pipes)", calls.over_pipes, world, case)
         cases.run_named(f"{case.__doc__} (socket)", calls.over_socket, world, case)
     cases.run(calls.carried, world)
+    cases.run(calls.not_understood, world)
     for task in tasks.CASES:
         cases.run_named(f"{task.__doc__} (pipes)", tasks.over_pipes, world, task)
         cases.run_named(f"{task.__doc__} (socket)", tasks.over_socket, world, task)

@@ -8,7 +8,7 @@ import time
 from typing import Any, Callable, List
 
 from .cases import raises, same, until
-from .world import STAND_IN, World
+from .world import World
 
 from pashkure import (  # noqa: E402
     Aborted,
@@ -17,6 +17,7 @@ from pashkure import (  # noqa: E402
     Full,
     Locks,
     LockError,
+    Malformed,
     MustAbort,
     NameTooLong,
     NotOwner,
@@ -165,7 +166,7 @@ def timeouts(locks: Locks) -> None:
 
 def carried(world: World) -> None:
     """A request that cannot be taken back now waits on after its timeout, and is granted"""
-    with _refusing(world) as locks:
+    with Locks(world.refusing()) as locks:
         one, two = locks.transaction(), locks.transaction()
         one.lock("a")
         thread = Apart(two.lock, "a", timeout=0.01)
@@ -182,15 +183,6 @@ def carried(world: World) -> None:
         two.commit()
         same(type(thread.ends()), Aborted)
         same(locks.totals(), Totals(3, 2, 1, 0))
-
-
-def _refusing(world: World) -> Locks:
-    """The stand-in, which refuses each try to stop a wait."""
-    wrapper = world.file("refusing")
-    with open(wrapper, "w") as out:
-        out.write(f'#!/bin/sh\nexec "{STAND_IN}" "$@" --carries 100\n')
-    os.chmod(wrapper, 0o755)
-    return Locks(wrapper)
 
 
 def abort_of_another(locks: Locks) -> None:
@@ -373,6 +365,23 @@ def forks(locks: Locks) -> None:
                 os._exit(8)
         same(os.waitstatus_to_exitcode(os.waitpid(pid, 0)[1]), 7)
         same(tx.holds(), ["a"])
+
+
+def not_understood(world: World) -> None:
+    """A program that is no lock service raises `Malformed` or `Closed`, and nothing hangs"""
+    with Locks(world.script("while read line; do echo nonsense; done")) as locks:
+        raises(Malformed, locks.transaction)
+        raises(Malformed, locks.totals)
+        raises(Malformed, locks.graph)
+        raises(Malformed, locks.owner, "a")
+        raises(Malformed, locks.status, "0.1")
+        raises(Malformed, locks.holds, "0.1")
+    with Locks(world.script("read line; printf 'one\\ntwo\\n'; read line")) as locks:
+        error = Apart(locks.transaction).ends()
+        assert isinstance(error, (Malformed, Closed)), error
+        raises(Closed, locks.transaction)
+    with Locks(world.script("exit 3")) as locks:
+        raises(Closed, locks.transaction)
 
 
 CASES = [calls, deadlock, blocks, timeouts, abort_of_another, runs, names, full, threads, interrupted, closing, forks]

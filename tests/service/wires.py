@@ -202,6 +202,26 @@ def in_deadlock(world: World) -> None:
         same(locks.owner("b"), "1.1")
 
 
+def hang_up_later(world: World) -> None:
+    """Who hangs up and may not stop waiting yet is aborted as soon as its wait ends"""
+    with world.server(program=world.refusing()) as server, Locks(socket=server.path) as locks:
+        tx, last = locks.transaction(), locks.transaction()
+        tx.lock("x")
+        with Wire(server.path) as wire:
+            key = wire.ask(b"begin")[6:].decode()
+            same(wire.ask(b"lock %b y" % key.encode()), b"granted")
+            same(wire.ask(b"lock %b x" % key.encode()), b"waits 0.1")
+        until(lambda: locks.status(key).aborting, "its abort is due")
+        same(last.try_lock("y"), False)
+        tx.commit()
+        until(lambda: last.try_lock("y"), "what it owned is free")
+        raises(NoTransaction, locks.status, key)
+        last.commit()
+        same(locks.totals(), (3, 2, 1, 0))
+        with Wire(server.path) as wire:  # the server has forgotten the key
+            same(wire.ask(b"abort " + key.encode()), b"refused no-transaction")
+
+
 def many_connections(world: World, count: int) -> str:
     """Thousands of connections one after another, each of which hangs up with a lock, leave nothing"""
     with world.server("--transactions", "3") as server, Locks(socket=server.path) as locks:
@@ -215,7 +235,7 @@ def many_connections(world: World, count: int) -> str:
                     same(wire.lines(1), [b"* granted %b a" % key])
                 if number % 2:
                     same(wire.ask(b"commit " + key), b"committed")
-            if number == 100:
+            if number == min(100, count // 2):
                 before = server.memory(), descriptors(server)
         until(lambda: locks.owner("a") is None, "the last one is aborted")
         totals = locks.totals()
@@ -250,4 +270,5 @@ def at_once(world: World) -> str:
     return f"{count} connections"
 
 
-CASES = [half_lines, long_lines, no_requests, keys_of_others, slow_reader, large_replies, half_closed, hang_ups, in_deadlock, at_once]
+CASES = [half_lines, long_lines, no_requests, keys_of_others, slow_reader, large_replies, half_closed, hang_ups, in_deadlock,
+         hang_up_later, at_once]  # fmt: skip

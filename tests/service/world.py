@@ -33,10 +33,7 @@ class Server:
         self.path = path
         self._pid_file = world.file("pid")
         self._stderr = open(world.file("stderr"), "w+b")
-        wrapper = world.file("program")
-        with open(wrapper, "w") as out:
-            out.write(f'#!/bin/sh\necho $$ > "{self._pid_file}"\nexec "{program}" "$@"\n')
-        os.chmod(wrapper, 0o755)
+        wrapper = world.script(f'echo $$ > "{self._pid_file}"\nexec "{program}" "$@"')
         command = [sys.executable, "-m", "pashkure", "serve", "--socket", path, "--program", wrapper, *words]
         self.process = subprocess.Popen(command, env=environment(), stdout=subprocess.DEVNULL, stderr=self._stderr)
         until(lambda: self.process.poll() is not None or answers(path), "the server answers or ends")
@@ -92,6 +89,18 @@ class World:
     def locks(self, **options: Any) -> Locks:
         """The program over pipes."""
         return Locks(self.program, **options)
+
+    def script(self, text: str) -> str:
+        """A program of the shell."""
+        path = self.file("program")
+        with open(path, "w") as out:
+            out.write("#!/bin/sh\n" + text + "\n")
+        os.chmod(path, 0o755)
+        return path
+
+    def refusing(self) -> str:
+        """A service that refuses each try to stop a wait: the stand-in."""
+        return self.script(f'exec "{STAND_IN}" "$@" --carries 100')
 
     def close(self) -> None:
         shutil.rmtree(self.folder, ignore_errors=True)

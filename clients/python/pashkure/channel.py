@@ -9,7 +9,7 @@ import os
 import threading
 import time
 import weakref
-from typing import Dict, Iterable, Optional
+from typing import Dict, Iterable, List, Optional
 
 from .dialogue import GONE, Call, Dialogue
 from .errors import Closed
@@ -125,17 +125,27 @@ class Channel:
         return True
 
     def _read(self) -> None:
+        """Reads what is there, and wakes whom it is for."""
         try:
             data = self._stream.read()
             if data:
-                with self._mutex:
-                    self._wake(self._dialogue.feed(data))
-                return
+                self._take(data)
+            else:
+                self._close("the service has ended")
+        except (LookupError, ValueError):
+            self._close("the service was not understood")
         except BaseException:
             # Something that was read may be lost, so no later reply can be trusted.
-            self._close("the service was not understood, or a read was interrupted")
+            self._close("a read was interrupted")
             raise
-        self._close("the service has ended")
+
+    def _take(self, data: bytes) -> None:
+        over: List[Waiter] = []
+        with self._mutex:
+            try:
+                self._dialogue.feed(data, over)
+            finally:
+                self._wake(over)
 
     def _wake(self, calls: Iterable[Waiter]) -> None:
         for call in calls:

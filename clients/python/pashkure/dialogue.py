@@ -36,17 +36,18 @@ class Dialogue(Generic[C]):
         self._rest = b""  # the beginning of a line whose end is not there yet
         self._graph: Optional[Tuple[C, int]] = None  # a call whose reply goes on, and for how many lines
 
-    def feed(self, data: bytes) -> List[C]:
-        """Takes what the service wrote, and returns the calls that are over by that."""
+    def feed(self, data: bytes, over: List[C]) -> None:
+        """Takes what the service wrote, and adds the calls that are over by that.
+
+        Raises `LookupError` or `ValueError` at what no service writes.
+        """
         lines = (self._rest + data).split(b"\n")
         self._rest = lines.pop()
-        over: List[C] = []
         for line in lines:
             if line.startswith(b"* "):
                 self._caused(line, over)
             else:
                 self._reply(line, over)
-        return over
 
     def close(self) -> List[C]:
         """Ends all calls: they get the reply `GONE`."""

@@ -44,11 +44,11 @@ class Channel(asyncio.Protocol):
         self._writer, _ = await loop.connect_write_pipe(asyncio.BaseProtocol, self._child.stdin)
 
     def data_received(self, data: bytes) -> None:
+        over: List[Awaited] = []
         try:
-            over = self._dialogue.feed(data)
+            self._dialogue.feed(data, over)
         except (LookupError, ValueError):
             self._end("the service was not understood")
-            return
         _set(over)
 
     def connection_lost(self, error: Optional[Exception]) -> None:
