@@ -105,7 +105,12 @@ def child_ends(world: World) -> None:
     locks.transaction().lock("a")
     locks.close()
     same(os.path.exists(f"/proc/{pid}"), False)
-    text = f"from pashkure import Locks; l = Locks({world.program!r}); l.transaction(); print(l._channel._stream._child.pid, flush=True); input()"
+    text = f"""if True:
+        from pashkure import Locks
+        locks = Locks({world.program!r})
+        locks.transaction()
+        print(locks._channel._stream._child.pid, flush=True)
+        input()"""
     with subprocess.Popen(
         [sys.executable, "-c", text], env=environment(), stdin=subprocess.PIPE, stdout=subprocess.PIPE
     ) as client:
@@ -170,7 +175,7 @@ def wrong_use(world: World) -> None:
     raises(ValueError, Locks, socket="x", names=3)
     raises(FileNotFoundError, Locks, world.file("no.program"))
     raises(FileNotFoundError, Locks, socket=world.file("no.socket"))
-    with Locks(world.program, transactions=0) as locks:
+    with Locks(world.script(f'exec "{world.program}" "$@" 2> /dev/null'), transactions=0) as locks:
         raises(Closed, locks.transaction)
 
 

@@ -206,20 +206,31 @@ def over_socket(world: World, case: Callable[[Locks], Awaitable[Any]]) -> Any:
         return asyncio.run(main())
 
 
+async def told_closed(locks: Locks, pid: int) -> None:
+    """Kills the program while tasks wait. Fails unless each of them is told `Closed`."""
+    one = await locks.transaction()
+    await one.lock("a")
+    others = [await locks.transaction() for _ in range(20)]
+    tasks = [asyncio.ensure_future(tx.lock("a")) for tx in others]
+    await waits(locks, others[-1])
+    os.kill(pid, signal.SIGKILL)
+    for task in tasks:
+        await raises(Closed, task)
+    await raises(Closed, locks.totals())
+
+
 def killed(world: World) -> None:
     """asyncio: the program is killed, and each task is told `Closed`"""
 
-    async def main() -> None:
-        async with Locks(socket=server.path) as locks:
-            one = await locks.transaction()
-            await one.lock("a")
-            others = [await locks.transaction() for _ in range(20)]
-            tasks = [asyncio.ensure_future(tx.lock("a")) for tx in others]
-            await waits(locks, others[-1])
-            os.kill(server.program_pid(), signal.SIGKILL)
-            for task in tasks:
-                await raises(Closed, task)
-            await raises(Closed, locks.totals())
+    async def over_pipes() -> None:
+        async with Locks(world.program) as locks:
+            assert locks._channel._child is not None
+            await told_closed(locks, locks._channel._child.pid)
 
+    async def over_socket(path: str, pid: int) -> None:
+        async with Locks(socket=path) as locks:
+            await told_closed(locks, pid)
+
+    asyncio.run(over_pipes())
     with world.server() as server:
-        asyncio.run(main())
+        asyncio.run(over_socket(server.path, server.program_pid()))

@@ -4,6 +4,8 @@ from __future__ import annotations
 from collections import deque
 from typing import Deque, Dict, Generic, List, Optional, Tuple, TypeVar
 
+from .lines import Lines
+
 GONE = b""
 """The reply to a call whose connection was closed."""
 
@@ -33,7 +35,7 @@ class Dialogue(Generic[C]):
     def __init__(self) -> None:
         self.pending: Deque[C] = deque()
         self.waiting: Dict[bytes, C] = {}
-        self._rest = b""  # the beginning of a line whose end is not there yet
+        self._lines = Lines()
         self._graph: Optional[Tuple[C, int]] = None  # a call whose reply goes on, and for how many lines
 
     def feed(self, data: bytes, over: List[C]) -> None:
@@ -41,9 +43,7 @@ class Dialogue(Generic[C]):
 
         Raises `LookupError` or `ValueError` at what no service writes.
         """
-        lines = (self._rest + data).split(b"\n")
-        self._rest = lines.pop()
-        for line in lines:
+        for line in self._lines.take(data):
             if line.startswith(b"* "):
                 self._caused(line, over)
             else:

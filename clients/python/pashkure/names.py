@@ -7,9 +7,6 @@ from typing import Union
 Name = Union[str, bytes]
 """A name: text, which is sent as UTF-8, or the bytes themselves."""
 
-MOST_BYTES = 1024
-"""No service takes names with more bytes."""
-
 _NAME = re.compile(rb"[!-~\x80-\xff]+\Z")
 
 

@@ -4,7 +4,7 @@ from __future__ import annotations
 from typing import List, NamedTuple, NoReturn, Optional
 
 from .errors import REFUSALS, Aborted, Deadlock, Malformed, NameTooLong, Timeout
-from .names import MOST_BYTES, decoded
+from .names import decoded
 
 
 class Status(NamedTuple):
@@ -46,9 +46,9 @@ def fail(reply: bytes) -> NoReturn:
 
 
 def fail_of_name(reply: bytes, name: bytes) -> NoReturn:
-    """As `fail`, of a request with a name. A line with a name that is too long for any service is malformed."""
-    if reply == b"malformed" and len(name) > MOST_BYTES:
-        raise NameTooLong(f"no service takes names with more than {MOST_BYTES} bytes")
+    """As `fail`, of a request with a name. A line that is too long for any request is malformed."""
+    if reply == b"malformed":
+        raise NameTooLong(f"no request has room for a name of {len(name)} bytes")
     fail(reply)
 
 

@@ -3,6 +3,7 @@ from __future__ import annotations
 
 from typing import List, Optional, Union
 
+from ..lines import Lines
 from .connection import BEGIN, FAREWELL, GRAPH, Connection
 from .passing import Passing
 
@@ -12,17 +13,15 @@ class Replying:
 
     def __init__(self, passing: Passing) -> None:
         self._passing = passing
-        self._rest = b""  # the beginning of a line whose end is not there yet
+        self._lines = Lines()
         self._graph: Optional[Connection] = None  # whose reply goes on
         self._left = 0  # for how many lines
         self.touched: List[Connection] = []  # those that were given lines, and those whose last reply has come
 
     def take(self, data: bytes) -> None:
         """Takes what the program wrote."""
-        lines = (self._rest + data).split(b"\n")
-        self._rest = lines.pop()
         pending, touched = self._passing.pending, self.touched
-        for line in lines:
+        for line in self._lines.take(data):
             if line[:2] == b"* ":
                 connection = self._caused(line)
             else:
