@@ -3,6 +3,7 @@ from __future__ import annotations
 
 import os
 import random
+import signal
 import subprocess
 import sys
 import time
@@ -38,17 +39,27 @@ class Bank:
         self.workers[self.last] = subprocess.Popen(words, env=environment())
 
     def kill_one(self) -> None:
-        """Kills a process, if possible in the middle of a transfer, and hires another one."""
+        """Kills a process, two times of three in the middle of a transfer, and hires another one."""
         slot = self.random.choice(list(self.workers))
+        worker = self.workers[slot]
         until(lambda: self.file.counted(slot) > 0, f"process {slot} works")
-        end = time.monotonic() + 0.5
-        while not self.file.is_within(slot) and time.monotonic() < end:
-            pass
-        worker = self.workers.pop(slot)
+        if self.random.random() < 2 / 3:
+            until(lambda: self.stops_within(slot, worker), f"process {slot} is in the middle of a transfer")
         worker.kill()
         worker.wait()
+        del self.workers[slot]
         self.killed.append(self.file.is_within(slot))
         self.hire()
+
+    def stops_within(self, slot: int, worker: "subprocess.Popen[bytes]") -> bool:
+        """Stops a process. Lets it go on unless it is in the middle of a transfer."""
+        worker.send_signal(signal.SIGSTOP)
+        _, status = os.waitpid(worker.pid, os.WUNTRACED)
+        assert os.WIFSTOPPED(status), f"process {slot} has ended with status {status}"
+        if self.file.is_within(slot):
+            return True
+        worker.send_signal(signal.SIGCONT)
+        return False
 
     def end(self) -> None:
         """Ends all processes. Fails where one waits for a dead one, and so never ends."""
