@@ -7,6 +7,9 @@ from ..lines import Lines
 from .connection import BEGIN, FAREWELL, GRAPH, Connection
 from .passing import Passing
 
+OVER = (b"aborted", b"committed", b"refused no-transaction")
+"""Replies to a request for an end after which the transaction is over."""
+
 
 class Replying:
     """Gives each line of the program to the client that it is for."""
@@ -49,13 +52,13 @@ class Replying:
 
     def _note(self, connection: Connection, what: Union[int, bytes], line: bytes) -> bool:
         """Notes what follows from the reply. Whether the reply is not for the client."""
-        if what == BEGIN:
+        if isinstance(what, bytes):
+            if line in OVER:
+                self._forget(connection, what)
+        elif what == BEGIN:
             if line.startswith(b"begun "):
                 self._passing.owners[line[6:]] = connection
                 connection.keys[line[6:]] = None
-        elif isinstance(what, bytes):
-            if line == b"aborted" or line == b"committed":
-                self._forget(connection, what)
         elif what == FAREWELL:
             self._leave(connection)
             return True
