@@ -8,6 +8,7 @@ from .world import World
 
 def run(cases: Cases, world: World, seconds: float, requests: int) -> None:
     cases.run(beside.random_over_pipes, world, requests)
+    cases.run(beside.random_of_sizes, world, requests // 5)
     cases.run(beside_socket.random_over_socket, world, requests // 5)
     for case in calls.CASES + trouble.CASES:
         cases.run_named(f"{case.__doc__} (pipes)", calls.over_pipes, world, case)

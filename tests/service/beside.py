@@ -10,6 +10,8 @@ from .model import Model, Oracle
 from .world import World
 
 TRANSACTIONS, NAMES, NAME_BYTES = 12, 7, 12
+SIZES = [(3, 2), (60, 9)]
+"""Further numbers of transactions and names: few of both, and long queues."""
 NAME_POOL = [b"a", b"b", b"c", b"accounts/1", b"accounts/2", "Müller".encode(), "账户".encode(), b"\xff\x80", b"~!"]
 TOO_LONG = b"thirteenbytes"
 NO_REQUESTS = [b"begin 0.1", b"lock 0.1", b"lock 0.1 a b", b"lock a a", b"lock 0,1 a", b"unlock", b"Lock 0.1 a", b"status -1.1",
@@ -39,9 +41,9 @@ class Told(Oracle):
 class Beside:
     """The model beside a service."""
 
-    def __init__(self, seed: int) -> None:
+    def __init__(self, seed: int, transactions: int = TRANSACTIONS, names: int = NAMES) -> None:
         self.told = Told()
-        self.model = Model(TRANSACTIONS, NAMES, NAME_BYTES, self.told)
+        self.model = Model(transactions, names, NAME_BYTES, self.told)
         self.random = random.Random(seed)
         self.last = [b"0.1"]  # keys that were given, the last ones last
         self.counts: Dict[bytes, int] = {}
@@ -105,9 +107,24 @@ def groups(lines: List[bytes]) -> List[List[bytes]]:
 
 def random_over_pipes(world: World, count: int) -> str:
     """Random requests over pipes are answered as by a model that searches the wait-for graph."""
-    words = [world.program, "locks", "--transactions", "12", "--names", "7", "--name-bytes", "12", "--seed", "5"]
     beside = Beside(1)
-    with subprocess.Popen(words, stdin=subprocess.PIPE, stdout=subprocess.PIPE) as child:
+    done = compare_over_pipes(world, beside, TRANSACTIONS, NAMES, count)
+    return told_of(beside, done)
+
+
+def random_of_sizes(world: World, count: int) -> str:
+    """Random requests in smaller and in larger tables are answered as by the model."""
+    for seed, (transactions, names) in enumerate(SIZES, start=3):
+        beside = Beside(seed, transactions, names)
+        compare_over_pipes(world, beside, transactions, names, count)
+        assert beside.counts[b"deadlock"] > 0, beside.counts
+    return f"{count} requests each of {' and '.join('%d transactions and %d names' % size for size in SIZES)}"
+
+
+def compare_over_pipes(world: World, beside: Beside, transactions: int, names: int, count: int) -> int:
+    """Compares at least so many requests. Returns how many they were."""
+    words = [world.program, "locks", "--transactions", str(transactions), "--names", str(names), "--name-bytes", str(NAME_BYTES)]
+    with subprocess.Popen([*words, "--seed", "5"], stdin=subprocess.PIPE, stdout=subprocess.PIPE) as child:
         assert child.stdin is not None and child.stdout is not None
         done = 0
         while done < count:
@@ -124,7 +141,7 @@ def random_over_pipes(world: World, count: int) -> str:
             compare_batch(beside, batch, lines)
             done += len(batch)
         child.stdin.close()
-    return told_of(beside, done)
+    return done
 
 
 def compare_batch(beside: Beside, batch: List[bytes], lines: List[bytes]) -> None:
