@@ -52,6 +52,14 @@ def program_killed(world: World) -> None:
         same(os.path.exists(server.path), False)
 
 
+def program_nonsense(world: World) -> None:
+    """A program that is no lock service ends the server with a line that says so"""
+    program = world.script("read line; echo totals; read line; printf 'one\\ntwo\\n'; read line")
+    with world.server(program=program) as server:  # a client that looks whether it answers makes it ask the program
+        same(server.process.wait(), 1)
+        assert server.stderr().endswith("wrote what is no reply\n"), server.stderr()
+
+
 def server_killed(world: World) -> None:
     """The server is killed: each client is told `Closed`, the program ends, and a new server takes the socket over"""
     with world.server() as server:
@@ -181,4 +189,5 @@ def wrong_use(world: World) -> None:
 
 
 
-CASES = [program_killed, server_killed, ended_by_signal, child_killed, child_ends, socket_file, stale_file, wrong_words, wrong_use]
+CASES = [program_killed, program_nonsense, server_killed, ended_by_signal, child_killed, child_ends, socket_file, stale_file,
+         wrong_words, wrong_use]  # fmt: skip

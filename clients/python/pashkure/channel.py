@@ -61,8 +61,11 @@ class Channel:
                 self._stream.write(line)
             except OSError:
                 self._close("the service has ended")
+                self._stream.stop()
             except BaseException:
+                # Half a request may be sent, so no later one would be understood.
                 self._close("a request was interrupted")
+                self._stream.stop()
                 raise
 
     def wait(self, call: Waiter, deadline: Optional[float] = None) -> bool:

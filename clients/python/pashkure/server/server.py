@@ -91,7 +91,7 @@ class Server:
         try:
             self._replying.take(self._child.read())
         except (LookupError, ValueError):
-            raise Ended from None
+            raise Ended("wrote what is no reply") from None
         touched = self._replying.touched
         self._replying.touched = []
         for connection in touched:
@@ -194,8 +194,9 @@ def serve(words: List[str], path: str, mode: int) -> Optional[str]:
         _serve_at(child, path, mode)
     except (InUse, OSError) as error:
         return str(error)
-    except Ended:
-        return f"{words[0]} ended with status {child.close()}"
+    except Ended as error:
+        status = child.close()
+        return f"{words[0]} {error}" if error.args else f"{words[0]} ended with status {status}"
     finally:
         child.close()
     return None
