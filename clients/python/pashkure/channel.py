@@ -19,11 +19,7 @@ from .streams import Stream
 class Waiter(Call):
     """A call, and the gate behind which its thread sleeps."""
 
-    __slots__ = ("gate",)
-
-    def __init__(self, key: bytes = b"", is_lock: bool = False) -> None:
-        super().__init__(key, is_lock)
-        self.gate: Optional[threading.Lock] = None
+    gate: Optional[threading.Lock] = None
 
 
 class Channel:
@@ -122,7 +118,7 @@ class Channel:
     def _lead(self, call: Waiter, deadline: Optional[float]) -> bool:
         """Reads for all until this call's reply is there, or until the deadline."""
         while call.reply is None:
-            if not self._stream.is_readable(deadline):
+            if deadline is not None and not self._stream.is_readable(deadline):
                 return False
             self._read()
         return True
@@ -138,9 +134,10 @@ class Channel:
         except (LookupError, ValueError):
             self._close("the service was not understood")
         except BaseException:
-            # Something that was read may be lost, so no later reply can be trusted.
-            self._close("a read was interrupted")
+            if self._stream.is_taken():  # replies may be lost, so no later one can be trusted
+                self._close("a read was interrupted")
             raise
+        self._stream.taken()
 
     def _take(self, data: bytes) -> None:
         over: List[Waiter] = []

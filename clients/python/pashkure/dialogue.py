@@ -16,14 +16,13 @@ class Call:
     The reply to a lock that has to wait is what ends the wait: `granted`, `cancelled` or `aborted`.
     """
 
-    __slots__ = ("key", "reply", "lines", "is_lock", "is_due")
+    reply: Optional[bytes] = None
+    lines: Tuple[bytes, ...] = ()  # the lines that belong to the reply of `graph`
+    is_due = False  # the transaction waits, and is aborted when its wait ends
 
     def __init__(self, key: bytes = b"", is_lock: bool = False) -> None:
         self.key = key
-        self.reply: Optional[bytes] = None
-        self.lines: List[bytes] = []  # the lines that belong to the reply of `graph`
         self.is_lock = is_lock
-        self.is_due = False  # the transaction waits, and is aborted when its wait ends
 
 
 C = TypeVar("C", bound=Call)
@@ -36,7 +35,9 @@ class Dialogue(Generic[C]):
         self.pending: Deque[C] = deque()
         self.waiting: Dict[bytes, C] = {}
         self._lines = Lines()
-        self._graph: Optional[Tuple[C, int]] = None  # a call whose reply goes on, and for how many lines
+        self._graph: Optional[C] = None  # a call whose reply goes on
+        self._left = 0  # for how many lines
+        self._graph_lines: List[bytes] = []
 
     def feed(self, data: bytes, over: List[C]) -> None:
         """Takes what the service wrote, and adds the calls that are over by that.
@@ -53,7 +54,7 @@ class Dialogue(Generic[C]):
         """Ends all calls: they get the reply `GONE`."""
         over = [*self.pending, *self.waiting.values()]
         if self._graph is not None:
-            over.append(self._graph[0])
+            over.append(self._graph)
         self.pending.clear()
         self.waiting.clear()
         for call in over:
@@ -65,12 +66,9 @@ class Dialogue(Generic[C]):
         if call.is_lock and line.startswith(b"waits "):
             self.waiting[call.key] = call
             return
-        if line.startswith(b"graph "):
-            count = int(line[6:])
-            if count > 0:
-                self._graph = (call, count)
-                call.lines.append(line)
-                return
+        if line.startswith(b"graph ") and line != b"graph 0":
+            self._graph, self._left, self._graph_lines = call, int(line[6:]), [line]
+            return
         call.reply = line
         over.append(call)
         if line == b"cancelled" or line == b"aborted":
@@ -80,21 +78,19 @@ class Dialogue(Generic[C]):
 
     def _caused(self, line: bytes, over: List[C]) -> None:
         if self._graph is not None:
-            self._graph_line(line, over)
+            self._graph_line(self._graph, line, over)
             return
         words = line.split(b" ")
         self._end_wait(words[2], words[1], over)
 
-    def _graph_line(self, line: bytes, over: List[C]) -> None:
-        assert self._graph is not None
-        call, count = self._graph
-        call.lines.append(line)
-        if count > 1:
-            self._graph = (call, count - 1)
-            return
-        self._graph = None
-        call.reply = call.lines.pop(0)
-        over.append(call)
+    def _graph_line(self, call: C, line: bytes, over: List[C]) -> None:
+        self._graph_lines.append(line)
+        self._left -= 1
+        if self._left == 0:
+            self._graph = None
+            call.reply, *lines = self._graph_lines
+            call.lines = tuple(lines)
+            over.append(call)
 
     def _end_wait(self, key: bytes, reply: bytes, over: List[C]) -> None:
         waiter = self.waiting.pop(key, None)

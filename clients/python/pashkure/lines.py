@@ -12,11 +12,13 @@ class Lines:
 
     def take(self, data: bytes) -> List[bytes]:
         """The lines that end in this piece, without their newlines."""
+        if not self._pieces and data.endswith(b"\n"):
+            return data[:-1].split(b"\n")
         end = data.rfind(b"\n")
         if end < 0:
             self._pieces.append(data)
             return []
         self._pieces.append(data[:end])
         lines = b"".join(self._pieces).split(b"\n")
-        self._pieces = [data[end + 1 :]]
+        self._pieces = [data[end + 1 :]] if end + 1 < len(data) else []
         return lines

@@ -1,7 +1,7 @@
 """What the replies of the service mean."""
 from __future__ import annotations
 
-from typing import List, NamedTuple, NoReturn, Optional
+from typing import Iterable, List, NamedTuple, NoReturn, Optional
 
 from .errors import REFUSALS, Aborted, Deadlock, Malformed, NameTooLong, Timeout
 from .names import decoded
@@ -117,7 +117,7 @@ def holds(reply: bytes) -> List[str]:
     return [decoded(word) for word in words[1:]]
 
 
-def graph(reply: bytes, lines: List[bytes]) -> List[Wait]:
+def graph(reply: bytes, lines: Iterable[bytes]) -> List[Wait]:
     """All waits. Each line is `* K NAME H`."""
     if not reply.startswith(b"graph "):
         fail(reply)

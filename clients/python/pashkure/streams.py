@@ -6,7 +6,7 @@ import select
 import socket
 import subprocess
 import time
-from typing import List, Optional
+from typing import List
 
 from .program import ended, started
 
@@ -20,14 +20,13 @@ class Stream:
     def __init__(self, read: int, write: int) -> None:
         self._read = read
         self._write = write
+        self._buffer = bytearray(SIZE)
+        self._view = memoryview(self._buffer)
         self._poll = select.poll()
         self._poll.register(read, select.POLLIN)
 
-    def is_readable(self, deadline: Optional[float]) -> bool:
+    def is_readable(self, deadline: float) -> bool:
         """Waits until there is something to read, or until the deadline, which is a time of `time.monotonic`."""
-        if deadline is None:
-            self._poll.poll()
-            return True
         while True:
             milliseconds = (deadline - time.monotonic()) * 1000 + 1
             if self._poll.poll(int(min(max(0.0, milliseconds), LONGEST_POLL))):
@@ -36,11 +35,22 @@ class Stream:
                 return False
 
     def read(self) -> bytes:
-        """What is there. Nothing says that the other side has ended."""
+        """What is there, after a wait if need be. Nothing says that the other side has ended."""
         try:
-            return os.read(self._read, SIZE)
+            return bytes(self._view[: os.readv(self._read, (self._buffer,))])
         except OSError:
             return b""
+
+    def is_taken(self) -> bool:
+        """Whether a read took something, and `taken` was not called since. No line begins with a byte 0.
+
+        So where an exception of a signal comes out of a read, it is known whether something is lost.
+        """
+        return self._buffer[0] != 0
+
+    def taken(self) -> None:
+        """What was read is in good hands."""
+        self._buffer[0] = 0
 
     def write(self, data: bytes) -> None:
         """Writes all of it."""

@@ -13,8 +13,6 @@ from ..program import ended, started
 class Awaited(Call):
     """A call, and the future that is set when its reply is there."""
 
-    __slots__ = ("future",)
-
     def __init__(self, key: bytes = b"", is_lock: bool = False) -> None:
         super().__init__(key, is_lock)
         self.future: "asyncio.Future[None]" = asyncio.get_running_loop().create_future()
