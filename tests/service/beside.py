@@ -16,7 +16,7 @@ NAME_POOL = [b"a", b"b", b"c", b"accounts/1", b"accounts/2", "Müller".encode(),
 TOO_LONG = b"thirteenbytes"
 NO_REQUESTS = [b"begin 0.1", b"lock 0.1", b"lock 0.1 a b", b"lock a a", b"lock 0,1 a", b"unlock", b"Lock 0.1 a", b"status -1.1",
                b"lock 0.1 a\x01", b"lock 4294967296.1 a", b"owner", b"graph 1", b"totals\t", b"\x00", b"commit 0.1.1"]  # fmt: skip
-NO_REPLY = [b"", b"# begin", b"#", b"\r"]
+NO_REPLY = [b"", b"# begin", b"#", b"\r", b"   ", b"  # begin\r"]
 KINDS = [b"lock"] * 14 + [b"try"] * 3 + [b"unlock"] * 4 + [b"commit"] * 2 + [b"abort"] * 2 + [b"cancel"] * 3 + [b"begin"] * 4 + [
     b"owner", b"status", b"holds", b"graph", b"totals", b"malformed", b"comment"]  # fmt: skip
 
@@ -31,11 +31,8 @@ class Told(Oracle):
         return self.lines[0] in (b"later", b"carried")
 
     def order(self, names: List[bytes], heirs: Dict[bytes, bytes]) -> List[bytes]:
-        def place(name: bytes) -> int:
-            line = b"* granted %b %b" % (heirs[name], name)
-            return self.lines.index(line) if line in self.lines else len(self.lines)
-
-        return sorted(names, key=place)
+        told = [line.split(b" ")[2] for line in self.lines if line.startswith(b"* ")]
+        return sorted(names, key=lambda name: told.index(heirs[name]) if heirs[name] in told else len(told))
 
 
 class Beside:
@@ -76,8 +73,6 @@ class Beside:
         """Fails unless the model answers the line as the service did."""
         self.told.lines = told
         wanted = answer(self.model, line)
-        if told[:1] == [b"holds"] and wanted == [b"refused no-transaction"]:
-            wanted = told  # both say of a transaction that is not live that it owns nothing
         if told != wanted:
             raise AssertionError(f"to {line!r} the service says {told}, and the model {wanted}")
         for reply in told[:1]:

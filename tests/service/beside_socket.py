@@ -50,8 +50,6 @@ class Crowd:
         reply = heard[place]
         self.beside.told.lines = [reply]
         wanted = answer(self.beside.model, self.seen(which, line))
-        if reply == b"holds" and wanted == [b"refused no-transaction"]:
-            wanted = [reply]  # both say of a transaction that is not live that it owns nothing
         assert wanted[0] == reply, f"to {line!r} the service says {reply!r}, and the model {wanted}"
         self.beside.note(reply)
         if reply.startswith(b"begun "):

@@ -47,11 +47,11 @@ def answer(model: Model, line: bytes) -> List[bytes]:
     """The lines of the answer to a line without its newline. There are none where the line has no reply."""
     if line.endswith(b"\r"):
         line = line[:-1]
+    if len(line) > LONGEST:
+        return [b"malformed"]
     words = [word for word in line.split(b" ") if word]
     if not words or words[0].startswith(b"#"):
         return []
-    if len(line) > LONGEST:
-        return [b"malformed"]
     readers = KINDS.get(words[0])
     if readers is None or len(readers) != len(words) - 1:
         return [b"malformed"]

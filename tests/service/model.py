@@ -185,6 +185,8 @@ class Model:
         if self.stays(transaction):
             return b"carried"
         self.leave_queue(transaction)
+        if transaction.is_due:
+            self.caused.append(b"* aborted " + key)
         self.settle([transaction])
         return b"cancelled"
 
@@ -215,18 +217,20 @@ class Model:
             heir = self.queues[name].popleft()
             heir.awaited = None
             self.give(name, heir)
-            self.caused.append(b"* granted %b %b" % (heir.key, name))
+            self.caused.append(b"* aborted " + heir.key if heir.is_due else b"* granted %b %b" % (heir.key, name))
             granted.append(heir)
         return granted
 
     def settle(self, freed: Iterable[Transaction]) -> None:
-        """Ends those whose waits ended and whose aborts are due, and then those whose waits end by that."""
+        """Ends those whose waits ended and whose aborts are due, and then those whose waits end by that.
+
+        Each wait that ended has one line, in order: whose abort is due is told of that alone.
+        """
         left = deque(freed)
         while left:
             transaction = left.popleft()
             if transaction.is_due:
                 self.counts["aborted"] += 1
-                self.caused.append(b"* aborted " + transaction.key)
                 left.extend(self.end(transaction))
 
     def owner(self, name: bytes) -> bytes:

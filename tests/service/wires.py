@@ -37,7 +37,12 @@ def long_lines(world: World) -> str:
         same(wire.ask(b"begin"), b"begun 0.1")
         same(wire.ask(b"lock 0.1 " + b"x" * 1024), b"granted")
         same(wire.ask(b"status 0.1"), b"active")
-        for length in 5_000, 65_536, 1_000_000:
+        longest = b"unlock 0.1 " + b" " * (1048 - 11 - 1024) + b"x" * 1024
+        same(wire.ask(longest), b"unlocked")
+        same(wire.ask(longest.replace(b"unlock", b"lock") + b"\r"), b"granted")
+        same(wire.ask(longest + b" \r"), b"malformed")
+        wire.send(b"#" * 1048 + b"\n")
+        for length in 1_049, 5_000, 65_536, 1_000_000:
             same(wire.ask(b"lock 0.1 " + b"x" * length), b"malformed")
             same(wire.ask(b"#" * length), b"malformed")
         before = server.memory()

@@ -4,8 +4,11 @@ from __future__ import annotations
 import socket
 from typing import Dict, Iterator, List, Optional, Tuple, Union
 
-LIMIT = 4096
-"""Bytes of a line. A longer one is malformed for any program, so it is not kept."""
+LIMIT = 1048
+"""Bytes of the longest request: `unlock`, a key of 16 bytes, a name of 1,024, and two spaces. A longer line is malformed as a whole."""
+
+TOO_LONG = bytes(LIMIT + 1)
+"""Stands for a line whose beginning was dropped."""
 
 BOUND = 262144
 """Bytes of replies that a client may leave unread before the server reads no more of its requests."""
@@ -45,9 +48,9 @@ class Connection:
         lines = (self.rest + data).split(b"\n")
         self.rest = lines.pop()
         if self.skips and lines:
-            lines[0] = bytes(LIMIT + 1)
+            lines[0] = TOO_LONG
             self.skips = False
-        if len(self.rest) > LIMIT:
+        if len(self.rest) > LIMIT + 1:  # more than a request and a carriage return
             self.skips = True
         if self.skips:
             self.rest = b""

@@ -50,10 +50,11 @@ class Passing:
 
     def _other(self, connection: Connection, line: bytes) -> None:
         """Passes on a line of which it is not sure what it is. Empty lines and comments have no reply, so they are dropped."""
+        line = _without_return(line)
         if len(line) > LIMIT:
             self.add(b"malformed", connection.plain)  # which it is: the program says so when its turn comes
             return
-        words = [word for word in _without_return(line).split(b" ") if word]
+        words = [word for word in line.split(b" ") if word]
         if not words or words[0].startswith(b"#"):
             return
         entry = connection.plain
