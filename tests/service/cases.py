@@ -8,7 +8,7 @@ import traceback
 from typing import Any, Callable
 
 LIMIT = 900
-"""Seconds that a case may take. No case comes near to it, however busy the machine is, unless something hangs."""
+"""Seconds that a case may take beside those that it is told to. No case comes near to it, however busy the machine is, unless something hangs."""
 
 
 class Hangs(Exception):
@@ -18,9 +18,10 @@ class Hangs(Exception):
 class Cases:
     """Runs cases, one after the other, and counts them."""
 
-    def __init__(self, name: str, only: str) -> None:
+    def __init__(self, name: str, only: str, seconds: float) -> None:
         self.name = name
         self.only = only
+        self.limit = LIMIT + seconds
         self.passed = 0
         self.failed = 0
         signal.signal(signal.SIGALRM, _hangs)
@@ -34,7 +35,7 @@ class Cases:
         if self.only not in title:
             return
         start = time.monotonic()
-        signal.setitimer(signal.ITIMER_REAL, LIMIT)
+        signal.setitimer(signal.ITIMER_REAL, self.limit)
         try:
             told = case(*args)
         except Exception:
