@@ -1,0 +1,60 @@
+"""The file of the server's socket."""
+from __future__ import annotations
+
+import os
+import socket
+import stat
+from typing import Optional, Tuple
+
+
+class InUse(Exception):
+    """There is a file of this name that may not be replaced."""
+
+
+class Listener:
+    """A socket that clients connect to. Its file is there from `open` to `close`."""
+
+    def __init__(self, path: str, mode: int) -> None:
+        _remove_stale(path)
+        self.path = path
+        self.socket = socket.socket(socket.AF_UNIX, socket.SOCK_STREAM)
+        self.socket.setblocking(False)
+        before = os.umask(0o777 & ~mode)  # so that the file never has other rights, not even at first
+        try:
+            self.socket.bind(path)
+        finally:
+            os.umask(before)
+        os.chmod(path, mode)
+        self._file = _identity(path)
+        self.socket.listen(1024)
+
+    def close(self) -> None:
+        """Removes the file, unless it is another one by now."""
+        if self._file is not None and _identity(self.path) == self._file:
+            os.unlink(self.path)
+        self.socket.close()
+
+
+def _identity(path: str) -> Optional[Tuple[int, int]]:
+    try:
+        status = os.lstat(path)
+    except FileNotFoundError:
+        return None
+    return status.st_dev, status.st_ino
+
+
+def _remove_stale(path: str) -> None:
+    """Removes the socket of a server that is gone. Raises `InUse` where somebody answers there, or where it is no socket."""
+    try:
+        if not stat.S_ISSOCK(os.lstat(path).st_mode):
+            raise InUse(f"{path} is no socket")
+    except FileNotFoundError:
+        return
+    with socket.socket(socket.AF_UNIX, socket.SOCK_STREAM) as trial:
+        trial.settimeout(5.0)
+        try:
+            trial.connect(path)
+        except ConnectionRefusedError:
+            os.unlink(path)
+            return
+    raise InUse(f"another server answers at {path}")
