@@ -1,4 +1,4 @@
-"""No call of an opened table, of a shared table, of a pass or of a board requests memory."""
+"""No call of an opened table, of a shared table, of a pass, of a board or of a lock service requests memory."""
 import json
 import re
 
@@ -24,6 +24,37 @@ def script(cases, scratch, program):
     lines = run.output.count("\n") - 1
     told = f"{lines} calls, each request after the table line's is refused: {run.counts.refused} were made"
     cases.ends("a script's calls", told, faults if lines == given.count("\n") else faults + ["a line has no reply"])
+
+
+# One transaction owns a name for good, and another one in each round.
+ROUND = """begin
+lock 1.{0} z
+graph
+cancel 1.{0}
+lock 1.{0} a
+try 1.{0} b
+unlock 1.{0} b
+holds 1.{0}
+status 1.{0}
+owner a
+lock 1.{0} z
+abort 1.{0}
+totals
+"""
+
+
+def service(cases, scratch, program):
+    """More than a hundred thousand requests of a lock service, none of which takes memory."""
+    start = "begin\nlock 0.1 z\n"
+    given = start + "".join(ROUND.format(generation) for generation in range(1, 10_001))
+    command = [program, "locks", "--seed", "7"]
+    opened = refused(scratch, command, start.encode())
+    run = refused(scratch, command, given.encode(), after=opened.counts.requests)
+    faults = []
+    if run.status != 0 or run.errors or run.counts.refused > 0 or "refused" in run.output or "malformed" in run.output:
+        faults.append(f"status {run.status}, errors {run.errors!r}, {run.counts}, {run.output.count('refused')} refusals")
+    told = f"{given.count(chr(10))} requests, each request for memory after the opening is refused: {run.counts.refused} were made"
+    cases.ends("a lock service's requests", told, faults)
 
 
 def own(run):
@@ -75,6 +106,7 @@ def board(cases, scratch, times, work):
 
 def all_calls(cases, scratch, program, times):
     script(cases, scratch, program)
+    service(cases, scratch, program)
     rounds(cases, scratch, times)
     workers(cases, scratch, program)
     for work in BOARD:

@@ -95,6 +95,35 @@ def storms(cases, scratch, program):
     all_in_turn(cases, scratch, "storm of 16 clients", command, ends_of(16))
 
 
+# Two transactions that lock names and deadlock, one whose abort comes later, and each request that reads.
+LOCKS = b"""begin
+begin
+begin
+lock 0.1 a
+lock 1.1 b
+lock 0.1 b
+lock 1.1 a
+abort 1.1
+unlock 0.1 a
+try 2.1 a
+lock 2.1 b
+cancel 2.1
+holds 0.1
+graph
+status 2.1
+owner b
+commit 0.1
+totals
+"""
+
+
+def service(cases, scratch, program):
+    """A lock service, with a seed of its own and with one of the system."""
+    for seed in [["--seed", "7"], []]:
+        command = [program, "locks", "--transactions", "8", "--names", "8", *seed]
+        all_in_turn(cases, scratch, " ".join(["locks", *command[2:]]), command, same_as(refused(scratch, command, LOCKS)), LOCKS)
+
+
 def words(cases, scratch, program):
     """Help, and words that are wrong."""
     for given in ["--help", "threads", "storm --clients 0", "storm extra", "nothing"]:

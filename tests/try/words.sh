@@ -25,9 +25,24 @@ for words in --help -h help "help script" "script --help" "script -h"; do
   run $words > "$work/out" 2> "$work/err"
   status=$?
   ends 0 "$(cat "$work/out")" "" $status
-  for call in "table P R L G" "table2 P R L G" "begin" "acquire K r" "release K r" "finish K" "transmit K" "detect K" "abort K" "give_up K" "settle" "state K" "owner r" "totals" "refused N Name" threads storm "Exit statuses:" "1 to 17592186044415" " 7 LabelsExhausted " "15 CountsExhausted " locks; do
+  for call in "table P R L G" "table2 P R L G" "begin" "acquire K r" "release K r" "finish K" "transmit K" "detect K" "abort K" "give_up K" "settle" "state K" "owner r" "totals" "refused N Name" threads storm "Exit statuses:" "1 to 17592186044415" " 7 LabelsExhausted " "15 CountsExhausted "; do
     says "$call"
   done
+done
+for words in "locks --help" "locks -h" "help locks"; do
+  case_is "what $words tells"
+  # shellcheck disable=SC2086
+  run $words > "$work/out" 2> "$work/err"
+  status=$?
+  ends 0 "$(cat "$work/out")" "" $status
+  for part in "  begin " "  lock K NAME " "  try K NAME " "  unlock K NAME " "  commit K " "  abort K " "  cancel K " "  owner NAME " "  status K " "  holds K " "  graph " "  totals " "* granted K NAME" "* aborted K" no-transaction must-abort waiting not-waiting name-too-long not-owner names-full transactions-full labels-full counts-full "--name-bytes <N>" "Exit statuses:"; do
+    says "$part"
+  done
+done
+case_is "the help lists each subcommand"
+run --help > "$work/out" 2> "$work/err"
+for part in "  script " "  threads " "  storm " "  locks "; do
+  says "$part"
 done
 
 # Wrong words: nothing is run.

@@ -85,3 +85,56 @@ Exit statuses:
   4  a table, the start of a thread, or memory was refused, and
      'refused N Name' printed
   5  threads, storm: some client used all its turns or was refused";
+
+/// The requests of a lock service, their replies and refusals, and the exit statuses. No line has more than 80 bytes.
+pub const LOCKS_AFTER: &str = "\
+Requests are read from standard input, one a line, as long as there are any.
+Each has one reply on standard output; behind it stands a line for each wait
+that it ended.
+
+Requests and their replies:
+  begin          begun K: a new transaction
+  lock K NAME    granted; held, where K owns it; waits H, where H owns it; or
+                 deadlock H: the same, and K closed a cycle of waits
+  try K NAME     granted, held, or busy H: it never waits
+  unlock K NAME  unlocked: the longest waiter owns the name now
+  commit K       committed: K hands over all that it owns, and ends
+  abort K        aborted: the same; or later: as soon as its wait ends
+  cancel K       cancelled: K waits no longer; or carried: not now
+  owner NAME     owner K, or free
+  status K       active, waiting NAME H or deadlock NAME H; 'aborting' behind
+                 it where the abort of K is due
+  holds K        holds NAME ..: the names that K owns
+  graph          graph N, and N lines '* K NAME H': who waits, and for whom
+  totals         totals BEGUN COMMITTED ABORTED DEADLOCKS
+
+Waits that a request ended:
+  * granted K NAME   K owns the name now
+  * aborted K        the abort of K was due, and K has ended
+
+A key K or H is process.generation. A NAME is 1 to --name-bytes bytes, without
+spaces and control characters. A line that is no request has the reply
+'malformed'. Lines that are blank or begin with # have none.
+
+Ranges:
+  --transactions  1 to 65536   --name-bytes  1 to 1024
+  --names         1 to 65536   --seed        0 to 18446744073709551615
+
+A refused request changes nothing and has the reply 'refused' with a word:
+  no-transaction     no live transaction has this key
+  must-abort         K is in a deadlock, and may only abort
+  waiting            K waits
+  not-waiting        K does not wait
+  name-too-long      the name has more bytes than --name-bytes says
+  not-owner          K does not own the name
+  names-full         as many names are owned as --names says
+  transactions-full  as many transactions are live as --transactions says
+  labels-full        there may be no label left for one more wait
+  counts-full        the count of events is at its limit
+
+Exit statuses:
+  0  the input ended, and no line was malformed; help was asked for
+  1  the input ended, and some line was malformed
+  2  the command line is wrong
+  3  'read fault' or 'write fault' on standard error
+  4  memory was refused, and 'refused 10 Memory' printed";

@@ -16,5 +16,7 @@ mod words;
 pub use cut::{index_of, without_carriage_return};
 pub use fault::Fault;
 pub use input::{Input, Limits};
-pub use output::{OUTPUT_LEN, Output, make_room, print_key, print_number, print_text, write_output};
+pub use output::{
+    OUTPUT_LEN, Output, make_room, print_key, print_number, print_text, write_output,
+};
 pub use words::Words;

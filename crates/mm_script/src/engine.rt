@@ -80,11 +80,7 @@ impl Session {
     }
 
     /// Answers the lines whose newline is among the bytes and writes the replies; returns how many bytes those lines have.
-    pub fn answer_piece<W: Write>(
-        &mut self,
-        bytes: &[u8],
-        writer: &mut W,
-    ) -> Result<usize, Fault>
+    pub fn answer_piece<W: Write>(&mut self, bytes: &[u8], writer: &mut W) -> Result<usize, Fault>
         requires { self.old.malformed + length bytes.now < 2 ^ 64 }
         ensures answered { (rest : List ℕ) × (lost : List ℕ) × AnswersLines (W.contents writer.old) (W.contents writer.new) self.old bytes.now self.new rest lost
             × IfOk result (λ count. (count ≤ length bytes.now) × (rest ≡ drop count bytes.now) × IsOpen rest × (lost ≡ [])) }

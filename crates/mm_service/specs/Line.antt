@@ -1,6 +1,5 @@
 -- What a line is.
 use Rattle.std.specs.Prelude.{ℕ, List, [], ◌∷◌, length, Option, Some, None, nat_eq, nat_lt, slice_index, if◌then◌else◌}
-use Rattle.std.specs.Option.{option_map_or}
 use Rattle.std.specs.Str.Lines.{strip_carriage_return}
 use Rattle.mm_lines.specs.Words.{words_of}
 use Rattle.mm_service.specs.Forms.{AskedFor, request_of}

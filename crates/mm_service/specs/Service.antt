@@ -1,5 +1,5 @@
 -- What a run of a service reads and writes.
-use Rattle.std.specs.Prelude.{◌≡◌, ℕ, ◌≤◌, Bool, true, false, List, [], ◌∷◌, ◌++◌, length, Result, Ok, Err}
+use Rattle.std.specs.Prelude.{◌≡◌, ℕ, Bool, true, false, List, [], ◌∷◌, ◌++◌, length, Result, Ok, Err}
 use Rattle.mm_lines.specs.declared.fault.Fault.{Fault}
 use Rattle.mm_lines.specs.declared.fault.Fault.TheVariants.{Read, Write, TooLong}
 use Rattle.mm_lines.specs.Lines.{lines_of, whole_lines}

@@ -7,8 +7,8 @@ ghost use Rattle.mm_service.specs.Text.{AnswersKey, AnswersName, AnswersRequest,
 use crate::line::{KeyRequest, NameRequest, Request};
 use crate::lists::{Numbers, write_graph, write_holds, write_told};
 use crate::reply::{
-    MAX_NAMED, MAX_REPLY, print_abort, print_aborted, print_begun, print_cancel, print_committed, print_lock,
-    print_owner, print_status, print_totals, print_try, print_unlocked,
+    MAX_NAMED, MAX_REPLY, print_abort, print_aborted, print_begun, print_cancel, print_committed,
+    print_lock, print_owner, print_status, print_totals, print_try, print_unlocked,
 };
 use mm_lines::{Fault, OUTPUT_LEN, Output, make_room};
 use mm_manager::{Cancel, Key, LockManager, Refusal};
@@ -110,7 +110,12 @@ fn make_of_key<W: Write>(
 }
 
 /// Takes back a wait. Where the abort of its transaction was due, a line says so.
-fn cancel<W: Write>(manager: &mut LockManager, output: &mut Output, key: Key, writer: &mut W) -> Result<(), Fault>
+fn cancel<W: Write>(
+    manager: &mut LockManager,
+    output: &mut Output,
+    key: Key,
+    writer: &mut W,
+) -> Result<(), Fault>
     requires { array_vec_len output.old + MAX_NAMED ≤ OUTPUT_LEN }
     ensures made { (text : List ℕ) × (lost : List ℕ) × AnswersKey KeyRequest.Cancel key manager.old text manager.new
         × Writes (W.contents writer.old) (W.contents writer.new) (output.old.items ++ text) lost × OnOk result (lost ≡ output.new.items) }

@@ -30,7 +30,11 @@ impl Numbers {
 }
 
 /// Writes whose waits the last call ended, a line each.
-pub fn write_told<W: Write>(manager: &LockManager, output: &mut Output, writer: &mut W) -> Result<(), Fault>
+pub fn write_told<W: Write>(
+    manager: &LockManager,
+    output: &mut Output,
+    writer: &mut W,
+) -> Result<(), Fault>
     ensures written { (lost : List ℕ) × Writes (W.contents writer.old) (W.contents writer.new) (output.old.items ++ told_text manager.now) lost
         × OnOk result (lost ≡ output.new.items) }
     ensures fault { IsOkUnless result Fault.Write }
@@ -103,9 +107,9 @@ fn list_held(manager: &LockManager, numbers: &mut Numbers, key: Key)
 {
     manager.keeps_laws();
     manager.holds(key, &mut numbers.items);
-    numbers
-        .items
-        .sort_unstable_by(|first, second| name_at(manager, *first).cmp(name_at(manager, *second)));
+    numbers.items.sort_unstable_by(|first, second| name_at(manager, *first).cmp(name_at(
+        manager, *second,
+    )));
 }
 
 /// Writes the names of these numbers, each behind a space.
@@ -128,7 +132,11 @@ fn write_names<W: Write>(
 }
 
 /// Writes how many transactions wait, and a line for each of them.
-pub fn write_graph<W: Write>(manager: &LockManager, output: &mut Output, writer: &mut W) -> Result<(), Fault>
+pub fn write_graph<W: Write>(
+    manager: &LockManager,
+    output: &mut Output,
+    writer: &mut W,
+) -> Result<(), Fault>
     requires { array_vec_len output.old + MAX_REPLY ≤ OUTPUT_LEN }
     ensures written { (lost : List ℕ) × Writes (W.contents writer.old) (W.contents writer.new) (output.old.items ++ graph_text manager.now) lost
         × OnOk result (lost ≡ output.new.items) }
@@ -148,7 +156,11 @@ fn count_waits(manager: &LockManager) -> u64
 }
 
 /// Writes a line for each wait.
-fn write_arrows<W: Write>(manager: &LockManager, output: &mut Output, writer: &mut W) -> Result<(), Fault>
+fn write_arrows<W: Write>(
+    manager: &LockManager,
+    output: &mut Output,
+    writer: &mut W,
+) -> Result<(), Fault>
     ensures written { (lost : List ℕ) × Writes (W.contents writer.old) (W.contents writer.new) (output.old.items ++ arrow_lines manager.now (waits_of manager.now.table)) lost
         × OnOk result (lost ≡ output.new.items) }
     ensures fault { IsOkUnless result Fault.Write }

@@ -202,11 +202,13 @@ pub fn print_status(output: &mut Output, manager: &LockManager, answer: &Result<
 {
     match answer {
         Ok(Status::Active) => print_text(output, b"active"),
-        Ok(Status::Waiting {
-            number,
-            holder,
-            aborting,
-        }) => {
+        Ok(
+            Status::Waiting {
+                number,
+                holder,
+                aborting,
+            },
+        ) => {
             print_text(output, b"waiting");
             print_wait(output, name_at(manager, *number), *holder);
             print_due(output, *aborting);

@@ -4,7 +4,7 @@ ghost use Rattle.clap.specs.Words.{app_of, rule_of};
 ghost use Rattle.clap.specs.declared.builder.command.Command.TheViews.{out-Command as fields_of};
 ghost use Rattle.mm_command.specs.CommandLine.{free_number_rule, locks_app, number_rule, program, script_app, storm_app, threads_app, verbose_rule};
 
-use crate::help::{ABOUT, AFTER, LOCKS, SCRIPT, STORM, THREADS, VERBOSE};
+use crate::help::{ABOUT, AFTER, LOCKS, LOCKS_AFTER, SCRIPT, STORM, THREADS, VERBOSE};
 use clap::builder::ValueParser;
 use clap::{Arg, ArgAction, Command};
 use std::alloc::{AllocError, Global};
@@ -69,6 +69,7 @@ fn locks_command<'a>(alloc: Global) -> Result<Command<'a>, AllocError>
 {
     Command::new(alloc, "locks")
         .about(LOCKS)
+        .after_help(LOCKS_AFTER)
         .arg(number(alloc, "transactions", 1, 65_536, "65536"))?
         .arg(number(alloc, "names", 1, 65_536, "65536"))?
         .arg(number(alloc, "name-bytes", 1, 1_024, "64"))?

@@ -1,5 +1,5 @@
 -- Lines that are answered, one after the other.
-use Rattle.std.proofs.Common.{◌≡◌, ◌∙◌, sym, ap, refl, subst, Bool, ℕ, ◌+◌, ◌<◌, ◌≤◌, List, [], ◌∷◌, ◌++◌, length, Option, append_assoc, append-nil, length-drop, arith}
+use Rattle.std.proofs.Common.{◌≡◌, sym, subst, Bool, ℕ, ◌+◌, ◌<◌, ◌≤◌, List, [], ◌++◌, length, Option, append_assoc, append-nil, length-drop, arith}
 use Rattle.std.specs.List.{position_or_len, before_first, after_first}
 use Rattle.mm_lines.specs.Answered.{IsText, Answered}
 use Rattle.mm_lines.specs.Cut.{is}

@@ -5,10 +5,10 @@ use Rattle.std.specs.Io.KnownBytes.{Appends, Consumes, Keeps, IsAtEnd}
 use Rattle.std.proofs.lemmas.List.{take_all}
 use Rattle.mm_lines.specs.Answered.{IsText}
 use Rattle.mm_lines.specs.Input.{InputState, within_limit, Reads}
-use Rattle.mm_lines.specs.Lines.{lines_of, whole_lines, whole_parts, cut, IsOpen}
+use Rattle.mm_lines.specs.Lines.{lines_of, whole_lines, whole_parts, IsOpen}
 use Rattle.mm_lines.specs.Output.{Writes}
 use Rattle.mm_lines.proofs.Lemmas.Lines.{parts-open}
-use Rattle.mm_lines.proofs.Lemmas.Reached.{Reached, Progress, PieceAnswered, piece_of, none_of, reached_read}
+use Rattle.mm_lines.proofs.Lemmas.Reached.{Reached, Progress, PieceAnswered}
 
 -- these bytes were read and those written
 pub record Moved (reader_before reader_after writer_before writer_after : Option (List ℕ)) (read written : List ℕ) : Type 0 where

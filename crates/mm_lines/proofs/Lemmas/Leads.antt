@@ -1,5 +1,5 @@
 -- How far the lines are answered.
-use Rattle.std.proofs.Common.{◌≡◌, sym, refl, subst, ℕ, ◌+◌, ◌<◌, List, [], ◌++◌, length, Bool, append_assoc, take, drop, take-append-drop, length-take, inl, inr, arith}
+use Rattle.std.proofs.Common.{◌≡◌, sym, subst, ℕ, ◌+◌, ◌<◌, List, [], ◌++◌, length, Bool, append_assoc, take, drop, take-append-drop, length-take, inl, inr, arith}
 use Rattle.std.specs.List.{position_or_len, before_first, after_first}
 use Rattle.std.proofs.lemmas.Bool.{cases_lt}
 use Rattle.std.proofs.lemmas.List.{take_all}

@@ -1,5 +1,5 @@
 -- What is written, kept or lost.
-use Rattle.std.proofs.Common.{◌≡◌, ◌∙◌, sym, ap, refl, ℕ, List, [], ◌++◌, take, drop, Option, append_assoc, take-append-drop}
+use Rattle.std.proofs.Common.{◌∙◌, sym, ap, refl, ℕ, List, [], ◌++◌, take, drop, Option, append_assoc, take-append-drop}
 use Rattle.std.proofs.KnownBytes.{Appends-trans, Appends-nil, Appends-kept}
 use Rattle.std.specs.Io.KnownBytes.{Appends, Keeps}
 use Rattle.mm_lines.specs.Output.{Writes}

@@ -1,9 +1,8 @@
 -- What was read, answered and written so far.
-use Rattle.std.proofs.Common.{◌≡◌, ◌∙◌, sym, ap, refl, subst, ℕ, ◌+◌, ◌-◌, ◌<◌, ◌≤◌, Bool, true, false, List, [], ◌∷◌, ◌++◌, length, take, drop, Option, append_assoc, append-nil, take-append-drop, length-append, length-take, length-drop, arith}
-use Rattle.std.proofs.KnownBytes.{Appends-trans, Appends-nil, Consumes-trans, Consumes-nil, Consumes-kept}
-use Rattle.std.specs.Io.KnownBytes.{Appends, Consumes, Keeps, IsAtEnd}
+use Rattle.std.proofs.Common.{◌≡◌, ◌∙◌, sym, ap, refl, subst, ℕ, ◌+◌, ◌-◌, ◌≤◌, Bool, List, [], ◌∷◌, ◌++◌, length, take, drop, Option, append_assoc, append-nil, take-append-drop, length-append, length-take, length-drop, arith}
+use Rattle.std.proofs.KnownBytes.{Appends-trans, Appends-nil, Consumes-trans, Consumes-nil}
+use Rattle.std.specs.Io.KnownBytes.{Appends, Consumes}
 use Rattle.std.proofs.Math.Seq.{take-append-add}
-use Rattle.std.proofs.lemmas.List.{take_all}
 use Rattle.mm_lines.specs.Answered.{IsText, Leads, Answered}
 use Rattle.mm_lines.specs.Input.{InputState, within_limit, without_front, IsReady, Reads}
 use Rattle.mm_lines.specs.Lines.{IsOpen}

@@ -1,6 +1,6 @@
 -- How a script ends.
-use Rattle.std.proofs.Common.{◌≡◌, ◌∙◌, sym, ap, refl, subst, true, false, ℕ, ◌+◌, ◌≤◌, Bool, List, [], ◌++◌, length, Option, None, Result, Ok, Err, OnOk, IfOk, IfErr, append-nil}
-use Rattle.std.specs.Io.KnownBytes.{Appends, Consumes, Keeps, IsAtEnd}
+use Rattle.std.proofs.Common.{◌≡◌, ◌∙◌, sym, ap, refl, subst, true, false, ℕ, ◌+◌, ◌≤◌, List, [], ◌++◌, length, Option, None, Result, Ok, Err, OnOk, IfOk, IfErr, append-nil}
+use Rattle.std.specs.Io.KnownBytes.{Appends, Consumes, IsAtEnd}
 use Rattle.mm_table.specs.TableState.{TableState}
 use Rattle.mm_lines.specs.declared.fault.Fault.{Fault}
 use Rattle.mm_lines.specs.declared.fault.Fault.TheVariants.{Read, Write, TooLong}

@@ -51,7 +51,7 @@ pub answers_more : (before after : Option (List ℕ)) (old next new : Session) (
 answers_more before after old next new bytes rest so_far some line =
     let P : List ℕ → Type 0 = λ l. AnswersLines before after old bytes new (after_first (is 0x0a) rest) l in
     subst P (sym line.replies) (answered_line script_text new.table next.replies.items line.reply (next.replies.items ++ line.reply) line.one new.malformed so_far some line.answer line.at_most_one line.malformed
-        (answers_keep (line_of (before_first (is 0x0a) rest)) next.table new.table line.reply line.one line.answer) (writes_none after (next.replies.items ++ line.reply)))
+    (answers_keep (line_of (before_first (is 0x0a) rest)) next.table new.table line.reply line.one line.answer) (writes_none after (next.replies.items ++ line.reply)))
 
 -- nothing is said of a value that is not there
 pub if_ok-at_err : {T E : Type 0} (r : Result T E) (P : T → Type 0) → IsErr r → IfOk r P

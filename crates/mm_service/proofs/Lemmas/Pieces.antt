@@ -1,7 +1,6 @@
 -- What is written piece by piece.
-use Rattle.std.proofs.Common.{◌≡◌, ◌∙◌, sym, ap, refl, subst, ℕ, ◌+◌, ◌<◌, List, [], ◌∷◌, ◌++◌, length, drop, get_or, Option, append_assoc, append-nil, codes}
+use Rattle.std.proofs.Common.{◌≡◌, ◌∙◌, sym, ap, subst, ℕ, ◌+◌, ◌<◌, List, [], ◌∷◌, ◌++◌, length, drop, get_or, Option, append_assoc, append-nil, codes}
 use Rattle.std.proofs.lemmas.List.{at_drop_more}
-use Rattle.std.proofs.KnownBytes.{Appends-trans}
 use Rattle.mm_lines.specs.Output.{Writes}
 use Rattle.mm_service.specs.Reply.{line_text}
 use Rattle.mm_lines.proofs.Lemmas.Output.{writes_none, writes_then, writes_added}

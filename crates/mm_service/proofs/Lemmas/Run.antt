@@ -1,5 +1,5 @@
 -- What lines are answered, and how a run ends.
-use Rattle.std.proofs.Common.{◌≡◌, ◌∙◌, sym, ap, refl, subst, ℕ, ◌+◌, ◌<◌, ◌≤◌, ◌⊎◌, inl, inr, true, false, Bool, List, [], ◌∷◌, ◌++◌, length, length-take, take, cond, ◌-◌, nat_lt, Option, Result, Ok, Err, IsErr, OnOk, IfOk, IfErr, append-nil, arith}
+use Rattle.std.proofs.Common.{◌≡◌, ◌∙◌, sym, ap, refl, subst, ℕ, ◌+◌, ◌<◌, inl, inr, true, false, Bool, List, [], ◌∷◌, ◌++◌, length, length-take, take, cond, ◌-◌, nat_lt, Option, Result, Ok, Err, IsErr, OnOk, IfOk, IfErr, append-nil, arith}
 use Rattle.std.proofs.lemmas.Grind.{common_steps}
 use Rattle.std.specs.Prelude.{slice_index, ◌==◌}
 use Rattle.std.specs.Str.Lines.{strip_carriage_return}

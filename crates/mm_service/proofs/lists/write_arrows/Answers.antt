@@ -1,4 +1,4 @@
-use Rattle.std.proofs.Common.{◌≡◌, ◌∙◌, ap, refl, subst, List, ℕ, ◌∷◌, ◌++◌}
+use Rattle.std.proofs.Common.{◌∙◌, ap, subst, List, ℕ, ◌∷◌, ◌++◌}
 use Rattle.mm_lines.specs.Output.{Writes}
 use Rattle.mm_manager.specs.Reads.{waits_of}
 use Rattle.mm_manager.specs.declared.reply.Wait.{Wait}

@@ -1,4 +1,4 @@
-use Rattle.std.proofs.Common.{◌≡◌, ◌∙◌, ap, ◌++◌, List, ℕ, length, codes, decimal, append_assoc}
+use Rattle.std.proofs.Common.{◌≡◌, ◌∙◌, ap, ◌++◌, length, codes, decimal, append_assoc}
 use Rattle.mm_manager.specs.Reads.{waits_of}
 use Rattle.mm_service.specs.Reply.{line_text}
 use Rattle.mm_service.proofs.Lemmas.Pieces.{writes_after}

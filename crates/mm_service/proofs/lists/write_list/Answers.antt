@@ -1,4 +1,4 @@
-use Rattle.std.proofs.Common.{◌≡◌, sym, subst, List, ℕ, ◌++◌, codes, arith}
+use Rattle.std.proofs.Common.{sym, subst, List, ℕ, ◌++◌, codes}
 use Rattle.mm_lines.specs.Output.{Writes}
 use Rattle.mm_lines.proofs.Lemmas.Output.{writes_then}
 use Rattle.mm_service.specs.Text.{names_text}

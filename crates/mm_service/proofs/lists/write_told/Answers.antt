@@ -1,4 +1,4 @@
-use Rattle.std.proofs.Common.{◌≡◌, ap, refl, subst, List, ℕ, ◌++◌, drop, arith}
+use Rattle.std.proofs.Common.{ap, refl, subst, List, ℕ, ◌++◌, drop}
 use Rattle.mm_lines.specs.Output.{Writes}
 use Rattle.mm_settled.specs.declared.reply.Grant.{Grant}
 use Rattle.mm_service.specs.Text.{told_line, told_lines}

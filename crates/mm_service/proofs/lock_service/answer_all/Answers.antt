@@ -1,10 +1,10 @@
-use Rattle.std.proofs.Common.{◌≡◌, ◌∙◌, ◌≤◌, ℕ, List, Option, Result, ap, refl, subst, sym, None, Err, drop, length, inl, inr, arith}
+use Rattle.std.proofs.Common.{◌≡◌, ◌∙◌, ◌≤◌, ℕ, Result, ap, refl, subst, sym, Err, drop, length, inl, inr, arith}
 use Rattle.std.proofs.lemmas.Bool.{cases_lt}
 use Rattle.std.proofs.lemmas.Result.{err_from_is_err_and}
 use Rattle.mm_lines.specs.declared.fault.Fault.{Fault}
 use Rattle.mm_lines.specs.declared.fault.Fault.TheVariants.{Read, Write}
 use Rattle.mm_lines.specs.Input.{InputState, within_limit, Reads, IsReady}
-use Rattle.mm_lines.proofs.Lemmas.Ended.{EndedByRead, EndedByLength, EndedByEnd, ended_by_read, ended_by_length, ended_by_write, ended_by_end, bounded_before, bounded_read, within_all}
+use Rattle.mm_lines.proofs.Lemmas.Ended.{ended_by_read, ended_by_length, ended_by_write, ended_by_end, within_all}
 use Rattle.mm_lines.proofs.Lemmas.Reached.{piece_answered, progress_first, progress_next}
 use Rattle.mm_service.specs.private.Service.{AnswersLines, IsAny}
 use Rattle.mm_service.specs.Text.{Text}
@@ -18,7 +18,7 @@ loop-service-init g c =
     let none_taken = ap (λ (i : InputState). i.taken) c.requires.input in
     let ready : IsReady input = record { room = omega (arith, nothing); within_limit = omega (arith, none_taken) } in
     let first = progress_first Text IsAny (g.R.Read.remaining c.args.reader.now) (g.W.Write.contents c.args.writer.now) input c.args.service.now.manager c.args.service.now.output.items
-        (ap (λ (i : InputState). i.held) c.requires.input) none_taken ready tt c.requires.output in
+    (ap (λ (i : InputState). i.held) c.requires.input) none_taken ready tt c.requires.output in
     record {
       so_far = rw c.requires.malformed first;
       line = c.requires.line;
@@ -72,11 +72,10 @@ pub returns-clause-ends : goal.returns-clause-ends
 returns-clause-ends g c =
     let finished = c.finish.ensures.finished in
     let ended = rw c.loop-service.invariant.limit at
-        (ended_by_end service_text _ _ c.read.new.self _ _ _ _ _ _ c.loop-service.invariant.so_far c.in_ok-read.ensures.ok c.if-branch.false c.within_limit-2.ensures finished.3 finished.4) in
+    (ended_by_end service_text _ _ c.read.new.self _ _ _ _ _ _ c.loop-service.invariant.so_far c.in_ok-read.ensures.ok c.if-branch.false c.within_limit-2.ensures finished.3 finished.4) in
     ran_end _ _ _ _ _ _ _ _ _ ended finished.5 c.finish.ensures.fault
 
 pub returns-clause-end : goal.returns-clause-end
 returns-clause-end g c =
     let nothing = subst (Reads (g.R.Read.remaining c.loop-service.reader) (g.R.Read.remaining c.read.new.reader) c.loop-service.input c.read.new.self) c.if-branch.false c.in_ok-read.ensures.ok in
     at_end c.finish.result (g.R.Read.remaining c.loop-service.reader) (g.R.Read.remaining c.read.new.reader) c.loop-service.input c.read.new.self nothing
-

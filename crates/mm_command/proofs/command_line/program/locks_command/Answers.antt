@@ -6,11 +6,11 @@ use Rattle.mm_command.proofs.command_line.program.locks_command.Goals as goal
 
 pub returns : goal.returns
 returns c =
-    let start : app_of c.about.result ≡ new_app (codes "locks") = search rules in
+    let start : app_of c.after_help.result ≡ new_app (codes "locks") = search rules in
     let first = c.in_ok-arg.ensures.shape c.number.ensures.local ∙ ap₂ with_rule start c.number.ensures.rule in
     let second = c.in_ok-arg-2.ensures.shape c.number-2.ensures.local ∙ ap₂ with_rule first c.number-2.ensures.rule in
     let third = c.in_ok-arg-3.ensures.shape c.number-3.ensures.local ∙ ap₂ with_rule second c.number-3.ensures.rule in
-    let none : (fields_of c.about.result).has_globals ≡ false = search rules in
+    let none : (fields_of c.after_help.result).has_globals ≡ false = search rules in
     let none_first = c.in_ok-arg.ensures.globals ∙ ap₂ (λ a b. a || b) none c.number.ensures.local in
     let none_second = c.in_ok-arg-2.ensures.globals ∙ ap₂ (λ a b. a || b) none_first c.number-2.ensures.local in
     let none_third = c.in_ok-arg-3.ensures.globals ∙ ap₂ (λ a b. a || b) none_second c.number-3.ensures.local in

@@ -1,6 +1,5 @@
-use Rattle.std.proofs.Common.{◌≡◌, ◌+◌, ◌≤◌, ◌<◌, length, take, refl, arith, subst}
+use Rattle.std.proofs.Common.{◌≡◌, ◌+◌, ◌≤◌, ◌<◌, length, take, refl, arith}
 use Rattle.std.proofs.lemmas.Grind.{common_steps}
-use Rattle.mm_lines.specs.Input.{InputState, IsReady}
 use Rattle.mm_lines.proofs.Lemmas.Input.{reads_piece}
 use Rattle.mm_lines.proofs.input.Input.read.Goals as goal
 

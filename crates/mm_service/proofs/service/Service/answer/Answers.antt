@@ -1,4 +1,4 @@
-use Rattle.std.proofs.Common.{◌≡◌, ◌∙◌, refl, sym, subst, List, ℕ, [], ◌++◌, append-nil, arith}
+use Rattle.std.proofs.Common.{◌∙◌, refl, sym, subst, List, ℕ, [], append-nil, arith}
 use Rattle.mm_lines.specs.Output.{Writes}
 use Rattle.mm_lines.proofs.Lemmas.Output.{writes_none}
 use Rattle.mm_service.specs.Line.{line_of}

@@ -1,4 +1,4 @@
-use Rattle.std.proofs.Common.{◌≡◌, ◌<◌, ℕ, List, [], ◌++◌, ap, sym, subst, refl, length, arith}
+use Rattle.std.proofs.Common.{◌≡◌, ◌<◌, ℕ, List, [], ◌++◌, sym, subst, length, arith}
 use Rattle.std.proofs.lemmas.Grind.{common_steps}
 use Rattle.mm_lines.specs.Output.{Writes}
 use Rattle.mm_lines.proofs.Lemmas.Output.{writes_none}
