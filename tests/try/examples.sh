@@ -25,13 +25,3 @@ for script in examples/*.script; do
   done > "$work/missing"
   same "missing" "" "$(cat "$work/missing")"
 done
-
-case_is "a client in Python: it waits, is woken, and aborts its victim"
-timeout 60 examples/client.py > "$work/out" 2> "$work/err"
-ends 0 "0.1 owns 0
-1.1 owns 1
-0.1 waits for 1
-1.1 waits for 0
-1.1 is aborted
-0.1 is woken
-status 0" "" $?
