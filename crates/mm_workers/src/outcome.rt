@@ -50,15 +50,15 @@ impl Display for Outcome {
             spent,
             refused,
         } = count_of(self.ends.as_slice());
-        write!(
-            f,
-            "clients finished {finished} aborted {aborted} spent {spent} refused {refused}\n"
-        )?;
         let Report {
             verdicts,
             aborts,
             ..
         } = self.report;
-        write!(f, "table verdicts {verdicts} aborts {aborts}")
+        write!(
+            f,
+            "clients finished {finished} aborted {aborted} spent {spent} refused {refused}\n\
+             table verdicts {verdicts} aborts {aborts}"
+        )
     }
 }

@@ -1,10 +1,10 @@
 //! A gate for threads.
-ghost use Rattle.std.specs.Prelude.{◌≡◌, ◌≤◌, IfOk, IfErr, OnOk, vec_len, vec_capacity};
+ghost use Rattle.std.specs.Prelude.{◌≡◌, IfOk, IfErr, vec_len};
 ghost use Rattle.mm_workload.specs.declared.fault.WorkFault.TheVariants.{Memory};
 
 use mm_clients::Gate;
 use mm_workload::WorkFault;
-use std::alloc::{AllocError, Global};
+use std::alloc::Global;
 use std::sync::{Arc, Mutex, Wait};
 
 /// What all gates of a run have counted. Each number stops at 4,294,967,295.
@@ -73,28 +73,12 @@ pub fn shared_gates<R: Wait>(
         }),
     )?;
     let mut gates = Vec::with_capacity(alloc, workers as usize)?;
-    add_gates(rt, clients, workers, &counts, &mut gates)?;
-    Ok(gates)
-}
-
-/// Adds so many gates that count here, for which there is room.
-fn add_gates<'a, R: Wait>(
-    rt: &'a R,
-    clients: u32,
-    workers: u32,
-    counts: &Arc<Mutex<Counts>>,
-    gates: &mut Vec<SharedGate<'a, R>>,
-) -> Result<(), AllocError>
-    requires room { (vec_len gates.old ≡ 0) × (workers ≤ vec_capacity gates.old) }
-    ensures each { OnOk result (vec_len gates.new ≡ workers) }
-{
     for _worker in 0..workers {
-        let counts = Arc::try_clone(counts)?;
         gates.push_reserved(SharedGate {
             rt,
             clients,
-            counts,
+            counts: Arc::try_clone(&counts)?,
         });
     }
-    Ok(())
+    Ok(gates)
 }
