@@ -11,7 +11,7 @@ use std::time::Duration;
 const FIRST: u32 = 32;
 
 /// The greatest bound, in microseconds.
-const MOST: u32 = 32_768;
+const MAX_BOUND: u32 = 32_768;
 
 /// Pauses of random lengths, each below a bound that is twice the one before, up to 33 milliseconds.
 #[derive(Clone, Copy)]
@@ -37,7 +37,7 @@ impl Backoff {
         let seed = (u64::from(key.process) << 32) | u64::from(key.generation);
         let mut words = Lcg64Xsh32::new(seed, 0);
         let pause = words.next_word() % self.bound;
-        self.bound = (2 * self.bound).min(MOST);
+        self.bound = (2 * self.bound).min(MAX_BOUND);
         Duration::from_micros(u64::from(pause))
     }
 }

@@ -8,12 +8,12 @@ use mm_manager::{Grant, Key};
 use std::alloc::{AllocError, Global};
 
 /// How many a thread wakes for each time that it had the lock.
-pub const MOST: usize = 8;
+pub const MAX_WAKES: usize = 8;
 
 /// Processes whose threads are to be woken once the lock is free.
 #[derive(Drop)]
 pub struct Wakes {
-    processes: ArrayVec<u32, MOST>,
+    processes: ArrayVec<u32, MAX_WAKES>,
 }
 
 impl Wakes {
@@ -96,7 +96,7 @@ impl Unwoken {
         ensures { (p : ℕ) → IsToWake [] self.old.set p ↔ IsToWake result.processes.items self.new.set p }
     {
         let mut wakes = Wakes::new();
-        for _ in 0..MOST {
+        for _ in 0..MAX_WAKES {
             let Some(process) = self.set.take_next(0) else {
                 break;
             };

@@ -1,5 +1,5 @@
 //! The end of a shared table.
-ghost use Rattle.std.specs.Prelude.{◌≡◌, ◌≢◌, IfOk, IfErr};
+ghost use Rattle.std.specs.Prelude.{◌≡◌, ◌≢◌, IfOk, IfErr, IfSome, IfNone};
 ghost use Rattle.mm_shared.specs.Shares.{all_parts};
 
 use crate::pass::{ALL_PARTS, Pass};
@@ -48,9 +48,34 @@ impl<N: Name, A: Ledger, V: Ledger, B: Ledger> SharedTable<N, A, V, B> {
                 pass,
             });
         }
+        Ok(self.counted(pass))
+    }
+
+    /// Ends the table as `close` does. `None` exactly where `close` is refused; the table and the pass are gone then as well.
+    ///
+    /// It takes no lock and no memory. Constant time, apart from giving the table's memory back.
+    pub fn into_report(self, pass: Pass<N, A, V, B>) -> Option<Report>
+        ensures closed { IfSome result (λ report. (pass.parts ≡ all_parts) × (report.accepted ≡ pass.accepted) × (report.verdicts ≡ pass.verdicts) × (report.aborts ≡ pass.aborts)) }
+        ensures refused { IfNone result (pass.parts ≢ all_parts) }
+    {
+        if pass.parts() == ALL_PARTS {
+            return Some(self.counted(pass));
+        }
+        None
+    }
+
+    /// What the table counted, by the pass that has all parts.
+    fn counted(self, pass: Pass<N, A, V, B>) -> Report
+        requires { pass.parts ≡ all_parts }
+        ensures accepted { result.accepted ≡ pass.accepted }
+        ensures verdicts { result.verdicts ≡ pass.verdicts }
+        ensures aborts { result.aborts ≡ pass.aborts }
+    {
         self.ledgers_have_all_parts();
         let mut pass = pass;
         let mut inside = self.into_inside();
-        Ok(inside.report(&mut pass))
+        let report = inside.report(&mut pass);
+        drop(inside);
+        report
     }
 }

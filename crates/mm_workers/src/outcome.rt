@@ -24,15 +24,21 @@ struct Counted {
 }
 
 fn count_of(ends: &[End]) -> Counted {
-    Counted {
-        finished: ends.iter().filter(|end| **end == End::Finished).count(),
-        aborted: ends.iter().filter(|end| **end == End::Aborted).count(),
-        spent: ends.iter().filter(|end| **end == End::Spent).count(),
-        refused: ends
-            .iter()
-            .filter(|end| matches!(end, End::Refused(_)))
-            .count(),
+    let mut counted = Counted {
+        finished: 0,
+        aborted: 0,
+        spent: 0,
+        refused: 0,
+    };
+    for end in ends {
+        match end {
+            End::Finished => counted.finished += 1,
+            End::Aborted => counted.aborted += 1,
+            End::Spent => counted.spent += 1,
+            End::Refused(_) => counted.refused += 1,
+        }
     }
+    counted
 }
 
 /// Two lines: how many clients ended in each way, and how many verdicts and aborts the table counted. No newline follows the second.
@@ -44,15 +50,15 @@ impl Display for Outcome {
             spent,
             refused,
         } = count_of(self.ends.as_slice());
-        write!(
-            f,
-            "clients finished {finished} aborted {aborted} spent {spent} refused {refused}\n"
-        )?;
         let Report {
             verdicts,
             aborts,
             ..
         } = self.report;
-        write!(f, "table verdicts {verdicts} aborts {aborts}")
+        write!(
+            f,
+            "clients finished {finished} aborted {aborted} spent {spent} refused {refused}\n\
+             table verdicts {verdicts} aborts {aborts}"
+        )
     }
 }

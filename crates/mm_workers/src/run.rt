@@ -10,7 +10,7 @@ use crate::job::{Ended, Stopped};
 use crate::outcome::Outcome;
 use crate::start::{client_jobs, run_jobs, transmitter_jobs};
 use mm_clients::{End, Gate};
-use mm_shared::{Name, Pass, Prepared, Refusal, Report, SharedTable};
+use mm_shared::{Name, Pass, Prepared, Refusal, SharedTable};
 use mm_workload::Workload;
 use std::alloc::{AllocError, Global};
 use std::marker::Brand;
@@ -66,11 +66,13 @@ fn run_on<
     ensures aborts { IfOk result (λ outcome. count_by is_aborted outcome.ends.items ≡ outcome.report.aborts) }
 {
     let (table, mut pass) = prepared.open::<N, A, V, B>();
-    let ends = ends_of(rt, alloc, &table, &mut pass, workload, gates)?;
-    Ok(Outcome {
-        ends,
-        report: report_of(table, pass),
-    })
+    let ends = ends_of(rt, alloc, &table, &mut pass, workload, gates);
+    let report = table.into_report(pass);
+    let ends = ends?;
+    match report {
+        Some(report) => Ok(Outcome { ends, report }),
+        None => unreachable!(),
+    }
 }
 
 /// Runs them on this table, and lists how each client ended. All parts are back in the pass then.
@@ -100,22 +102,6 @@ fn ends_of<
     gather_clients(table, pass, ended, &mut ends);
     gather_transmitters(table, pass, stopped);
     Ok(ends)
-}
-
-/// Closes the table with a pass of all parts.
-fn report_of<N: Name, A: Ledger, V: Ledger, B: Ledger>(
-    table: SharedTable<N, A, V, B>,
-    pass: Pass<N, A, V, B>,
-) -> Report
-    requires { pass.parts ≡ all_parts }
-    ensures accepted { result.accepted ≡ pass.accepted }
-    ensures verdicts { result.verdicts ≡ pass.verdicts }
-    ensures aborts { result.aborts ≡ pass.aborts }
-{
-    match table.close(pass) {
-        Ok(report) => report,
-        Err(_) => unreachable!(),
-    }
 }
 
 /// Gives each worker a part of the pass, runs them all, and waits for them.

@@ -74,11 +74,11 @@ pub fn shared_gates<R: Wait>(
     )?;
     let mut gates = Vec::with_capacity(alloc, workers as usize)?;
     for _worker in 0..workers {
-        gates.push(SharedGate {
+        gates.push_reserved(SharedGate {
             rt,
             clients,
             counts: Arc::try_clone(&counts)?,
-        })?;
+        });
     }
     Ok(gates)
 }
