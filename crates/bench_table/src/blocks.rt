@@ -45,9 +45,9 @@ fn chains(table: &mut Table, room: u32, waiting: u32, is_at_head: bool) -> Resul
     Ok(table.totals().accepted)
 }
 
-/// As many chains as there is room for, each of `room` processes. In each `waiting` transactions come to wait, one after another, and each
-/// wait is settled. Where `is_at_head`, the one that comes to wait is the one that those before it wait for, and else it waits for the one
-/// before it.
+/// Makes as many chains of waits as there is room for, each of `room` processes, and settles each wait. In each chain `waiting` transactions
+/// begin to wait, one after another. Where `is_at_head`, each of them is the transaction that all earlier ones wait for; else each waits for
+/// the one before it.
 #[unsafe(no_mangle)]
 pub extern "C" fn mm_bench_blocks(alloc: Global, room: u32, waiting: u32, is_at_head: bool) -> u64 {
     blocks(alloc, room, waiting, is_at_head).unwrap_or(0)

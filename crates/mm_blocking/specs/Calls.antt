@@ -60,7 +60,7 @@ AsksEach old k (name ∷ names) answer new =
     ⊎ ((answer ≡ Ok (name ∷ names)) × Asks old k name (Ok asked.Waits) new)
     ⊎ ((error : LockError) × (answer ≡ Err error) × Asks old k name (Err error) new)
 
--- the same by one who waited for the first of these names: k owns it now, and so on with the others; or it waits still; or its wait has ended otherwise
+-- k goes on after a wait for the first of these names: it owns that now, and asks for the others; or it still waits; or its wait ended without a grant
 abbrev pub GoesOn : LockState → Key → List (List ℕ) → Result (List (List ℕ)) LockError → LockState → Type 0
 GoesOn old k [] answer new = (answer ≡ Ok []) × (new ≡ old)
 GoesOn old k (name ∷ names) answer new =

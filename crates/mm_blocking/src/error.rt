@@ -25,7 +25,8 @@ pub enum LockError {
     LabelsFull,
     #[error("the count of events is at its limit")]
     CountsFull,
-    /// The manager knows of no such transaction, or it waits. No transaction of this crate is refused so.
+    /// The manager knows of no such transaction, or it waits. The contracts of the calls allow this error, but no call of a `Transaction`
+    /// answers it: the key of a transaction is live until its end, and between its calls it does not wait.
     #[error("the transaction is not active")]
     NotActive,
 }

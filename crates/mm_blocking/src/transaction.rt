@@ -60,10 +60,11 @@ impl<'m, R: Wait> Transaction<'m, R> {
     /// Locks the name: returns when the transaction owns it, at once where nobody else does, and else it sleeps until it was granted.
     ///
     /// `Deadlock` comes at once too, where the wait would close a cycle of waits; no other call makes a victim of one that sleeps. The
-    /// transaction is then to be dropped: it keeps what it owns until that, so that its caller can undo what it did, and each further call
-    /// but `commit` is refused so. A name that it owns already is `Ok`, and is owned once. Refused as `Deadlock`, `NameEmpty`,
-    /// `NameTooLong`, `NamesFull`, `CountsFull` or `LabelsFull`, and then nothing changes but for a deadlock. What it costs without the
-    /// sleep, `LockManager::lock` says; one who slept looks the name up once more.
+    /// transaction is then to be dropped: it keeps what it owns until that, so that its caller can undo what it did. Until then each further
+    /// call is refused as `Deadlock` too; `commit` also rolls it back. A name that it owns already is `Ok`, and is owned once. Refused as
+    /// `Deadlock`, `NameEmpty`, `NameTooLong`, `NamesFull`, `CountsFull` or `LabelsFull`. A refusal changes nothing, but that the victim of
+    /// a deadlock waits from then on. `LockManager::lock` says what the call costs without the sleep; a call that slept looks the name up
+    /// once more.
     pub fn lock(&mut self, name: &[u8]) -> Result<(), LockError>
         ensures refused { IfErr result (λ error. of_lock error ≡ true) }
     {
@@ -139,8 +140,7 @@ impl<'m, R: Wait> Transaction<'m, R> {
 
     /// Ends the transaction: all that it owns is handed over, and whoever was granted something is woken.
     ///
-    /// A transaction that is in a deadlock is rolled back, and refused as `Deadlock`: no other end is refused. It costs what
-    /// `LockManager::commit` costs.
+    /// A transaction that is in a deadlock is rolled back, and the call is refused as `Deadlock`. It costs what `LockManager::commit` costs.
     pub fn commit(self) -> Result<(), LockError>
         ensures refused { IfErr result (λ error. of_commit error ≡ true) }
     {

@@ -114,7 +114,7 @@ pub record AbortsDue (old new : LockState) : Type 0 where
 abbrev pub IsGranted : LockState → LockState → Key → List ℕ → Type 0
 IsGranted old new h name = (g : Grant) × Among g new.granted × (g.key ≡ h) × (name_of old.names g.resource ≡ Some name)
 
--- in a call of k, whoever loses a name does not own it afterwards, `granted` are the waits that ended, all but that of k, nobody else gets or loses a verdict, and all else stays
+-- what a call of k does to all: who loses a name does not own it afterwards; `granted` are the waits that ended, but for that of k; nobody else gets or loses a verdict; all else stays
 pub record Passes (old : LockState) (k : Key) (Loses : Key → List ℕ → Type 0) (new : LockState) : Type 0 where
   pub keeps : (h : Key) (name : List ℕ) → Owns old h name → ¬ Loses h name → Owns new h name
   pub gains : (h : Key) (name : List ℕ) → Owns new h name → ¬ Loses h name × (Owns old h name ⊎ IsGranted old new h name)

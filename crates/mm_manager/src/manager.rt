@@ -238,8 +238,8 @@ impl LockManager {
         self.table.table().owned_by(key, numbers);
     }
 
-    /// The wait-for graph: each transaction that waits, for which number, and whose that is, by rising process of who waits. The name of the
-    /// number is there (`name`). Constant time; to go through it takes `O(transactions)`.
+    /// The wait-for graph: each transaction that waits, the number that it waits for, and the owner of that, in rising order of the waiter's
+    /// process. `name` gives the name of a number. Constant time; going through all of it takes `O(transactions)`.
     pub fn graph(&self) -> Graph<'_>
         ensures { result ≡ waits_of self.now.table }
     {

@@ -37,9 +37,9 @@ shown_anew (Detect k) (Ok answer) s t = []
 shown_anew (GiveUp k) (Ok answer) s t = k.process ∷ []
 shown_anew e (Ok answer) s t = changed_processes s t
 
--- what is known of what they show: who waits shows the label and the holder of the answer, who is raised the label of the answer and the same
--- holder, who gives up the same label and no holder, an end leaves the labels of those as they were that wait for nothing then, and a settle all
--- holders
+-- what the processes show after a call. After a wait: the label and the holder of the answer. After a raise: the label of the answer, and the
+-- same holder. After a give-up: the same label, and no holder. After an end: the same label for each process that waits for nothing then. After
+-- a settle: the same holder for each
 abbrev pub ShownBy : (e : Event) → Result (Answer e) Refusal → TableState → TableState → Type 0
 ShownBy e (Err refusal) s t = Unit {0}
 ShownBy (Acquire k r) (Ok (Waits h label)) s t = Shows t k.process label (Some h.process)

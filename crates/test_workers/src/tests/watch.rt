@@ -36,7 +36,8 @@ pub fn count(ends: &[End], wanted: End) -> u64 {
     count
 }
 
-/// Ends the test unless so many clients finished and so many were aborted, no other ended, each for one verdict and by one abort.
+/// Ends the test unless this many clients finished, this many were aborted, none ended otherwise, and the report counts one verdict and one
+/// abort for each that was aborted.
 pub fn ended<R: Abort>(rt: &R, outcome: &Outcome, finished: u64, aborted: u64) {
     let ends = outcome.ends.as_slice();
     same(rt, ends.len() as u64, finished.saturating_add(aborted));

@@ -1,5 +1,5 @@
-//! Texts that are no workload, most of them made from one that is by one change, and where and why a person is told that they are
-//! malformed. No clause says which place is told.
+//! Texts that are no workload, most of them a good workload with one change, and the place and the cause that the fault names. No clause
+//! says which place that is.
 
 use crate::tests::same::same;
 use crate::tests::workload::{CROSSWISE, changed, with_clients, with_nested_arrays};

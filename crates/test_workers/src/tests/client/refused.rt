@@ -1,5 +1,5 @@
-//! Calls that are refused: each call by each refusal that it can have. But for `begin` and `finish`, one try at `finish` follows, whatever
-//! that answers.
+//! Refused calls: each call with each refusal that it can have. After each, but for `begin` and `finish`, the client tries `finish` once,
+//! whatever the answer.
 
 use super::runs;
 use crate::tests::script::{Answer, Call};

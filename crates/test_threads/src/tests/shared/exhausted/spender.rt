@@ -141,8 +141,8 @@ impl<N: Name, A: Ledger, V: Ledger, B: Ledger> Spender<N, A, V, B> {
         false
     }
 
-    /// Passes on what a call answered that may need labels. Where it was refused, ends the test unless it was since labels are used up,
-    /// and the transaction is in the state in which it was before: nobody else can change that of one which is active or has a verdict.
+    /// Returns the answer of a call that may need labels. Where the call was refused, ends the test unless the labels are used up and the
+    /// transaction is in the same state as before: no other thread can change the state of one that is active or has a verdict.
     fn answered<R: Wait + Abort, T: Drop>(
         &mut self,
         rt: &R,
