@@ -17,6 +17,6 @@ set style data linespoints
 plot "block_cost.tsv" using "waiting":"labels_tail" lc rgb "#1f6fb2" lw 2 pt 9 ps 0.8 \
     title "labels (acquire and settle), block at the tail", \
   "" using "waiting":"labels_head" lc rgb "#1f6fb2" dt 2 pt 8 ps 0.8 title "labels, block at the head: the worst for labels", \
-  "" using "waiting":"walk_tail" lc rgb "#c0392b" lw 2 pt 7 ps 0.6 title "walk of the wait graph, block at the tail: the worst for walks", \
-  "" using "waiting":"walk_head" lc rgb "#c0392b" dt 2 pt 6 ps 0.6 title "walk of the wait graph, block at the head", \
+  "" using "waiting":"walk_tail" lc rgb "#c0392b" lw 2 pt 7 ps 0.6 title "walk of the wait-for graph, block at the tail: the worst for walks", \
+  "" using "waiting":"walk_head" lc rgb "#c0392b" dt 2 pt 6 ps 0.6 title "walk of the wait-for graph, block at the head", \
   "" using "waiting":"berkeley" lc rgb "#555555" lw 2 pt 5 ps 0.6 title "Berkeley DB 5.3, one run of its detector"

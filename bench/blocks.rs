@@ -1,5 +1,5 @@
 //! What blocks cost where so many transactions wait in a chain: by labels in the proved table, with a settle after each block, and by a
-//! walk of the wait graph at each block. For each length it prints the length, how many blocks are timed, and four pairs of times in
+//! walk of the wait-for graph at each block. For each length it prints the length, how many blocks are timed, and four pairs of times in
 //! nanoseconds of processor time, without these blocks and with them: by labels and by a walk where blocks come at the tail of the chain,
 //! and by both where they come at its head.
 

@@ -1,4 +1,4 @@
-//! A plain lock table that walks the wait graph at each block, as engines without labels do. Each transaction waits for one resource at
+//! A plain lock table that walks the wait-for graph at each block, as engines without labels do. Each transaction waits for one resource at
 //! most, so the search for a cycle is a walk from owner to owner. Nothing is ever released: what is timed are blocks alone.
 
 const NONE: u32 = u32::MAX;

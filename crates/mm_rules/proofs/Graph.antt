@@ -1,4 +1,4 @@
--- The laws of the wait graph: what they are, that each change of it keeps them, and what follows from them.
+-- The laws of the wait-for graph: what they are, that each change of it keeps them, and what follows from them.
 
 -- the laws, the changes of a graph, and the walks along its waits
 pub mod Laws

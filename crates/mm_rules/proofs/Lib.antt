@@ -1,4 +1,4 @@
--- the wait graph by itself; the states of a table and their laws; worked examples
+-- the wait-for graph by itself; the states of a table and their laws; worked examples
 pub mod Graph
 pub mod States
 pub mod Transcript

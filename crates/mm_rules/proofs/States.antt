@@ -1,4 +1,4 @@
--- From the wait graph to the states of the table: each event keeps all laws, and what follows for every state that is reached.
+-- From the wait-for graph to the states of the table: each event keeps all laws, and what follows for every state that is reached.
 
 -- the order of labels, how waits, owners and holders are read, and the lengths of a state's lists
 pub mod LabelOrder

@@ -1,4 +1,4 @@
--- The wait graph: who waits for whom, and two labels of each process, as numbers in one order. Processes are the numbers below `processes`.
+-- The wait-for graph: who waits for whom, and two labels of each process, as numbers in one order. Processes are the numbers below `processes`.
 use Rattle.std.specs.Prelude.{ℕ, Option, Some, None, ◌≡◌, ◌≢◌, ◌≤◌, ◌<◌, ◌⊎◌, List, [], ◌∷◌, length, ⊤}
 use Rattle.mm_list_lemmas.specs.Members.{Among, NoRepeat}
 

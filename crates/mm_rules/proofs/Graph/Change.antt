@@ -1,4 +1,4 @@
--- The three changes of the wait graph of which each event consists.
+-- The three changes of the wait-for graph of which each event consists.
 use Rattle.std.specs.Prelude.{ℕ, ◌≡◌, ◌≢◌, ◌<◌, ◌⊎◌}
 use Rattle.std.proofs.Common.{sym, ◌∙◌}
 use Rattle.mm_rules.specs.Graph.{Graph, WaitsFor, IsActive}

@@ -1,4 +1,4 @@
--- The laws of the wait graph, together: those that the specs name, and those that hold the numbers in order.
+-- The laws of the wait-for graph, together: those that the specs name, and those that hold the numbers in order.
 use Rattle.std.specs.Prelude.{ℕ, ◌≡◌, ◌≢◌, ◌≤◌, ◌<◌}
 use Rattle.mm_rules.specs.Graph.{Graph, WaitsFor, RisingLaw, PropagatedLaw, ToppedLaw}
 

@@ -1,4 +1,4 @@
--- What an acquire does to the wait graph: nothing, or the caller is blocked on the owner, under a label above that of both.
+-- What an acquire does to the wait-for graph: nothing, or the caller is blocked on the owner, under a label above that of both.
 use Rattle.std.proofs.Common.{◌≡◌, ◌≢◌, ◌⊎◌, ℕ, ◌<◌, Option, Some, None, Result, Ok, Err, IsTrue, inl, inr, refl, sym, ap, ◌∙◌, arith, not, false, nat_eq}
 use Rattle.std.proofs.Math.Decide.{ℕ_discrete}
 use Rattle.std.specs.List.{AllByRecursion}

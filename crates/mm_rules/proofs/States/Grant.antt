@@ -29,7 +29,7 @@ module _ (s : TableState) (r : ℕ) (o : Option Key) where
   holder_same n None other = refl
   holder_same n (Some q) other = ap (option_map (λ (k : Key). k.process)) (owner_else s r q o (other q refl))
 
-  -- where nobody waits for r, the wait graph is the same, whoever owns r
+  -- where nobody waits for r, the wait-for graph is the same, whoever owns r
   pub unwaited_graph : ((n : ℕ) → wait_of s n ≢ Some r) → graph_of (owned_by s r o) ≡ graph_of s
   unwaited_graph nobody = same_graph (graph_of s) (graph_of (owned_by s r o)) refl (λ n. record {
     holder = holder_same n (wait_of s n) (λ q waits e. nobody n (waits ∙ ap Some e));
