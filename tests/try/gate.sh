@@ -7,8 +7,8 @@ cp -r tests/gate "$gate/top/tests"
 printf 'mm_low:\nmm_detect: mm_low # the program\n' > "$gate/top/crates.txt"
 echo '#[test]' > "$gate/top/crates/mm_low/src/lib.rt"
 touch "$gate/top/crates/mm_low/must-fail/one.edit" "$gate/top/crates/mm_low/must-fail/two.edit"
-mkdir "$gate/top/docs"
-for script in tests/no_lock tests/no_loops docs/contracts docs/commands tests/try_program tests/refuse_memory; do
+mkdir -p "$gate/top/docs" "$gate/top/clients/c/test"
+for script in tests/no_lock tests/no_loops docs/contracts docs/commands tests/try_program tests/refuse_memory tests/try_service clients/c/test/run; do
   printf '#!/bin/sh\necho "1 passed, 0 failed"\n' > "$gate/top/$script"
 done
 
@@ -44,7 +44,7 @@ echo "rt: mm_low: 1 of its 2 must-fail edits were tried by an earlier run on thi
 echo "rt: mm_low: its tests passed"
 echo "4 passed, 0 failed"
 RT
-chmod +x "$gate/bin/rattle" "$gate/bin/rt" "$gate"/top/tests/*_* "$gate"/top/docs/*
+chmod +x "$gate/bin/rattle" "$gate/bin/rt" "$gate"/top/tests/*_* "$gate"/top/docs/* "$gate/top/clients/c/test/run"
 
 # gated COMMAND..: the command at the top of that checkout, with that toolchain
 gated() {
@@ -91,7 +91,9 @@ docs/contracts: 1 passed, 0 failed
 docs/commands: 1 passed, 0 failed
 tests/try_program --built: 1 passed, 0 failed
 tests/refuse_memory: 1 passed, 0 failed
-11 passed, 0 failed" "" $?
+tests/try_service crates/mm_detect/out/mm_detect: 1 passed, 0 failed
+clients/c/test/run python3 -m pashkure serve --program ./mmdetect: 1 passed, 0 failed
+13 passed, 0 failed" "" $?
 gated ./run_tests --times
 same status 0 $?
 says "The last run: commit unknown, begun 20"
@@ -112,7 +114,7 @@ echo 0 > "$gate/takes"
 printf '#!/bin/sh\nexit 3\n' > "$gate/top/tests/gate/watch"
 gated ./run_tests
 same status 0 $?
-same "the last line" "11 passed, 0 failed" "$(tail -n 1 "$work/out")"
+same "the last line" "13 passed, 0 failed" "$(tail -n 1 "$work/out")"
 cp tests/gate/watch "$gate/top/tests/gate/watch"
 
 # watch_of RUN: the process that watches this run
