@@ -1,7 +1,7 @@
 -- What a contract sees of an `Owned`.
 use Rattle.std.specs.Prelude.{◌≡◌, ◌↔◌, ℕ, List, [], ◌∷◌, ◌++◌, Option, None, Some, map, option_map, replicate, slice_index_or, slice_set}
 use Rattle.mm_arena.specs.declared.key.Key.{Key}
-use Rattle.mm_list_lemmas.specs.Members.{Among, NoRepeat, without}
+use Rattle.mm_list_lemmas.specs.Members.{Among, NoRepeat, head, without}
 
 -- the owner of each resource, and by process the list of its resources, those that came last first
 pub record Ownership : Type 0 where
@@ -24,11 +24,6 @@ list_at s n = slice_index_or s.lists n []
 pub record ListsMatchOwners (s : Ownership) : Type 0 where
   pub listed : (n r : ℕ) → Among r (list_at s n) ↔ (process_at s r ≡ Some n)
   pub once : (n : ℕ) → NoRepeat (list_at s n)
-
--- the first of a list
-abbrev pub head : List ℕ → Option ℕ
-head [] = None
-head (r ∷ rs) = Some r
 
 -- wherever r stands in a list, this follows it
 abbrev pub FollowsInList : Ownership → ℕ → Option ℕ → Type 0

@@ -2,9 +2,10 @@
 //! the next.
 ghost use Rattle.std.specs.Prelude.{◌≡◌, ◌≤◌, ◌<◌, length, vec_capacity, IfOk, IfSome, IsNone, None};
 ghost use Rattle.std.specs.Option.{ForSome};
+ghost use Rattle.mm_list_lemmas.specs.Members.{head};
 ghost use Rattle.mm_links.specs.Links.{with_before, with_next};
 ghost use Rattle.mm_links.specs.Chain.{first_with_next};
-ghost use Rattle.mm_owned.specs.Owned.{unowned, owner_at, list_at, head, given, freed, FollowsInList, ListsMatchOwners};
+ghost use Rattle.mm_owned.specs.Owned.{unowned, owner_at, list_at, given, freed, FollowsInList, ListsMatchOwners};
 ghost use Rattle.mm_owned.specs.private.Linked.{links_of, owners_of};
 
 use crate::owner::Owner;

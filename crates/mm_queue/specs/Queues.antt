@@ -1,8 +1,8 @@
 -- What a contract sees of a `Lists`.
 use Rattle.std.specs.Option.{option_map}
-use Rattle.std.specs.Prelude.{◌≡◌, ℕ, ◌<◌, List, [], ◌∷◌, ◌++◌, map, Option, None, Some, replicate, slice_index_or, slice_set}
+use Rattle.std.specs.Prelude.{◌≡◌, ℕ, ◌<◌, List, [], ◌∷◌, ◌++◌, map, Option, replicate, slice_index_or, slice_set}
 use Rattle.mm_arena.specs.declared.key.Key.{Key}
-use Rattle.mm_list_lemmas.specs.Members.{Among, NoRepeat}
+use Rattle.mm_list_lemmas.specs.Members.{Among, NoRepeat, head}
 
 -- the keys of each list, in order, and how many processes there are
 pub record Queues : Type 0 where
@@ -12,11 +12,6 @@ pub record Queues : Type 0 where
 -- the keys of one list
 abbrev pub queue : Queues → ℕ → List Key
 queue q list = slice_index_or q.lists list []
-
--- the first of these keys
-abbrev pub first : List Key → Option Key
-first [] = None
-first (key ∷ keys) = Some key
 
 -- so many lists without keys, for so many processes
 abbrev pub empty_queues : ℕ → ℕ → Queues
@@ -37,12 +32,12 @@ IsOccupied q process = (key : Key) × (key.process ≡ process) × Stands q key
 -- wherever the key stands in a list, this follows it
 abbrev pub IsNextKey : Queues → Key → Option Key → Type 0
 IsNextKey q key next =
-    (list : ℕ) (before after : List Key) → queue q list ≡ before ++ key ∷ after → next ≡ first after
+    (list : ℕ) (before after : List Key) → queue q list ≡ before ++ key ∷ after → next ≡ head after
 
 -- wherever a key of this process stands in a list, `next` is the process of the one that follows it
 abbrev pub IsNextProcess : Queues → ℕ → Option ℕ → Type 0
 IsNextProcess q process next =
-    (list : ℕ) (before : List Key) (key : Key) (after : List Key) → queue q list ≡ before ++ key ∷ after → key.process ≡ process → next ≡ option_map (λ k. k.process) (first after)
+    (list : ℕ) (before : List Key) (key : Key) (after : List Key) → queue q list ≡ before ++ key ∷ after → key.process ≡ process → next ≡ option_map (λ k. k.process) (head after)
 
 -- wherever the key stood in a list, it is gone from there, and nothing else has changed
 abbrev pub Removes : Queues → Queues → Key → Type 0

@@ -1,8 +1,8 @@
 //! The lists.
 ghost use Rattle.std.specs.Prelude.{◌≡◌, ◌<◌, ◌≤◌, ◌↔◌, ◌++◌, ◌∷◌, [], length, drop, IsTrue, IsNone, IfOk, MatchOption};
 ghost use Rattle.std.specs.Bool.{OnFalse};
-ghost use Rattle.mm_queue.specs.Members.{Among};
-ghost use Rattle.mm_queue.specs.Queues.{queue, first, empty_queues, with_queue, Stands, IsOccupied, IsNextKey, IsNextProcess, Removes, StandsOnce};
+ghost use Rattle.mm_list_lemmas.specs.Members.{Among, head};
+ghost use Rattle.mm_queue.specs.Queues.{queue, empty_queues, with_queue, Stands, IsOccupied, IsNextKey, IsNextProcess, Removes, StandsOnce};
 
 use crate::ends::Ends;
 use crate::standing::{Standing, set_before, set_next};
@@ -79,7 +79,7 @@ impl Lists {
     #[inline]
     pub fn front(&self, list: u32) -> Option<Key>
         requires { list < length self.now.lists }
-        ensures { result ≡ first (queue self.now list) }
+        ensures { result ≡ head (queue self.now list) }
     {
         let process = self.ends[list as usize].front.get()?;
         let generation = self.entries.stored_generation(process);
@@ -149,7 +149,7 @@ impl Lists {
     /// Takes the first key out of a list, in constant time. `None` where the list has none, and then nothing changes.
     pub fn pop_front(&mut self, list: u32) -> Option<Key>
         requires { list < length self.old.lists }
-        ensures key { result ≡ first (queue self.old list) }
+        ensures key { result ≡ head (queue self.old list) }
         ensures rest { self.new ≡ with_queue self.old list (drop 1 (queue self.old list)) }
     {
         let key = self.front(list)?;

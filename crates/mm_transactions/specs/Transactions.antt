@@ -1,9 +1,9 @@
 -- What a contract sees of a `Transactions`.
-use Rattle.std.specs.Prelude.{◌≡◌, ℕ, ◌+◌, ◌<◌, ◌++◌, Bool, true, false, not, ◌&&◌, List, [], ◌∷◌, length, map, filter, drop, replicate, Option, None, Some, if◌then◌else◌, nat_eq, nat_lt, slice_index, slice_index_or, slice_set, IsTrue}
+use Rattle.std.specs.Prelude.{ℕ, ◌+◌, ◌<◌, Bool, true, false, not, ◌&&◌, List, [], ◌∷◌, length, map, filter, drop, replicate, Option, None, Some, if◌then◌else◌, nat_eq, nat_lt, slice_index, slice_index_or, slice_set, IsTrue}
 use Rattle.std.specs.List.{range_with_len}
 use Rattle.std.specs.Option.{option_map}
 use Rattle.mm_arena.specs.declared.key.Key.{Key}
-use Rattle.mm_list_lemmas.specs.Members.{Among, NoRepeat}
+use Rattle.mm_list_lemmas.specs.Members.{Among, NoRepeat, head}
 use Rattle.mm_rules.specs.TableState.{Wait, is_of, waited_for}
 use Rattle.mm_transactions.specs.declared.transaction.Transaction.{Transaction}
 
@@ -71,8 +71,7 @@ queue_of ws r = filter (λ w. nat_eq w.resource r) ws
 
 -- the key of the first of these
 abbrev pub first_key : List Wait → Option Key
-first_key [] = None
-first_key (w ∷ ws) = Some w.key
+first_key ws = option_map (λ w. w.key) (head ws)
 
 -- n waits no longer
 abbrev pub without_wait : Transactions → ℕ → Transactions

@@ -4,7 +4,7 @@ use Rattle.std.specs.Option.{option_and_then}
 use Rattle.std.proofs.lemmas.List.{get_or_default, get_or-map, length-map, length-replicate}
 use Rattle.std.proofs.lemmas.Option.{slice_get-get_or, same_Some}
 use Rattle.mm_arena.specs.declared.key.Key.{Key}
-use Rattle.mm_list_lemmas.specs.Members.{Among}
+use Rattle.mm_list_lemmas.specs.Members.{Among, head}
 use Rattle.mm_list_lemmas.proofs.Lemmas.NoRepeat.{length-NoRepeat}
 use Rattle.mm_links.specs.declared.links.Links.{Links}
 use Rattle.mm_links.specs.Link.{none_number}
@@ -12,7 +12,7 @@ use Rattle.mm_links.specs.Links.{unlinked, next_of}
 use Rattle.mm_links.specs.Chain.{head_or, walk, IsChain}
 use Rattle.mm_links.proofs.Lemmas.Ends.{Among-head_or}
 use Rattle.mm_links.proofs.Lemmas.Chain.{IsChain-kept, IsChain-cut, walk-IsChain}
-use Rattle.mm_owned.specs.Owned.{Ownership, owner_at, list_at, head, unowned, FollowsInList}
+use Rattle.mm_owned.specs.Owned.{Ownership, owner_at, list_at, unowned, FollowsInList}
 use Rattle.mm_owned.specs.private.Linked.{AreLinked}
 use Rattle.mm_owned.proofs.Lemmas.ListsMatchOwners.{in_range, one_list, list_at-unowned, unowned_matches}
 

@@ -5,7 +5,7 @@ use Rattle.mm_arena.specs.declared.key.Key.{Key}
 use Rattle.mm_links.specs.Chain.{head_or, last_or, first_with_next}
 use Rattle.mm_links.proofs.Lemmas.Ends.{first_with_next-cut, first_with_next-last}
 use Rattle.mm_queue.specs.declared.ends.Ends.{Ends}
-use Rattle.mm_queue.specs.Queues.{first}
+use Rattle.mm_list_lemmas.specs.Members.{head}
 use Rattle.mm_queue.specs.private.Linked.{processes_of, ends_of}
 
 pub processes_of-append : (xs ys : List Key) → processes_of (xs ++ ys) ≡ processes_of xs ++ processes_of ys
@@ -60,14 +60,14 @@ ends_removed before key after =
 
 -- ---- the first key
 
-pub head_or-first : (keys : List Key) (p : ℕ) → head_or (processes_of keys) None ≡ Some p → (k : Key) × (rest : List Key) × (keys ≡ k ∷ rest) × (k.process ≡ p)
-head_or-first [] p is = absurd (cc)
-head_or-first (k ∷ keys) p is = let same : k.process ≡ p = cc in (k, keys, refl, same)
+pub head_or-head : (keys : List Key) (p : ℕ) → head_or (processes_of keys) None ≡ Some p → (k : Key) × (rest : List Key) × (keys ≡ k ∷ rest) × (k.process ≡ p)
+head_or-head [] p is = absurd (cc)
+head_or-head (k ∷ keys) p is = let same : k.process ≡ p = cc in (k, keys, refl, same)
 
-pub first-none : (keys : List Key) → head_or (processes_of keys) None ≡ None → first keys ≡ None
-first-none [] is = refl
-first-none (k ∷ keys) is = absurd (cc)
+pub head-none : (keys : List Key) → head_or (processes_of keys) None ≡ None → head keys ≡ None
+head-none [] is = refl
+head-none (k ∷ keys) is = absurd (cc)
 
-pub first-split : (keys : List Key) (k : Key) → first keys ≡ Some k → keys ≡ k ∷ drop 1 keys
-first-split [] k is = absurd (none-some k is)
-first-split (x ∷ keys) k is = ap (λ y. y ∷ keys) (same_Some x k is)
+pub head-split : (keys : List Key) (k : Key) → head keys ≡ Some k → keys ≡ k ∷ drop 1 keys
+head-split [] k is = absurd (none-some k is)
+head-split (x ∷ keys) k is = ap (λ y. y ∷ keys) (same_Some x k is)

@@ -7,7 +7,7 @@ use Rattle.std.proofs.lemmas.Option.{none-some, same_Some, cond_some, slice_get-
 use Rattle.std.proofs.Math.ListN.{get_or-map}
 use Rattle.mm_arena.specs.declared.key.Key.{Key}
 use Rattle.mm_arena.specs.Shelf.{Entries, key_eq, entry_at, value_under, value_at, HasValue, with_stored}
-use Rattle.mm_list_lemmas.specs.Members.{Among, NoRepeat}
+use Rattle.mm_list_lemmas.specs.Members.{Among, NoRepeat, head}
 use Rattle.mm_list_lemmas.proofs.Lemmas.Among.{among_right, among_map_gives}
 use Rattle.mm_list_lemmas.proofs.Lemmas.Cut.{Cut, cut_at}
 use Rattle.mm_links.specs.declared.links.Links.{Links}
@@ -16,9 +16,9 @@ use Rattle.mm_links.specs.Chain.{head_or, last_or, first_with_next, IsChain}
 use Rattle.mm_links.proofs.Lemmas.Ends.{Among-last_or}
 use Rattle.mm_queue.specs.declared.standing.Standing.{Standing}
 use Rattle.mm_queue.specs.declared.ends.Ends.{Ends}
-use Rattle.mm_queue.specs.Queues.{Queues, queue, first, empty_queues, with_queue, Stands, IsOccupied}
+use Rattle.mm_queue.specs.Queues.{Queues, queue, empty_queues, with_queue, Stands, IsOccupied}
 use Rattle.mm_queue.specs.private.Linked.{HasEntry, links_in, tag_in, links_of, tags_of, tag_at, processes_of, ends_of, seen, AreLinked, AreConsistent}
-use Rattle.mm_queue.proofs.Lemmas.Ends.{ends_pushed, ends_removed, head_or-first, first-none}
+use Rattle.mm_queue.proofs.Lemmas.Ends.{ends_pushed, ends_removed, head_or-head, head-none}
 use Rattle.mm_queue.proofs.Lemmas.AreLinked.{tag_in_range, lists_seen, ends_are, short}
 use Rattle.mm_queue.proofs.Lemmas.Pushed.{old_tag, AreLinked-pushed}
 use Rattle.mm_queue.proofs.Lemmas.Removed.{among_key, links_are, tag_left, before_left, next_left, AreLinked-removed}
@@ -144,7 +144,7 @@ shown q ends s linked =
     let is : seen ends s ≡ q = λ i. record { lists = lists i; processes = processes i } in
     record { kept = subst (λ t. AreLinked t ends (links_of s) (tags_of s)) (sym is) linked; is = is }
 
-process_after : (after : List Key) → head_or (processes_of after) None ≡ option_map (λ k. k.process) (first after)
+process_after : (after : List Key) → head_or (processes_of after) None ≡ option_map (λ k. k.process) (head after)
 process_after [] = refl
 process_after (k ∷ after) = refl
 
@@ -192,12 +192,12 @@ module _ (q : Queues) (ends : List Ends) (s : Entries Standing) (linked : AreLin
       some_in (Some x) same is = occupied_tag p (Some x) same x refl
 
   -- the key that follows, or is first
-  pub first_read : (list : ℕ) (before after : List Key) (p : ℕ) → queue q list ≡ before ++ after → head_or (processes_of after) None ≡ Some p → option_map (λ (x : Key × Standing). x.0) (entry_at s p) ≡ first after
+  pub first_read : (list : ℕ) (before after : List Key) (p : ℕ) → queue q list ≡ before ++ after → head_or (processes_of after) None ≡ Some p → option_map (λ (x : Key × Standing). x.0) (entry_at s p) ≡ head after
   first_read list before after p whole is =
-      let at = head_or-first after p is in
+      let at = head_or-head after p is in
       let among : Among at.0 (queue q list) =
       subst (Among at.0) (sym (whole ∙ ap (λ ks. before ++ ks) at.2)) (among_right before (at.0 ∷ at.1) at.0 (inl refl)) in
-      key_read list at.0 p among at.3 ∙ sym (ap first at.2)
+      key_read list at.0 p among at.3 ∙ sym (ap head at.2)
 
   module _ (list : ℕ) (before : List Key) (key : Key) (after : List Key) (whole : queue q list ≡ before ++ key ∷ after) (entry : Standing) (found : value_at s key ≡ Some entry) where
     next_is : entry.links.next ≡ head_or (processes_of after) None
@@ -206,13 +206,13 @@ module _ (q : Queues) (ends : List Ends) (s : Entries Standing) (linked : AreLin
         (links_are q ends (links_of s) (tags_of s) linked list before key after whole entry.links (links_read s key.process key entry (entry_read s key entry found)))
 
     -- its link leads to the process of the key that follows
-    pub links_next : entry.links.next ≡ option_map (λ k. k.process) (first after)
+    pub links_next : entry.links.next ≡ option_map (λ k. k.process) (head after)
     links_next = next_is ∙ process_after after
 
-    pub next_read_none : entry.links.next ≡ None → first after ≡ None
-    next_read_none none = first-none after (sym next_is ∙ none)
+    pub next_read_none : entry.links.next ≡ None → head after ≡ None
+    next_read_none none = head-none after (sym next_is ∙ none)
 
-    pub next_read : (p : ℕ) → entry.links.next ≡ Some p → option_map (λ (x : Key × Standing). x.0) (entry_at s p) ≡ first after
+    pub next_read : (p : ℕ) → entry.links.next ≡ Some p → option_map (λ (x : Key × Standing). x.0) (entry_at s p) ≡ head after
     next_read p is =
         first_read list (before ++ key ∷ []) after p (whole ∙ sym (append_one before key after)) (sym next_is ∙ is)
 
@@ -245,15 +245,15 @@ module _ (q : Queues) (ends : List Ends) (s : Entries Standing) (linked : AreLin
 
   pub front_has : (list : ℕ) (e other : Ends) → list < length q.lists → e ≡ get_or ends list other → (p : ℕ) → e.front ≡ Some p → HasEntry s p
   front_has list e other below read p is =
-      let at = head_or-first (queue q list) p (sym (front_is list e other below read) ∙ is) in
+      let at = head_or-head (queue q list) p (sym (front_is list e other below read) ∙ is) in
       let among : Among at.0 (queue q list) = subst (Among at.0) (sym at.2) (inl refl) in
       HasEntry-tagged s p at.0 list (ap (tag_at (tags_of s)) (sym at.3) ∙ (linked.tagged list at.0).0 among) at.3
 
-  pub front_none : (list : ℕ) (e other : Ends) → list < length q.lists → e ≡ get_or ends list other → e.front ≡ None → None ≡ first (queue q list)
+  pub front_none : (list : ℕ) (e other : Ends) → list < length q.lists → e ≡ get_or ends list other → e.front ≡ None → None ≡ head (queue q list)
   front_none list e other below read none =
-      sym (first-none (queue q list) (sym (front_is list e other below read) ∙ none))
+      sym (head-none (queue q list) (sym (front_is list e other below read) ∙ none))
 
-  pub front_some : (list : ℕ) (e other : Ends) → list < length q.lists → e ≡ get_or ends list other → (p : ℕ) → e.front ≡ Some p → (generation : ℕ) → option_map (λ (x : Key × Standing). x.0.generation) (entry_at s p) ≡ Some generation → Some (record { process = p; generation = generation }) ≡ first (queue q list)
+  pub front_some : (list : ℕ) (e other : Ends) → list < length q.lists → e ≡ get_or ends list other → (p : ℕ) → e.front ≡ Some p → (generation : ℕ) → option_map (λ (x : Key × Standing). x.0.generation) (entry_at s p) ≡ Some generation → Some (record { process = p; generation = generation }) ≡ head (queue q list)
   front_some list e other below read p is generation there =
       its_key (entry_at s p) refl there ∙ first_read list [] (queue q list) p refl (sym (front_is list e other below read) ∙ is)
     where

@@ -5,8 +5,8 @@ use Rattle.std.proofs.lemmas.List.{length-map}
 use Rattle.std.specs.List.{range_with_len}
 use Rattle.std.specs.Option.{option_map_or}
 use Rattle.mm_arena.specs.declared.key.Key.{Key}
-use Rattle.mm_list_lemmas.specs.Members.{Among, NoRepeat, without}
-use Rattle.mm_owned.specs.Owned.{Ownership, ListsMatchOwners, FollowsInList, owner_at, list_at, head, given, freed}
+use Rattle.mm_list_lemmas.specs.Members.{Among, NoRepeat, head, without}
+use Rattle.mm_owned.specs.Owned.{Ownership, ListsMatchOwners, FollowsInList, owner_at, list_at, given, freed}
 use Rattle.mm_owned.proofs.Lemmas.Walk.{Among-next, next-apart}
 use Rattle.mm_owned.proofs.Lemmas.ListsMatchOwners.{in_range}
 use Rattle.mm_rules.specs.declared.config.Config.{Config}

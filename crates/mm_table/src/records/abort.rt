@@ -51,7 +51,7 @@ impl Records {
         requires count { self.old.totals.aborts < 2 ^ 62 }
         ensures { self.new ≡ take_back self.old key.process }
     {
-        self.end_wait(key);
+        self.activate(key);
         self.transactions.set_verdict(key, false);
         self.totals.aborts += 1;
     }

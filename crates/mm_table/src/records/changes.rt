@@ -18,7 +18,7 @@ impl Records {
     }
 
     /// Takes away the wait of a live transaction that waits.
-    pub(super) fn end_wait(&mut self, key: Key)
+    pub(super) fn activate(&mut self, key: Key)
         requires live { IsTrue (is_live self.old key) }
         requires waiting { IsTrue (is_waiting self.old key.process) }
         ensures { self.new ≡ activate self.old key.process }

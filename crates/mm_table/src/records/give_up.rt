@@ -16,7 +16,7 @@ impl Records {
         ensures touched { Touches self.old self.new touched.old touched.new }
     {
         self.may_give_up(key)?;
-        self.end_wait(key);
+        self.activate(key);
         touched.add(key.process);
         self.count();
         Ok(())

@@ -44,7 +44,7 @@ impl Records {
     {
         self.transactions.keeps_laws();
         self.free(resource);
-        self.end_wait(first);
+        self.activate(first);
         self.grant(first, resource);
         touched.add(first.process);
         self.block_queue(resource, first.process, touched);

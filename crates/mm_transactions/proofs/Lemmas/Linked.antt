@@ -5,11 +5,11 @@ use Rattle.std.proofs.lemmas.List.{map-append, length-replicate, get_or-replicat
 use Rattle.std.proofs.lemmas.List.Elements.{filter-append}
 use Rattle.std.specs.Option.{option_map}
 use Rattle.mm_arena.specs.declared.key.Key.{Key}
-use Rattle.mm_list_lemmas.specs.Members.{Among}
+use Rattle.mm_list_lemmas.specs.Members.{Among, head}
 use Rattle.mm_list_lemmas.proofs.Lemmas.Among.{all_at, among_map}
 use Rattle.mm_list_lemmas.proofs.Lemmas.Cut.{cut_at}
 use Rattle.mm_list_lemmas.proofs.Lemmas.Filter.{filter_keeps, filter_swap, filter_not, filter_only, only_among, none_pass, filter_map}
-use Rattle.mm_queue.specs.Queues.{Queues, queue, with_queue, first, IsOccupied, IsNextProcess, Removes}
+use Rattle.mm_queue.specs.Queues.{Queues, queue, with_queue, IsOccupied, IsNextProcess, Removes}
 use Rattle.mm_rules.specs.TableState.{Wait, is_of, waited_for}
 use Rattle.mm_transactions.specs.Transactions.{queue_of, first_key}
 use Rattle.mm_transactions.specs.private.Walk.{IsNextWaiter}
@@ -144,7 +144,7 @@ waiting_stands q ws n linked past some =
     let below : r < length q.lists = elim (cases_lt r (length q.lists)) [ inl low ↦ low | inr over ↦ absurd (subst (Among w) (past r over) queued) ] in
     (w.key, one.2, (r, subst (Among w.key) (sym (linked r below)) (among_map (λ v. v.key) (queue_of ws r) w queued)))
 
-pub first_is : (ws : List Wait) → first (map key ws) ≡ first_key ws
+pub first_is : (ws : List Wait) → head (map key ws) ≡ first_key ws
 first_is [] = refl
 first_is (w ∷ ws) = refl
 

@@ -5,7 +5,7 @@ use Rattle.std.proofs.lemmas.List.{map-append, length-map, get_or_past, set_spli
 use Rattle.std.proofs.lemmas.List.Elements.{filter_map-append, filter-append}
 use Rattle.std.specs.List.{AllByRecursion, cons_option, filter_map}
 use Rattle.std.specs.Option.{option_map, option_to_list}
-use Rattle.mm_list_lemmas.specs.Members.{Among, NoRepeat}
+use Rattle.mm_list_lemmas.specs.Members.{Among, NoRepeat, head}
 use Rattle.mm_list_lemmas.specs.Order.{in_order}
 use Rattle.mm_list_lemmas.proofs.Lemmas.Among.{all_at, all_map, among_map_gives}
 use Rattle.mm_list_lemmas.proofs.Lemmas.Filter as filters
@@ -137,21 +137,17 @@ stops es n e placed here =
 pub own_waits : (es : List (Option Arrival)) (n : ℕ) (o : Option Arrival) → ArePlaced es → slice_index_or es n None ≡ o → filter (is_of n) (waits_of es) ≡ waits (option_to_list o)
 own_waits es n o placed here = filter_waits (is_of n) (present es) ∙ ap waits (only es n placed o here)
 
-abbrev first : List Wait → Option Wait
-first [] = None
-first (w ∷ ws) = Some w
+find_head : (p : Wait → Bool) (ws : List Wait) → find p ws ≡ head (filter p ws)
+find_head p [] = refl
+find_head p (w ∷ ws) = elim (cases_Bool (p w)) [ inl yes_w ↦ rw yes_w refl | inr no_w ↦ rw no_w (find_head p ws) ]
 
-find_first : (p : Wait → Bool) (ws : List Wait) → find p ws ≡ first (filter p ws)
-find_first p [] = refl
-find_first p (w ∷ ws) = elim (cases_Bool (p w)) [ inl yes_w ↦ rw yes_w refl | inr no_w ↦ rw no_w (find_first p ws) ]
-
-first_waits : (o : Option Arrival) → first (waits (option_to_list o)) ≡ option_map wait o
-first_waits None = refl
-first_waits (Some e) = refl
+head_waits : (o : Option Arrival) → head (waits (option_to_list o)) ≡ option_map wait o
+head_waits None = refl
+head_waits (Some e) = refl
 
 -- what a process waits by is found among the waits
 pub finds : (es : List (Option Arrival)) (n : ℕ) → ArePlaced es → find (is_of n) (waits_of es) ≡ option_map wait (slice_index_or es n None)
-finds es n placed = find_first (is_of n) (waits_of es) ∙ ap first (own_waits es n (slice_index_or es n None) placed refl) ∙ first_waits (slice_index_or es n None)
+finds es n placed = find_head (is_of n) (waits_of es) ∙ ap head (own_waits es n (slice_index_or es n None) placed refl) ∙ head_waits (slice_index_or es n None)
 
 -- ---- no process waits twice
 

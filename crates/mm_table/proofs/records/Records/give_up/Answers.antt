@@ -12,7 +12,7 @@ returns-clause-touched c =
     let n = c.args.key.process in
     let old = c.args.touched.now in
     let new = c.add.new.self in
-    let ended : Touches s c.end_wait.new.self old new =
-    subst (λ (t : TableState). Touches s t old new) (sym c.end_wait.ensures)
+    let ended : Touches s c.activate.new.self old new =
+    subst (λ (t : TableState). Touches s t old new) (sym c.activate.ensures)
     (touches_activate s n old new c.in_ok-may_give_up.ensures.waiting (adds_set old new n (omega (arith, c.in_ok-may_give_up.ensures.in_range, c.requires.sized)) c.add.ensures)) in
-    subst (λ (t : TableState). Touches s t old new) (sym c.count.ensures) (touches_counted s c.end_wait.new.self old new _ ended)
+    subst (λ (t : TableState). Touches s t old new) (sym c.count.ensures) (touches_counted s c.activate.new.self old new _ ended)

@@ -4,14 +4,14 @@ use Rattle.mm_settle.proofs.Lemmas.Added.{adds_set}
 use Rattle.mm_table.proofs.Fields.HandOver.{added_all, HasLawfulWaits, lawful_waits, taken_over, first_within, first_lives, waiting, others_apart, others_fit, handed_over, freed_then_owned}
 use Rattle.mm_table.proofs.records.Records.hand_over_to.Goals as goal
 
-pub end_wait-requires-clause-live : goal.end_wait-requires-clause-live
-end_wait-requires-clause-live c =
+pub activate-requires-clause-live : goal.activate-requires-clause-live
+activate-requires-clause-live c =
     let s = c.args.self.now in
     let lawful = lawful_waits c.self.inside s c.self.invariant c.self.view_is c.keeps_laws.ensures in
     ap (λ t. is_live t c.args.first) c.free.ensures ∙ first_lives s c.args.resource c.args.first (sym c.requires.first) lawful.once lawful
 
-pub end_wait-requires-clause-waiting : goal.end_wait-requires-clause-waiting
-end_wait-requires-clause-waiting c =
+pub activate-requires-clause-waiting : goal.activate-requires-clause-waiting
+activate-requires-clause-waiting c =
     let s = c.args.self.now in
     let lawful = lawful_waits c.self.inside s c.self.invariant c.self.view_is c.keeps_laws.ensures in
     ap (λ t. is_waiting t c.args.first.process) c.free.ensures ∙ waiting s c.args.resource c.args.first (sym c.requires.first) lawful.once
@@ -20,7 +20,7 @@ pub grant-requires-clause-key : goal.grant-requires-clause-key
 grant-requires-clause-key c =
     let s = c.args.self.now in
     let lawful = lawful_waits c.self.inside s c.self.invariant c.self.view_is c.keeps_laws.ensures in
-    omega (arith, first_within s c.args.resource c.args.first (sym c.requires.first) lawful.once lawful, ap (λ t. t.config.processes) c.free.ensures, ap (λ t. t.config.processes) c.end_wait.ensures)
+    omega (arith, first_within s c.args.resource c.args.first (sym c.requires.first) lawful.once lawful, ap (λ t. t.config.processes) c.free.ensures, ap (λ t. t.config.processes) c.activate.ensures)
 
 pub add-requires : goal.add-requires
 add-requires c =
@@ -32,11 +32,11 @@ pub block_queue-requires-clause-holder : goal.block_queue-requires-clause-holder
 block_queue-requires-clause-holder c =
     let s = c.args.self.now in
     let lawful = lawful_waits c.self.inside s c.self.invariant c.self.view_is c.keeps_laws.ensures in
-    omega (arith, first_within s c.args.resource c.args.first (sym c.requires.first) lawful.once lawful, ap (λ t. t.config.processes) c.free.ensures, ap (λ t. t.config.processes) c.end_wait.ensures, ap (λ t. t.config.processes) c.grant.ensures)
+    omega (arith, first_within s c.args.resource c.args.first (sym c.requires.first) lawful.once lawful, ap (λ t. t.config.processes) c.free.ensures, ap (λ t. t.config.processes) c.activate.ensures, ap (λ t. t.config.processes) c.grant.ensures)
 
 -- the first waiter has become the owner
 owned : (c : goal.After-block_queue-arg-2-1) → c.grant.new.self ≡ taken_over c.args.self.now c.args.resource c.args.first
-owned c = freed_then_owned c.args.self.now c.free.new.self c.end_wait.new.self c.grant.new.self c.args.resource c.args.first c.free.ensures c.end_wait.ensures c.grant.ensures
+owned c = freed_then_owned c.args.self.now c.free.new.self c.activate.new.self c.grant.new.self c.args.resource c.args.first c.free.ensures c.activate.ensures c.grant.ensures
 
 lawful : (c : goal.After-block_queue-arg-2-1) → HasLawfulWaits c.args.self.now
 lawful c = lawful_waits c.self.inside c.args.self.now c.self.invariant c.self.view_is c.keeps_laws.ensures
