@@ -173,11 +173,22 @@ pub fn fresh(own: Label, holder: Label, process: u32, limit: u64) -> Option<Labe
         in SomeIff result (label.counter ≤ limit) label }
     ensures in_range { IfSome result IsInRange }
 {
-    let highest = own.counter().max(holder.counter());
-    if highest >= limit {
+    if own.counter().max(holder.counter()) >= limit {
         return None;
     }
-    Some(Label {
+    Some(fresh_in_range(own, holder, process))
+}
+
+/// `fresh`, where the caller knows that the new counter is in range, and so without a test. Constant time.
+#[inline]
+pub fn fresh_in_range(own: Label, holder: Label, process: u32) -> Label
+    requires process_in_range { process < process_range }
+    requires counter_in_range { (fresh_label own holder process).counter < counter_range }
+    ensures label { result ≡ fresh_label own holder process }
+    ensures in_range { IsInRange result }
+{
+    let highest = own.counter().max(holder.counter());
+    Label {
         word: (highest + 1) * u64::from(PROCESS_RANGE) + u64::from(process),
-    })
+    }
 }

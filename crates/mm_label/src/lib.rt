@@ -7,5 +7,5 @@
 mod label;
 mod laws;
 
-pub use label::{COUNTER_RANGE, Label, PROCESS_RANGE, fresh};
+pub use label::{COUNTER_RANGE, Label, PROCESS_RANGE, fresh, fresh_in_range};
 pub use laws::{fresh_is_above, words_keep_the_order};

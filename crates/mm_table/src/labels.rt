@@ -4,7 +4,7 @@ ghost use Rattle.std.specs.List.{range_with_len};
 ghost use Rattle.mm_label.specs.Label.{counter_range, process_range};
 ghost use Rattle.mm_table.specs.private.Labels.{opening_labels, private_in, public_in, label_under, both};
 
-use mm_label::{Label, fresh};
+use mm_label::{Label, fresh_in_range};
 use std::alloc::{AllocError, Global};
 use std::marker::Model;
 
@@ -20,7 +20,7 @@ pub struct ProcessLabels {
 pub struct Labels {
     processes: Vec<ProcessLabels>,
     /// No public label has a greater counter.
-    greatest: u64,
+    greatest: Label,
 }
 
 impl Model for Labels {
@@ -32,7 +32,7 @@ impl Model for Labels {
 
     ghost view = { λ labels. labels.processes.items };
 
-    ghost invariant = { λ labels. AreAtMost labels.greatest labels.processes.items };
+    ghost invariant = { λ labels. AreAtMost labels.greatest.counter labels.processes.items };
 }
 
 impl Labels {
@@ -44,7 +44,7 @@ impl Labels {
         let processes = labels_at_opening(alloc, count)?;
         Ok(Labels {
             processes,
-            greatest: 0,
+            greatest: Label::new(0, 0).unwrap(),
         })
     }
 
@@ -72,7 +72,7 @@ impl Labels {
     pub fn are_below(&self, counter: u64) -> bool
         ensures { IsTrue result → (n : ℕ) → (public_in self.now n).counter < counter }
     {
-        self.greatest < counter
+        self.greatest.counter() < counter
     }
 
     /// Both labels of a process are this one from now on.
@@ -81,24 +81,22 @@ impl Labels {
         requires { process < length self.old }
         ensures { self.new ≡ slice_set self.old process (both label) }
     {
-        self.greatest = self.greatest.max(label.counter());
+        self.greatest = greater(self.greatest, label);
         self.processes[process as usize] = ProcessLabels {
             private: label,
             public: label,
         };
     }
 
-    /// Gives `process` both its new labels, by which it waits for one that shows this label. No counter may pass the limit.
+    /// Gives `process` both its new labels, by which it waits for one that shows this label. The new counter is in range.
     #[inline]
-    pub fn block_under(&mut self, process: u32, shown: Label, limit: u64)
+    pub fn block_under(&mut self, process: u32, shown: Label)
         requires process { process < length self.old }
         requires process_in_range { process < process_range }
-        requires limit_in_range { limit < counter_range }
-        requires fits { (label_under self.old process shown).counter ≤ limit }
+        requires counter_in_range { (label_under self.old process shown).counter < counter_range }
         ensures { self.new ≡ slice_set self.old process (both (label_under self.old process shown)) }
     {
-        let own = self.public(process);
-        let label = fresh(own, shown, process, limit).unwrap();
+        let label = fresh_in_range(self.public(process), shown, process);
         self.relabel(process, label);
     }
 
@@ -127,6 +125,15 @@ impl ProcessLabels {
             public: label,
         }
     }
+}
+
+/// The greater of two labels. They compare as words, which takes fewer instructions than to compare their counters.
+#[inline]
+fn greater(first: Label, second: Label) -> Label
+    ensures first { first.counter ≤ result.counter }
+    ensures second { second.counter ≤ result.counter }
+{
+    if first < second { second } else { first }
 }
 
 /// The labels of so many processes that were never used.

@@ -49,6 +49,15 @@ impl Transactions {
         if self.waiting == 0 {
             return None;
         }
+        self.first_queued(resource)
+    }
+
+    /// `first_waiter`, by a look at the queue even where nobody waits for any resource.
+    #[inline]
+    fn first_queued(&self, resource: u32) -> Option<Key>
+        requires { resource < self.now.resources }
+        ensures { result ≡ first_key (queue_of self.now.waits resource) }
+    {
         self.queues.front(resource)
     }
 
@@ -67,7 +76,7 @@ impl Transactions {
         ensures { result ≡ map (λ w. w.key.process) (queue_of self.now.waits resource) }
     {
         self.keeps_laws();
-        let first = self.first_waiter(resource);
+        let first = self.first_queued(resource);
         Waiters {
             transactions: self,
             resource,

@@ -23,7 +23,7 @@ opened c transactions labels owners t l o =
     let public = each_its_own (λ l. l.public) opening_label (λ i. refl) 0 c.processes in
     rw (t, l, o, private, public) refl
 
--- no label has a counter yet
-pub opened_counters : (a n : ℕ) → AreAtMost 0 (map opening_labels (range_with_len a n))
-opened_counters a zero = tt
-opened_counters a (suc n) = (omega arith, opened_counters (a + 1) n)
+-- at the opening no label has a counter, so none is above this one
+pub opened_counters : (greatest a n : ℕ) → AreAtMost greatest (map opening_labels (range_with_len a n))
+opened_counters greatest a zero = tt
+opened_counters greatest a (suc n) = (omega arith, opened_counters greatest (a + 1) n)

@@ -85,8 +85,7 @@ impl Records {
         self.transactions.keeps_laws();
         let shown = self.labels.public(holder);
         for process in self.transactions.waiters(resource) {
-            self.labels
-                .block_under(process, shown, self.config.label_limit);
+            self.labels.block_under(process, shown);
             touched.add(process);
         }
     }

@@ -10,10 +10,10 @@ pub invariant_of-self : goal.invariant_of-self
 invariant_of-self c =
     let inside = c.self.inside in
     let n = c.requires.shown.0 in
-    let shown = shown_at_most inside.greatest inside.processes.items n c.self.invariant in
+    let shown = shown_at_most inside.greatest.counter inside.processes.items n c.self.invariant in
     let same = ap (λ ls. (public_in ls n).counter) c.self.view_is in
-    let below : c.args.label.counter ≤ inside.greatest = omega (arith, shown, same, ap (λ (l : Label). l.counter) c.requires.shown.1) in
-    at_most_set inside.greatest inside.processes.items c.args.process (record { private = c.index_mut.result.now.private; public = c.args.label }) below c.self.invariant
+    let below : c.args.label.counter ≤ inside.greatest.counter = omega (arith, shown, same, ap (λ (l : Label). l.counter) c.requires.shown.1) in
+    at_most_set inside.greatest.counter inside.processes.items c.args.process (record { private = c.index_mut.result.now.private; public = c.args.label }) below c.self.invariant
 
 pub returns-clause-private : goal.returns-clause-private
 returns-clause-private c =

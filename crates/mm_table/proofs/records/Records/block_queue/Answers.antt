@@ -49,8 +49,8 @@ block_under-requires-clause-process_in_range c =
     let lawful = lawful_waits c.self.inside s c.self.invariant c.self.view_is c.keeps_laws.ensures in
     omega (arith, queued_within s r c.in-Some.process lawful.within among, c.self.invariant.sizes.config.processes, ap (λ t. t.config.processes) c.self.view_is)
 
-pub block_under-requires-clause-fits : goal.block_under-requires-clause-fits
-block_under-requires-clause-fits c =
+pub block_under-requires-clause-counter_in_range : goal.block_under-requires-clause-counter_in_range
+block_under-requires-clause-counter_in_range c =
     let s = c.args.self.now in
     let h = c.args.holder in
     let n = c.in-Some.process in
@@ -58,7 +58,7 @@ block_under-requires-clause-fits c =
     let way = subst (IsUnderWay s (with_labels s ls) c.args.resource h) c.in-Some.ensures.steps c.loop-process.invariant.way in
     let fits = leb-true (label_against (with_labels s ls) n h).counter s.config.label_limit (its_fit s (with_labels s ls) c.args.resource h n c.next.new.self way) in
     let shown = ap (λ (l : Label). l.counter) (c.public-shown.ensures ∙ ap (λ t. public_of t h) c.self.view_is ∙ sym way.shown) in
-    omega (arith, fits, shown, ap (λ t. t.config.label_limit) c.self.view_is)
+    omega (arith, fits, shown, c.self.invariant.sizes.config.label_limit.1, ap (λ t. t.config.label_limit) c.self.view_is)
 
 pub add-requires : goal.add-requires
 add-requires c =

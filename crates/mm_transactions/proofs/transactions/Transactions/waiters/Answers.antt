@@ -4,8 +4,8 @@ use Rattle.mm_transactions.proofs.transactions.Transactions.waiters.Goals as goa
 
 pub invariant_of-result : goal.invariant_of-result
 invariant_of-result c =
-    stands_first c.args.self.now.waits c.args.resource c.process_of.result (c.process_of.ensures ∙ ap (option_map (λ k. k.process)) c.first_waiter-first.ensures) c.keeps_laws.ensures.once
+    stands_first c.args.self.now.waits c.args.resource c.process_of.result (c.process_of.ensures ∙ ap (option_map (λ k. k.process)) c.first_queued-first.ensures) c.keeps_laws.ensures.once
 
 pub returns : goal.returns
 returns c =
-    all_left c.args.self.now.waits c.args.resource c.process_of.result (c.process_of.ensures ∙ ap (option_map (λ k. k.process)) c.first_waiter-first.ensures) c.keeps_laws.ensures.once
+    all_left c.args.self.now.waits c.args.resource c.process_of.result (c.process_of.ensures ∙ ap (option_map (λ k. k.process)) c.first_queued-first.ensures) c.keeps_laws.ensures.once
