@@ -81,7 +81,7 @@ impl Labels {
         requires { process < length self.old }
         ensures { self.new ≡ slice_set self.old process (both label) }
     {
-        self.greatest = greater(self.greatest, label);
+        raise_to(&mut self.greatest, label);
         self.processes[process as usize] = ProcessLabels {
             private: label,
             public: label,
@@ -127,13 +127,16 @@ impl ProcessLabels {
     }
 }
 
-/// The greater of two labels. They compare as words, which takes fewer instructions than to compare their counters.
+/// Makes `greatest` this label where that is greater. It writes nothing where it is not: a write at each label of a queue would make the
+/// next one wait for it.
 #[inline]
-fn greater(first: Label, second: Label) -> Label
-    ensures first { first.counter ≤ result.counter }
-    ensures second { second.counter ≤ result.counter }
+fn raise_to(greatest: &mut Label, label: Label)
+    ensures kept { greatest.old.counter ≤ greatest.new.counter }
+    ensures raised { label.counter ≤ greatest.new.counter }
 {
-    if first < second { second } else { first }
+    if *greatest < label {
+        *greatest = label;
+    }
 }
 
 /// The labels of so many processes that were never used.
