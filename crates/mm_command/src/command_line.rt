@@ -10,6 +10,7 @@ ghost use Rattle.mm_command.specs.Limits.{AreLimits};
 mod options;
 mod program;
 
+use crate::help::locks_after;
 use clap::error::ErrorKind;
 use clap::{ArgMatches, Error};
 pub use options::{LocksOptions, StormOptions};
@@ -68,17 +69,35 @@ pub fn request_of<S: AsStr>(alloc: Global, words: &[S]) -> Request
     ensures taken { fault_of program (map S.text words.now) ≡ [] → IsRun result }
     ensures wrong { fault_of program (map S.text words.now) ≢ [] → IsByFault (fault_of program (map S.text words.now)) result }
 {
-    match parsed(alloc, words) {
+    match locks_after(alloc) {
+        Ok(locks_after) => request_with(alloc, locks_after.as_str(), words),
+        Err(_) => Request::Memory,
+    }
+}
+
+/// The same. The help on `locks` ends with this text.
+fn request_with<S: AsStr>(alloc: Global, locks_after: &str, words: &[S]) -> Request
+    ensures script { AsksForScript (map S.text words.now) → IsScript result }
+    ensures help { AsksForHelp (map S.text words.now) → IsHelp result }
+    ensures faultless { runs result ≡ true → fault_of program (map S.text words.now) ≡ [] }
+    ensures taken { fault_of program (map S.text words.now) ≡ [] → IsRun result }
+    ensures wrong { fault_of program (map S.text words.now) ≢ [] → IsByFault (fault_of program (map S.text words.now)) result }
+{
+    match parsed(alloc, locks_after, words) {
         Ok(matches) => by_matches(alloc, &matches),
         Err(error) => by_error(error),
     }
 }
 
-fn parsed<'a, S: AsStr>(alloc: Global, words: &'a [S]) -> Result<ArgMatches<'a>, Error>
+fn parsed<'a, S: AsStr>(
+    alloc: Global,
+    locks_after: &'a str,
+    words: &'a [S],
+) -> Result<ArgMatches<'a>, Error>
     ensures fails { FailsBy (fault_of program (map S.text words.entry.now)) result }
     ensures matches { IfOk result (HasMatchesOf program (map S.text words.entry.now)) }
 {
-    command(alloc)?.try_get_matches_from(words)
+    command(alloc, locks_after)?.try_get_matches_from(words)
 }
 
 /// The request that follows from clap's error.
@@ -182,7 +201,8 @@ fn are_limits(transactions: u32, names: u32, name_bytes: u32) -> bool
         && (1..=1_024).contains(&name_bytes)
 }
 
+/// An error, which shows the usage and no more of the help.
 fn wrong(alloc: Global, text: &str) -> Result<Request, AllocError> {
-    let error = command(alloc)?.error(ErrorKind::InvalidValue, text)?;
+    let error = command(alloc, "")?.error(ErrorKind::InvalidValue, text)?;
     Ok(Request::Wrong(error))
 }

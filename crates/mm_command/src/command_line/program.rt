@@ -4,7 +4,7 @@ ghost use Rattle.clap.specs.Words.{app_of, rule_of};
 ghost use Rattle.clap.specs.declared.builder.command.Command.TheViews.{out-Command as fields_of};
 ghost use Rattle.mm_command.specs.CommandLine.{free_number_rule, locks_app, number_rule, program, script_app, storm_app, threads_app, verbose_rule};
 
-use crate::help::{ABOUT, AFTER, LOCKS, LOCKS_AFTER, SCRIPT, STORM, THREADS, VERBOSE};
+use crate::help::{ABOUT, AFTER, LOCKS, SCRIPT, STORM, THREADS, VERBOSE};
 use clap::builder::ValueParser;
 use clap::{Arg, ArgAction, Command};
 use std::alloc::{AllocError, Global};
@@ -15,14 +15,14 @@ pub const MAX_CLIENTS: u32 = 64;
 /// How many transmitters a storm may have.
 pub const MAX_TRANSMITTERS: u32 = 64;
 
-/// The whole program.
-pub fn command<'a>(alloc: Global) -> Result<Command<'a>, AllocError>
+/// The whole program. The help on `locks` ends with this text.
+pub fn command<'a>(alloc: Global, locks_after: &'a str) -> Result<Command<'a>, AllocError>
     ensures { IfOk result (λ made. app_of made ≡ program) }
 {
     let script = script_command(alloc);
     let threads = threads_command(alloc)?;
     let storm = storm_command(alloc)?;
-    let locks = locks_command(alloc)?;
+    let locks = locks_command(alloc, locks_after)?;
     Command::new(alloc, "mmdetect")
         .bin_name("mmdetect")?
         .about(ABOUT)
@@ -64,12 +64,12 @@ fn storm_command<'a>(alloc: Global) -> Result<Command<'a>, AllocError>
         .arg(verbose(alloc))
 }
 
-fn locks_command<'a>(alloc: Global) -> Result<Command<'a>, AllocError>
+fn locks_command<'a>(alloc: Global, locks_after: &'a str) -> Result<Command<'a>, AllocError>
     ensures { IfOk result (λ made. (app_of made ≡ locks_app) × ((fields_of made).has_globals ≡ false)) }
 {
     Command::new(alloc, "locks")
         .about(LOCKS)
-        .after_help(LOCKS_AFTER)
+        .after_help(locks_after)
         .arg(number(alloc, "transactions", 1, 65_536, "65536"))?
         .arg(number(alloc, "names", 1, 65_536, "65536"))?
         .arg(number(alloc, "name-bytes", 1, 1_024, "64"))?
