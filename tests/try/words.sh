@@ -10,7 +10,7 @@ as_unbuilt() {
 }
 
 # Help goes to standard output.
-for line in --help -h help "script --help" "script -h" "help script" "threads --help" "storm -h" "help storm" "locks --help" "locks --names 2 -h" "help locks" "help help" "threads a -h"; do
+for line in --help -h help "script --help" "script -h" "help script" "threads --help" "storm -h" "help storm" "locks --help" "locks --names 2 -h" "help locks" "help help" "threads a -h" "threads --report a -h" "storm --report=a --acquires 2 --help"; do
   read -ra words <<< "$line"
   case_is "$line"
   run "${words[@]}" < "$work/script" > "$work/out" 2> "$work/err"
@@ -68,7 +68,9 @@ done
 for line in fly --fly -x - "script extra" "script script" "script --fly" "script --verbose" "fly script" "help fly" "help --help" --version \
   Script scrip prove threads "threads a b" "threads --fly a" "threads -v -v a" --verbose "-- x" "storm extra" "storm --clients 0" \
   "storm --clients 65" "storm --clients" "storm --clients -1" "storm --transmitters 65" "storm --seed 18446744073709551616" \
-  "storm --seed x" "storm --seed=" "storm --seed -1" "storm --clients 8 --clients 8" "storm --verbose --verbose"; do
+  "storm --seed x" "storm --seed=" "storm --seed -1" "storm --clients 8 --clients 8" "storm --verbose --verbose" "storm --resources 0" \
+  "storm --resources=65537" "storm --acquires 257" "storm --acquires 0" "storm --report" "storm --report a --report b" "storm --report -v" \
+  "threads a --report" "threads --report a --report=b c" "threads --report a" "threads a --resources 8"; do
   read -ra words <<< "$line"
   case_is "$line"
   # ('prove' is the wrapper's word, not the program's)

@@ -17,7 +17,9 @@ pub const STORM: &str = "Runs a generated workload: the same one for the same nu
 
 pub const LOCKS: &str = "Answers lock requests by name from standard input, a line each";
 
-/// What the flag does.
+/// What the options do.
+pub const REPORT: &str = "Writes what ran and what came of it to FILE, as JSON";
+
 pub const VERBOSE: &str = "Says on standard error how the run goes";
 
 /// The script language with its ranges and refusals, what workloads print, and the exit statuses. No line has more than 80 bytes.
