@@ -6,7 +6,7 @@ from dataclasses import dataclass, field
 
 U64_MOST = 2**64 - 1
 # each number of a subcommand, with its range
-STORM_NUMBERS = {"seed": (0, U64_MOST), "clients": (1, 64), "transmitters": (0, 64)}
+STORM_NUMBERS = {"seed": (0, U64_MOST), "clients": (1, 64), "transmitters": (0, 64), "resources": (1, 65536), "acquires": (1, 256)}
 LOCKS_NUMBERS = {"transactions": (1, 65536), "names": (1, 65536), "name-bytes": (1, 1024), "seed": (0, U64_MOST)}
 NONE_USAGE = "mmdetect [COMMAND]"
 THREADS_USAGE = "mmdetect threads [OPTIONS] <FILE>"
@@ -129,6 +129,14 @@ class Reading:
         self.verbose = True
         return True
 
+    def take_report(self, word):
+        """Takes `--report FILE`, and returns whether the word begins it."""
+        name, has_value, value = word.partition("=")
+        if name != "--report":
+            return False
+        take_value(self, name, "FILE", has_value, value)
+        return True
+
 
 def of_threads(words):
     reading, is_open = Reading(list(words), THREADS_USAGE), True
@@ -138,7 +146,7 @@ def of_threads(words):
             is_open = False
         elif is_open and word in ("-h", "--help"):
             return Help("threads")
-        elif is_open and reading.take_flag(word):
+        elif is_open and (reading.take_flag(word) or reading.take_report(word)):
             continue
         elif is_open and word.startswith("-") and word != "-" or reading.files:
             raise unexpected(word, THREADS_USAGE)
@@ -155,7 +163,7 @@ def of_storm(words):
         word = reading.left.pop(0)
         if word in ("-h", "--help"):
             return Help("storm")
-        if not reading.take_flag(word):
+        if not reading.take_flag(word) and not reading.take_report(word):
             take_number(reading, word, STORM_NUMBERS)
     return Storm()
 
@@ -174,18 +182,24 @@ def take_number(reading, word, numbers):
     name, has_value, value = word.partition("=")
     if name[:2] != "--" or name[2:] not in numbers:
         raise unexpected(name, reading.usage)
+    value = take_value(reading, name, "N", has_value, value)
+    fault = fault_of(value, *numbers[name[2:]])
+    if fault:
+        raise wrong(f"invalid value '{value}' for '{name} <N>': {fault}")
+
+
+def take_value(reading, name, shown, has_value, value):
+    """The value of this option: what stands behind its `=`, or else the next word."""
     if not has_value:
         if not reading.left:
-            raise wrong(f"a value is required for '{name} <N>' but none was supplied")
+            raise wrong(f"a value is required for '{name} <{shown}>' but none was supplied")
         value = reading.left.pop(0)
         if value.startswith("-") and value != "-":
             raise unexpected(value, reading.usage)
     if name in reading.given:
-        raise wrong(f"the argument '{name} <N>' cannot be used multiple times", reading.usage)
+        raise wrong(f"the argument '{name} <{shown}>' cannot be used multiple times", reading.usage)
     reading.given.add(name)
-    fault = fault_of(value, *numbers[name[2:]])
-    if fault:
-        raise wrong(f"invalid value '{value}' for '{name} <N>': {fault}")
+    return value
 
 
 def fault_of(text, least, most):

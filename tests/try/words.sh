@@ -10,7 +10,7 @@ as_unbuilt() {
 }
 
 # Help goes to standard output.
-for line in --help -h help "script --help" "script -h" "help script" "threads --help" "storm -h" "help storm" "locks --help" "locks --names 2 -h" "help locks" "help help" "threads a -h"; do
+for line in --help -h help "script --help" "script -h" "help script" "threads --help" "storm -h" "help storm" "locks --help" "locks --names 2 -h" "help locks" "help help" "threads a -h" "threads --report a -h" "storm --report=a --acquires 2 --help"; do
   read -ra words <<< "$line"
   case_is "$line"
   run "${words[@]}" < "$work/script" > "$work/out" 2> "$work/err"
@@ -40,22 +40,24 @@ for words in "locks --help" "locks -h" "help locks"; do
   done
 done
 # The words of FORMS are proved to be all that are read. A help and a page list the same ones, in the same order.
-# words_of CRATE, words_in HELP
+# words_of TABLE, words_in HELP
 words_of() {
-  sed -n '/^const FORMS/,/^\];/s/^    ("\([a-z_0-9]*\)".*/\1/p' "crates/$1/src/forms.rt"
+  sed -n '/const FORMS/,/^\];/s/^ *\(("\|word: "\)\([a-z_0-9]*\)".*/\2/p' "crates/$1"
 }
+requests=mm_requests/src/table.rt
+calls=mm_script/src/forms.rt
 words_in() {
   run "$1" --help | sed -n '/their replies:$/,/^$/s/^  \([a-z_0-9][a-z_0-9]*\) .*/\1/p'
 }
 case_is "the help and the page list each word of a request, and no other"
-same "how many there are" 12 "$(words_of mm_service | wc -l)"
-same "the help" "$(words_of mm_service)" "$(words_in locks)"
+same "how many there are" 12 "$(words_of "$requests" | wc -l)"
+same "the help" "$(words_of "$requests")" "$(words_in locks)"
 # shellcheck disable=SC2016  # the backquotes are those of the page
-same "the page" "$(words_of mm_service)" \
+same "the page" "$(words_of "$requests")" \
   "$(sed -n '/^### Requests/,/^### /s/^| `\([a-z]*\)[ `].*/\1/p' docs/SERVICE.md)"
 case_is "the help lists each word of a call, and no other"
-same "how many there are" 14 "$(words_of mm_script | wc -l)"
-same "the help" "$(words_of mm_script)" "$(words_in script)"
+same "how many there are" 14 "$(words_of "$calls" | wc -l)"
+same "the help" "$(words_of "$calls")" "$(words_in script)"
 case_is "the help lists each subcommand"
 run --help > "$work/out" 2> "$work/err"
 for part in "  script " "  threads " "  storm " "  locks "; do
@@ -66,7 +68,9 @@ done
 for line in fly --fly -x - "script extra" "script script" "script --fly" "script --verbose" "fly script" "help fly" "help --help" --version \
   Script scrip prove threads "threads a b" "threads --fly a" "threads -v -v a" --verbose "-- x" "storm extra" "storm --clients 0" \
   "storm --clients 65" "storm --clients" "storm --clients -1" "storm --transmitters 65" "storm --seed 18446744073709551616" \
-  "storm --seed x" "storm --seed=" "storm --seed -1" "storm --clients 8 --clients 8" "storm --verbose --verbose"; do
+  "storm --seed x" "storm --seed=" "storm --seed -1" "storm --clients 8 --clients 8" "storm --verbose --verbose" "storm --resources 0" \
+  "storm --resources=65537" "storm --acquires 257" "storm --acquires 0" "storm --report" "storm --report a --report b" "storm --report -v" \
+  "threads a --report" "threads --report a --report=b c" "threads --report a" "threads a --resources 8"; do
   read -ra words <<< "$line"
   case_is "$line"
   # ('prove' is the wrapper's word, not the program's)

@@ -33,6 +33,14 @@ free_number_rule name least most = record (new_rule name) {
   parser = Some (Unsigned least most);
 }
 
+-- `--report FILE`
+abbrev pub report_rule : Rule
+report_rule = record (new_rule (codes "report")) {
+  long = Some (codes "report");
+  value_names = 1;
+  action = Some Set;
+}
+
 -- the one file that has to be named
 abbrev pub file_rule : Rule
 file_rule = record (new_rule (codes "FILE")) { required = true; action = Some Set }
@@ -41,7 +49,7 @@ abbrev pub script_app : App
 script_app = new_app (codes "script")
 
 abbrev pub threads_app : App
-threads_app = with_rule (with_rule (new_app (codes "threads")) file_rule) verbose_rule
+threads_app = with_rule (with_rule (with_rule (new_app (codes "threads")) file_rule) report_rule) verbose_rule
 
 abbrev pub seed_rule : Rule
 seed_rule = number_rule (codes "seed") 0 18446744073709551615 (codes "1")
@@ -52,8 +60,18 @@ clients_rule = number_rule (codes "clients") 1 64 (codes "8")
 abbrev pub transmitters_rule : Rule
 transmitters_rule = number_rule (codes "transmitters") 0 64 (codes "2")
 
+abbrev pub resources_rule : Rule
+resources_rule = number_rule (codes "resources") 1 65536 (codes "8")
+
+abbrev pub acquires_rule : Rule
+acquires_rule = number_rule (codes "acquires") 1 256 (codes "4")
+
+-- the options that give a storm its numbers
+abbrev pub storm_numbers_app : App
+storm_numbers_app = with_rule (with_rule (with_rule (with_rule (with_rule (new_app (codes "storm")) seed_rule) clients_rule) transmitters_rule) resources_rule) acquires_rule
+
 abbrev pub storm_app : App
-storm_app = with_rule (with_rule (with_rule (with_rule (new_app (codes "storm")) seed_rule) clients_rule) transmitters_rule) verbose_rule
+storm_app = with_rule (with_rule storm_numbers_app report_rule) verbose_rule
 
 abbrev pub transactions_rule : Rule
 transactions_rule = number_rule (codes "transactions") 1 65536 (codes "65536")
@@ -103,8 +121,8 @@ IsScriptName name = (name ≡ None) ⊎ (name ≡ Some (codes "script"))
 -- something is run
 abbrev pub runs : Request → Bool
 runs Script = true
-runs (Threads file verbose) = true
-runs (Storm options verbose) = true
+runs (Threads file report verbose) = true
+runs (Storm options report verbose) = true
 runs (Locks options) = true
 runs _ = false
 
@@ -120,9 +138,17 @@ HasText name rows = is_some (first_of name rows) ≡ true
 abbrev pub HasNumber : Text → ℕ → ℕ → List Row → Type 0
 HasNumber name low high rows = (text : Text) × (one_of name rows ≡ Some text) × IsUnsignedIn low high text
 
+-- they have the numbers of the workers of a generated workload
+abbrev pub HasWorkers : List Row → Type 0
+HasWorkers rows = HasNumber (codes "seed") 0 18446744073709551615 rows × HasNumber (codes "clients") 1 64 rows × HasNumber (codes "transmitters") 0 64 rows
+
+-- they have the numbers of what its clients acquire
+abbrev pub HasShape : List Row → Type 0
+HasShape rows = HasNumber (codes "resources") 1 65536 rows × HasNumber (codes "acquires") 1 256 rows
+
 -- they have the numbers of a generated workload
 abbrev pub HasNumbers : List Row → Type 0
-HasNumbers rows = HasNumber (codes "seed") 0 18446744073709551615 rows × HasNumber (codes "clients") 1 64 rows × HasNumber (codes "transmitters") 0 64 rows
+HasNumbers rows = HasWorkers rows × HasShape rows
 
 -- they have the numbers of a lock service
 abbrev pub HasLimits : List Row → Type 0

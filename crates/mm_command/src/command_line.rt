@@ -2,18 +2,19 @@
 //!
 //! - `program`: the words that there are.
 //! - `options`: the numbers of a generated workload, and those of a lock service.
-ghost use Rattle.std.specs.Prelude.{◌≡◌, ◌≢◌, ◌↔◌, List, [], IfOk, IsTrue, codes, true, map};
+ghost use Rattle.std.specs.Prelude.{◌≡◌, ◌≢◌, ◌↔◌, List, [], IfOk, IfSome, IsSome, IsTrue, codes, true, map};
 ghost use Rattle.clap.specs.Words.{FailsBy, HasMatchesOf, Text, fault_of, found_of, rows_of, subcommand_name_of};
-ghost use Rattle.mm_command.specs.CommandLine.{AsksForHelp, AsksForScript, HasLimits, HasNumbers, HasText, HasWanted, IsByFault, IsHelp, IsRun, IsScript, IsScriptName, program, request_at, runs};
-ghost use Rattle.mm_command.specs.Limits.{AreLimits};
+ghost use Rattle.mm_command.specs.CommandLine.{AsksForHelp, AsksForScript, HasLimits, HasNumbers, HasShape, HasText, HasWanted, IsByFault, IsHelp, IsRun, IsScript, IsScriptName, program, request_at, runs};
+ghost use Rattle.mm_command.specs.Limits.{AreLimits, AreShape};
 
 mod options;
 mod program;
 
+use crate::help::locks_after;
 use clap::error::ErrorKind;
 use clap::{ArgMatches, Error};
 pub use options::{LocksOptions, StormOptions};
-use program::{MAX_CLIENTS, MAX_TRANSMITTERS, command};
+use program::{MAX_ACQUIRES, MAX_CLIENTS, MAX_RESOURCES, MAX_TRANSMITTERS, command};
 use std::alloc::{AllocError, Global};
 use std::convert::AsStr;
 use std::{env, io};
@@ -23,14 +24,16 @@ use std::{env, io};
 pub enum Request {
     /// A script is to be run.
     Script,
-    /// The workload in this file is to be run.
+    /// The workload in this file is to be run, and a report on it written to a file, where one is named.
     Threads {
         file: String,
+        report: Option<String>,
         verbose: bool,
     },
-    /// A generated workload is to be run.
+    /// A generated workload is to be run, and a report on it written to a file, where one is named.
     Storm {
         options: StormOptions,
+        report: Option<String>,
         verbose: bool,
     },
     /// A lock service is to be run.
@@ -68,17 +71,35 @@ pub fn request_of<S: AsStr>(alloc: Global, words: &[S]) -> Request
     ensures taken { fault_of program (map S.text words.now) ≡ [] → IsRun result }
     ensures wrong { fault_of program (map S.text words.now) ≢ [] → IsByFault (fault_of program (map S.text words.now)) result }
 {
-    match parsed(alloc, words) {
+    match locks_after(alloc) {
+        Ok(locks_after) => request_with(alloc, locks_after.as_str(), words),
+        Err(_) => Request::Memory,
+    }
+}
+
+/// The same. The help on `locks` ends with this text.
+fn request_with<S: AsStr>(alloc: Global, locks_after: &str, words: &[S]) -> Request
+    ensures script { AsksForScript (map S.text words.now) → IsScript result }
+    ensures help { AsksForHelp (map S.text words.now) → IsHelp result }
+    ensures faultless { runs result ≡ true → fault_of program (map S.text words.now) ≡ [] }
+    ensures taken { fault_of program (map S.text words.now) ≡ [] → IsRun result }
+    ensures wrong { fault_of program (map S.text words.now) ≢ [] → IsByFault (fault_of program (map S.text words.now)) result }
+{
+    match parsed(alloc, locks_after, words) {
         Ok(matches) => by_matches(alloc, &matches),
         Err(error) => by_error(error),
     }
 }
 
-fn parsed<'a, S: AsStr>(alloc: Global, words: &'a [S]) -> Result<ArgMatches<'a>, Error>
+fn parsed<'a, S: AsStr>(
+    alloc: Global,
+    locks_after: &'a str,
+    words: &'a [S],
+) -> Result<ArgMatches<'a>, Error>
     ensures fails { FailsBy (fault_of program (map S.text words.entry.now)) result }
     ensures matches { IfOk result (HasMatchesOf program (map S.text words.entry.now)) }
 {
-    command(alloc)?.try_get_matches_from(words)
+    command(alloc, locks_after)?.try_get_matches_from(words)
 }
 
 /// The request that follows from clap's error.
@@ -125,8 +146,17 @@ fn threads(alloc: Global, own: &ArgMatches<'_>) -> Result<Request, AllocError>
     };
     Ok(Request::Threads {
         file: String::from_str(alloc, file)?,
+        report: report(alloc, own)?,
         verbose: own.get_flag("verbose"),
     })
+}
+
+/// The file for a report, where one is named.
+fn report(alloc: Global, own: &ArgMatches<'_>) -> Result<Option<String>, AllocError> {
+    match own.get_str("report") {
+        Some(file) => Ok(Some(String::from_str(alloc, file)?)),
+        None => Ok(None),
+    }
 }
 
 fn storm(alloc: Global, own: &ArgMatches<'_>) -> Result<Request, AllocError>
@@ -142,14 +172,44 @@ fn storm(alloc: Global, own: &ArgMatches<'_>) -> Result<Request, AllocError>
     if clients == 0 || clients > MAX_CLIENTS || transmitters > MAX_TRANSMITTERS {
         return wrong(alloc, "a number is out of range");
     }
+    let Some((resources, acquires)) = shape(own) else {
+        return wrong(alloc, "a number is missing or out of range");
+    };
     Ok(Request::Storm {
         options: StormOptions {
             seed,
             clients,
             transmitters,
+            resources,
+            acquires,
         },
+        report: report(alloc, own)?,
         verbose: own.get_flag("verbose"),
     })
+}
+
+/// How many resources a storm has, and how many words give a client one, where both are in their ranges.
+fn shape(own: &ArgMatches<'_>) -> Option<(u32, u32)>
+    ensures some { HasShape (rows_of (found_of own.now)) → IsSome result }
+    ensures in_range { IfSome result (λ shape. AreShape shape.0 shape.1) }
+{
+    let (Some(resources), Some(acquires)) = (
+        own.get_one::<u32>("resources"),
+        own.get_one::<u32>("acquires"),
+    ) else {
+        return None;
+    };
+    if !are_shape(resources, acquires) {
+        return None;
+    }
+    Some((resources, acquires))
+}
+
+/// Whether a storm can have so many resources, and so many words that give a client one.
+fn are_shape(resources: u32, acquires: u32) -> bool
+    ensures { IsTrue result ↔ AreShape resources acquires }
+{
+    (1..=MAX_RESOURCES).contains(&resources) && (1..=MAX_ACQUIRES).contains(&acquires)
 }
 
 fn locks(alloc: Global, own: &ArgMatches<'_>) -> Result<Request, AllocError>
@@ -182,7 +242,8 @@ fn are_limits(transactions: u32, names: u32, name_bytes: u32) -> bool
         && (1..=1_024).contains(&name_bytes)
 }
 
+/// An error, which shows the usage and no more of the help.
 fn wrong(alloc: Global, text: &str) -> Result<Request, AllocError> {
-    let error = command(alloc)?.error(ErrorKind::InvalidValue, text)?;
+    let error = command(alloc, "")?.error(ErrorKind::InvalidValue, text)?;
     Ok(Request::Wrong(error))
 }

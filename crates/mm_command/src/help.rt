@@ -1,4 +1,9 @@
 //! The text of the help.
+ghost use Rattle.std.specs.Prelude.{IfOk, string_bytes};
+ghost use Rattle.mm_command.specs.Help.{ListsRequests};
+
+use mm_requests::push_usages;
+use std::alloc::{AllocError, Global};
 
 /// What the program does.
 pub const ABOUT: &str = "Finds deadlocks among transactions that lock resources of a table.";
@@ -12,7 +17,9 @@ pub const STORM: &str = "Runs a generated workload: the same one for the same nu
 
 pub const LOCKS: &str = "Answers lock requests by name from standard input, a line each";
 
-/// What the flag does.
+/// What the options do.
+pub const REPORT: &str = "Writes what ran and what came of it to FILE, as JSON";
+
 pub const VERBOSE: &str = "Says on standard error how the run goes";
 
 /// The script language with its ranges and refusals, what workloads print, and the exit statuses. No line has more than 80 bytes.
@@ -86,28 +93,17 @@ Exit statuses:
      'refused N Name' printed
   5  threads, storm: some client used all its turns or was refused";
 
-/// The requests of a lock service, their replies and refusals, and the exit statuses. No line has more than 80 bytes.
-pub const LOCKS_AFTER: &str = "\
+/// What stands above the requests of a lock service. No line has more than 80 bytes, here and below them.
+const LOCKS_ABOVE: &str = "\
 Requests are read from standard input, one a line, as long as there are any.
 Each has one reply on standard output; behind it stands a line for each wait
 that it ended.
 
 Requests and their replies:
-  begin          begun K: a new transaction
-  lock K NAME    granted; held, where K owns it; waits H, where H owns it; or
-                 deadlock H: the same, and K closed a cycle of waits
-  try K NAME     granted, held, or busy H: it never waits
-  unlock K NAME  unlocked: the longest waiter owns the name now
-  commit K       committed: K hands over all that it owns, and ends
-  abort K        aborted: the same; or later: as soon as its wait ends
-  cancel K       cancelled: K waits no longer; or carried: not now
-  owner NAME     owner K, or free
-  status K       active, waiting NAME H or deadlock NAME H; 'aborting' behind
-                 it where the abort of K is due
-  holds K        holds NAME ..: the names that K owns
-  graph          graph N, and N lines '* K NAME H': who waits, and for whom
-  totals         totals BEGUN COMMITTED ABORTED DEADLOCKS
+";
 
+/// What stands below them: their refusals, and the exit statuses.
+const LOCKS_BELOW: &str = "
 Waits that a request ended:
   * granted K NAME   K owns the name now
   * aborted K        the abort of K was due, and K has ended
@@ -138,3 +134,13 @@ Exit statuses:
   2  the command line is wrong
   3  'read fault' or 'write fault' on standard error
   4  memory was refused, and 'refused 10 Memory' printed";
+
+/// The help on a lock service, with each of its requests. Takes memory.
+pub fn locks_after(alloc: Global) -> Result<String, AllocError>
+    ensures { IfOk result (λ text. ListsRequests (string_bytes text)) }
+{
+    let mut text = String::from_str(alloc, LOCKS_ABOVE)?;
+    push_usages(&mut text)?;
+    text.push_str(LOCKS_BELOW)?;
+    Ok(text)
+}

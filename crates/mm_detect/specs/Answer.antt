@@ -15,8 +15,8 @@ EndsService _ = ⊥
 -- each request has an end of its own, but for the two kinds of workload, which end alike
 abbrev pub IsEndOf : Request → Ending → Type 0
 IsEndOf request.Script (ending.Ran lines) = ⊤
-IsEndOf (request.Threads file verbose) (ending.Worked status) = ⊤
-IsEndOf (request.Storm options verbose) (ending.Worked status) = ⊤
+IsEndOf (request.Threads file report verbose) (ending.Worked status) = ⊤
+IsEndOf (request.Storm options report verbose) (ending.Worked status) = ⊤
 IsEndOf (request.Locks options) end = EndsService end
 IsEndOf (request.Help text) (ending.Helped printed) = ⊤
 IsEndOf (request.Wrong text) ending.Wrong = ⊤

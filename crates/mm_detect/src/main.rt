@@ -2,7 +2,8 @@
 //!
 //! - `file`: the bytes of a file.
 //! - `locks`: a lock service.
-//! - `work`: runs of workloads. `work_end`: what came of one. `verbose`: what is printed meanwhile for a person.
+//! - `work`: runs of workloads. `work_end`: what came of one. `verbose`: what is printed meanwhile for a person. `reported`: a run whose
+//!   report is written to a file.
 //! - `ending`: how a run of the program ends, and the status that it exits with.
 #![tactic(auto)]
 
@@ -11,6 +12,7 @@ ghost use Rattle.mm_detect.specs.Answer.{IsEndOf};
 mod ending;
 mod file;
 mod locks;
+mod reported;
 mod verbose;
 mod work;
 mod work_end;
@@ -19,9 +21,11 @@ use ending::{Ending, fault, status};
 use file::{Taken, taken_from};
 use locks::run_locks;
 use mm_command::{Request, StormOptions, asked};
+use mm_report::Source;
 use mm_script::{ScriptFault, run_script};
 use mm_table::Refusal;
 use mm_workload::Workload;
+use reported::{Reporting, run_reported};
 use std::alloc::Global;
 use std::io::{Read, Write};
 use std::process::ExitCode;
@@ -56,11 +60,21 @@ fn answer<R: Runtime + RandomSource + Threads + Wait + Sync, I: Read, W: Write>(
     match request {
         Request::Script => Ending::Ran(run_script(alloc, input, output)),
         Request::Locks(options) => run_locks(rt, alloc, options, input, output),
-        Request::Threads { file, verbose } => {
-            Ending::Worked(run_file(rt, alloc, file.as_str(), *verbose, output))
+        Request::Threads {
+            file,
+            report,
+            verbose,
+        } => {
+            let told = told_of(report.as_ref(), *verbose);
+            Ending::Worked(run_file(rt, alloc, file.as_str(), told, output))
         }
-        Request::Storm { options, verbose } => {
-            Ending::Worked(run_storm(rt, alloc, *options, *verbose, output))
+        Request::Storm {
+            options,
+            report,
+            verbose,
+        } => {
+            let told = told_of(report.as_ref(), *verbose);
+            Ending::Worked(run_storm(rt, alloc, *options, told, output))
         }
         Request::Help(text) => {
             Ending::Helped(print!(rt; "{text}").map_err(|_| ScriptFault::Write))
@@ -76,19 +90,40 @@ fn answer<R: Runtime + RandomSource + Threads + Wait + Sync, I: Read, W: Write>(
     }
 }
 
+/// What is told of a run beside its two lines.
+#[derive(Clone, Copy)]
+enum Told<'a> {
+    Nothing,
+    /// How the run goes, on standard error.
+    Verbose,
+    /// A report, and perhaps how the run goes.
+    Report(Reporting<'a>),
+}
+
+fn told_of<'a>(report: Option<&'a String>, verbose: bool) -> Told<'a> {
+    match report {
+        Some(path) => Told::Report(Reporting {
+            path: path.as_str(),
+            verbose,
+        }),
+        None if verbose => Told::Verbose,
+        None => Told::Nothing,
+    }
+}
+
 /// Runs the workload in this file, and returns the status.
 fn run_file<R: Runtime + Threads + Wait + Sync, W: Write>(
     rt: &R,
     alloc: Global,
     file: &str,
-    verbose: bool,
+    told: Told<'_>,
     output: &mut W,
 ) -> Result<u8, ScriptFault> {
     match taken_from(rt, alloc, file) {
-        Taken::Bytes(bytes) => run_bytes(rt, alloc, file, bytes.as_slice(), verbose, output),
+        Taken::Bytes(bytes) => run_bytes(rt, alloc, file, bytes.as_slice(), told, output),
         Taken::Memory => print_end(&WorkEnd::Refused(Refusal::Memory), output),
         Taken::Fault(error) => {
-            if verbose {
+            if is_verbose(told) {
                 let _ = eprintln!(rt; "{file}: {error}");
             }
             Err(ScriptFault::Read)
@@ -102,13 +137,24 @@ fn run_bytes<R: Runtime + Threads + Wait + Sync, W: Write>(
     alloc: Global,
     file: &str,
     bytes: &[u8],
-    verbose: bool,
+    told: Told<'_>,
     output: &mut W,
 ) -> Result<u8, ScriptFault> {
-    if verbose {
-        return run_verbose(rt, alloc, file, Workload::read(alloc, bytes), output);
+    match told {
+        Told::Nothing => threads_on(rt, alloc, bytes, output),
+        Told::Verbose => run_verbose(rt, alloc, file, Workload::read(alloc, bytes), output),
+        Told::Report(reporting) => {
+            let source = Source::Threads { file };
+            run_reported(
+                rt,
+                alloc,
+                source,
+                reporting,
+                Workload::read(alloc, bytes),
+                output,
+            )
+        }
     }
-    threads_on(rt, alloc, bytes, output)
 }
 
 /// Runs the workload that is generated from these numbers, and returns the status.
@@ -116,11 +162,38 @@ fn run_storm<R: Runtime + Threads + Wait + Sync, W: Write>(
     rt: &R,
     alloc: Global,
     options: StormOptions,
-    verbose: bool,
+    told: Told<'_>,
     output: &mut W,
 ) -> Result<u8, ScriptFault> {
-    if verbose {
-        return run_verbose(rt, alloc, "storm", generated(alloc, options), output);
+    match told {
+        Told::Nothing => storm_on(rt, alloc, options, output),
+        Told::Verbose => run_verbose(rt, alloc, "storm", generated(alloc, options), output),
+        Told::Report(reporting) => {
+            let source = source_of(options);
+            run_reported(
+                rt,
+                alloc,
+                source,
+                reporting,
+                generated(alloc, options),
+                output,
+            )
+        }
     }
-    storm_on(rt, alloc, options, output)
+}
+
+fn source_of(options: StormOptions) -> Source<'static> {
+    Source::Storm {
+        seed: options.seed,
+        resources: options.resources,
+        acquires: options.acquires,
+    }
+}
+
+fn is_verbose(told: Told<'_>) -> bool {
+    match told {
+        Told::Nothing => false,
+        Told::Verbose => true,
+        Told::Report(reporting) => reporting.verbose,
+    }
 }

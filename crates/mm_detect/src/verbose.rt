@@ -42,7 +42,7 @@ pub fn run_verbose<R: Clock + Eprint + Threads + Wait + Sync, W: Write>(
 }
 
 /// Runs the workload, and prints what is run, how far it is, and how it ended.
-fn verbose_end<R: Clock + Eprint + Threads + Wait + Sync>(
+pub fn verbose_end<R: Clock + Eprint + Threads + Wait + Sync>(
     rt: &R,
     alloc: Global,
     name: &str,

@@ -2,7 +2,7 @@
 ghost use Rattle.std.specs.Prelude.{◌≡◌, ◌≢◌, ◌≤◌, ◌+◌, ◌⊎◌, Ok, Err, IfOk, IfErr, MatchResult, length, vec_len};
 ghost use Rattle.mm_rules.specs.Event.{Opens};
 ghost use Rattle.mm_workload.specs.Json.{Says, SaysNone};
-ghost use Rattle.mm_workload.specs.Storm.{storm_of};
+ghost use Rattle.mm_workload.specs.Storm.{storm_with};
 ghost use Rattle.mm_workload.specs.Work.{Work};
 ghost use Rattle.mm_workload.specs.declared.fault.WorkFault.TheVariants.{Memory};
 ghost use Rattle.mm_detect.specs.WorkEnd.{EndsAs, work_status};
@@ -12,7 +12,7 @@ use mm_command::StormOptions;
 use mm_script::ScriptFault;
 use mm_table::Refusal;
 use mm_workers::{Outcome, SharedGate, run_threads, shared_gates};
-use mm_workload::{WorkFault, Workload, storm};
+use mm_workload::{StormShape, WorkFault, Workload, shaped_storm};
 use std::alloc::Global;
 use std::io::Write;
 use std::sync::Wait;
@@ -50,9 +50,19 @@ pub fn storm_on<R: Threads + Wait + Sync, W: Write>(
 
 /// The workload that is generated from these numbers.
 pub fn generated(alloc: Global, options: StormOptions) -> Result<Workload, WorkFault>
-    ensures { MatchResult result (λ work. work ≡ storm_of options.seed options.clients options.transmitters) (λ fault. fault ≡ Memory) }
+    ensures { MatchResult result (λ work. work ≡ storm_with (record { resources = options.resources; acquires = options.acquires }) options.seed options.clients options.transmitters) (λ fault. fault ≡ Memory) }
 {
-    storm(alloc, options.seed, options.clients, options.transmitters)
+    let shape = StormShape {
+        resources: options.resources,
+        acquires: options.acquires,
+    };
+    shaped_storm(
+        alloc,
+        &shape,
+        options.seed,
+        options.clients,
+        options.transmitters,
+    )
 }
 
 /// Runs the workload, if there is one.
@@ -70,6 +80,16 @@ fn end_of<R: Threads + Wait + Sync>(
         },
         Err(WorkFault::Malformed(place)) => WorkEnd::Malformed(place),
         Err(WorkFault::Memory) => WorkEnd::Refused(Refusal::Memory),
+    }
+}
+
+/// Runs the workload.
+pub fn quiet_end<R: Threads + Wait + Sync>(rt: &R, alloc: Global, work: &Workload) -> WorkEnd
+    ensures { work_status result ≢ 1 }
+{
+    match run(rt, alloc, work) {
+        Ok(outcome) => WorkEnd::Ran(outcome),
+        Err(refusal) => WorkEnd::Refused(refusal),
     }
 }
 
@@ -103,6 +123,18 @@ pub fn gates_of<'a, R: Wait>(
         Ok(gates) => Ok(gates),
         Err(_) => Err(Refusal::Memory),
     }
+}
+
+/// Prints why there is no workload, and returns the status.
+pub fn print_fault<W: Write>(fault: WorkFault, writer: &mut W) -> Result<u8, ScriptFault>
+    ensures malformed { result ≡ Ok 1 → ¬ (fault ≡ Memory) }
+    ensures fault { IfErr result (λ fault. fault ≡ ScriptFault.Write) }
+{
+    let end = match fault {
+        WorkFault::Malformed(place) => WorkEnd::Malformed(place),
+        WorkFault::Memory => WorkEnd::Refused(Refusal::Memory),
+    };
+    print_end(&end, writer)
 }
 
 /// Prints what came of a workload, and returns the status; `Err` where that could not be written.

@@ -1,5 +1,3 @@
--- the forms of the program are those of the definition
-pub mod Forms
 -- what lists of lines say of what is left of them
 pub mod Lists
 -- what is written piece by piece

@@ -1,5 +1,5 @@
--- The requests that a line can make: a word, and what stands behind it.
-use Rattle.std.specs.Prelude.{ℕ, Bool, ◌&&◌, ◌||◌, List, [], ◌∷◌, length, Option, Some, None, codes, nat_le, if◌then◌else◌, option_map}
+-- The request that the words of a line make. mm_requests has the words, with what stands behind each.
+use Rattle.std.specs.Prelude.{ℕ, Bool, ◌&&◌, ◌||◌, List, [], ◌∷◌, length, Option, Some, None, nat_le, if◌then◌else◌, option_map}
 use Rattle.std.specs.List.{list_all}
 use Rattle.std.specs.Map.{lookup}
 use Rattle.std.specs.Str.{bytes_eq}
@@ -7,8 +7,9 @@ use Rattle.mm_arena.specs.declared.key.Key.{Key}
 use Rattle.mm_lines.specs.Words.{◌>>=◌, key_of}
 use Rattle.mm_service.specs.declared.line.Request.{Request}
 use Rattle.mm_service.specs.declared.line.Request.TheVariants as requests
-use Rattle.mm_service.specs.declared.line.NameRequest.TheVariants as of_name
-use Rattle.mm_service.specs.declared.line.KeyRequest.TheVariants as of_key
+use Rattle.mm_requests.specs.Words.{words}
+use Rattle.mm_requests.specs.declared.form.Form.{Form}
+use Rattle.mm_requests.specs.declared.form.Form.TheVariants as forms
 
 -- a request, and the name that it is about
 pub record AskedFor : Type 0 where
@@ -46,25 +47,17 @@ with_key_and_name request (k ∷ n ∷ []) = do
   Some (record { request = request key; name = name })
 with_key_and_name _ _ = None
 
--- each word that asks, with what stands behind it
-abbrev pub forms : List (List ℕ × (List (List ℕ) → Option AskedFor))
-forms =
-    (codes "begin", alone requests.Begin)
-    ∷ (codes "lock", with_key_and_name (requests.OfName of_name.Lock))
-    ∷ (codes "try", with_key_and_name (requests.OfName of_name.Try))
-    ∷ (codes "unlock", with_key_and_name (requests.OfName of_name.Unlock))
-    ∷ (codes "commit", with_key (requests.OfKey of_key.Commit))
-    ∷ (codes "abort", with_key (requests.OfKey of_key.Abort))
-    ∷ (codes "cancel", with_key (requests.OfKey of_key.Cancel))
-    ∷ (codes "owner", with_name requests.Owner)
-    ∷ (codes "status", with_key (requests.OfKey of_key.Status))
-    ∷ (codes "holds", with_key (requests.OfKey of_key.Holds))
-    ∷ (codes "graph", alone requests.Graph)
-    ∷ (codes "totals", alone requests.Totals)
-    ∷ []
+-- the request that a form makes of the words behind its word
+abbrev pub request_by : Form → List (List ℕ) → Option AskedFor
+request_by forms.Begin = alone requests.Begin
+request_by (forms.Key request) = with_key (requests.OfKey request)
+request_by (forms.KeyAndName request) = with_key_and_name (requests.OfName request)
+request_by forms.Owner = with_name requests.Owner
+request_by forms.Graph = alone requests.Graph
+request_by forms.Totals = alone requests.Totals
 
 -- the request that a word makes with these arguments
 abbrev pub request_of : List ℕ → List (List ℕ) → Option AskedFor
 request_of word arguments = do
-  form ← lookup (bytes_eq word) forms
-  form arguments
+  form ← lookup (bytes_eq word) words
+  request_by form arguments

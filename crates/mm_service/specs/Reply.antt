@@ -88,8 +88,8 @@ abbrev pub aborted_text : Key → List ℕ
 aborted_text key = codes "* aborted " ++ key_text key
 
 -- a line of the wait-for graph
-abbrev pub arrow_text : Key → List ℕ → Key → List ℕ
-arrow_text key name holder = codes "* " ++ key_text key ++ wait_text name holder
+abbrev pub edge_text : Key → List ℕ → Key → List ℕ
+edge_text key name holder = codes "* " ++ key_text key ++ wait_text name holder
 
 -- the name of a number; no bytes where it has none
 abbrev pub name_at : LockState → ℕ → List ℕ

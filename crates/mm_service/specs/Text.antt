@@ -21,13 +21,13 @@ use Rattle.mm_manager.specs.declared.reply.TryLock.{TryLock}
 use Rattle.mm_manager.specs.declared.reply.Wait.{Wait}
 use Rattle.mm_service.specs.Line.{line_of}
 use Rattle.mm_service.specs.Made.{Begun, Locked, Tried, Unlocked, Committed, Aborted, Cancelled}
-use Rattle.mm_service.specs.Reply.{line_text, refusal_word, answer_text, begun_text, lock_text, try_text, unlocked_text, committed_text, abort_text, cancel_text, owner_text, totals_text, status_text, granted_text, aborted_text, arrow_text, name_at}
-use Rattle.mm_service.specs.declared.line.KeyRequest.{KeyRequest}
-use Rattle.mm_service.specs.declared.line.KeyRequest.TheVariants as of_key
+use Rattle.mm_service.specs.Reply.{line_text, refusal_word, answer_text, begun_text, lock_text, try_text, unlocked_text, committed_text, abort_text, cancel_text, owner_text, totals_text, status_text, granted_text, aborted_text, edge_text, name_at}
+use Rattle.mm_requests.specs.declared.form.KeyRequest.{KeyRequest}
+use Rattle.mm_requests.specs.declared.form.KeyRequest.TheVariants as of_key
 use Rattle.mm_service.specs.declared.line.Line.{Line}
 use Rattle.mm_service.specs.declared.line.Line.TheVariants as kind
-use Rattle.mm_service.specs.declared.line.NameRequest.{NameRequest}
-use Rattle.mm_service.specs.declared.line.NameRequest.TheVariants as of_name
+use Rattle.mm_requests.specs.declared.form.NameRequest.{NameRequest}
+use Rattle.mm_requests.specs.declared.form.NameRequest.TheVariants as of_name
 use Rattle.mm_service.specs.declared.line.Request.{Request}
 use Rattle.mm_service.specs.declared.line.Request.TheVariants as requests
 
@@ -72,13 +72,13 @@ HoldsText m k out =
     ⊎ ((is_live m.table k ≡ false) × (out ≡ line_text (codes "refused " ++ refusal_word NoTransaction)))
 
 -- a line for each wait
-abbrev pub arrow_lines : LockState → List Wait → List ℕ
-arrow_lines m [] = []
-arrow_lines m (w ∷ ws) = line_text (arrow_text w.key (name_at m w.number) w.holder) ++ arrow_lines m ws
+abbrev pub edge_lines : LockState → List Wait → List ℕ
+edge_lines m [] = []
+edge_lines m (w ∷ ws) = line_text (edge_text w.key (name_at m w.number) w.holder) ++ edge_lines m ws
 
 -- the wait-for graph: how many wait, and a line for each
 abbrev pub graph_text : LockState → List ℕ
-graph_text m = line_text (codes "graph " ++ decimal (length (waits_of m.table))) ++ arrow_lines m (waits_of m.table)
+graph_text m = line_text (codes "graph " ++ decimal (length (waits_of m.table))) ++ edge_lines m (waits_of m.table)
 
 -- the owner of a name
 abbrev pub OwnerText : LockState → List ℕ → List ℕ → Type 0

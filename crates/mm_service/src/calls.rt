@@ -4,7 +4,7 @@ ghost use Rattle.arrayvec.specs.ArrayVec.{array_vec_len};
 ghost use Rattle.mm_lines.specs.Output.{Prints, Writes};
 ghost use Rattle.mm_service.specs.Text.{AnswersKey, AnswersName, AnswersRequest, due_line};
 
-use crate::line::{KeyRequest, NameRequest, Request};
+use crate::line::Request;
 use crate::lists::{Numbers, write_graph, write_holds, write_told};
 use crate::reply::{
     MAX_NAMED, MAX_REPLY, print_abort, print_aborted, print_begun, print_cancel, print_committed,
@@ -12,6 +12,7 @@ use crate::reply::{
 };
 use mm_lines::{Fault, OUTPUT_LEN, Output, make_room};
 use mm_manager::{Cancel, Key, LockManager, Refusal};
+use mm_requests::{KeyRequest, NameRequest};
 use std::io::Write;
 
 /// Makes a request, which is of this name where it is of one.

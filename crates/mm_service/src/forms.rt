@@ -1,129 +1,56 @@
-//! The requests that a line can make: a word, and what stands behind it.
-ghost use Rattle.std.specs.Prelude.{◌≡◌, ◌&&◌, nat_le, length, map, drop, option_map, option_copied, []};
+//! The request that the words of a line make. `mm_requests` has the table of the words.
+ghost use Rattle.std.specs.Prelude.{◌≡◌, ◌&&◌, nat_le, length, drop, option_map, option_copied, []};
 ghost use Rattle.std.specs.List.{list_all};
-ghost use Rattle.std.specs.Map.{lookup};
-ghost use Rattle.std.specs.Str.{bytes_eq};
 ghost use Rattle.mm_lines.specs.WordsLeft.{words_left, first_spells};
-ghost use Rattle.mm_service.specs.Forms.{forms, request_of, is_name_byte, name_of_word};
-ghost use Rattle.mm_service.specs.private.Forms.{asked_for};
+ghost use Rattle.mm_service.specs.Forms.{request_by, request_of, is_name_byte, name_of_word};
+ghost use Rattle.mm_service.specs.private.Forms.{asked_for, request_before};
 
-use crate::line::{Asked, KeyRequest, NameRequest, Request};
+use crate::line::{Asked, Request};
 use crate::reply::MAX_NAME;
 use mm_lines::Words;
-use mm_manager::Key;
-
-/// What stands behind the word of a request, and the request that they make.
-#[derive(Clone, Copy)]
-pub enum Form {
-    /// Nothing.
-    Alone(Request),
-    /// `K`: a key.
-    Key(KeyRequest),
-    /// `K NAME`: a key and a name.
-    KeyAndName(NameRequest),
-    /// `NAME`: a name, whose owner is read.
-    Owner,
-}
-
-/// Each word that asks, with what stands behind it.
-const FORMS: [(&str, Form); 12] = [
-    ("begin", Form::Alone(Request::Begin)),
-    ("lock", Form::KeyAndName(NameRequest::Lock)),
-    ("try", Form::KeyAndName(NameRequest::Try)),
-    ("unlock", Form::KeyAndName(NameRequest::Unlock)),
-    ("commit", Form::Key(KeyRequest::Commit)),
-    ("abort", Form::Key(KeyRequest::Abort)),
-    ("cancel", Form::Key(KeyRequest::Cancel)),
-    ("owner", Form::Owner),
-    ("status", Form::Key(KeyRequest::Status)),
-    ("holds", Form::Key(KeyRequest::Holds)),
-    ("graph", Form::Alone(Request::Graph)),
-    ("totals", Form::Alone(Request::Totals)),
-];
-
-/// Returns the requests that a line can make, in the order of `docs/SERVICE.md`: each word, and what stands behind it, as in
-/// `("lock", "K NAME")`. It takes no memory, and as many steps as there are requests.
-pub fn usages() -> [(&'static str, &'static str); 12]
-    ensures words { map (λ usage. usage.0.now) result ≡ map (λ form. form.0) forms }
-{
-    usages_of(&FORMS)
-}
-
-fn usages_of(forms: &[(&'static str, Form); 12]) -> [(&'static str, &'static str); 12]
-    ensures { map (λ usage. usage.0.now) result ≡ map (λ form. form.0.now) forms.now }
-{
-    let mut usages = [("", ""); 12];
-    for (i, &(word, form)) in forms.iter().enumerate() {
-        usages[i] = (word, form.arguments());
-    }
-    usages
-}
+use mm_requests::{Form, form_of};
 
 /// The request that a word makes with these arguments.
 pub fn request_of<'a>(word: &[u8], arguments: &mut Words<'a>) -> Option<Asked<'a>>
     ensures { option_map asked_for result ≡ request_of word.now (words_left arguments.old) }
 {
-    form_of(word, &FORMS)?.request(arguments)
+    request_by(form_of(word)?, arguments)
 }
 
-/// What stands behind a word, by the first of these forms that has it.
-fn form_of(word: &[u8], forms: &[(&str, Form)]) -> Option<Form>
-    ensures { result ≡ lookup (bytes_eq word.now) (map (λ form. (form.0.now, form.1)) forms.now) }
+/// The request that a form makes with these arguments.
+fn request_by<'a>(form: Form, arguments: &mut Words<'a>) -> Option<Asked<'a>>
+    ensures { option_map asked_for result ≡ request_by form (words_left arguments.old) }
 {
-    for &(text, form) in forms {
-        if word == text.as_bytes() {
-            return Some(form);
-        }
-    }
-    None
+    let asked = read(form, arguments)?;
+    arguments.next().is_none().then_some(asked)
 }
 
-impl Form {
-    ghost use Rattle.mm_service.specs.private.Forms.{request_by, request_before};
-
-    /// What stands behind the word, as the pages write it.
-    fn arguments(self) -> &'static str {
-        match self {
-            Form::Alone(_) => "",
-            Form::Key(_) => "K",
-            Form::KeyAndName(_) => "K NAME",
-            Form::Owner => "NAME",
+/// The request that the arguments at the front make, where no others are left.
+fn read<'a>(form: Form, arguments: &mut Words<'a>) -> Option<Asked<'a>>
+    ensures { request_by form (words_left arguments.old) ≡ request_before (option_map asked_for result) (words_left arguments.new) }
+{
+    match form {
+        Form::Begin => Some(nameless(Request::Begin)),
+        Form::Graph => Some(nameless(Request::Graph)),
+        Form::Totals => Some(nameless(Request::Totals)),
+        Form::Key(request) => {
+            let key = arguments.next_key()?;
+            Some(nameless(Request::OfKey(request, key)))
         }
-    }
-
-    /// The request that is made with these arguments.
-    fn request<'a>(self, arguments: &mut Words<'a>) -> Option<Asked<'a>>
-        ensures { option_map asked_for result ≡ request_by self (words_left arguments.old) }
-    {
-        let asked = self.read(arguments)?;
-        arguments.next().is_none().then_some(asked)
-    }
-
-    /// The request that the arguments at the front make, where no others are left.
-    fn read<'a>(self, arguments: &mut Words<'a>) -> Option<Asked<'a>>
-        ensures { request_by self (words_left arguments.old) ≡ request_before (option_map asked_for result) (words_left arguments.new) }
-    {
-        match self {
-            Form::Alone(request) => Some(nameless(request)),
-            Form::Key(request) => {
-                let key = arguments.next_key()?;
-                Some(nameless(Request::OfKey(request, key)))
-            }
-            Form::KeyAndName(request) => {
-                let key = arguments.next_key()?;
-                let name = next_name(arguments)?;
-                Some(Asked {
-                    request: Request::OfName(request, key),
-                    name,
-                })
-            }
-            Form::Owner => {
-                let name = next_name(arguments)?;
-                Some(Asked {
-                    request: Request::Owner,
-                    name,
-                })
-            }
+        Form::KeyAndName(request) => {
+            let key = arguments.next_key()?;
+            let name = next_name(arguments)?;
+            Some(Asked {
+                request: Request::OfName(request, key),
+                name,
+            })
+        }
+        Form::Owner => {
+            let name = next_name(arguments)?;
+            Some(Asked {
+                request: Request::Owner,
+                name,
+            })
         }
     }
 }

@@ -5,6 +5,7 @@ ghost use Rattle.mm_service.specs.Line.{line_of};
 use crate::forms::request_of;
 use mm_lines::{Words, without_carriage_return};
 use mm_manager::Key;
+use mm_requests::{KeyRequest, NameRequest};
 
 /// The longest request in bytes: `unlock`, a key of 16 bytes, a name of 1,024, and two spaces.
 const MAX_REQUEST: usize = 1_048;
@@ -37,24 +38,6 @@ pub enum Request {
     Graph,
     /// The counts are read.
     Totals,
-}
-
-/// What a transaction asks of a name.
-#[derive(Clone, Copy)]
-pub enum NameRequest {
-    Lock,
-    Try,
-    Unlock,
-}
-
-/// What is asked of a transaction.
-#[derive(Clone, Copy)]
-pub enum KeyRequest {
-    Commit,
-    Abort,
-    Cancel,
-    Status,
-    Holds,
 }
 
 /// A request and the name that it is about; no bytes where it is about none.

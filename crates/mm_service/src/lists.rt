@@ -4,10 +4,10 @@ ghost use Rattle.arrayvec.specs.ArrayVec.{array_vec_len};
 ghost use Rattle.mm_lines.specs.Output.{Prints, Writes};
 ghost use Rattle.mm_manager.specs.Reads.{waits_of};
 ghost use Rattle.mm_service.specs.Reply.{line_text};
-ghost use Rattle.mm_service.specs.Text.{AreHeld, HoldsText, arrow_lines, graph_text, names_text, told_line, told_text};
+ghost use Rattle.mm_service.specs.Text.{AreHeld, HoldsText, edge_lines, graph_text, names_text, told_line, told_text};
 
 use crate::reply::{
-    MAX_NAMED, MAX_REPLY, end_line, name_at, print_aborted, print_arrow, print_granted, print_line,
+    MAX_NAMED, MAX_REPLY, end_line, name_at, print_aborted, print_edge, print_granted, print_line,
 };
 use mm_lines::{Fault, OUTPUT_LEN, Output, make_room, print_number, print_text};
 use mm_manager::{Grant, Key, LockManager};
@@ -144,7 +144,7 @@ pub fn write_graph<W: Write>(
 {
     print_number(output, b"graph ", count_waits(manager));
     end_line(output);
-    write_arrows(manager, output, writer)
+    write_edges(manager, output, writer)
 }
 
 /// How many transactions wait.
@@ -156,18 +156,18 @@ fn count_waits(manager: &LockManager) -> u64
 }
 
 /// Writes a line for each wait.
-fn write_arrows<W: Write>(
+fn write_edges<W: Write>(
     manager: &LockManager,
     output: &mut Output,
     writer: &mut W,
 ) -> Result<(), Fault>
-    ensures written { (lost : List ℕ) × Writes (W.contents writer.old) (W.contents writer.new) (output.old.items ++ arrow_lines manager.now (waits_of manager.now.table)) lost
+    ensures written { (lost : List ℕ) × Writes (W.contents writer.old) (W.contents writer.new) (output.old.items ++ edge_lines manager.now (waits_of manager.now.table)) lost
         × OnOk result (lost ≡ output.new.items) }
     ensures fault { IsOkUnless result Fault.Write }
 {
     for wait in manager.graph() {
         make_room(output, MAX_NAMED, writer)?;
-        print_arrow(output, wait.key, name_at(manager, wait.number), wait.holder);
+        print_edge(output, wait.key, name_at(manager, wait.number), wait.holder);
     }
     Ok(())
 }

@@ -2,7 +2,7 @@
 ghost use Rattle.std.specs.Prelude.{◌≡◌, ◌≤◌, ◌+◌, ◌++◌, length, codes};
 ghost use Rattle.arrayvec.specs.ArrayVec.{array_vec_len};
 ghost use Rattle.mm_lines.specs.Output.{Prints};
-ghost use Rattle.mm_service.specs.Reply.{line_text, answer_text, begun_text, lock_text, try_text, unlocked_text, committed_text, abort_text, cancel_text, owner_text, totals_text, status_text, wait_text, due_text, granted_text, aborted_text, arrow_text, refusal_word, name_at};
+ghost use Rattle.mm_service.specs.Reply.{line_text, answer_text, begun_text, lock_text, try_text, unlocked_text, committed_text, abort_text, cancel_text, owner_text, totals_text, status_text, wait_text, due_text, granted_text, aborted_text, edge_text, refusal_word, name_at};
 
 use mm_lines::{OUTPUT_LEN, Output, print_key, print_number, print_text};
 use mm_manager::{Abort, Cancel, Key, Lock, LockManager, Refusal, Status, Totals, TryLock};
@@ -243,10 +243,10 @@ pub fn print_aborted(output: &mut Output, key: Key)
 }
 
 /// A line of the wait-for graph.
-pub fn print_arrow(output: &mut Output, key: Key, name: &[u8], holder: Key)
+pub fn print_edge(output: &mut Output, key: Key, name: &[u8], holder: Key)
     requires room { array_vec_len output.old + MAX_NAMED ≤ OUTPUT_LEN }
     requires name { length name.now ≤ MAX_NAME }
-    ensures { Prints output.old.items (line_text (arrow_text key name.now holder)) MAX_NAMED output.new.items }
+    ensures { Prints output.old.items (line_text (edge_text key name.now holder)) MAX_NAMED output.new.items }
 {
     print_key(output, b"* ", key);
     print_wait(output, name, holder);

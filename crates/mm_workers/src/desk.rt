@@ -1,6 +1,7 @@
 //! A shared table, as a worker with a pass calls it.
 ghost use Rattle.std.specs.Prelude.{◌≡◌};
 
+use crate::tally::Tally;
 use mm_clients::Steps;
 use mm_shared::{
     Acquired, Detected, Hint, Key, Name, Pass, Refusal, Released, Settled, SharedTable, Transmitted,
@@ -11,12 +12,13 @@ use std::sync::ledger::Ledger;
 
 /// A shared table and a pass of it, at which one worker works. A contract sees it as the pass.
 ///
-/// Each call but `scan` takes the lock of the table.
+/// Each call but `scan` takes the lock of the table. The waits and the raises that the replies tell are counted beside the pass.
 #[derive(Drop)]
 pub struct Desk<'a, N: Name, A: Ledger, V: Ledger, B: Ledger, R: Wait> {
     rt: &'a R,
     table: &'a SharedTable<N, A, V, B>,
     pass: Pass<N, A, V, B>,
+    tally: Tally,
 }
 
 impl<'a, N: Name, A: Ledger, V: Ledger, B: Ledger, R: Wait> Model for Desk<'a, N, A, V, B, R> {
@@ -36,7 +38,17 @@ impl<'a, N: Name, A: Ledger, V: Ledger, B: Ledger, R: Wait> Desk<'a, N, A, V, B,
     ) -> Desk<'a, N, A, V, B, R>
         ensures { result ≡ pass }
     {
-        Desk { rt, table, pass }
+        Desk {
+            rt,
+            table,
+            pass,
+            tally: Tally::NONE,
+        }
+    }
+
+    /// Returns what was counted of the replies. Constant time.
+    pub fn tally(&self) -> Tally {
+        self.tally
     }
 
     /// Gives the pass back, with what was counted at the desk. Constant time.
@@ -47,6 +59,7 @@ impl<'a, N: Name, A: Ledger, V: Ledger, B: Ledger, R: Wait> Desk<'a, N, A, V, B,
             rt: _,
             table: _,
             pass,
+            tally: _,
         } = self;
         pass
     }
@@ -60,7 +73,11 @@ impl<'a, N: Name, A: Ledger, V: Ledger, B: Ledger, R: Wait> Steps for Desk<'a, N
     }
 
     fn acquire(&mut self, key: Key, resource: u32) -> Result<Acquired, Refusal> {
-        self.table.acquire(self.rt, &mut self.pass, key, resource)
+        let reply = self.table.acquire(self.rt, &mut self.pass, key, resource);
+        if let Ok(Acquired::Waits { .. }) = reply {
+            self.tally.waits = self.tally.waits.saturating_add(1);
+        }
+        reply
     }
 
     fn release(&mut self, key: Key, resource: u32) -> Result<Released, Refusal> {
@@ -72,7 +89,11 @@ impl<'a, N: Name, A: Ledger, V: Ledger, B: Ledger, R: Wait> Steps for Desk<'a, N
     }
 
     fn transmit(&mut self, key: Key) -> Result<Transmitted, Refusal> {
-        self.table.transmit(self.rt, &mut self.pass, key)
+        let reply = self.table.transmit(self.rt, &mut self.pass, key);
+        if let Ok(Transmitted::Raised(_)) = reply {
+            self.tally.raises = self.tally.raises.saturating_add(1);
+        }
+        reply
     }
 
     fn detect(&mut self, key: Key) -> Result<Detected, Refusal> {
@@ -88,7 +109,11 @@ impl<'a, N: Name, A: Ledger, V: Ledger, B: Ledger, R: Wait> Steps for Desk<'a, N
     }
 
     fn settle(&mut self) -> Result<Settled, Refusal> {
-        self.table.settle(self.rt, &mut self.pass)
+        let reply = self.table.settle(self.rt, &mut self.pass);
+        if let Ok(settled) = reply {
+            self.tally.raises = self.tally.raises.saturating_add(settled.raises);
+        }
+        reply
     }
 
     fn tenant(&mut self, process: u32) -> Option<Key> {

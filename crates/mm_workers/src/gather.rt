@@ -3,16 +3,18 @@ ghost use Rattle.std.specs.Prelude.{◌≡◌, ◌+◌, ◌≤◌, [], vec_len, 
 ghost use Rattle.mm_clients.specs.End.{is_aborted};
 
 use crate::job::{Ended, Stopped};
+use crate::tally::Tally;
 use mm_clients::End;
 use mm_shared::{Name, Pass, SharedTable};
 use std::sync::ledger::Ledger;
 
-/// Joins the passes of the clients, and lists their ends in order.
+/// Joins the passes of the clients, adds what they counted, and lists their ends in order.
 pub fn gather_clients<N: Name, A: Ledger, V: Ledger, B: Ledger>(
     table: &SharedTable<N, A, V, B>,
     pass: &mut Pass<N, A, V, B>,
     ended: Vec<Ended<N, A, V, B>>,
     ends: &mut Vec<End>,
+    tally: &mut Tally,
 )
     requires empty { vec_len ends.old ≡ 0 }
     requires room { vec_len ended ≤ vec_capacity ends.old }
@@ -21,22 +23,26 @@ pub fn gather_clients<N: Name, A: Ledger, V: Ledger, B: Ledger>(
     ensures aborts { pass.new.aborts ≡ pass.old.aborts + count_by is_aborted ends.new.items }
 {
     for one in ended {
-        let (end, other) = one.into_parts();
+        let (end, other, counted) = one.into_parts();
         pass.join(table, other);
+        tally.add(counted);
         ends.push_reserved(end);
     }
 }
 
-/// Joins the passes of the transmitters.
+/// Joins the passes of the transmitters, and adds what they counted.
 pub fn gather_transmitters<N: Name, A: Ledger, V: Ledger, B: Ledger>(
     table: &SharedTable<N, A, V, B>,
     pass: &mut Pass<N, A, V, B>,
     stopped: Vec<Stopped<N, A, V, B>>,
+    tally: &mut Tally,
 )
     ensures parts { pass.new.parts ≡ pass.old.parts + vec_len stopped }
     ensures aborts { pass.new.aborts ≡ pass.old.aborts }
 {
     for one in stopped {
-        pass.join(table, one.into_pass());
+        let (other, counted) = one.into_parts();
+        pass.join(table, other);
+        tally.add(counted);
     }
 }

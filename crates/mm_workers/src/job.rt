@@ -5,6 +5,7 @@ ghost use Rattle.mm_shared.specs.Shares.{less_parts};
 ghost use Rattle.mm_clients.specs.End.{aborts_of};
 
 use crate::desk::Desk;
+use crate::tally::Tally;
 use mm_clients::{Client, End, Gate, Transmitter};
 use mm_shared::{Name, Pass, SharedTable};
 use mm_workload::WorkStep;
@@ -63,9 +64,12 @@ impl<'a, N: Name, A: Ledger, V: Ledger, B: Ledger, R: Wait, G: Gate + Drop> Job
     fn run(self) -> Ended<N, A, V, B> {
         let ClientJob { mut client } = self;
         let end = client.run();
+        let desk = client.into_steps();
+        let tally = desk.tally();
         Ended {
             end,
-            pass: client.into_steps().into_pass(),
+            pass: desk.into_pass(),
+            tally,
         }
     }
 }
@@ -118,47 +122,52 @@ impl<'a, N: Name, A: Ledger, V: Ledger, B: Ledger, R: Wait, G: Gate + Drop> Job
     fn run(self) -> Stopped<N, A, V, B> {
         let TransmitterJob { mut transmitter } = self;
         transmitter.run();
+        let desk = transmitter.into_steps();
+        let tally = desk.tally();
         Stopped {
-            pass: transmitter.into_steps().into_pass(),
+            pass: desk.into_pass(),
+            tally,
         }
     }
 }
 
-/// A client's end and its pass, which counts the client's abort.
+/// A client's end, what it counted, and its pass, which counts the client's abort.
 #[derive(Drop)]
 pub struct Ended<N: Name, A: Ledger, V: Ledger, B: Ledger> {
     end: End,
     pass: Pass<N, A, V, B>,
+    tally: Tally,
     ghost one_part: { pass.parts ≡ 1 },
     ghost counted: { pass.aborts ≡ aborts_of end },
 }
 
 impl<N: Name, A: Ledger, V: Ledger, B: Ledger> Ended<N, A, V, B> {
-    /// The end, and the pass.
-    pub fn into_parts(self) -> (End, Pass<N, A, V, B>)
+    /// The end, the pass, and what was counted.
+    pub fn into_parts(self) -> (End, Pass<N, A, V, B>, Tally)
         ensures one_part { result.1.parts ≡ 1 }
         ensures counted { result.1.aborts ≡ aborts_of result.0 }
     {
-        let Ended { end, pass } = self;
-        (end, pass)
+        let Ended { end, pass, tally } = self;
+        (end, pass, tally)
     }
 }
 
-/// The pass of a transmitter, which has counted no abort.
+/// What a transmitter counted, and its pass, which has counted no abort.
 #[derive(Drop)]
 pub struct Stopped<N: Name, A: Ledger, V: Ledger, B: Ledger> {
     pass: Pass<N, A, V, B>,
+    tally: Tally,
     ghost one_part: { pass.parts ≡ 1 },
     ghost no_abort: { pass.aborts ≡ 0 },
 }
 
 impl<N: Name, A: Ledger, V: Ledger, B: Ledger> Stopped<N, A, V, B> {
-    /// The pass.
-    pub fn into_pass(self) -> Pass<N, A, V, B>
-        ensures one_part { result.parts ≡ 1 }
-        ensures no_abort { result.aborts ≡ 0 }
+    /// The pass, and what was counted.
+    pub fn into_parts(self) -> (Pass<N, A, V, B>, Tally)
+        ensures one_part { result.0.parts ≡ 1 }
+        ensures no_abort { result.0.aborts ≡ 0 }
     {
-        let Stopped { pass } = self;
-        pass
+        let Stopped { pass, tally } = self;
+        (pass, tally)
     }
 }

@@ -2,6 +2,7 @@
 //!
 //! - `shared_gate`: `SharedGate`, a gate for threads.
 //! - `desk`: `Desk`, a shared table with a pass, as the workers of `mm_clients` call it.
+//! - `tally`: what workers count of the replies to their calls.
 //! - `job`: what a worker's thread takes along, and what it gives back.
 //! - `outcome`: `Outcome`, what came of a workload, and the two lines that say so.
 //! - `run`: `run_threads`, all workers of a workload at once. `start` starts them, and `gather` joins their passes.
@@ -14,10 +15,12 @@ mod outcome;
 mod run;
 mod shared_gate;
 mod start;
+mod tally;
 
 pub use desk::Desk;
 pub use mm_clients::{Client, End, Gate, Hint, HintKind, Steps, Transmitter};
 pub use mm_shared::Report;
-pub use outcome::Outcome;
+pub use outcome::{EndCounts, Outcome};
 pub use run::run_threads;
 pub use shared_gate::{Counts, SharedGate, shared_gates};
+pub use tally::Tally;

@@ -1,5 +1,8 @@
 //! What came of a workload, and the two lines that say so.
+ghost use Rattle.std.specs.Prelude.{◌≡◌, count_by};
+ghost use Rattle.mm_clients.specs.End.{is_finished, is_aborted, is_spent, is_refused};
 
+use crate::tally::Tally;
 use mm_clients::End;
 use mm_shared::Report;
 use std::fmt;
@@ -12,19 +15,38 @@ pub struct Outcome {
     pub ends: Vec<End>,
     /// What the table counted.
     pub report: Report,
+    /// What all workers counted of the replies to their calls.
+    pub tally: Tally,
 }
 
 /// How many clients ended in each way.
-#[derive(Clone, Copy)]
-struct Counted {
-    finished: usize,
-    aborted: usize,
-    spent: usize,
-    refused: usize,
+#[derive(Clone, Copy, Debug, PartialEq, Eq)]
+pub struct EndCounts {
+    pub finished: usize,
+    pub aborted: usize,
+    pub spent: usize,
+    pub refused: usize,
 }
 
-fn count_of(ends: &[End]) -> Counted {
-    let mut counted = Counted {
+impl Outcome {
+    /// Returns how many clients ended in each way. `O(clients)`.
+    pub fn counted(&self) -> EndCounts
+        ensures finished { result.finished ≡ count_by is_finished self.now.ends.items }
+        ensures aborted { result.aborted ≡ count_by is_aborted self.now.ends.items }
+        ensures spent { result.spent ≡ count_by is_spent self.now.ends.items }
+        ensures refused { result.refused ≡ count_by is_refused self.now.ends.items }
+    {
+        count_of(self.ends.as_slice())
+    }
+}
+
+fn count_of(ends: &[End]) -> EndCounts
+    ensures finished { result.finished ≡ count_by is_finished ends.now }
+    ensures aborted { result.aborted ≡ count_by is_aborted ends.now }
+    ensures spent { result.spent ≡ count_by is_spent ends.now }
+    ensures refused { result.refused ≡ count_by is_refused ends.now }
+{
+    let mut counted = EndCounts {
         finished: 0,
         aborted: 0,
         spent: 0,
@@ -44,12 +66,12 @@ fn count_of(ends: &[End]) -> Counted {
 /// Two lines: how many clients ended in each way, and how many verdicts and aborts the table counted. No newline follows the second.
 impl Display for Outcome {
     fn fmt<W: fmt::Write>(&self, f: &mut Formatter<W>) -> fmt::Result {
-        let Counted {
+        let EndCounts {
             finished,
             aborted,
             spent,
             refused,
-        } = count_of(self.ends.as_slice());
+        } = self.counted();
         let Report {
             verdicts,
             aborts,

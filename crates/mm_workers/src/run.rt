@@ -9,6 +9,7 @@ use crate::gather::{gather_clients, gather_transmitters};
 use crate::job::{Ended, Stopped};
 use crate::outcome::Outcome;
 use crate::start::{client_jobs, run_jobs, transmitter_jobs};
+use crate::tally::Tally;
 use mm_clients::{End, Gate};
 use mm_shared::{Name, Pass, Prepared, Refusal, SharedTable};
 use mm_workload::Workload;
@@ -66,16 +67,21 @@ fn run_on<
     ensures aborts { IfOk result (λ outcome. count_by is_aborted outcome.ends.items ≡ outcome.report.aborts) }
 {
     let (table, mut pass) = prepared.open::<N, A, V, B>();
-    let ends = ends_of(rt, alloc, &table, &mut pass, workload, gates);
+    let mut tally = Tally::NONE;
+    let ends = ends_of(rt, alloc, &table, &mut pass, &mut tally, workload, gates);
     let report = table.into_report(pass);
     let ends = ends?;
     match report {
-        Some(report) => Ok(Outcome { ends, report }),
+        Some(report) => Ok(Outcome {
+            ends,
+            report,
+            tally,
+        }),
         None => unreachable!(),
     }
 }
 
-/// Runs them on this table, and lists how each client ended. All parts are back in the pass then.
+/// Runs them on this table, adds what they counted, and lists how each client ended. All parts are back in the pass then.
 fn ends_of<
     N: Name + Send + Sync,
     A: Ledger + Send + Sync,
@@ -88,6 +94,7 @@ fn ends_of<
     alloc: Global,
     table: &SharedTable<N, A, V, B>,
     pass: &mut Pass<N, A, V, B>,
+    tally: &mut Tally,
     workload: &Workload,
     gates: Vec<G>,
 ) -> Result<Vec<End>, AllocError>
@@ -99,8 +106,8 @@ fn ends_of<
 {
     let mut ends = Vec::with_capacity(alloc, workload.clients().len())?;
     let (ended, stopped) = at_work(rt, alloc, table, pass, workload, gates)?;
-    gather_clients(table, pass, ended, &mut ends);
-    gather_transmitters(table, pass, stopped);
+    gather_clients(table, pass, ended, &mut ends, tally);
+    gather_transmitters(table, pass, stopped, tally);
     Ok(ends)
 }
 

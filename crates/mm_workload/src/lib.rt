@@ -5,12 +5,13 @@
 //! - `limits`: the greatest numbers of a workload.
 //! - `fault`: why there is no workload, and where it is malformed.
 //! - `reading`: a workload from the bytes of a JSON file.
-//! - `storms`: a workload from a seed.
+//! - `storms`: a workload from a seed. `shape`: how many resources it has, and how many of them a client acquires.
 #![tactic(auto)]
 
 mod fault;
 mod limits;
 mod reading;
+mod shape;
 mod step;
 mod storms;
 mod workload;
@@ -18,6 +19,7 @@ mod workload;
 pub use fault::{Place, StepFault, WorkFault};
 pub use limits::MAX_BYTES;
 pub use mm_table::Config;
+pub use shape::StormShape;
 pub use step::WorkStep;
-pub use storms::storm;
+pub use storms::{shaped_storm, storm};
 pub use workload::Workload;

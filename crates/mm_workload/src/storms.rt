@@ -1,10 +1,12 @@
 //! A workload from a seed.
 ghost use Rattle.std.specs.Prelude.{◌≡◌, ◌≤◌, ◌+◌, MatchResult, IfOk, OnOk, map};
 ghost use Rattle.std.specs.List.{list_any};
-ghost use Rattle.mm_workload.specs.Storm.{acquires, after, client_of, clients_from, draws, generator, storm_of, with_resource};
+ghost use Rattle.mm_workload.specs.Shapes.{shape_of};
+ghost use Rattle.mm_workload.specs.Storm.{acquires, after, client_of, clients_from, draws, generator, storm_of, storm_with, with_resource};
 ghost use Rattle.mm_workload.specs.declared.fault.WorkFault.TheVariants.{Memory};
 
 use crate::fault::WorkFault;
+use crate::shape::StormShape;
 use crate::step::WorkStep;
 use crate::workload::Workload;
 use mm_table::Config;
@@ -12,18 +14,9 @@ use rand_core::utils::NextWord;
 use rand_pcg::Lcg64Xsh32;
 use std::alloc::{AllocError, Global};
 
-/// How many resources there are.
-const RESOURCES: u32 = 8;
-
-/// The greatest number of words that give a client a resource.
-const MAX_DRAWS: u32 = 4;
-
 /// Returns the workload that is made from this seed: the same one for the same arguments. Takes memory; `O(clients)`.
 ///
-/// The words are those of the generator PCG-XSH-RR, `rand_pcg`'s `Lcg64Xsh32::new(seed, 0)`, in the order in which it gives
-/// them. For each client in turn one word gives a count of 1 to 4, and then so many words each give one of 8 resources, which
-/// the client acquires in that order. A resource that the client has already is passed over. There are as many processes as
-/// clients.
+/// It is the storm of the usual shape (`shaped_storm`): 8 resources, of which a client acquires at most 4.
 ///
 /// Refused as `Memory` only where a request for memory was refused.
 pub fn storm(
@@ -36,37 +29,69 @@ pub fn storm(
     requires transmitters { transmitters ≤ 64 }
     ensures { MatchResult result (λ w. w ≡ storm_of seed clients transmitters) (λ e. e ≡ Memory) }
 {
+    shaped_storm(alloc, &StormShape::USUAL, seed, clients, transmitters)
+}
+
+/// Returns the workload of this shape that is made from this seed: the same one for the same arguments. Takes memory;
+/// `O(clients * acquires)`, and for each client the square of its resources.
+///
+/// The words are those of the generator PCG-XSH-RR, `rand_pcg`'s `Lcg64Xsh32::new(seed, 0)`, in the order in which it gives
+/// them. For each client in turn one word gives a count of 1 to `acquires`, and then so many words each give one of the
+/// resources, which the client acquires in that order. A resource that the client has already is passed over. There are as many
+/// processes as clients.
+///
+/// Refused as `Memory` only where a request for memory was refused.
+pub fn shaped_storm(
+    alloc: Global,
+    shape: &StormShape,
+    seed: u64,
+    clients: u32,
+    transmitters: u32,
+) -> Result<Workload, WorkFault>
+    requires clients { (1 ≤ clients) × (clients ≤ 64) }
+    requires transmitters { transmitters ≤ 64 }
+    ensures { MatchResult result (λ w. w ≡ storm_with (shape_of shape.now) seed clients transmitters) (λ e. e ≡ Memory) }
+{
     let config = Config {
         processes: clients,
-        resources: RESOURCES,
+        resources: shape.resources,
         label_limit: 1_000_000_000,
         generation_limit: 9,
     };
-    let clients = acquiring_clients(alloc, seed, clients)?;
+    let clients = acquiring_clients(alloc, shape, seed, clients)?;
     Ok(Workload::of(config, transmitters, 10_000_000, clients))
 }
 
 /// The steps of each of `count` clients.
-fn acquiring_clients(alloc: Global, seed: u64, count: u32) -> Result<Vec<Vec<WorkStep>>, AllocError>
-    ensures { IfOk result (λ v. map (λ c. c.items) v.items ≡ clients_from count (generator seed)) }
+fn acquiring_clients(
+    alloc: Global,
+    shape: &StormShape,
+    seed: u64,
+    count: u32,
+) -> Result<Vec<Vec<WorkStep>>, AllocError>
+    ensures { IfOk result (λ v. map (λ c. c.items) v.items ≡ clients_from (shape_of shape.now) count (generator seed)) }
 {
     let mut words = Lcg64Xsh32::new(seed, 0);
     let mut clients = Vec::new(alloc);
     'clients: for _ in 0..count {
-        clients.push(client(alloc, &mut words)?)?;
+        clients.push(client(alloc, shape, &mut words)?)?;
     }
     Ok(clients)
 }
 
 /// The steps of a client, by the next words.
-fn client(alloc: Global, words: &mut Lcg64Xsh32) -> Result<Vec<WorkStep>, AllocError>
-    ensures steps { IfOk result (λ v. v.items ≡ client_of words.old) }
-    ensures words { OnOk result (words.new ≡ after (1 + draws words.old) words.old) }
+fn client(
+    alloc: Global,
+    shape: &StormShape,
+    words: &mut Lcg64Xsh32,
+) -> Result<Vec<WorkStep>, AllocError>
+    ensures steps { IfOk result (λ v. v.items ≡ client_of (shape_of shape.now) words.old) }
+    ensures words { OnOk result (words.new ≡ after (1 + draws (shape_of shape.now) words.old) words.old) }
 {
-    let draws = 1 + words.next_word() % MAX_DRAWS;
+    let draws = 1 + words.next_word() % shape.acquires;
     let mut steps = Vec::new(alloc);
     'draws: for _ in 0..draws {
-        let resource = words.next_word() % RESOURCES;
+        let resource = words.next_word() % shape.resources;
         acquire(&mut steps, resource)?;
     }
     Ok(steps)

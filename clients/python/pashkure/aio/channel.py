@@ -53,18 +53,18 @@ class Channel(asyncio.Protocol):
         self._end("the service has ended")
 
     def send(self, line: bytes, call: Awaited) -> None:
-        """Sends a request. Its reply comes to the call."""
+        """As `pashkure.channel.Channel.send`."""
         if self._reason is not None or self._writer is None:
             raise Closed(self._reason or "it is not open yet")
         self._dialogue.pending.append(call)
         self._writer.write(line)
 
     async def ask(self, line: bytes, key: bytes = b"") -> bytes:
-        """Sends a request that never waits for others, and returns its reply. The key is that of the transaction, where there is one."""
+        """As `pashkure.channel.Channel.ask`."""
         return self.reply(await self.call(line, key))
 
     async def call(self, line: bytes, key: bytes = b"") -> Awaited:
-        """As `ask`, but returns the call, which has further lines of the reply."""
+        """As `pashkure.channel.Channel.call`."""
         call = Awaited(key)
         self.send(line, call)
         await call.future
@@ -79,13 +79,13 @@ class Channel(asyncio.Protocol):
         return call.reply is not None
 
     def reply(self, call: Awaited) -> bytes:
-        """The reply to a call that is over."""
+        """As `pashkure.channel.Channel.reply`."""
         if call.reply is None or call.reply == GONE:
             raise Closed(self._reason or "the service has ended")
         return call.reply
 
     async def close(self) -> None:
-        """Ends the connection. All calls that wait for a reply raise `Closed`."""
+        """As `pashkure.channel.Channel.close`."""
         self._end("it was closed")
         if self._child is not None:
             child, self._child = self._child, None

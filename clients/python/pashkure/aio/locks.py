@@ -48,7 +48,9 @@ class Begin:
 
 
 class Locks:
-    """A lock service, as `pashkure.Locks`, with the same parameters. It is opened by `async with`, or by `await`, and used in one loop.
+    """A lock service, as `pashkure.Locks`, with the same parameters and the same calls, which are awaited. Below stands what differs.
+
+    It is opened by `async with`, or by `await`, and used in one loop:
 
         async with Locks(socket="/run/locks") as locks:
             ..
@@ -95,18 +97,13 @@ class Locks:
         await self.close()
 
     def transaction(self) -> Begin:
-        """A transaction, for `async with`, or for `await`. Raises `Full` where there are as many as there can be."""
+        """As `pashkure.Locks.transaction`, for `async with`, or for `await`."""
         return Begin(self._channel)
 
     async def run(
         self, work: Callable[..., Awaitable[R]], *args: object, attempts: int = 10, **kwargs: object
     ) -> R:
-        """Awaits `work(tx, *args, **kwargs)` in a transaction of its own, and returns what it returns.
-
-        After `Deadlock` the transaction is aborted, and the work is run again in a new one after a pause of a random length, in all at
-        most so many times. The last `Deadlock`, and each other exception, is raised. So the work locks first and changes things then, or
-        undoes what it changed.
-        """
+        """As `pashkure.Locks.run`, of work that is awaited."""
         for attempt in range(1, attempts):
             try:
                 async with self.transaction() as tx:
@@ -117,27 +114,27 @@ class Locks:
             return await work(tx, *args, **kwargs)
 
     async def owner(self, name: Name) -> Optional[str]:
-        """The key of the transaction that owns the name, if one does."""
+        """As `pashkure.Locks.owner`."""
         data = encoded(name)
         return replies.owner(await self._channel.ask(b"owner %b\n" % data), data)
 
     async def status(self, key: str) -> Status:
-        """What the transaction with this key does, of whichever connection."""
+        """As `pashkure.Locks.status`."""
         return replies.status(await self._channel.ask(b"status %b\n" % key.encode("ascii")))
 
     async def holds(self, key: str) -> List[str]:
-        """The names that the transaction with this key owns, of whichever connection."""
+        """As `pashkure.Locks.holds`."""
         return replies.holds(await self._channel.ask(b"holds %b\n" % key.encode("ascii")))
 
     async def graph(self) -> List[Wait]:
-        """Each transaction that waits, what for, and who owns that."""
+        """As `pashkure.Locks.graph`."""
         call = await self._channel.call(b"graph\n")
         return replies.graph(self._channel.reply(call), call.lines)
 
     async def totals(self) -> Totals:
-        """How many transactions began, were committed and were aborted, and how many requests were told of a deadlock."""
+        """As `pashkure.Locks.totals`."""
         return replies.totals(await self._channel.ask(b"totals\n"))
 
     async def close(self) -> None:
-        """Ends the connection, or the program that was started. Transactions that are live are aborted, and their tasks get `Closed`."""
+        """As `pashkure.Locks.close`. Tasks whose transactions are live get `Closed`."""
         await self._channel.close()

@@ -13,10 +13,9 @@ from .channel import Awaited, Channel
 
 
 class Transaction:
-    """A transaction, which owns the names that it locks until it ends. `Locks.transaction` begins one.
+    """A transaction, as `pashkure.Transaction`, with the same calls, which are awaited. What is said there of threads holds of tasks here.
 
-    In an `async with` statement it is committed at the end, and aborted where an exception leaves the block. It serves one task at a
-    time. Another task may call `abort`, `status` and `holds` meanwhile.
+    It ends with its `async with` statement. Below stands what differs.
     """
 
     def __init__(self, channel: Channel, key: bytes) -> None:
@@ -26,17 +25,11 @@ class Transaction:
 
     @property
     def key(self) -> str:
-        """The key of the transaction, which the service chose."""
+        """As `pashkure.Transaction.key`."""
         return self._key.decode("ascii")
 
     async def lock(self, name: Name, timeout: Optional[float] = None) -> None:
-        """Returns when the transaction owns the name. Until then other tasks run.
-
-        Raises `Deadlock` at once where the request would close a cycle of waits. A request that waits is never told of a deadlock later.
-
-        With a timeout, in seconds, this gives up as `Timeout`, and the transaction goes on with what it owns. The timeout is the least
-        time, not the greatest: while other transactions rely on this wait to find deadlocks, the request cannot be taken back. Then it
-        is tried again after short pauses, until the name is granted or the request is taken back.
+        """As `pashkure.Transaction.lock`. Until it returns, other tasks run.
 
         Where the task is cancelled meanwhile, as by `asyncio.wait_for`, the transaction waits on, and can only be aborted. So use the
         timeout of this call to go on with the transaction.
@@ -49,38 +42,35 @@ class Transaction:
         replies.told_of_lock(self._channel.reply(call), data)
 
     async def try_lock(self, name: Name) -> bool:
-        """Whether the transaction owns the name now: it did, or nobody did. This never waits for others."""
+        """As `pashkure.Transaction.try_lock`. It waits for the reply, and for no other transaction."""
         data = encoded(name)
         return replies.told_of_try(await self._channel.ask(b"try %b %b\n" % (self._key, data)), data)
 
     async def unlock(self, name: Name) -> None:
-        """Gives one name back before the end. The next one who waits for it gets it."""
+        """As `pashkure.Transaction.unlock`."""
         data = encoded(name)
         reply = await self._channel.ask(b"unlock %b %b\n" % (self._key, data))
         if reply != b"unlocked":
             replies.fail_of_name(reply, data)
 
     async def commit(self) -> None:
-        """Ends the transaction. All that it owns is given back."""
+        """As `pashkure.Transaction.commit`."""
         replies.expect(await self._channel.ask(b"commit %b\n" % self._key), b"committed")
         self._is_over = True
 
     async def abort(self) -> None:
-        """Ends the transaction, whatever it does. All that it owns is given back.
-
-        Where it waits for a lock in another task, that task's `lock` raises `Aborted`; this may take as long as those before it.
-        """
+        """As `pashkure.Transaction.abort`."""
         reply = await self._channel.ask(b"abort %b\n" % self._key, self._key)
         if reply != b"later":
             replies.expect(reply, b"aborted")
         self._is_over = True
 
     async def status(self) -> Status:
-        """What the transaction does: it is active, or it waits for a name, or it was told of a deadlock."""
+        """As `pashkure.Transaction.status`."""
         return replies.status(await self._channel.ask(b"status %b\n" % self._key))
 
     async def holds(self) -> List[str]:
-        """The names that the transaction owns, in the order of their bytes."""
+        """As `pashkure.Transaction.holds`."""
         return replies.holds(await self._channel.ask(b"holds %b\n" % self._key))
 
     async def __aenter__(self) -> "Transaction":
@@ -104,7 +94,6 @@ class Transaction:
             raise
 
     async def _roll_back(self) -> None:
-        """Aborts the transaction while another exception is on its way, which says more than one of the abort."""
         try:
             await self.abort()
         except (Closed, NoTransaction):
@@ -114,7 +103,6 @@ class Transaction:
         return f"<Transaction {self.key}>"
 
     async def _give_up(self, call: Awaited) -> None:
-        """Tries to take the request back until it is, or is granted."""
         for pause in before_cancel():
             reply = await self._channel.ask(b"cancel %b\n" % self._key, self._key)
             if reply != b"carried" or await self._channel.wait(call, pause):

@@ -31,7 +31,7 @@ use Rattle.clap.specs.Values.{IsUnsignedIn}
 use Rattle.clap.specs.declared.parser.matches.Found.{Found}
 use Rattle.clap.proofs.WalkLemmas.{first_value-rows, one_text-rows}
 use Rattle.clap.proofs.ValueTestLemmas.{accepts-Accepts}
-use Rattle.mm_command.specs.CommandLine.{HasLimits, HasNumber, HasNumbers, HasText, HasWanted, IsRun, program, runs}
+use Rattle.mm_command.specs.CommandLine.{HasLimits, HasNumber, HasNumbers, HasShape, HasText, HasWanted, HasWorkers, IsRun, program, runs}
 use Rattle.mm_command.proofs.Lemmas.Walked.{Listed, find_listed, or_none}
 use Rattle.mm_command.proofs.Lemmas.Filled.{EachFits, HasOne, default_has, given_has, has_found, leaf_fits}
 
@@ -104,7 +104,10 @@ reads_seed a (inr (inl is)) named = absurd (other _ a _ is refl named)
 reads_seed a (inr (inr (inl is))) named = absurd (other _ a _ is refl named)
 reads_seed a (inr (inr (inr (inl is)))) named = absurd (other _ a _ is refl named)
 reads_seed a (inr (inr (inr (inr (inl is))))) named = absurd (other _ a _ is refl named)
-reads_seed a (inr (inr (inr (inr (inr x))))) named = absurd x
+reads_seed a (inr (inr (inr (inr (inr (inl is)))))) named = absurd (other _ a _ is refl named)
+reads_seed a (inr (inr (inr (inr (inr (inr (inl is))))))) named = absurd (other _ a _ is refl named)
+reads_seed a (inr (inr (inr (inr (inr (inr (inr (inl is)))))))) named = absurd (other _ a _ is refl named)
+reads_seed a (inr (inr (inr (inr (inr (inr (inr (inr x)))))))) named = absurd x
 
 reads_clients : ReadNumbers (codes "clients") 1 64 storm_rules
 reads_clients a (inl is) named = absurd (other _ a _ is refl named)
@@ -112,7 +115,10 @@ reads_clients a (inr (inl is)) named = ap (λ (r : Rule). r.parser) (sym is)
 reads_clients a (inr (inr (inl is))) named = absurd (other _ a _ is refl named)
 reads_clients a (inr (inr (inr (inl is)))) named = absurd (other _ a _ is refl named)
 reads_clients a (inr (inr (inr (inr (inl is))))) named = absurd (other _ a _ is refl named)
-reads_clients a (inr (inr (inr (inr (inr x))))) named = absurd x
+reads_clients a (inr (inr (inr (inr (inr (inl is)))))) named = absurd (other _ a _ is refl named)
+reads_clients a (inr (inr (inr (inr (inr (inr (inl is))))))) named = absurd (other _ a _ is refl named)
+reads_clients a (inr (inr (inr (inr (inr (inr (inr (inl is)))))))) named = absurd (other _ a _ is refl named)
+reads_clients a (inr (inr (inr (inr (inr (inr (inr (inr x)))))))) named = absurd x
 
 reads_transmitters : ReadNumbers (codes "transmitters") 0 64 storm_rules
 reads_transmitters a (inl is) named = absurd (other _ a _ is refl named)
@@ -120,7 +126,32 @@ reads_transmitters a (inr (inl is)) named = absurd (other _ a _ is refl named)
 reads_transmitters a (inr (inr (inl is))) named = ap (λ (r : Rule). r.parser) (sym is)
 reads_transmitters a (inr (inr (inr (inl is)))) named = absurd (other _ a _ is refl named)
 reads_transmitters a (inr (inr (inr (inr (inl is))))) named = absurd (other _ a _ is refl named)
-reads_transmitters a (inr (inr (inr (inr (inr x))))) named = absurd x
+reads_transmitters a (inr (inr (inr (inr (inr (inl is)))))) named = absurd (other _ a _ is refl named)
+reads_transmitters a (inr (inr (inr (inr (inr (inr (inl is))))))) named = absurd (other _ a _ is refl named)
+reads_transmitters a (inr (inr (inr (inr (inr (inr (inr (inl is)))))))) named = absurd (other _ a _ is refl named)
+reads_transmitters a (inr (inr (inr (inr (inr (inr (inr (inr x)))))))) named = absurd x
+
+reads_resources : ReadNumbers (codes "resources") 1 65536 storm_rules
+reads_resources a (inl is) named = absurd (other _ a _ is refl named)
+reads_resources a (inr (inl is)) named = absurd (other _ a _ is refl named)
+reads_resources a (inr (inr (inl is))) named = absurd (other _ a _ is refl named)
+reads_resources a (inr (inr (inr (inl is)))) named = ap (λ (r : Rule). r.parser) (sym is)
+reads_resources a (inr (inr (inr (inr (inl is))))) named = absurd (other _ a _ is refl named)
+reads_resources a (inr (inr (inr (inr (inr (inl is)))))) named = absurd (other _ a _ is refl named)
+reads_resources a (inr (inr (inr (inr (inr (inr (inl is))))))) named = absurd (other _ a _ is refl named)
+reads_resources a (inr (inr (inr (inr (inr (inr (inr (inl is)))))))) named = absurd (other _ a _ is refl named)
+reads_resources a (inr (inr (inr (inr (inr (inr (inr (inr x)))))))) named = absurd x
+
+reads_acquires : ReadNumbers (codes "acquires") 1 256 storm_rules
+reads_acquires a (inl is) named = absurd (other _ a _ is refl named)
+reads_acquires a (inr (inl is)) named = absurd (other _ a _ is refl named)
+reads_acquires a (inr (inr (inl is))) named = absurd (other _ a _ is refl named)
+reads_acquires a (inr (inr (inr (inl is)))) named = absurd (other _ a _ is refl named)
+reads_acquires a (inr (inr (inr (inr (inl is))))) named = ap (λ (r : Rule). r.parser) (sym is)
+reads_acquires a (inr (inr (inr (inr (inr (inl is)))))) named = absurd (other _ a _ is refl named)
+reads_acquires a (inr (inr (inr (inr (inr (inr (inl is))))))) named = absurd (other _ a _ is refl named)
+reads_acquires a (inr (inr (inr (inr (inr (inr (inr (inl is)))))))) named = absurd (other _ a _ is refl named)
+reads_acquires a (inr (inr (inr (inr (inr (inr (inr (inr x)))))))) named = absurd x
 
 abbrev rule_at : ℕ → Rule
 rule_at i = slice_index_or storm_rules i (new_rule [])
@@ -128,11 +159,17 @@ rule_at i = slice_index_or storm_rules i (new_rule [])
 numbers_there : (words : List Text) → level_fault (sub_at 2) [] nothing_held words false [] ≡ [] → HasNumbers (rows_after storm_rules [] words)
 numbers_there words none =
     let rows = rows_after storm_rules [] words in
-    let fits = leaf_fits (sub_at 2) words refl refl none in (
+    let fits = leaf_fits (sub_at 2) words refl refl none in
+    let workers : HasWorkers rows = (
       number_there storm_rules (codes "seed") 0 18446744073709551615 rows reads_seed (default_has (sub_at 2) words (rule_at 0) (inl refl) tt) fits.0,
       number_there storm_rules (codes "clients") 1 64 rows reads_clients (default_has (sub_at 2) words (rule_at 1) (inr (inl refl)) tt) fits.0,
       number_there storm_rules (codes "transmitters") 0 64 rows reads_transmitters (default_has (sub_at 2) words (rule_at 2) (inr (inr (inl refl))) tt) fits.0,
-    )
+    ) in
+    let shape : HasShape rows = (
+      number_there storm_rules (codes "resources") 1 65536 rows reads_resources (default_has (sub_at 2) words (rule_at 3) (inr (inr (inr (inl refl)))) tt) fits.0,
+      number_there storm_rules (codes "acquires") 1 256 rows reads_acquires (default_has (sub_at 2) words (rule_at 4) (inr (inr (inr (inr (inl refl))))) tt) fits.0,
+    ) in
+    (workers, shape)
 
 abbrev locks_rules : List Rule
 locks_rules = (sub_at 3).rules

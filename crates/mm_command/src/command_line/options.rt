@@ -1,14 +1,18 @@
 //! The numbers of a generated workload, and those of a lock service.
 ghost use Rattle.std.specs.Prelude.{◌≤◌};
-ghost use Rattle.mm_command.specs.Limits.{AreLimits};
+ghost use Rattle.mm_command.specs.Limits.{AreLimits, AreShape};
 
-/// From what a workload is generated: any seed, 1 to 64 clients and 0 to 64 transmitters.
+/// From what a workload is generated: any seed, 1 to 64 clients, 0 to 64 transmitters, 1 to 65,536 resources, and 1 to 256 words that give
+/// a client a resource.
 #[derive(Clone, Copy)]
 pub struct StormOptions {
     pub seed: u64,
     pub clients: u32,
     pub transmitters: u32,
-    ghost in_range: { (1 ≤ clients) × (clients ≤ 64) × (transmitters ≤ 64) },
+    pub resources: u32,
+    pub acquires: u32,
+    ghost workers: { (1 ≤ clients) × (clients ≤ 64) × (transmitters ≤ 64) },
+    ghost shape: { AreShape resources acquires },
 }
 
 /// With what a lock service is opened: 1 to 65,536 transactions and names, names of 1 to 1,024 bytes, and a seed where one is given.

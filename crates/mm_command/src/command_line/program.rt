@@ -2,9 +2,9 @@
 ghost use Rattle.std.specs.Prelude.{◌≡◌, IfOk, false};
 ghost use Rattle.clap.specs.Words.{app_of, rule_of};
 ghost use Rattle.clap.specs.declared.builder.command.Command.TheViews.{out-Command as fields_of};
-ghost use Rattle.mm_command.specs.CommandLine.{free_number_rule, locks_app, number_rule, program, script_app, storm_app, threads_app, verbose_rule};
+ghost use Rattle.mm_command.specs.CommandLine.{free_number_rule, locks_app, number_rule, program, report_rule, script_app, storm_app, storm_numbers_app, threads_app, verbose_rule};
 
-use crate::help::{ABOUT, AFTER, LOCKS, LOCKS_AFTER, SCRIPT, STORM, THREADS, VERBOSE};
+use crate::help::{ABOUT, AFTER, LOCKS, REPORT, SCRIPT, STORM, THREADS, VERBOSE};
 use clap::builder::ValueParser;
 use clap::{Arg, ArgAction, Command};
 use std::alloc::{AllocError, Global};
@@ -15,14 +15,20 @@ pub const MAX_CLIENTS: u32 = 64;
 /// How many transmitters a storm may have.
 pub const MAX_TRANSMITTERS: u32 = 64;
 
-/// The whole program.
-pub fn command<'a>(alloc: Global) -> Result<Command<'a>, AllocError>
+/// How many resources a storm may have.
+pub const MAX_RESOURCES: u32 = 65_536;
+
+/// How many words may give a client of a storm a resource.
+pub const MAX_ACQUIRES: u32 = 256;
+
+/// The whole program. The help on `locks` ends with this text.
+pub fn command<'a>(alloc: Global, locks_after: &'a str) -> Result<Command<'a>, AllocError>
     ensures { IfOk result (λ made. app_of made ≡ program) }
 {
     let script = script_command(alloc);
     let threads = threads_command(alloc)?;
     let storm = storm_command(alloc)?;
-    let locks = locks_command(alloc)?;
+    let locks = locks_command(alloc, locks_after)?;
     Command::new(alloc, "mmdetect")
         .bin_name("mmdetect")?
         .about(ABOUT)
@@ -50,26 +56,37 @@ fn threads_command<'a>(alloc: Global) -> Result<Command<'a>, AllocError>
     Command::new(alloc, "threads")
         .about(THREADS)
         .arg(file)?
+        .arg(report(alloc))?
         .arg(verbose(alloc))
 }
 
 fn storm_command<'a>(alloc: Global) -> Result<Command<'a>, AllocError>
     ensures { IfOk result (λ made. (app_of made ≡ storm_app) × ((fields_of made).has_globals ≡ false)) }
 {
+    storm_numbers_command(alloc)?
+        .arg(report(alloc))?
+        .arg(verbose(alloc))
+}
+
+/// A storm with its numbers alone.
+fn storm_numbers_command<'a>(alloc: Global) -> Result<Command<'a>, AllocError>
+    ensures { IfOk result (λ made. (app_of made ≡ storm_numbers_app) × ((fields_of made).has_globals ≡ false)) }
+{
     Command::new(alloc, "storm")
         .about(STORM)
         .arg(number(alloc, "seed", 0, u64::MAX, "1"))?
         .arg(number(alloc, "clients", 1, MAX_CLIENTS as u64, "8"))?
         .arg(number(alloc, "transmitters", 0, MAX_TRANSMITTERS as u64, "2"))?
-        .arg(verbose(alloc))
+        .arg(number(alloc, "resources", 1, MAX_RESOURCES as u64, "8"))?
+        .arg(number(alloc, "acquires", 1, MAX_ACQUIRES as u64, "4"))
 }
 
-fn locks_command<'a>(alloc: Global) -> Result<Command<'a>, AllocError>
+fn locks_command<'a>(alloc: Global, locks_after: &'a str) -> Result<Command<'a>, AllocError>
     ensures { IfOk result (λ made. (app_of made ≡ locks_app) × ((fields_of made).has_globals ≡ false)) }
 {
     Command::new(alloc, "locks")
         .about(LOCKS)
-        .after_help(LOCKS_AFTER)
+        .after_help(locks_after)
         .arg(number(alloc, "transactions", 1, 65_536, "65536"))?
         .arg(number(alloc, "names", 1, 65_536, "65536"))?
         .arg(number(alloc, "name-bytes", 1, 1_024, "64"))?
@@ -86,6 +103,18 @@ fn verbose<'a>(alloc: Global) -> Arg<'a>
         .short('v')
         .action(ArgAction::SetTrue)
         .help(VERBOSE)
+}
+
+/// The option `--report FILE`.
+fn report<'a>(alloc: Global) -> Arg<'a>
+    ensures rule { rule_of result ≡ report_rule }
+    ensures local { result.global ≡ false }
+{
+    Arg::new(alloc, "report")
+        .long("report")
+        .value_name("FILE")
+        .action(ArgAction::Set)
+        .help(REPORT)
 }
 
 /// An option `--name N` with a whole number in this range.

@@ -16,11 +16,11 @@ same r n m first second = cc
 pub returns-in_default : goal.returns-in_default
 returns-in_default c = λ has.
     let seed = one_read _ (λ bs r. ParsesUnsigned 64 10 bs r × ExplainsUnsignedError 10 bs r × HasUnsignedDigitsIfOk bs r) 64 0 18446744073709551615 (found_of c.args.own.now) (codes "seed")
-    c.get_one.result c.get_one.ensures.value (λ u x g. g.0) (omega arith) has.0 in
+    c.get_one.result c.get_one.ensures.value (λ u x g. g.0) (omega arith) has.0.0 in
     let clients = one_read _ (λ bs r. ParsesUnsigned 32 10 bs r × ExplainsUnsignedError 10 bs r × HasUnsignedDigitsIfOk bs r) 32 1 64 (found_of c.args.own.now) (codes "clients")
-    c.get_one-2.result c.get_one-2.ensures.value (λ u x g. g.0) (omega arith) has.1 in
+    c.get_one-2.result c.get_one-2.ensures.value (λ u x g. g.0) (omega arith) has.0.1 in
     let transmitters = one_read _ (λ bs r. ParsesUnsigned 32 10 bs r × ExplainsUnsignedError 10 bs r × HasUnsignedDigitsIfOk bs r) 32 0 64 (found_of c.args.own.now) (codes "transmitters")
-    c.get_one-3.result c.get_one-3.ensures.value (λ u x g. g.0) (omega arith) has.2 in
+    c.get_one-3.result c.get_one-3.ensures.value (λ u x g. g.0) (omega arith) has.0.2 in
     elim c.in_default.branch [
       | in_default-via-in-Some+in-Some+in_default w ↦ absurd (never _ _ transmitters.1 w.in_default.is-2)
       | in_default-via-in-Some+in_default w ↦ absurd (never _ _ clients.1 w.in_default.is-1)
@@ -30,9 +30,9 @@ returns-in_default c = λ has.
 pub returns-then-clients-eq0 : goal.returns-then-clients-eq0
 returns-then-clients-eq0 c = λ has.
     let clients = one_read _ (λ bs r. ParsesUnsigned 32 10 bs r × ExplainsUnsignedError 10 bs r × HasUnsignedDigitsIfOk bs r) 32 1 64 (found_of c.args.own.now) (codes "clients")
-    c.get_one-2.result c.get_one-2.ensures.value (λ u x g. g.0) (omega arith) has.1 in
+    c.get_one-2.result c.get_one-2.ensures.value (λ u x g. g.0) (omega arith) has.0.1 in
     let transmitters = one_read _ (λ bs r. ParsesUnsigned 32 10 bs r × ExplainsUnsignedError 10 bs r × HasUnsignedDigitsIfOk bs r) 32 0 64 (found_of c.args.own.now) (codes "transmitters")
-    c.get_one-3.result c.get_one-3.ensures.value (λ u x g. g.0) (omega arith) has.2 in
+    c.get_one-3.result c.get_one-3.ensures.value (λ u x g. g.0) (omega arith) has.0.2 in
     let is_clients = same c.get_one-2.result clients.0 _ clients.1 c.in-Some-Some-Some.is-1 in
     let is_transmitters = same c.get_one-3.result transmitters.0 _ transmitters.1 c.in-Some-Some-Some.is-2 in
     let least : 1 ≤ c.in-Some-Some-Some.clients = subst (λ n. 1 ≤ n) is_clients clients.2 in

@@ -6,7 +6,7 @@ use Rattle.mm_service.proofs.lists.write_graph.Goals as goal
 
 pub returns-clause-written : goal.returns-clause-written
 returns-clause-written g c =
-    let written = c.write_arrows.ensures.written in
+    let written = c.write_edges.ensures.written in
     let old = c.args.output.now.items in
     let count = c.count_waits.ensures in
     let number : c.print_number.new.output.items ≡ old ++ (codes "graph " ++ decimal (length (waits_of c.args.manager.now.table))) =

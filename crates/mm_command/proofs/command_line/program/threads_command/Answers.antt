@@ -13,4 +13,6 @@ returns c =
     let first = c.in_ok-arg.ensures.shape local ∙ ap₂ with_rule start file in
     let none : (fields_of c.about.result).has_globals ≡ false = search rules in
     let none_first = c.in_ok-arg.ensures.globals ∙ ap₂ (λ a b. a || b) none local in
-    IfOk-weaker c.arg-2.result _ _ (λ r h. (h.shape c.verbose.ensures.local ∙ ap₂ with_rule first c.verbose.ensures.rule, h.globals ∙ ap₂ (λ a b. a || b) none_first c.verbose.ensures.local)) c.arg-2.ensures
+    let second = c.in_ok-arg-2.ensures.shape c.report.ensures.local ∙ ap₂ with_rule first c.report.ensures.rule in
+    let none_second = c.in_ok-arg-2.ensures.globals ∙ ap₂ (λ a b. a || b) none_first c.report.ensures.local in
+    IfOk-weaker c.arg-3.result _ _ (λ r h. (h.shape c.verbose.ensures.local ∙ ap₂ with_rule second c.verbose.ensures.rule, h.globals ∙ ap₂ (λ a b. a || b) none_second c.verbose.ensures.local)) c.arg-3.ensures

@@ -2,7 +2,7 @@ use Rattle.std.proofs.Common.{subst, sym, map, List}
 use Rattle.clap.specs.Words.{Text, fault_of}
 use Rattle.mm_command.specs.CommandLine.{IsByFault, IsHelp, IsRun, IsScript, program}
 use Rattle.mm_command.proofs.Lemmas.CommandLine.{script_by, script_at_error, script_named, help_by, help_at_error, by_fault, no_matches, run_at_error}
-use Rattle.mm_command.proofs.command_line.request_of.Goals as goal
+use Rattle.mm_command.proofs.command_line.request_with.Goals as goal
 
 pub returns-in-Ok-clause-script : goal.returns-in-Ok-clause-script
 returns-in-Ok-clause-script g c =

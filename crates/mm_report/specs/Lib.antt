@@ -1,0 +1,2 @@
+-- what a report holds
+pub mod Report

@@ -1,0 +1,32 @@
+-- What a report holds of the outcome of a run.
+use Rattle.std.specs.Prelude.{◌≡◌, List, length, count_by}
+use Rattle.mm_clients.specs.declared.end.End.{End}
+use Rattle.mm_clients.specs.End.{is_finished, is_aborted, is_spent, is_refused}
+use Rattle.mm_shared.specs.declared.close.Report.{Report}
+use Rattle.mm_workload.specs.Work.{Work}
+use Rattle.mm_report.specs.declared.report.Ends.{Ends}
+use Rattle.mm_report.specs.declared.report.Numbers.{Numbers}
+use Rattle.mm_report.specs.declared.report.Totals.{Totals}
+
+-- how many of the ends are of each kind
+pub record AreEnds (all : List End) (ends : Ends) : Type 0 where
+  pub finished : ends.finished ≡ count_by is_finished all
+  pub aborted : ends.aborted ≡ count_by is_aborted all
+  pub spent : ends.spent ≡ count_by is_spent all
+  pub refused : ends.refused ≡ count_by is_refused all
+
+-- what the table counted
+pub record AreTotals (report : Report) (totals : Totals) : Type 0 where
+  pub accepted : totals.accepted ≡ report.accepted
+  pub verdicts : totals.verdicts ≡ report.verdicts
+  pub aborts : totals.aborts ≡ report.aborts
+
+-- the numbers of a workload
+pub record AreNumbers (w : Work) (numbers : Numbers) : Type 0 where
+  pub clients : numbers.clients ≡ length w.clients
+  pub transmitters : numbers.transmitters ≡ w.transmitters
+  pub turns : numbers.turns ≡ w.turns
+  pub processes : numbers.processes ≡ w.config.processes
+  pub resources : numbers.resources ≡ w.config.resources
+  pub label_limit : numbers.label_limit ≡ w.config.label_limit
+  pub generation_limit : numbers.generation_limit ≡ w.config.generation_limit
