@@ -4,6 +4,7 @@ ghost use Rattle.clap.specs.Words.{app_of, rule_of};
 ghost use Rattle.clap.specs.declared.builder.command.Command.TheViews.{out-Command as fields_of};
 ghost use Rattle.mm_command.specs.CommandLine.{free_number_rule, locks_app, number_rule, program, script_app, storm_app, threads_app, verbose_rule};
 
+use super::explain::explain_command;
 use crate::help::{ABOUT, AFTER, LOCKS, LOCKS_AFTER, SCRIPT, STORM, THREADS, VERBOSE};
 use clap::builder::ValueParser;
 use clap::{Arg, ArgAction, Command};
@@ -23,6 +24,7 @@ pub fn command<'a>(alloc: Global) -> Result<Command<'a>, AllocError>
     let threads = threads_command(alloc)?;
     let storm = storm_command(alloc)?;
     let locks = locks_command(alloc)?;
+    let explain = explain_command(alloc)?;
     Command::new(alloc, "mmdetect")
         .bin_name("mmdetect")?
         .about(ABOUT)
@@ -30,7 +32,8 @@ pub fn command<'a>(alloc: Global) -> Result<Command<'a>, AllocError>
         .subcommand(script)?
         .subcommand(threads)?
         .subcommand(storm)?
-        .subcommand(locks)
+        .subcommand(locks)?
+        .subcommand(explain)
 }
 
 fn script_command<'a>(alloc: Global) -> Command<'a>
