@@ -6,18 +6,25 @@ use crate::view::{View, standing_of};
 use mm_script::{Call, Reply};
 use mm_table::{Detected, Key, Mode, Refusal, Settled, State, Table, Transmitted};
 
-/// Adds what a call came to.
+/// Adds whose the resources are that a call handed over.
+pub fn explain_hand_over(sheet: &mut Sheet, table: &Table, view: &View, call: Call) {
+    match call {
+        Call::Release { resource, .. } => explain_owner(sheet, table, resource),
+        Call::Finish(_) | Call::Abort(_) => explain_owners(sheet, table, &view.owned),
+        _ => {}
+    }
+}
+
+/// Adds what else a call came to.
 pub fn explain_call(sheet: &mut Sheet, table: &Table, view: &mut View, call: Call, reply: &Reply) {
     match call {
         Call::Acquire { key, resource } => explain_acquire(sheet, table, view, key, resource),
-        Call::Release { resource, .. } => explain_owner(sheet, table, resource),
-        Call::Finish(_) | Call::Abort(_) => explain_owners(sheet, table, &view.owned),
         Call::Transmit(key) => explain_transmit(sheet, table, key, reply),
         Call::Detect(key) => explain_detect(sheet, table, key, reply),
         Call::Settle => explain_settle(sheet, reply),
         Call::State(key) => explain_state(sheet, key, reply),
         Call::Table { .. } => explain_table(sheet, table),
-        Call::Begin | Call::GiveUp(_) | Call::Owner(_) | Call::Totals => {}
+        _ => {}
     }
 }
 

@@ -111,7 +111,7 @@ fn explain_raise(sheet: &mut Sheet, before: &Standing, now: &Standing) {
     ]);
     if let Some(wait) = now.wait {
         sheet.parts(&[
-            Part::Text(", the public label of "),
+            Part::Text(", the public label of its holder "),
             Part::Key(wait.holder),
         ]);
     }

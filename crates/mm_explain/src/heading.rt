@@ -20,7 +20,10 @@ const LAST_COLUMN: usize = 100;
 /// Adds the number of a line, the line, and the reply to it, if it has one.
 pub fn add_heading(sheet: &mut Sheet, number: u64, line: &[u8], reply: Option<&Reply>) {
     add_number(sheet, number);
-    add_line(sheet, without_carriage_return(line));
+    if !line.is_empty() {
+        sheet.text("  ");
+        add_line(sheet, without_carriage_return(line));
+    }
     if let Some(reply) = reply {
         add_reply(sheet, reply);
     }
@@ -33,7 +36,6 @@ fn add_number(sheet: &mut Sheet, number: u64) {
     sheet.paint(Paint::Faint);
     sheet.number(number);
     sheet.paint(Paint::Plain);
-    sheet.text("  ");
 }
 
 /// How many digits the number has, or 5 where it has more.

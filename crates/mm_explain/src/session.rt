@@ -1,7 +1,7 @@
 //! A script as far as it is explained.
 ghost use Rattle.std.specs.Prelude.{◌≤◌, length, IfOk};
 
-use crate::calls::{explain_call, explain_refusal};
+use crate::calls::{explain_call, explain_hand_over, explain_refusal};
 use crate::changes::explain_changes;
 use crate::heading::add_heading;
 use crate::picture::{Format, draw};
@@ -125,6 +125,7 @@ impl Session {
             self.view = Some(View::open(self.alloc, table.config())?);
         }
         if let Some(view) = &mut self.view {
+            explain_hand_over(&mut self.sheet, table, view, call);
             explain_changes(&mut self.sheet, table, view)?;
             explain_call(&mut self.sheet, table, view, call, reply);
         }
