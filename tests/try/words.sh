@@ -10,7 +10,7 @@ as_unbuilt() {
 }
 
 # Help goes to standard output.
-for line in --help -h help "script --help" "script -h" "help script" "threads --help" "storm -h" "help storm" "locks --help" "locks --names 2 -h" "help locks" "help help" "threads a -h"; do
+for line in --help -h help "script --help" "script -h" "help script" "threads --help" "storm -h" "help storm" "locks --help" "locks --names 2 -h" "help locks" "help help" "threads a -h" "explain -h" "help explain" "explain x --dot --help"; do
   read -ra words <<< "$line"
   case_is "$line"
   run "${words[@]}" < "$work/script" > "$work/out" 2> "$work/err"
@@ -58,7 +58,7 @@ same "how many there are" 14 "$(words_of mm_script | wc -l)"
 same "the help" "$(words_of mm_script)" "$(words_in script)"
 case_is "the help lists each subcommand"
 run --help > "$work/out" 2> "$work/err"
-for part in "  script " "  threads " "  storm " "  locks "; do
+for part in "  script " "  threads " "  storm " "  locks " "  explain "; do
   says "$part"
 done
 
@@ -66,6 +66,7 @@ done
 for line in fly --fly -x - "script extra" "script script" "script --fly" "script --verbose" "fly script" "help fly" "help --help" --version \
   Script scrip prove threads "threads a b" "threads --fly a" "threads -v -v a" --verbose "-- x" "storm extra" "storm --clients 0" \
   "storm --clients 65" "storm --clients" "storm --clients -1" "storm --transmitters 65" "storm --seed 18446744073709551616" \
+  "explain a b" "explain --fly" "explain --at" "explain --at 0" "explain --at x" "explain --at 1 --at 2" "explain --dot --dot" "explain --dot=yes" \
   "storm --seed x" "storm --seed=" "storm --seed -1" "storm --clients 8 --clients 8" "storm --verbose --verbose"; do
   read -ra words <<< "$line"
   case_is "$line"
