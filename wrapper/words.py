@@ -186,7 +186,7 @@ def of_explain(words):
             is_open = False
         elif is_open and word in ("-h", "--help"):
             return Help("explain")
-        elif is_open and word in EXPLAIN_FLAGS:
+        elif is_open and word.partition("=")[0] in EXPLAIN_FLAGS:
             take_switch(reading, word)
         elif is_open and word.startswith("-") and word != "-":
             take_number(reading, word, EXPLAIN_NUMBERS)
@@ -198,6 +198,9 @@ def of_explain(words):
 
 
 def take_switch(reading, word):
+    word, has_value, value = word.partition("=")
+    if has_value:
+        raise wrong(f"unexpected value '{value}' for '{word}' found; no more were expected", f"mmdetect explain {word} [FILE]")
     if word in reading.given:
         raise wrong(f"the argument '{word}' cannot be used multiple times", reading.usage)
     reading.given.add(word)
@@ -230,7 +233,9 @@ def fault_of(text, least, most):
         return "invalid digit found in string"
     if int(digits) > U64_MOST:
         return "number too large to fit in target type"
-    return None if least <= int(digits) <= most else f"{text} is not in {least}..={most}"
+    # (so clap writes a range that ends with the greatest number)
+    span = f"{least}..{most}" if most == U64_MOST else f"{least}..={most}"
+    return None if least <= int(digits) <= most else f"{text} is not in {span}"
 
 
 PARTS = {"script": of_script, "threads": of_threads, "storm": of_storm, "locks": of_locks, "explain": of_explain}
