@@ -147,10 +147,12 @@ fn public_labels(table: &Table, key: Key) -> Option<(State, Key, State)> {
 
 /// Adds that a settle found nothing to do, where it found nothing.
 fn explain_settle(sheet: &mut Sheet, reply: &Reply) {
-    if let Reply::Settled(Settled {
-        raises: 0,
-        verdicts: 0,
-    }) = reply
+    if let Reply::Settled(
+        Settled {
+            raises: 0,
+            verdicts: 0,
+        },
+    ) = reply
     {
         sheet.line(&[Part::Text("no label to raise, and no verdict to give")]);
     }

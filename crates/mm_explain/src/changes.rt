@@ -7,7 +7,11 @@ use mm_table::Table;
 use std::alloc::AllocError;
 
 /// Adds what is shown of each transaction now and was not before, and keeps it in the view.
-pub fn explain_changes(sheet: &mut Sheet, table: &Table, view: &mut View) -> Result<(), AllocError> {
+pub fn explain_changes(
+    sheet: &mut Sheet,
+    table: &Table,
+    view: &mut View,
+) -> Result<(), AllocError> {
     for process in 0..table.config().processes {
         let now = standing_of(table, process);
         if now.is_none() && process as usize >= view.used() {
@@ -133,5 +137,11 @@ fn explain_verdict(sheet: &mut Sheet, table: &Table, view: &mut View, now: &Stan
     }
     sheet.paint(Paint::Plain);
     sheet.newline();
-    explain_cycle(sheet, table, view, now.key, "so it has gone round the cycle ");
+    explain_cycle(
+        sheet,
+        table,
+        view,
+        now.key,
+        "so it has gone round the cycle ",
+    );
 }

@@ -85,7 +85,8 @@ fn add_reply(sheet: &mut Sheet, reply: &Reply) {
 /// How a reply is shown.
 fn paint_of(reply: &Reply) -> Paint {
     match reply {
-        Reply::Malformed | Reply::NoTable | Reply::TableStands | Reply::Refused(_) => Paint::Warning,
+        Reply::Malformed | Reply::NoTable | Reply::TableStands | Reply::Refused(_) =>
+            Paint::Warning,
         _ => Paint::Strong,
     }
 }

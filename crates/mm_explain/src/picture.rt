@@ -49,7 +49,11 @@ fn begin(sheet: &mut Sheet, format: Format) {
             "    classDef cycle stroke:#c00000,stroke-width:3px",
             "    classDef victim fill:#ffd0d0,stroke:#c00000,stroke-width:3px",
         ],
-        Format::Dot => ["digraph waits {", "    rankdir=LR;", "    node [shape=box];"],
+        Format::Dot => [
+            "digraph waits {",
+            "    rankdir=LR;",
+            "    node [shape=box];",
+        ],
     };
     for line in lines {
         sheet.text(line);
@@ -225,7 +229,11 @@ fn draw_resource(sheet: &mut Sheet, table: &Table, resource: u32, format: Format
 fn draw_free(sheet: &mut Sheet, resource: u32, format: Format) {
     let (before, between, after) = match format {
         Format::Mermaid => ("    r", "([\"resource ", " free\"])"),
-        Format::Dot => ("    \"resource ", "\" [shape=ellipse, label=\"resource ", " free\"];"),
+        Format::Dot => (
+            "    \"resource ",
+            "\" [shape=ellipse, label=\"resource ",
+            " free\"];",
+        ),
     };
     sheet.text(before);
     sheet.number(u64::from(resource));
@@ -237,7 +245,11 @@ fn draw_free(sheet: &mut Sheet, resource: u32, format: Format) {
 fn draw_owned(sheet: &mut Sheet, resource: u32, owner: Key, format: Format) {
     let (before, between, after) = match format {
         Format::Mermaid => ("    r", "([\"resource ", "\"]) -.->|\"owned by\"| "),
-        Format::Dot => ("    \"resource ", "\" [shape=ellipse]; \"resource ", "\" -> "),
+        Format::Dot => (
+            "    \"resource ",
+            "\" [shape=ellipse]; \"resource ",
+            "\" -> ",
+        ),
     };
     sheet.text(before);
     sheet.number(u64::from(resource));

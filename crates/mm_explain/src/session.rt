@@ -103,8 +103,11 @@ impl Session {
 
     /// Makes a call, and explains it.
     fn explain_call(&mut self, line: &[u8], call: Call) -> Result<(), AllocError> {
-        if let (Some(table), Some(view), Some(key)) = (&self.table, &mut self.view, ending_key(call))
-        {
+        if let (Some(table), Some(view), Some(key)) = (
+            &self.table,
+            &mut self.view,
+            ending_key(call),
+        ) {
             view.list_owned(table, key);
         }
         let reply = make(&mut self.table, self.alloc, call);
