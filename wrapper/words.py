@@ -1,6 +1,6 @@
 """What the words of a command line ask for, where no program is built that could say it.
 
-`asked(words)` gives a Script, Threads, Storm or Locks where the words ask for a run, a Help with the name of its text, or a Wrong with the
+`asked(words)` gives a Script, Threads, Storm, Locks or Explain where the words ask for a run, a Help with the name of its text, or a Wrong with the
 program's text (without its tips, which guess at what was meant). tests/try/words.sh holds these texts against the program's own."""
 from dataclasses import dataclass, field
 
@@ -12,6 +12,9 @@ NONE_USAGE = "mmdetect [COMMAND]"
 THREADS_USAGE = "mmdetect threads [OPTIONS] <FILE>"
 STORM_USAGE = "mmdetect storm [OPTIONS]"
 LOCKS_USAGE = "mmdetect locks [OPTIONS]"
+EXPLAIN_USAGE = "mmdetect explain [OPTIONS] [FILE]"
+EXPLAIN_NUMBERS = {"at": (1, U64_MOST)}
+EXPLAIN_FLAGS = ("--mermaid", "--dot", "--all")
 
 
 @dataclass
@@ -33,6 +36,11 @@ class Storm:
 @dataclass
 class Locks:
     pass
+
+
+@dataclass
+class Explain:
+    file: str | None
 
 
 @dataclass
@@ -178,6 +186,34 @@ def of_locks(words):
     return Locks()
 
 
+def of_explain(words):
+    reading, is_open = Reading(list(words), EXPLAIN_USAGE), True
+    while reading.left:
+        word = reading.left.pop(0)
+        if is_open and word == "--":
+            is_open = False
+        elif is_open and word in ("-h", "--help"):
+            return Help("explain")
+        elif is_open and word.partition("=")[0] in EXPLAIN_FLAGS:
+            take_switch(reading, word)
+        elif is_open and word.startswith("-") and word != "-":
+            take_number(reading, word, EXPLAIN_NUMBERS)
+        elif reading.files:
+            raise unexpected(word, EXPLAIN_USAGE)
+        else:
+            reading.files.append(word)
+    return Explain(reading.files[0] if reading.files else None)
+
+
+def take_switch(reading, word):
+    word, has_value, value = word.partition("=")
+    if has_value:
+        raise wrong(f"unexpected value '{value}' for '{word}' found; no more were expected", f"mmdetect explain {word} [FILE]")
+    if word in reading.given:
+        raise wrong(f"the argument '{word}' cannot be used multiple times", reading.usage)
+    reading.given.add(word)
+
+
 def take_number(reading, word, numbers):
     name, has_value, value = word.partition("=")
     if name[:2] != "--" or name[2:] not in numbers:
@@ -211,7 +247,9 @@ def fault_of(text, least, most):
         return "invalid digit found in string"
     if int(digits) > U64_MOST:
         return "number too large to fit in target type"
-    return None if least <= int(digits) <= most else f"{text} is not in {least}..={most}"
+    # (so clap writes a range that ends with the greatest number)
+    span = f"{least}..{most}" if most == U64_MOST else f"{least}..={most}"
+    return None if least <= int(digits) <= most else f"{text} is not in {span}"
 
 
-PARTS = {"script": of_script, "threads": of_threads, "storm": of_storm, "locks": of_locks}
+PARTS = {"script": of_script, "threads": of_threads, "storm": of_storm, "locks": of_locks, "explain": of_explain}

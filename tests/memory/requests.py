@@ -6,6 +6,7 @@ import os
 from memory.answers import AMPLE, REFUSED, ends_of, same_as, same_output_as, script_of
 from memory.program import MAX_FAULTS, refused
 
+OUT_OF_MEMORY = "refused 10 Memory\n"
 # More requests than any run makes.
 MOST = 5000
 TABLE = "table 64 128 1000000 1000000\n"
@@ -122,6 +123,33 @@ def service(cases, scratch, program):
     for seed in [["--seed", "7"], []]:
         command = [program, "locks", "--transactions", "8", "--names", "8", *seed]
         all_in_turn(cases, scratch, " ".join(["locks", *command[2:]]), command, same_as(refused(scratch, command, LOCKS)), LOCKS)
+
+
+def explained(ample, without_table):
+    """Prints what the ample run did, or that of a run whose table was refused; or ends earlier, with the line that says so."""
+
+    def judge(run):
+        if (run.status, run.output, run.errors) == (ample.status, ample.output, ample.errors):
+            return AMPLE
+        begun, last = run.output[: -len(OUT_OF_MEMORY)], run.output[-len(OUT_OF_MEMORY) :]
+        if run.status == 4 and last == OUT_OF_MEMORY and ample.output.startswith(begun):
+            return REFUSED
+        if run.status == 0 and run.output.endswith(without_table):
+            return REFUSED
+        return None
+
+    return judge
+
+
+def explain(cases, scratch, program):
+    """A script that is explained, and its graphs."""
+    given = (TABLE + calls(1)).encode()
+    for options in [[], ["--mermaid", "--dot", "--all", "--at", "9"]]:
+        command = [program, "explain", *options]
+        # (what is printed of the table's line differs)
+        without_table = refused(scratch, command, b"\n" + calls(1).encode()).output.removeprefix("    1\n")
+        judge = explained(refused(scratch, command, given), without_table)
+        all_in_turn(cases, scratch, " ".join(["explain", *options]), command, judge, given)
 
 
 def words(cases, scratch, program):

@@ -10,7 +10,7 @@ as_unbuilt() {
 }
 
 # Help goes to standard output.
-for line in --help -h help "script --help" "script -h" "help script" "threads --help" "storm -h" "help storm" "locks --help" "locks --names 2 -h" "help locks" "help help" "threads a -h" "threads --report a -h" "storm --report=a --acquires 2 --help"; do
+for line in --help -h help "script --help" "script -h" "help script" "threads --help" "storm -h" "help storm" "locks --help" "locks --names 2 -h" "help locks" "help help" "threads a -h" "explain -h" "help explain" "explain x --dot --help" "threads --report a -h" "storm --report=a --acquires 2 --help"; do
   read -ra words <<< "$line"
   case_is "$line"
   run "${words[@]}" < "$work/script" > "$work/out" 2> "$work/err"
@@ -60,7 +60,7 @@ same "how many there are" 14 "$(words_of "$calls" | wc -l)"
 same "the help" "$(words_of "$calls")" "$(words_in script)"
 case_is "the help lists each subcommand"
 run --help > "$work/out" 2> "$work/err"
-for part in "  script " "  threads " "  storm " "  locks "; do
+for part in "  script " "  threads " "  storm " "  locks " "  explain "; do
   says "$part"
 done
 
@@ -70,7 +70,8 @@ for line in fly --fly -x - "script extra" "script script" "script --fly" "script
   "storm --clients 65" "storm --clients" "storm --clients -1" "storm --transmitters 65" "storm --seed 18446744073709551616" \
   "storm --seed x" "storm --seed=" "storm --seed -1" "storm --clients 8 --clients 8" "storm --verbose --verbose" "storm --resources 0" \
   "storm --resources=65537" "storm --acquires 257" "storm --acquires 0" "storm --report" "storm --report a --report b" "storm --report -v" \
-  "threads a --report" "threads --report a --report=b c" "threads --report a" "threads a --resources 8"; do
+  "threads a --report" "threads --report a --report=b c" "threads --report a" "threads a --resources 8" \
+  "explain a b" "explain --fly" "explain --at" "explain --at 0" "explain --at x" "explain --at 1 --at 2" "explain --dot --dot" "explain --dot=yes"; do
   read -ra words <<< "$line"
   case_is "$line"
   # ('prove' is the wrapper's word, not the program's)

@@ -7,8 +7,9 @@ use Rattle.clap.specs.declared.builder.value_parser.ValueParser.TheVariants.{Uns
 use Rattle.clap.specs.declared.error.Error.{Error}
 use Rattle.clap.specs.declared.error.kind.ErrorKind.{ErrorKind}
 use Rattle.clap.specs.declared.error.kind.ErrorKind.TheVariants as kind
+use Rattle.mm_command.specs.Explain.{explain_app}
 use Rattle.mm_command.specs.declared.command_line.Request.{Request}
-use Rattle.mm_command.specs.declared.command_line.Request.TheVariants.{Script, Threads, Storm, Locks, Help, Wrong, Memory}
+use Rattle.mm_command.specs.declared.command_line.Request.TheVariants.{Script, Threads, Storm, Locks, Explain, Help, Wrong, Memory}
 
 -- the flag `--verbose`, or `-v`
 abbrev pub verbose_rule : Rule
@@ -90,7 +91,9 @@ locks_app = with_rule (with_rule (with_rule (with_rule (new_app (codes "locks"))
 
 -- the words that there are, as clap sees them, and what clap adds, which is `help`, `--help` and `-h`
 abbrev pub program : App
-program = with_subcommand (with_subcommand (with_subcommand (with_subcommand (new_app (codes "mmdetect")) script_app.top) threads_app.top) storm_app.top) locks_app.top
+program =
+    with_subcommand (with_subcommand (with_subcommand (with_subcommand (with_subcommand (new_app (codes "mmdetect")) script_app.top) threads_app.top) storm_app.top) locks_app.top)
+    explain_app.top
 
 -- no word, or `script`
 abbrev pub AsksForScript : List Text → Type 0
@@ -124,6 +127,7 @@ runs Script = true
 runs (Threads file report verbose) = true
 runs (Storm options report verbose) = true
 runs (Locks options) = true
+runs (Explain file options) = true
 runs _ = false
 
 -- something is run, or memory was refused

@@ -1,18 +1,22 @@
 //! What the words of the command line ask for.
 //!
 //! - `program`: the words that there are.
+//! - `explain`: those of `explain`.
 //! - `options`: the numbers of a generated workload, and those of a lock service.
 ghost use Rattle.std.specs.Prelude.{◌≡◌, ◌≢◌, ◌↔◌, List, [], IfOk, IfSome, IsSome, IsTrue, codes, true, map};
 ghost use Rattle.clap.specs.Words.{FailsBy, HasMatchesOf, Text, fault_of, found_of, rows_of, subcommand_name_of};
 ghost use Rattle.mm_command.specs.CommandLine.{AsksForHelp, AsksForScript, HasLimits, HasNumbers, HasShape, HasText, HasWanted, IsByFault, IsHelp, IsRun, IsScript, IsScriptName, program, request_at, runs};
 ghost use Rattle.mm_command.specs.Limits.{AreLimits, AreShape};
 
+mod explain;
 mod options;
 mod program;
 
 use crate::help::locks_after;
 use clap::error::ErrorKind;
 use clap::{ArgMatches, Error};
+pub use explain::ExplainOptions;
+use explain::{file_of, options_of};
 pub use options::{LocksOptions, StormOptions};
 use program::{MAX_ACQUIRES, MAX_CLIENTS, MAX_RESOURCES, MAX_TRANSMITTERS, command};
 use std::alloc::{AllocError, Global};
@@ -38,6 +42,11 @@ pub enum Request {
     },
     /// A lock service is to be run.
     Locks(LocksOptions),
+    /// A script is to be explained: that of this file, or of standard input.
+    Explain {
+        file: Option<String>,
+        options: ExplainOptions,
+    },
     /// Help, with its text.
     Help(Error),
     /// The words are no command line of this program; the text says why.
@@ -133,6 +142,7 @@ fn by_subcommand(alloc: Global, name: &str, own: &ArgMatches<'_>) -> Request
         "threads" => threads(alloc, own),
         "storm" => storm(alloc, own),
         "locks" => locks(alloc, own),
+        "explain" => request_to_explain(alloc, own),
         _ => return Request::Script,
     };
     asked.unwrap_or(Request::Memory)
@@ -231,6 +241,15 @@ fn locks(alloc: Global, own: &ArgMatches<'_>) -> Result<Request, AllocError>
         name_bytes,
         seed: own.get_one::<u64>("seed"),
     }))
+}
+
+fn request_to_explain(alloc: Global, own: &ArgMatches<'_>) -> Result<Request, AllocError>
+    ensures { IfOk result (λ request. runs request ≡ true) }
+{
+    Ok(Request::Explain {
+        file: file_of(alloc, own)?,
+        options: options_of(own),
+    })
 }
 
 /// Whether a lock service can have these limits.

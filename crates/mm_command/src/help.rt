@@ -17,6 +17,38 @@ pub const STORM: &str = "Runs a generated workload: the same one for the same nu
 
 pub const LOCKS: &str = "Answers lock requests by name from standard input, a line each";
 
+pub const EXPLAIN: &str = "Runs a script and says below each line what it changed";
+
+/// What the words of `explain` ask for.
+pub const SCRIPT_FILE: &str = "The script; without it, standard input";
+
+pub const MERMAID: &str = "Prints the wait-for graph alone, as Mermaid reads it";
+
+pub const DOT: &str = "Prints the wait-for graph alone, as Graphviz reads it";
+
+pub const ALL: &str = "Adds to the graph the resources that nobody waits for";
+
+pub const AT: &str = "Runs the script to line N, and shows that one";
+
+/// What `explain` prints, and the exit statuses. No line has more than 80 bytes.
+pub const EXPLAIN_AFTER: &str = "\
+Each line of the script is printed with its number and its reply, and below it
+stands what it changed: who waits for whose resource and under which labels,
+whose public label rose, to what and from whom, which cycle was closed, who was
+convicted and why, and who was handed what. 'mmdetect help script' has the
+calls. Colors are used where standard output is a terminal and NO_COLOR is not
+set.
+
+In a graph a node is a transaction with its two labels, and an edge a wait with
+its resource. Victims and cycles are marked.
+
+Exit statuses:
+  0  no line was malformed; help was asked for
+  1  some line was malformed
+  2  the command line is wrong, or the script has no line N
+  3  'read fault', 'write fault' or 'input too long' on standard error
+  4  memory was refused, and 'refused 10 Memory' printed";
+
 /// What the options do.
 pub const REPORT: &str = "Writes what ran and what came of it to FILE, as JSON";
 

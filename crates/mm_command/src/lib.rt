@@ -8,4 +8,4 @@
 mod command_line;
 mod help;
 
-pub use command_line::{LocksOptions, Request, StormOptions, asked, request_of};
+pub use command_line::{ExplainOptions, LocksOptions, Request, StormOptions, asked, request_of};

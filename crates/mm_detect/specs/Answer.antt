@@ -12,12 +12,20 @@ EndsService (ending.Refused printed) = ⊤
 EndsService ending.Wrong = ⊤
 EndsService _ = ⊥
 
+-- a script is explained, or memory for that is refused; or it has no such line
+abbrev pub EndsExplain : Ending → Type 0
+EndsExplain (ending.Ran lines) = ⊤
+EndsExplain (ending.Refused printed) = ⊤
+EndsExplain ending.Wrong = ⊤
+EndsExplain _ = ⊥
+
 -- each request has an end of its own, but for the two kinds of workload, which end alike
 abbrev pub IsEndOf : Request → Ending → Type 0
 IsEndOf request.Script (ending.Ran lines) = ⊤
 IsEndOf (request.Threads file report verbose) (ending.Worked status) = ⊤
 IsEndOf (request.Storm options report verbose) (ending.Worked status) = ⊤
 IsEndOf (request.Locks options) end = EndsService end
+IsEndOf (request.Explain file options) end = EndsExplain end
 IsEndOf (request.Help text) (ending.Helped printed) = ⊤
 IsEndOf (request.Wrong text) ending.Wrong = ⊤
 IsEndOf request.Memory (ending.Refused printed) = ⊤

@@ -1,5 +1,6 @@
 //! A deadlock detector for transactions. `mm_command` says what the words of the command line ask for.
 //!
+//! - `explain`: explains a script.
 //! - `file`: the bytes of a file.
 //! - `locks`: a lock service.
 //! - `work`: runs of workloads. `work_end`: what came of one. `verbose`: what is printed meanwhile for a person. `reported`: a run whose
@@ -10,6 +11,7 @@
 ghost use Rattle.mm_detect.specs.Answer.{IsEndOf};
 
 mod ending;
+mod explain;
 mod file;
 mod locks;
 mod reported;
@@ -18,6 +20,7 @@ mod work;
 mod work_end;
 
 use ending::{Ending, fault, status};
+use explain::run_explain;
 use file::{Taken, taken_from};
 use locks::run_locks;
 use mm_command::{Request, StormOptions, asked};
@@ -27,7 +30,7 @@ use mm_table::Refusal;
 use mm_workload::Workload;
 use reported::{Reporting, run_reported};
 use std::alloc::Global;
-use std::io::{Read, Write};
+use std::io::{IsTerminal, Read, Write};
 use std::process::ExitCode;
 use std::random::RandomSource;
 use std::rt::Runtime;
@@ -48,7 +51,7 @@ fn main(rt: HostRuntime) -> ExitCode {
 }
 
 /// Does what is asked for, and returns how that ended.
-fn answer<R: Runtime + RandomSource + Threads + Wait + Sync, I: Read, W: Write>(
+fn answer<R: Runtime + RandomSource + Threads + Wait + Sync, I: Read, W: Write + IsTerminal>(
     rt: &R,
     alloc: Global,
     request: &Request,
@@ -60,6 +63,18 @@ fn answer<R: Runtime + RandomSource + Threads + Wait + Sync, I: Read, W: Write>(
     match request {
         Request::Script => Ending::Ran(run_script(alloc, input, output)),
         Request::Locks(options) => run_locks(rt, alloc, options, input, output),
+        Request::Explain { file, options } => {
+            let is_terminal = output.is_terminal();
+            run_explain(
+                rt,
+                alloc,
+                file.as_ref(),
+                options,
+                is_terminal,
+                input,
+                output,
+            )
+        }
         Request::Threads {
             file,
             report,

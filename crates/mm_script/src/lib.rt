@@ -20,18 +20,21 @@ mod forms;
 mod line;
 mod reply;
 
+pub use calls::make;
 use engine::Session;
 pub use forms::usages;
+pub use line::{Call, Header, Line, line_of};
 pub use mm_lines::Fault as ScriptFault;
 use mm_lines::{Input, Limits};
+pub use reply::{MAX_REPLY, Reply, print_reply};
 use std::alloc::Global;
 use std::io::{Read, Write};
 
 /// The longest line in bytes, with its carriage return.
-const MAX_LINE: usize = 128;
+pub const MAX_LINE: usize = 128;
 
 /// A script has at most so many bytes: 16 MiB.
-const INPUT_LIMIT: usize = 16_777_216;
+pub const INPUT_LIMIT: usize = 16_777_216;
 
 /// Reads a script to the reader's end, writes one reply for each call and each malformed line, in their order, and returns how many
 /// lines are malformed. A script has at most 16,777,216 bytes.

@@ -35,7 +35,7 @@ use Rattle.mm_command.specs.CommandLine.{HasLimits, HasNumber, HasNumbers, HasSh
 use Rattle.mm_command.proofs.Lemmas.Walked.{Listed, find_listed, or_none}
 use Rattle.mm_command.proofs.Lemmas.Filled.{EachFits, HasOne, default_has, given_has, has_found, leaf_fits}
 
--- a subcommand as clap builds it: `script`, `threads`, `storm`, `locks` and `help`
+-- a subcommand as clap builds it: `script`, `threads`, `storm`, `locks`, `explain` and `help`
 abbrev sub_at : ℕ → Shape
 sub_at i = slice_index_or (built program).subs i (new_shape [])
 
@@ -241,7 +241,8 @@ wanted_by s words (inr (inr (inr (inl is)))) none = (
   λ named. subst (λ (x : Shape). HasLimits (rows_after x.rules [] words)) is (limits_there words (subst (NoFault words) (sym is) none)),
 )
 wanted_by s words (inr (inr (inr (inr (inl is))))) none = (not_named 4 s _ is refl, not_named 4 s _ is refl, not_named 4 s _ is refl)
-wanted_by s words (inr (inr (inr (inr (inr x))))) none = absurd x
+wanted_by s words (inr (inr (inr (inr (inr (inl is)))))) none = (not_named 5 s _ is refl, not_named 5 s _ is refl, not_named 5 s _ is refl)
+wanted_by s words (inr (inr (inr (inr (inr (inr x)))))) none = absurd x
 
 entered_wanted : (stop : Option (Text × List Text)) (name : Text) (rows : List Row) → entered_fault (built program) stop ≡ [] → entered (built program) stop ≡ Some (name, rows) → HasWanted name rows
 entered_wanted None name rows none is = cc

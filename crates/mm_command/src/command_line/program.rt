@@ -4,6 +4,7 @@ ghost use Rattle.clap.specs.Words.{app_of, rule_of};
 ghost use Rattle.clap.specs.declared.builder.command.Command.TheViews.{out-Command as fields_of};
 ghost use Rattle.mm_command.specs.CommandLine.{free_number_rule, locks_app, number_rule, program, report_rule, script_app, storm_app, storm_numbers_app, threads_app, verbose_rule};
 
+use super::explain::explain_command;
 use crate::help::{ABOUT, AFTER, LOCKS, REPORT, SCRIPT, STORM, THREADS, VERBOSE};
 use clap::builder::ValueParser;
 use clap::{Arg, ArgAction, Command};
@@ -29,6 +30,7 @@ pub fn command<'a>(alloc: Global, locks_after: &'a str) -> Result<Command<'a>, A
     let threads = threads_command(alloc)?;
     let storm = storm_command(alloc)?;
     let locks = locks_command(alloc, locks_after)?;
+    let explain = explain_command(alloc)?;
     Command::new(alloc, "mmdetect")
         .bin_name("mmdetect")?
         .about(ABOUT)
@@ -36,7 +38,8 @@ pub fn command<'a>(alloc: Global, locks_after: &'a str) -> Result<Command<'a>, A
         .subcommand(script)?
         .subcommand(threads)?
         .subcommand(storm)?
-        .subcommand(locks)
+        .subcommand(locks)?
+        .subcommand(explain)
 }
 
 fn script_command<'a>(alloc: Global) -> Command<'a>

@@ -1,0 +1,10 @@
+use Rattle.std.proofs.Common.{◌+◌, ◌-◌}
+use Rattle.mm_lines.specs.Input.{IsReady}
+use Rattle.mm_explain.proofs.read_all.Given as goal
+
+abbrev pub invariant-loop-session : goal.invariant-loop-session
+invariant-loop-session g l = IsReady l.input
+
+-- how many bytes may still come
+abbrev pub decreases-loop-session : goal.decreases-loop-session
+decreases-loop-session g l = l.input.limits.input + 1 - l.input.taken

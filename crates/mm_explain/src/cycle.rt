@@ -1,0 +1,52 @@
+//! The cycle of waits that a transaction is on.
+
+use crate::sheet::{INDENT, Part, Sheet};
+use crate::view::View;
+use mm_table::{Key, Label, Table};
+
+/// Adds the cycle of waits that the transaction is on, behind `lead`, and which private label is the greatest on it; nothing where it is on
+/// none.
+pub fn explain_cycle(sheet: &mut Sheet, table: &Table, view: &mut View, key: Key, lead: &str) {
+    if !view.has_cycle(table, key.process) {
+        return;
+    }
+    sheet.parts(&[Part::Text(INDENT), Part::Text(lead), Part::Key(key)]);
+    for member in view.members.iter() {
+        if let Some(member) = table.tenant(*member) {
+            sheet.parts(&[Part::Text(" -> "), Part::Key(member)]);
+        }
+    }
+    sheet.newline();
+    if let Some((owner, label)) = greatest_private(table, &view.members) {
+        sheet.line(&[
+            Part::Text("the greatest private label on it is "),
+            Part::Label(label),
+            Part::Text(", that of "),
+            Part::Key(owner),
+        ]);
+    }
+}
+
+/// The greatest private label of these processes, and whose it is.
+fn greatest_private(table: &Table, members: &[u32]) -> Option<(Key, Label)> {
+    let mut greatest = None;
+    for member in members {
+        greatest = greater(greatest, private_of(table, *member));
+    }
+    greatest
+}
+
+/// The private label of this process, and the key of its transaction.
+fn private_of(table: &Table, process: u32) -> Option<(Key, Label)> {
+    let key = table.tenant(process)?;
+    let state = table.state(key).ok()?;
+    Some((key, state.private))
+}
+
+/// The one with the greater label.
+fn greater(first: Option<(Key, Label)>, second: Option<(Key, Label)>) -> Option<(Key, Label)> {
+    let (Some((_, one)), Some((_, other))) = (first, second) else {
+        return first.or(second);
+    };
+    if one < other { second } else { first }
+}

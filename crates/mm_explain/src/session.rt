@@ -1,0 +1,182 @@
+//! A script as far as it is explained.
+ghost use Rattle.std.specs.Prelude.{◌≤◌, length, IfOk};
+
+use crate::calls::{explain_call, explain_hand_over, explain_refusal};
+use crate::changes::explain_changes;
+use crate::heading::add_heading;
+use crate::picture::{Format, draw};
+use crate::sheet::Sheet;
+use crate::view::View;
+use crate::{ExplainFault, Options};
+use mm_lines::{Fault, index_of};
+use mm_script::{Call, Line, Reply, line_of, make};
+use mm_table::Table;
+use std::alloc::{AllocError, Global};
+use std::io::Write;
+
+/// A script as far as it is explained.
+#[derive(Drop)]
+pub struct Session {
+    alloc: Global,
+    options: Options,
+    /// The table that stands, if one does.
+    table: Option<Table>,
+    /// What that table showed before the line.
+    view: Option<View>,
+    /// What is not yet written.
+    sheet: Sheet,
+    /// How many lines were read.
+    lines: u64,
+    /// How many of them were malformed.
+    malformed: u64,
+}
+
+impl Session {
+    /// No line is read yet.
+    pub fn open(alloc: Global, options: Options) -> Result<Session, AllocError> {
+        let sheet = Sheet::open(alloc, options.has_colors)?;
+        Ok(Session {
+            alloc,
+            options,
+            table: None,
+            view: None,
+            sheet,
+            lines: 0,
+            malformed: 0,
+        })
+    }
+
+    /// Whether no more lines are wanted.
+    pub fn is_over(&self) -> bool {
+        match self.options.at {
+            Some(at) => self.lines >= at,
+            None => false,
+        }
+    }
+
+    /// Explains the lines whose newline is among the bytes, as far as they are wanted, and returns how many bytes they have.
+    pub fn explain_lines(&mut self, bytes: &[u8]) -> Result<usize, AllocError>
+        ensures { IfOk result (λ count. count ≤ length bytes.now) }
+    {
+        let mut count = 0;
+        while !self.is_over() {
+            let rest = bytes.split_at(count).1;
+            let newline = index_of(b'\n', rest);
+            if newline == rest.len() {
+                return Ok(count);
+            }
+            self.explain_line(rest.split_at(newline).0)?;
+            count += newline + 1;
+        }
+        Ok(count)
+    }
+
+    /// Explains the line that no newline ends, unless it is empty or not wanted.
+    pub fn explain_open(&mut self, line: &[u8]) -> Result<(), AllocError> {
+        if line.is_empty() || self.is_over() {
+            return Ok(());
+        }
+        self.explain_line(line)
+    }
+
+    /// Runs a line, and explains it where it is wanted.
+    fn explain_line(&mut self, line: &[u8]) -> Result<(), AllocError> {
+        self.lines = self.lines.saturating_add(1);
+        match line_of(line) {
+            Line::Silent => add_heading(&mut self.sheet, self.lines, line, None),
+            Line::Malformed => {
+                self.malformed = self.malformed.saturating_add(1);
+                add_heading(&mut self.sheet, self.lines, line, Some(&Reply::Malformed));
+            }
+            Line::Call(call) => self.explain_call(line, call)?,
+        }
+        if !self.is_wanted() {
+            self.sheet.clear();
+        }
+        Ok(())
+    }
+
+    /// Whether the text of the last line is printed.
+    fn is_wanted(&self) -> bool {
+        !self.options.mermaid && !self.options.dot && (self.options.at.is_none() || self.is_over())
+    }
+
+    /// Makes a call, and explains it.
+    fn explain_call(&mut self, line: &[u8], call: Call) -> Result<(), AllocError> {
+        if let (Some(table), Some(view), Some(key)) = (
+            &self.table,
+            &mut self.view,
+            ending_key(call),
+        ) {
+            view.list_owned(table, key);
+        }
+        let reply = make(&mut self.table, self.alloc, call);
+        add_heading(&mut self.sheet, self.lines, line, Some(&reply));
+        if let Reply::Refused(refusal) = reply {
+            explain_refusal(&mut self.sheet, refusal);
+            return Ok(());
+        }
+        self.explain_reply(call, &reply)
+    }
+
+    /// Explains a call that was not refused.
+    fn explain_reply(&mut self, call: Call, reply: &Reply) -> Result<(), AllocError> {
+        let Some(table) = &self.table else {
+            return Ok(());
+        };
+        if self.view.is_none() {
+            self.view = Some(View::open(self.alloc, table.config())?);
+        }
+        if let Some(view) = &mut self.view {
+            explain_hand_over(&mut self.sheet, table, view, call);
+            explain_changes(&mut self.sheet, table, view)?;
+            explain_call(&mut self.sheet, table, view, call, reply);
+        }
+        Ok(())
+    }
+
+    /// Writes what is explained.
+    pub fn write<W: Write>(&mut self, writer: &mut W) -> Result<(), ExplainFault> {
+        if self.sheet.is_short {
+            return Err(ExplainFault::Memory);
+        }
+        if writer.write_all(&self.sheet.bytes).is_err() {
+            return Err(ExplainFault::Lines(Fault::Write));
+        }
+        self.sheet.clear();
+        Ok(())
+    }
+
+    /// Adds the pictures that are wanted, and returns how many lines were malformed.
+    pub fn finish(&mut self) -> Result<u64, ExplainFault> {
+        if self.options.at.is_some() && !self.is_over() {
+            return Err(ExplainFault::NoLine(self.lines));
+        }
+        for (format, is_wanted) in [
+            (Format::Mermaid, self.options.mermaid),
+            (Format::Dot, self.options.dot),
+        ] {
+            if is_wanted
+                && draw(
+                    &mut self.sheet,
+                    self.alloc,
+                    &self.table,
+                    format,
+                    self.options.all,
+                )
+                .is_err()
+            {
+                return Err(ExplainFault::Memory);
+            }
+        }
+        Ok(self.malformed)
+    }
+}
+
+/// The key of a call that ends its transaction.
+fn ending_key(call: Call) -> Option<mm_table::Key> {
+    match call {
+        Call::Finish(key) | Call::Abort(key) => Some(key),
+        _ => None,
+    }
+}

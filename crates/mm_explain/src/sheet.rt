@@ -1,0 +1,181 @@
+//! The text that is not yet written.
+ghost use Rattle.std.specs.Prelude.{◌≡◌, ◌++◌, ◌<◌, codes, decimal};
+ghost use Rattle.mm_explain.specs.Sheet.{Adds};
+
+use itoa::Buffer;
+use mm_table::{Key, Label, Refusal};
+use std::alloc::{AllocError, Global};
+use std::io::Write;
+
+/// How many columns a line of text has at most, where its parts are not longer.
+const COLUMNS: usize = 100;
+
+/// Where the explanation of a line begins.
+pub const INDENT: &str = "         ";
+
+/// A part of a line of text.
+#[derive(Clone, Copy)]
+pub enum Part<'a> {
+    Text(&'a str),
+    Number(u64),
+    Key(Key),
+    Label(Label),
+}
+
+/// How text is shown on a terminal.
+#[derive(Clone, Copy)]
+pub enum Paint {
+    Plain,
+    Faint,
+    Strong,
+    Warning,
+    Alarm,
+}
+
+/// Text that is not yet written. Where memory for it is refused, some of it is missing.
+#[derive(Drop)]
+pub struct Sheet {
+    pub bytes: Vec<u8>,
+    /// Memory for some of the text was refused.
+    pub is_short: bool,
+    /// How many bytes of the last line are shown.
+    pub column: usize,
+    /// Paint is shown.
+    pub has_colors: bool,
+}
+
+impl Sheet {
+    /// No text.
+    pub fn open(alloc: Global, has_colors: bool) -> Result<Sheet, AllocError> {
+        Ok(Sheet {
+            bytes: Vec::with_capacity(alloc, 4096)?,
+            is_short: false,
+            column: 0,
+            has_colors,
+        })
+    }
+
+    /// Takes away all text.
+    pub fn clear(&mut self) {
+        self.bytes.clear();
+        self.column = 0;
+    }
+
+    /// Adds bytes that take no column.
+    fn add_hidden(&mut self, bytes: &[u8])
+        ensures { Adds self.old bytes.now self.new }
+    {
+        if self.bytes.extend_from_slice(bytes).is_err() {
+            self.is_short = true;
+        }
+    }
+
+    /// Adds bytes of one line.
+    pub fn add(&mut self, bytes: &[u8])
+        ensures { Adds self.old bytes.now self.new }
+    {
+        self.add_hidden(bytes);
+        self.column = self.column.saturating_add(bytes.len());
+    }
+
+    /// Adds a text of one line.
+    pub fn text(&mut self, text: &str)
+        ensures { Adds self.old text.now self.new }
+    {
+        self.add(text.as_bytes());
+    }
+
+    /// Adds a number, in decimal digits.
+    pub fn number(&mut self, number: u64)
+        ensures { Adds self.old (decimal number) self.new }
+    {
+        self.add(Buffer::new().format(number).as_bytes());
+    }
+
+    /// Adds a key, as `process.generation`.
+    pub fn key(&mut self, key: Key) {
+        self.number(u64::from(key.process));
+        self.text(".");
+        self.number(u64::from(key.generation));
+    }
+
+    /// Adds a label, as `counter.process`.
+    pub fn label(&mut self, label: Label) {
+        self.number(label.counter());
+        self.text(".");
+        self.number(u64::from(label.process()));
+    }
+
+    /// Adds what a refusal means.
+    pub fn refusal(&mut self, refusal: Refusal) {
+        if write!(self.bytes, "{refusal}").is_err() {
+            self.is_short = true;
+        }
+    }
+
+    /// Ends the line.
+    pub fn newline(&mut self)
+        ensures { Adds self.old (codes "\n") self.new }
+    {
+        self.add_hidden(b"\n");
+        self.column = 0;
+    }
+
+    /// Adds spaces up to this column.
+    pub fn fill_to(&mut self, column: usize) {
+        for _ in self.column..column {
+            self.text(" ");
+        }
+    }
+
+    /// Shows what follows so, where colours are shown.
+    pub fn paint(&mut self, paint: Paint) {
+        if self.has_colors {
+            self.add_hidden(match paint {
+                Paint::Plain => b"\x1b[0m",
+                Paint::Faint => b"\x1b[2m",
+                Paint::Strong => b"\x1b[1m",
+                Paint::Warning => b"\x1b[33m",
+                Paint::Alarm => b"\x1b[31m",
+            });
+        }
+    }
+
+    /// Adds a part, on a line of its own where it does not fit on this one.
+    pub fn part(&mut self, part: &Part<'_>) {
+        if self.column.saturating_add(length_of(part)) > COLUMNS {
+            self.newline();
+            self.text(INDENT);
+        }
+        match part {
+            Part::Text(text) => self.text(text),
+            Part::Number(number) => self.number(*number),
+            Part::Key(key) => self.key(*key),
+            Part::Label(label) => self.label(*label),
+        }
+    }
+
+    /// Adds parts, one after another.
+    pub fn parts(&mut self, parts: &[Part<'_>]) {
+        for part in parts {
+            self.part(part);
+        }
+    }
+
+    /// Adds a line of an explanation.
+    pub fn line(&mut self, parts: &[Part<'_>]) {
+        self.text(INDENT);
+        self.parts(parts);
+        self.newline();
+    }
+}
+
+/// How many columns a part takes, or a number of which it takes fewer.
+fn length_of(part: &Part<'_>) -> usize {
+    match part {
+        Part::Text(text) => text.len(),
+        Part::Number(_) => 5,
+        Part::Key(_) => 7,
+        Part::Label(_) => 7,
+    }
+}

@@ -1,0 +1,2 @@
+-- lemmas on edges and on walks along them
+pub mod Lemmas
