@@ -7,7 +7,9 @@ use crate::tests::rows::is_answered;
 use crate::tests::same::same;
 use faults::{FailingReader, FailingWriter, Newlines, WhenFull, read_is_at_fault, write_ends};
 use mm_script::{ScriptFault, run_script, usages};
+use std::alloc::Global;
 use std::io::ErrorKind;
+use std::process::Abort;
 use std::test::Fail;
 use test_support::Row;
 
@@ -30,133 +32,203 @@ fn malformed_line_is_counted(rt: HostRuntime) -> Result<(), Fail> {
     Ok(())
 }
 
+/// How many bytes a read gives, after how many reads one fails, what was written then, and how many bytes are left to be read.
+type FailingRead = (usize, u32, &'static str, usize);
+
+fn is_answered_until(
+    rt: &impl Abort,
+    alloc: Global,
+    script: &str,
+    kind: ErrorKind,
+    read: &FailingRead,
+) {
+    let (piece, calls, written, left) = *read;
+    let mut reader = FailingReader {
+        bytes: script.as_bytes(),
+        piece,
+        calls,
+        kind,
+    };
+    read_is_at_fault(rt, alloc, &mut reader, written.as_bytes());
+    assert_eq!(rt; reader.bytes.len(), left, "{piece} bytes, {calls} calls");
+}
+
+fn are_answered_until(
+    rt: &impl Abort,
+    alloc: Global,
+    script: &str,
+    kind: ErrorKind,
+    reads: &[FailingRead],
+) {
+    for read in reads {
+        is_answered_until(rt, alloc, script, kind, read);
+    }
+}
+
+const ONE: &str = "no table\n";
+
+const TWO: &str = "no table\nmalformed\n";
+
+static READS: [FailingRead; 6] = [
+    (64, 0, "", 13),
+    (64, 1, TWO, 0),
+    (4, 1, "", 9),
+    (4, 2, ONE, 5),
+    (4, 3, TWO, 1),
+    (1, 13, TWO, 0),
+];
+
 /// After two whole lines and a half of the third a read fails: the two are answered, and nothing is read or written after it.
 #[test]
 fn read_fails(rt: HostRuntime) -> Result<(), Fail> {
-    let two = "no table\nmalformed\n";
-    let one = "no table\n";
-    for (piece, calls, written, left) in [
-        (64, 0, "", 13),
-        (64, 1, two, 0),
-        (4, 1, "", 9),
-        (4, 2, one, 5),
-        (4, 3, two, 1),
-        (1, 13, two, 0),
-    ] {
-        for kind in [ErrorKind::Other, ErrorKind::Interrupted] {
-            let mut reader = FailingReader {
-                bytes: b"begin\nfly\nbeg".as_slice(),
-                piece,
-                calls,
-                kind,
-            };
-            read_is_at_fault(&rt, rt.alloc(), &mut reader, written.as_bytes());
-            assert_eq!(rt; reader.bytes.len(), left, "{piece} bytes, {calls} calls");
-        }
-    }
+    let script = "begin\nfly\nbeg";
+    are_answered_until(&rt, rt.alloc(), script, ErrorKind::Other, &READS);
+    are_answered_until(&rt, rt.alloc(), script, ErrorKind::Interrupted, &READS);
     Ok(())
 }
+
+const BEGUN: &str = "ok\nkey 0.1\n";
+
+static READS_WITHIN_A_LINE: [FailingRead; 3] = [
+    (64, 1, BEGUN, 0),
+    (7, 4, BEGUN, 0),
+    (1, 23, BEGUN, 0),
+];
 
 /// A read fails in the middle of a line: the lines before it are answered, and it is not.
 #[test]
 fn read_fails_within_a_line(rt: HostRuntime) -> Result<(), Fail> {
-    for (piece, calls) in [(64, 1), (7, 4), (1, 23)] {
-        let mut reader = FailingReader {
-            bytes: b"table 1 1 9 9\nbegin\nbeg".as_slice(),
-            piece,
-            calls,
-            kind: ErrorKind::Other,
-        };
-        read_is_at_fault(&rt, rt.alloc(), &mut reader, b"ok\nkey 0.1\n".as_slice());
-        assert!(rt; reader.bytes.is_empty(), "{piece} bytes a call");
-    }
+    let script = "table 1 1 9 9\nbegin\nbeg";
+    are_answered_until(
+        &rt,
+        rt.alloc(),
+        script,
+        ErrorKind::Other,
+        &READS_WITHIN_A_LINE,
+    );
     Ok(())
+}
+
+/// A writer takes so many bytes a call, until it is full or its flush fails: then it took this, the script ended so, and so many flushes came.
+struct FailingWrite {
+    piece: usize,
+    room: usize,
+    when_full: WhenFull,
+    flush_fails: bool,
+    taken: &'static str,
+    outcome: Result<u64, ScriptFault>,
+    flushes: u32,
+}
+
+static WRITES: [FailingWrite; 4] = [
+    FailingWrite {
+        piece: 4,
+        room: 4,
+        when_full: WhenFull::Fails,
+        flush_fails: true,
+        taken: "ok\nk",
+        outcome: Err(ScriptFault::Write),
+        flushes: 0,
+    },
+    FailingWrite {
+        piece: 3,
+        room: 3,
+        when_full: WhenFull::TakesNone,
+        flush_fails: true,
+        taken: "ok\n",
+        outcome: Err(ScriptFault::Write),
+        flushes: 0,
+    },
+    FailingWrite {
+        piece: 4096,
+        room: 4096,
+        when_full: WhenFull::Fails,
+        flush_fails: true,
+        taken: REPLIES,
+        outcome: Err(ScriptFault::Write),
+        flushes: 1,
+    },
+    FailingWrite {
+        piece: 1,
+        room: 4096,
+        when_full: WhenFull::Fails,
+        flush_fails: false,
+        taken: REPLIES,
+        outcome: Ok(0),
+        flushes: 1,
+    },
+];
+
+fn write_is_at_fault(rt: &impl Abort, alloc: Global, write: &FailingWrite) {
+    let mut writer = FailingWriter {
+        taken: Vec::new(alloc),
+        piece: write.piece,
+        room: write.room,
+        when_full: write.when_full,
+        flushes: 0,
+        flush_fails: write.flush_fails,
+    };
+    write_ends(
+        rt,
+        alloc,
+        SCRIPT.as_bytes(),
+        &mut writer,
+        write.taken.as_bytes(),
+        write.outcome,
+    );
+    same(rt, writer.flushes, write.flushes);
 }
 
 /// A writer takes some bytes a call, and fails or takes none when it is full, or fails at the flush:
 /// no write and no flush comes after it. Where nothing fails there is one flush.
 #[test]
 fn write_fails(rt: HostRuntime) -> Result<(), Fail> {
-    for (piece, room, when_full, flush_fails, taken, outcome, flushes) in [
-        (
-            4,
-            4,
-            WhenFull::Fails,
-            true,
-            "ok\nk",
-            Err(ScriptFault::Write),
-            0,
-        ),
-        (
-            3,
-            3,
-            WhenFull::TakesNone,
-            true,
-            "ok\n",
-            Err(ScriptFault::Write),
-            0,
-        ),
-        (
-            4096,
-            4096,
-            WhenFull::Fails,
-            true,
-            REPLIES,
-            Err(ScriptFault::Write),
-            1,
-        ),
-        (1, 4096, WhenFull::Fails, false, REPLIES, Ok(0), 1),
-    ] {
-        let mut writer = FailingWriter {
-            taken: Vec::new(rt.alloc()),
-            piece,
-            room,
-            when_full,
-            flushes: 0,
-            flush_fails,
-        };
-        write_ends(
-            &rt,
-            rt.alloc(),
-            SCRIPT.as_bytes(),
-            &mut writer,
-            taken.as_bytes(),
-            outcome,
-        );
-        assert_eq!(rt; writer.flushes, flushes, "{piece} bytes a call");
+    for write in &WRITES {
+        write_is_at_fault(&rt, rt.alloc(), write);
     }
     Ok(())
+}
+
+/// Ends the test unless so many newlines end so, and all are read.
+fn newlines_end(rt: &impl Abort, alloc: Global, left: usize, outcome: Result<u64, ScriptFault>) {
+    let mut reader = Newlines { left };
+    let mut output = Vec::new(alloc);
+    let ended = run_script(alloc, &mut reader, &mut output);
+    same(rt, ended, outcome);
+    same(rt, (reader.left, output.len()), (0, 0));
 }
 
 /// Newlines alone have no reply; one more than the limit is too long.
 #[test]
 fn newlines_alone(rt: HostRuntime) -> Result<(), Fail> {
-    for (left, outcome) in [(16_777_216, Ok(0)), (16_777_217, Err(ScriptFault::TooLong))] {
-        let mut reader = Newlines { left };
-        let mut output = Vec::new(rt.alloc());
-        assert_eq!(rt; run_script(rt.alloc(), &mut reader, &mut output), outcome);
-        assert_eq!(rt; reader.left, 0);
-        assert!(rt; output.is_empty());
-    }
+    newlines_end(&rt, rt.alloc(), 16_777_216, Ok(0));
+    newlines_end(&rt, rt.alloc(), 16_777_217, Err(ScriptFault::TooLong));
+    Ok(())
+}
+
+static FAULTS: [(ScriptFault, &str); 3] = [
+    (ScriptFault::Read, "read fault"),
+    (ScriptFault::Write, "write fault"),
+    (ScriptFault::TooLong, "input too long"),
+];
+
+fn is_printed(rt: &impl Abort, alloc: Global, fault: ScriptFault, text: &str) -> Result<(), Fail> {
+    let printed = format!(in alloc; "{fault}")?;
+    same(rt, printed.as_str(), text);
     Ok(())
 }
 
 /// A fault is printed as these words.
 #[test]
 fn faults_are_printed(rt: HostRuntime) -> Result<(), Fail> {
-    for (fault, text) in [
-        (ScriptFault::Read, "read fault"),
-        (ScriptFault::Write, "write fault"),
-        (ScriptFault::TooLong, "input too long"),
-    ] {
-        let printed = format!(in rt.alloc(); "{fault}")?;
-        assert_eq!(rt; printed.as_str(), text);
+    for (fault, text) in &FAULTS {
+        is_printed(&rt, rt.alloc(), *fault, text)?;
     }
     Ok(())
 }
 
 /// The calls of the page on scripts, in its order.
-const CALLS: [(&str, &str); 14] = [
+static CALLS: [(&str, &str); 14] = [
     ("table", "P R L G"),
     ("table2", "P R L G"),
     ("begin", ""),

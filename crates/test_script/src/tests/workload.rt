@@ -160,7 +160,7 @@ fn the_greatest(rt: HostRuntime) -> Result<(), Fail> {
     Ok(())
 }
 
-const OF_THE_SAME: [(&str, &str); 3] = [
+static OF_THE_SAME: [(&str, &str); 3] = [
     ("]]]}", "]]],\"note\":[null,1.5,-0,{\"turns\":3}]} \n"),
     ("{\"processes\":2", "\r\n{ \"\":0,\t\"processes\" : 2 "),
     ("[\"acquire\",0]", "[\"\\u0061cquire\",0]"),
@@ -169,8 +169,8 @@ const OF_THE_SAME: [(&str, &str); 3] = [
 /// Other keys are passed over, spaces too, and an escaped word is that word.
 #[test]
 fn other_texts_of_the_same(rt: HostRuntime) -> Result<(), Fail> {
-    for change in OF_THE_SAME {
-        begins_with(&rt, rt.alloc(), change, WorkStep::Acquire(0))?;
+    for change in &OF_THE_SAME {
+        begins_with(&rt, rt.alloc(), *change, WorkStep::Acquire(0))?;
     }
     let nested = with_nested_arrays(rt.alloc(), 126)?;
     let work = Workload::read(rt.alloc(), nested.as_bytes())?;

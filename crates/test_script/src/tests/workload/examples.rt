@@ -72,15 +72,19 @@ const CHAIN: &str = r#"{
 }
 "#;
 
+/// Each text, with its processes, clients and steps.
+static FILES: [(&str, u32, usize, usize); 4] = [
+    (CROSSWISE, 2, 2, 6),
+    (PHILOSOPHERS, 5, 5, 15),
+    (HOT_RESOURCE, 8, 8, 20),
+    (CHAIN, 5, 5, 11),
+];
+
 /// Each is read, with so many processes, clients and steps.
 #[test]
 fn are_read(rt: HostRuntime) -> Result<(), Fail> {
-    for (text, processes, clients, steps) in [
-        (CROSSWISE, 2, 2, 6),
-        (PHILOSOPHERS, 5, 5, 15),
-        (HOT_RESOURCE, 8, 8, 20),
-        (CHAIN, 5, 5, 11),
-    ] {
+    for file in &FILES {
+        let (text, processes, clients, steps) = *file;
         let work = Workload::read(rt.alloc(), text.as_bytes())?;
         same(&rt, work.config().processes, processes);
         same(&rt, work.clients().len(), clients);

@@ -7,7 +7,7 @@ use std::process::Abort;
 use std::test::Fail;
 
 /// What the clients of storms acquire, by seed: as tests/storm_table computes it from the published algorithm of the generator.
-const ACQUIRED: [(u64, [&[u32]; 4]); 5] = [
+static ACQUIRED: [(u64, [&[u32]; 4]); 5] = [
     (0, [&[6], &[0, 4, 6, 5], &[1, 5], &[4, 3]]),
     (1, [&[5], &[6, 0], &[3], &[0, 4]]),
     (2, [&[4, 3], &[7, 0, 6, 1], &[4, 6], &[6]]),
