@@ -1,5 +1,5 @@
-//! A client runs one transaction, or the same one many times.
-ghost use Rattle.std.specs.Prelude.{◌≡◌, ◌+◌, ◌≤◌, false, IfErr, vec_len, vec_capacity, count_by};
+//! A client runs one transaction.
+ghost use Rattle.std.specs.Prelude.{◌≡◌, ◌+◌, false, IfErr};
 ghost use Rattle.mm_clients.specs.End.{is_aborted, aborts_of};
 
 use crate::end::End;
@@ -10,7 +10,7 @@ use mm_workload::WorkStep;
 use std::marker::Model;
 use std::thread;
 
-/// A worker that runs one transaction, or the same one many times: it begins, makes its steps in order, and finishes, or is aborted where it gets a verdict.
+/// A worker that runs one transaction: it begins, makes its steps in order, and finishes, or is aborted where it gets a verdict.
 ///
 /// Each asking at the gate, each try at `begin` and each round of waiting uses one of its turns. Where it needs one and all are used, it
 /// ends `Spent` and calls the table no more: what it owns then stays owned. A contract sees it as its table.
@@ -72,23 +72,6 @@ impl<S: Steps + Drop, G: Gate + Drop> Client<S, G> {
         let end = self.transaction();
         self.gate.leave();
         end
-    }
-
-    /// Runs the transaction so many times, one after another, whatever the end of the one before it; lists their ends in order, and leaves the
-    /// gate last. It makes one abort for each end `Aborted`, and no other. The turns are those of all of them together: where they are used
-    /// up, the transactions that are left end `Spent` without a call of the table. `O(transactions * steps + turns)` calls.
-    pub fn run_each(&mut self, transactions: u32, ends: &mut Vec<End>)
-        requires empty { vec_len ends.old ≡ 0 }
-        requires room { transactions ≤ vec_capacity ends.old }
-        ensures each { vec_len ends.new ≡ transactions }
-        ensures aborts { (S.shares self.new).aborts ≡ (S.shares self.old).aborts + count_by is_aborted ends.new.items }
-        ensures parts { (S.shares self.new).parts ≡ (S.shares self.old).parts }
-    {
-        for _ in 0..transactions {
-            let end = self.transaction();
-            ends.push_reserved(end);
-        }
-        self.gate.leave();
     }
 
     /// The transaction, from its begin to its end.

@@ -18,14 +18,14 @@ has_ended Aborted = true
 has_ended _ = false
 
 abbrev pub work_status : WorkEnd → ℕ
-work_status (Ran outcome) = if list_all has_ended outcome.ends.items then 0 else 5
+work_status (Ran ran) = if list_all has_ended ran.outcome.ends.items then 0 else 5
 work_status (Malformed place) = 1
 work_status (Refused refusal) = 4
 
 -- a workload is run, with an end for each client, or refused as its table is; what is malformed ends so, at the same place; and where
 -- memory for the workload was refused, that is told
 abbrev pub EndsAs : Result Work WorkFault → WorkEnd → Type 0
-EndsAs (Ok work) (Ran outcome) = vec_len outcome.ends ≡ length work.clients
+EndsAs (Ok work) (Ran ran) = vec_len ran.outcome.ends ≡ length work.clients
 EndsAs (Ok work) (Refused refusal) = Opens work.config (Err refusal)
 EndsAs (Err (faults.Malformed place)) (Malformed at) = at ≡ place
 EndsAs (Err faults.Memory) (Refused refusal) = refusal ≡ refusals.Memory

@@ -62,8 +62,8 @@ fn reported<R: Runtime + Threads + Wait + Sync, W: Write>(
     let end = end_of(rt, alloc, source, reporting.verbose, work);
     let seconds = seconds_since(rt, begun);
     let status = print_end(&end, writer)?;
-    if let WorkEnd::Ran(outcome) = &end {
-        let report = report_of(source, work, outcome, seconds);
+    if let WorkEnd::Ran(ran) = &end {
+        let report = report_of(source, work, ran, seconds);
         write_report(rt, alloc, reporting.path, &report)?;
     }
     Ok(status)

@@ -7,7 +7,7 @@ use crate::work::{gates_of, print_end};
 use crate::work_end::WorkEnd;
 use mm_script::ScriptFault;
 use mm_table::Refusal;
-use mm_workers::{End, Outcome, SharedGate, run_threads};
+use mm_workers::{End, SharedGate, TalliedOutcome, run_tallied};
 use mm_workload::{WorkFault, Workload};
 use std::alloc::Global;
 use std::io::{Eprint, Write};
@@ -53,10 +53,10 @@ pub fn verbose_end<R: Clock + Eprint + Threads + Wait + Sync>(
     print_workload(rt, name, work);
     let begun = Instant::now(rt).ok();
     match run(rt, alloc, work) {
-        Ok(outcome) => {
-            print_ends(rt, outcome.ends.as_slice());
-            print_duration(rt, begun, outcome.report.accepted);
-            WorkEnd::Ran(outcome)
+        Ok(ran) => {
+            print_ends(rt, ran.outcome.ends.as_slice());
+            print_duration(rt, begun, ran.outcome.report.accepted);
+            WorkEnd::Ran(ran)
         }
         Err(refusal) => WorkEnd::Refused(refusal),
     }
@@ -109,7 +109,7 @@ fn run<R: Clock + Eprint + Threads + Wait + Sync>(
     rt: &R,
     alloc: Global,
     work: &Workload,
-) -> Result<Outcome, Refusal> {
+) -> Result<TalliedOutcome, Refusal> {
     let mut gates = gates_of(rt, alloc, work, 1)?;
     let Some(gate) = gates.pop() else {
         return Err(Refusal::Memory);
@@ -122,7 +122,7 @@ fn run<R: Clock + Eprint + Threads + Wait + Sync>(
     thread::scope(
         thread::scope_env(),
         rt,
-        |scope| -> Result<Outcome, Refusal>
+        |scope| -> Result<TalliedOutcome, Refusal>
             requires { vec_len gates ≡ length work.now.clients + work.now.transmitters }
         { run_watched(scope, rt, alloc, work, gates, &watch) },
     )
@@ -136,14 +136,14 @@ fn run_watched<'s, 'e, R: Clock + Eprint + Threads + Wait + Sync>(
     work: &Workload,
     gates: Vec<SharedGate<'e, R>>,
     watch: &'e Watch<'e, R>,
-) -> Result<Outcome, Refusal>
+) -> Result<TalliedOutcome, Refusal>
     requires { vec_len gates ≡ length work.now.clients + work.now.transmitters }
 {
     // A run that cannot be watched is run all the same.
     let _watcher = scope.spawn(move || watch.run(rt));
-    let outcome = run_threads(rt, alloc, work, gates);
+    let ran = run_tallied(rt, alloc, work, gates);
     watch.is_over.store(true, SeqCst);
-    outcome
+    ran
 }
 
 /// What a thread prints of a run while it goes on.

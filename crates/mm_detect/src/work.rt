@@ -11,7 +11,7 @@ use crate::work_end::WorkEnd;
 use mm_command::StormOptions;
 use mm_script::ScriptFault;
 use mm_table::Refusal;
-use mm_workers::{Outcome, SharedGate, run_threads, shared_gates};
+use mm_workers::{SharedGate, TalliedOutcome, run_tallied, shared_gates};
 use mm_workload::{StormShape, WorkFault, Workload, shaped_storm};
 use std::alloc::Global;
 use std::io::Write;
@@ -75,7 +75,7 @@ fn end_of<R: Threads + Wait + Sync>(
 {
     match read {
         Ok(work) => match run(rt, alloc, &work) {
-            Ok(outcome) => WorkEnd::Ran(outcome),
+            Ok(ran) => WorkEnd::Ran(ran),
             Err(refusal) => WorkEnd::Refused(refusal),
         },
         Err(WorkFault::Malformed(place)) => WorkEnd::Malformed(place),
@@ -88,18 +88,22 @@ pub fn quiet_end<R: Threads + Wait + Sync>(rt: &R, alloc: Global, work: &Workloa
     ensures { work_status result ≢ 1 }
 {
     match run(rt, alloc, work) {
-        Ok(outcome) => WorkEnd::Ran(outcome),
+        Ok(ran) => WorkEnd::Ran(ran),
         Err(refusal) => WorkEnd::Refused(refusal),
     }
 }
 
 /// Runs all workers of the workload. Refused as the table is, or as `Memory` where a thread cannot be started.
-fn run<R: Threads + Wait + Sync>(rt: &R, alloc: Global, work: &Workload) -> Result<Outcome, Refusal>
-    ensures each { IfOk result (λ outcome. vec_len outcome.ends ≡ length work.now.clients) }
+fn run<R: Threads + Wait + Sync>(
+    rt: &R,
+    alloc: Global,
+    work: &Workload,
+) -> Result<TalliedOutcome, Refusal>
+    ensures each { IfOk result (λ ran. vec_len ran.outcome.ends ≡ length work.now.clients) }
     ensures refused { IfErr result (λ refusal. Opens work.now.config (Err refusal)) }
 {
     let gates = gates_of(rt, alloc, work, 0)?;
-    run_threads(rt, alloc, work, gates)
+    run_tallied(rt, alloc, work, gates)
 }
 
 /// A gate for each worker of the workload, and so many more. The numbers of the table are tested first, so it is refused as `Memory` only

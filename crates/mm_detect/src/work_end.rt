@@ -4,7 +4,7 @@ ghost use Rattle.std.specs.List.{list_all};
 ghost use Rattle.mm_detect.specs.WorkEnd.{work_status, has_ended};
 
 use mm_table::Refusal;
-use mm_workers::{End, Outcome};
+use mm_workers::{End, TalliedOutcome};
 use mm_workload::Place;
 use std::fmt;
 use std::fmt::{Display, Formatter};
@@ -13,7 +13,7 @@ use std::fmt::{Display, Formatter};
 #[derive(Drop)]
 pub enum WorkEnd {
     /// It was run, and all clients have ended.
-    Ran(Outcome),
+    Ran(TalliedOutcome),
     /// The file says no workload, since it is malformed at this place.
     Malformed(Place),
     /// The table, the start of a thread, or memory was refused.
@@ -27,7 +27,7 @@ impl WorkEnd {
         ensures { result ≡ work_status self.now }
     {
         match self {
-            WorkEnd::Ran(outcome) if all_have_ended(outcome.ends.as_slice()) => 0,
+            WorkEnd::Ran(ran) if all_have_ended(ran.outcome.ends.as_slice()) => 0,
             WorkEnd::Ran(_) => 5,
             WorkEnd::Malformed(_) => 1,
             WorkEnd::Refused(_) => 4,
@@ -46,7 +46,7 @@ fn all_have_ended(ends: &[End]) -> bool
 impl Display for WorkEnd {
     fn fmt<W: fmt::Write>(&self, f: &mut Formatter<W>) -> fmt::Result {
         match self {
-            WorkEnd::Ran(outcome) => write!(f, "{outcome}"),
+            WorkEnd::Ran(ran) => write!(f, "{}", ran.outcome),
             WorkEnd::Malformed(_) => f.write_str("malformed workload"),
             WorkEnd::Refused(refusal) => {
                 write!(f, "refused {} {}", refusal.number(), refusal.name())

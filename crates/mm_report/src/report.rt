@@ -3,7 +3,7 @@ ghost use Rattle.std.specs.Prelude.{◌≡◌, length};
 ghost use Rattle.mm_report.specs.Report.{AreEnds, AreNumbers, AreTotals};
 
 use crate::source::Source;
-use mm_workers::Outcome;
+use mm_workers::{Outcome, TalliedOutcome};
 use mm_workload::Workload;
 use serde::Serialize;
 use serde_json::Error;
@@ -61,28 +61,24 @@ pub struct Totals {
 pub fn report_of<'a>(
     source: Source<'a>,
     work: &Workload,
-    outcome: &Outcome,
+    ran: &TalliedOutcome,
     seconds: Option<f64>,
 ) -> RunReport<'a>
     ensures source { result.source ≡ source.entry }
     ensures workload { AreNumbers work.now result.workload }
-    ensures ends { AreEnds outcome.now.ends.items result.ends }
-    ensures totals { AreTotals outcome.now.report result.totals }
-    ensures waits { result.waits ≡ outcome.now.tally.waits }
-    ensures raises { result.raises ≡ outcome.now.tally.raises }
+    ensures ends { AreEnds ran.now.outcome.ends.items result.ends }
+    ensures totals { AreTotals ran.now.outcome.report result.totals }
+    ensures waits { result.waits ≡ ran.now.tally.waits }
+    ensures raises { result.raises ≡ ran.now.tally.raises }
     ensures seconds { result.seconds ≡ seconds }
 {
     RunReport {
         source,
         workload: numbers_of(work),
-        ends: ends_of(outcome),
-        totals: Totals {
-            accepted: outcome.report.accepted,
-            verdicts: outcome.report.verdicts,
-            aborts: outcome.report.aborts,
-        },
-        waits: outcome.tally.waits,
-        raises: outcome.tally.raises,
+        ends: ends_of(&ran.outcome),
+        totals: totals_of(&ran.outcome),
+        waits: ran.tally.waits,
+        raises: ran.tally.raises,
         seconds,
     }
 }
@@ -99,6 +95,16 @@ fn numbers_of(work: &Workload) -> Numbers
         resources: config.resources,
         label_limit: config.label_limit,
         generation_limit: config.generation_limit,
+    }
+}
+
+fn totals_of(outcome: &Outcome) -> Totals
+    ensures { AreTotals outcome.now.report result }
+{
+    Totals {
+        accepted: outcome.report.accepted,
+        verdicts: outcome.report.verdicts,
+        aborts: outcome.report.aborts,
     }
 }
 

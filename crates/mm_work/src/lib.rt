@@ -5,7 +5,7 @@
 pub use mm_script::{ScriptFault, run_script};
 pub use mm_workers::{
     Client, Counts, Desk, End, EndCounts, Gate, Hint, HintKind, Outcome, Report, SharedGate, Steps,
-    Tally, Transmitter, run_threads, shared_gates,
+    TalliedOutcome, Tally, Transmitter, run_tallied, run_threads, shared_gates,
 };
 pub use mm_workload::{
     Config, Place, StepFault, StormShape, WorkFault, WorkStep, Workload, shaped_storm, storm,

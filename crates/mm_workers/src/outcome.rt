@@ -15,6 +15,12 @@ pub struct Outcome {
     pub ends: Vec<End>,
     /// What the table counted.
     pub report: Report,
+}
+
+/// What came of a workload, with what its workers counted.
+#[derive(Drop)]
+pub struct TalliedOutcome {
+    pub outcome: Outcome,
     /// What all workers counted of the replies to their calls.
     pub tally: Tally,
 }

@@ -7,7 +7,7 @@ ghost use Rattle.mm_clients.specs.End.{is_aborted};
 
 use crate::gather::{gather_clients, gather_transmitters};
 use crate::job::{Ended, Stopped};
-use crate::outcome::Outcome;
+use crate::outcome::{Outcome, TalliedOutcome};
 use crate::start::{client_jobs, run_jobs, transmitter_jobs};
 use crate::tally::Tally;
 use mm_clients::{End, Gate};
@@ -36,9 +36,28 @@ pub fn run_threads<R: Threads + Wait + Sync, G: Gate + Send + Drop>(
     ensures in_range { OnOk result (IsInRange workload.now.config) }
     ensures refused { IfErr result (λ refusal. Opens workload.now.config (Err refusal)) }
 {
+    match run_tallied(rt, alloc, workload, gates) {
+        Ok(TalliedOutcome { outcome, tally: _ }) => Ok(outcome),
+        Err(refusal) => Err(refusal),
+    }
+}
+
+/// `run_threads`, which also returns what the workers counted of the replies to their calls.
+pub fn run_tallied<R: Threads + Wait + Sync, G: Gate + Send + Drop>(
+    rt: &R,
+    alloc: Global,
+    workload: &Workload,
+    gates: Vec<G>,
+) -> Result<TalliedOutcome, Refusal>
+    requires gates { vec_len gates ≡ length workload.now.clients + workload.now.transmitters }
+    ensures each { IfOk result (λ ran. vec_len ran.outcome.ends ≡ length workload.now.clients) }
+    ensures aborts { IfOk result (λ ran. count_by is_aborted ran.outcome.ends.items ≡ ran.outcome.report.aborts) }
+    ensures in_range { OnOk result (IsInRange workload.now.config) }
+    ensures refused { IfErr result (λ refusal. Opens workload.now.config (Err refusal)) }
+{
     let prepared = Prepared::new(alloc, workload.config())?;
     match run_on::<Brand, Brand, Brand, Brand, R, G>(rt, alloc, prepared, workload, gates) {
-        Ok(outcome) => Ok(outcome),
+        Ok(ran) => Ok(ran),
         Err(_) => Err(Refusal::Memory),
     }
 }
@@ -57,14 +76,14 @@ fn run_on<
     prepared: Prepared,
     workload: &Workload,
     gates: Vec<G>,
-) -> Result<Outcome, AllocError>
+) -> Result<TalliedOutcome, AllocError>
     requires board { prepared.board ≡ N.board }
     requires accepted { (prepared.accepted.name ≡ A.name) × (prepared.accepted.parts ≡ A.parts) }
     requires verdicts { (prepared.verdicts.name ≡ V.name) × (prepared.verdicts.parts ≡ V.parts) }
     requires aborts { (prepared.aborts.name ≡ B.name) × (prepared.aborts.parts ≡ B.parts) }
     requires gates { vec_len gates ≡ length workload.now.clients + workload.now.transmitters }
-    ensures each { IfOk result (λ outcome. vec_len outcome.ends ≡ length workload.now.clients) }
-    ensures aborts { IfOk result (λ outcome. count_by is_aborted outcome.ends.items ≡ outcome.report.aborts) }
+    ensures each { IfOk result (λ ran. vec_len ran.outcome.ends ≡ length workload.now.clients) }
+    ensures aborts { IfOk result (λ ran. count_by is_aborted ran.outcome.ends.items ≡ ran.outcome.report.aborts) }
 {
     let (table, mut pass) = prepared.open::<N, A, V, B>();
     let mut tally = Tally::NONE;
@@ -72,9 +91,8 @@ fn run_on<
     let report = table.into_report(pass);
     let ends = ends?;
     match report {
-        Some(report) => Ok(Outcome {
-            ends,
-            report,
+        Some(report) => Ok(TalliedOutcome {
+            outcome: Outcome { ends, report },
             tally,
         }),
         None => unreachable!(),

@@ -14,11 +14,11 @@ not_one false e = omega (arith, e)
 -- a run that ends as malformed is of bytes that say no workload
 pub ends_as_malformed : {A : Type 0} (r : Result Work WorkFault) (end : WorkEnd) → EndsAs r end → work_status end ≡ 1
     → IfErr r (λ fault. ¬ (fault ≡ faults.Memory) → A) → A
-ends_as_malformed (Ok w) (Ran outcome) ends is none = absurd (not_one _ is)
+ends_as_malformed (Ok w) (Ran ran) ends is none = absurd (not_one _ is)
 ends_as_malformed (Ok w) (Malformed at) ends is none = absurd ends
 ends_as_malformed (Ok w) (Refused refusal) ends is none = absurd (cc)
 ends_as_malformed (Err (faults.Malformed place)) end ends is none = none (λ e. cc)
-ends_as_malformed (Err faults.Memory) (Ran outcome) ends is none = absurd ends
+ends_as_malformed (Err faults.Memory) (Ran ran) ends is none = absurd ends
 ends_as_malformed (Err faults.Memory) (Malformed at) ends is none = absurd ends
 ends_as_malformed (Err faults.Memory) (Refused refusal) ends is none = absurd (cc)
 
@@ -26,11 +26,11 @@ ends_as_malformed (Err faults.Memory) (Refused refusal) ends is none = absurd (c
 pub ends_as_run : {P : Work → Type 0} (r : Result Work WorkFault) (end : WorkEnd) → EndsAs r end → ((work_status end ≡ 0) ⊎ (work_status end ≡ 5))
     → IfOk r P → (w : Work) × P w
 ends_as_run (Ok w) end ends is says = (w, says)
-ends_as_run (Err (faults.Malformed place)) (Ran outcome) ends is says = absurd ends
+ends_as_run (Err (faults.Malformed place)) (Ran ran) ends is says = absurd ends
 ends_as_run (Err (faults.Malformed place)) (Malformed at) ends (inl e) says = absurd (cc)
 ends_as_run (Err (faults.Malformed place)) (Malformed at) ends (inr e) says = absurd (cc)
 ends_as_run (Err (faults.Malformed place)) (Refused refusal) ends is says = absurd ends
-ends_as_run (Err faults.Memory) (Ran outcome) ends is says = absurd ends
+ends_as_run (Err faults.Memory) (Ran ran) ends is says = absurd ends
 ends_as_run (Err faults.Memory) (Malformed at) ends is says = absurd ends
 ends_as_run (Err faults.Memory) (Refused refusal) ends (inl e) says = absurd (cc)
 ends_as_run (Err faults.Memory) (Refused refusal) ends (inr e) says = absurd (cc)

@@ -1,7 +1,7 @@
 //! The two lines that say what came of a workload, with six different numbers.
 
 use crate::tests::same::same;
-use mm_workers::{End, Outcome, Report, Tally};
+use mm_workers::{End, Outcome, Report};
 use std::test::Fail;
 
 const ENDS: [End; 10] = [
@@ -25,10 +25,6 @@ fn an_outcome_is_two_lines(rt: HostRuntime) -> Result<(), Fail> {
             accepted: 7,
             verdicts: 6,
             aborts: 5,
-        },
-        tally: Tally {
-            waits: 8,
-            raises: 9,
         },
     };
     let text = format!(in rt.alloc(); "{outcome}")?;

@@ -1,4 +1,4 @@
-use Rattle.mm_workers.proofs.run.run_threads.Given as goal
+use Rattle.mm_workers.proofs.run.run_tallied.Given as goal
 
 -- the board and the ledgers that were just made
 abbrev pub ghosts-run_on-N-Name : goal.ghosts-run_on-N-Name
