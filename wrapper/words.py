@@ -15,6 +15,12 @@ LOCKS_USAGE = "mmdetect locks [OPTIONS]"
 EXPLAIN_USAGE = "mmdetect explain [OPTIONS] [FILE]"
 EXPLAIN_NUMBERS = {"at": (1, U64_MOST)}
 EXPLAIN_FLAGS = ("--mermaid", "--dot", "--all")
+# the options of each subcommand, with what the usage shows behind each
+REPORT_OPTIONS = {"report": " <FILE>", "verbose": ""}
+STORM_OPTIONS = {**dict.fromkeys(STORM_NUMBERS, " <N>"), **REPORT_OPTIONS, "help": ""}
+THREADS_OPTIONS = {**REPORT_OPTIONS, "help": ""}
+LOCKS_OPTIONS = {**dict.fromkeys(LOCKS_NUMBERS, " <N>"), "help": ""}
+EXPLAIN_OPTIONS = {"mermaid": "", "dot": "", "all": "", "at": " <N>", "help": ""}
 
 
 @dataclass
@@ -99,6 +105,29 @@ def unexpected(word, usage):
     return wrong(f"unexpected argument '{word}' found", usage)
 
 
+def nearest(name, names):
+    """The name that clap takes for what was meant, or None: the usage shows it."""
+    likeness, found = max((jaro(name, other), other) for other in names)
+    return found if likeness > 0.7 else None
+
+
+def jaro(one, other):
+    """The Jaro similarity of two texts."""
+    reach = max(max(len(one), len(other)) // 2 - 1, 0)
+    taken, places = [], []
+    for place, letter in enumerate(one):
+        for at in range(max(place - reach, 0), min(place + reach + 1, len(other))):
+            if at not in places and other[at] == letter:
+                taken.append(letter)
+                places.append(at)
+                break
+    count = len(taken)
+    if count == 0:
+        return 0.0
+    moved = sum(letter != other[at] for letter, at in zip(taken, sorted(places))) // 2
+    return (count / len(one) + count / len(other) + (count - moved) / count) / 3
+
+
 def of_help(words):
     if not words:
         return Help("mmdetect")
@@ -124,9 +153,25 @@ class Reading:
 
     left: list
     usage: str
+    options: dict  # by name, what stands behind it: nothing, or a word for its value
     verbose: bool = False
     files: list = field(default_factory=list)
+    shown: list = field(default_factory=list)  # the options that were given, in their order, as a usage shows them
     given: set = field(default_factory=set)
+
+    def is_option(self, word):
+        """Whether this word begins an option or a flag."""
+        name = word.partition("=")[0]
+        return name == "-h" or (name == "-v" and "verbose" in self.options) or (name[:2] == "--" and name[2:] in self.options)
+
+    def unexpected(self, word):
+        """The fault of a word that no option begins with; its usage shows the option that is most like it."""
+        name = word.partition("=")[0]
+        near = nearest(name[2:], self.options) if name.startswith("--") and len(name) > 2 else None
+        if near is None:
+            return unexpected(name if name.startswith("--") else word, self.usage)
+        place = self.usage.partition(" [OPTIONS]")
+        return unexpected(name, f"{place[0]} --{near}{self.options[near]}{place[2]}")
 
     def take_flag(self, word):
         """Takes a word that every subcommand with options knows, and returns whether it was one."""
@@ -135,6 +180,7 @@ class Reading:
         if self.verbose:
             raise wrong("the argument '--verbose' cannot be used multiple times", self.usage)
         self.verbose = True
+        self.shown.append("--verbose")
         return True
 
     def take_report(self, word):
@@ -143,11 +189,12 @@ class Reading:
         if name != "--report":
             return False
         take_value(self, name, "FILE", has_value, value)
+        self.shown.append("--report <FILE>")
         return True
 
 
 def of_threads(words):
-    reading, is_open = Reading(list(words), THREADS_USAGE), True
+    reading, is_open = Reading(list(words), THREADS_USAGE, THREADS_OPTIONS), True
     while reading.left:
         word = reading.left.pop(0)
         if is_open and word == "--":
@@ -156,17 +203,20 @@ def of_threads(words):
             return Help("threads")
         elif is_open and (reading.take_flag(word) or reading.take_report(word)):
             continue
-        elif is_open and word.startswith("-") and word != "-" or reading.files:
+        elif is_open and word.startswith("-") and word != "-":
+            raise reading.unexpected(word)
+        elif reading.files:
             raise unexpected(word, THREADS_USAGE)
         else:
             reading.files.append(word)
     if not reading.files:
-        raise wrong("the following required arguments were not provided:\n  <FILE>", "mmdetect threads <FILE>")
+        usage = " ".join(["mmdetect threads", *reading.shown, "<FILE>"])
+        raise wrong("the following required arguments were not provided:\n  <FILE>", usage)
     return Threads(reading.files[0], reading.verbose)
 
 
 def of_storm(words):
-    reading = Reading(list(words), STORM_USAGE)
+    reading = Reading(list(words), STORM_USAGE, STORM_OPTIONS)
     while reading.left:
         word = reading.left.pop(0)
         if word in ("-h", "--help"):
@@ -177,7 +227,7 @@ def of_storm(words):
 
 
 def of_locks(words):
-    reading = Reading(list(words), LOCKS_USAGE)
+    reading = Reading(list(words), LOCKS_USAGE, LOCKS_OPTIONS)
     while reading.left:
         word = reading.left.pop(0)
         if word in ("-h", "--help"):
@@ -187,7 +237,7 @@ def of_locks(words):
 
 
 def of_explain(words):
-    reading, is_open = Reading(list(words), EXPLAIN_USAGE), True
+    reading, is_open = Reading(list(words), EXPLAIN_USAGE, EXPLAIN_OPTIONS), True
     while reading.left:
         word = reading.left.pop(0)
         if is_open and word == "--":
@@ -217,7 +267,7 @@ def take_switch(reading, word):
 def take_number(reading, word, numbers):
     name, has_value, value = word.partition("=")
     if name[:2] != "--" or name[2:] not in numbers:
-        raise unexpected(name, reading.usage)
+        raise reading.unexpected(name)
     value = take_value(reading, name, "N", has_value, value)
     fault = fault_of(value, *numbers[name[2:]])
     if fault:
@@ -227,7 +277,7 @@ def take_number(reading, word, numbers):
 def take_value(reading, name, shown, has_value, value):
     """The value of this option: what stands behind its `=`, or else the next word."""
     if not has_value:
-        if not reading.left:
+        if not reading.left or reading.is_option(reading.left[0]):
             raise wrong(f"a value is required for '{name} <{shown}>' but none was supplied")
         value = reading.left.pop(0)
         if value.startswith("-") and value != "-":

@@ -24,12 +24,13 @@ its_lines() {
 
 # reported STATUS WORDS..: the program is run with these words and a report
 reported() {
-  local wanted=$1
+  local wanted=$1 status
   shift
   case_is "$* --report"
   rm -f "$work/report"
   run "$@" --report "$work/report" > "$work/out" 2> "$work/err"
-  ends "$wanted" "$(cat "$work/out")" "$(cat "$work/err")" $?
+  status=$?
+  ends "$wanted" "$(cat "$work/out")" "$(cat "$work/err")" "$status"
   its_lines
 }
 
@@ -63,7 +64,8 @@ told 'r["workload"]["resources"] == 65536'
 
 case_is "a report of a name with a space and an equals sign"
 run storm "--report=$work/a report" > "$work/out" 2> "$work/err"
-ends 0 "$(cat "$work/out")" "" $?
+status=$?
+ends 0 "$(cat "$work/out")" "" "$status"
 [ -s "$work/a report" ] || fails "there is no report"
 case_is "a report on a pipe"
 run storm --report /dev/stderr > "$work/out" 2> "$work/report"
@@ -72,7 +74,8 @@ its_lines
 case_is "a report in place of an older one"
 printf '%0100000d' 0 > "$work/report"
 run storm --report "$work/report" > "$work/out" 2> "$work/err"
-ends 0 "$(cat "$work/out")" "" $?
+status=$?
+ends 0 "$(cat "$work/out")" "" "$status"
 its_lines
 
 # A report that cannot be written: the two lines are printed all the same.
@@ -80,7 +83,8 @@ while IFS='|' read -r file why; do
   case_is "a report to $file"
   # shellcheck disable=SC2094
   run threads examples/workloads/crosswise.json --report "$file" > "$work/out" 2> "$work/err"
-  ends 3 "$crosswise_lines" some $?
+  status=$?
+  ends 3 "$crosswise_lines" some "$status"
   reports "$file: "
   same "the last line on standard error" "write fault" "$(tail -n 1 "$work/err")"
 done << ROWS
@@ -92,11 +96,12 @@ ROWS
 # Where nothing runs there is no report.
 printf '[]' > "$work/workload"
 printf '%s' '{"processes":0,"resources":1,"label_limit":9,"generation_limit":9,"transmitters":0,"turns":1,"clients":[[]]}' > "$work/refused"
-while IFS='|' read -r file status words; do
+while IFS='|' read -r file wanted words; do
   case_is "no report of $file"
   rm -f "$work/report"
   run threads "$work/$file" --report "$work/report" > "$work/out" 2> "$work/err"
-  ends "$status" "$words" "$([ "$status" != 3 ] || echo "read fault")" $?
+  status=$?
+  ends "$wanted" "$words" "$([ "$wanted" != 3 ] || echo "read fault")" "$status"
   [ ! -e "$work/report" ] || fails "there is a report"
 done << 'ROWS'
 workload|1|malformed workload
@@ -105,14 +110,16 @@ nothing|3|
 ROWS
 case_is "no report of a malformed workload, with --verbose"
 run threads "$work/workload" --report "$work/report" --verbose > "$work/out" 2> "$work/err"
-ends 1 "malformed workload" "$work/workload: the file is not a JSON object" $?
+status=$?
+ends 1 "malformed workload" "$work/workload: the file is not a JSON object" "$status"
 
 # A storm of another shape: what it acquires is computed by tests/storm_table anew.
 while read -r seed resources acquires; do
   case_is "the calls of a storm of $resources resources and $acquires acquires"
   rm -f "$work/report"
   run storm --clients 1 --transmitters 0 --seed "$seed" --resources "$resources" --acquires "$acquires" --report "$work/report" > "$work/out" 2> "$work/err"
-  ends 0 "$(cat "$work/out")" "" $?
+  status=$?
+  ends 0 "$(cat "$work/out")" "" "$status"
   told "totals['accepted'] == 2 + $(tests/storm_table "$seed" "$resources" "$acquires")"
 done << 'ROWS'
 1 8 4
@@ -137,7 +144,8 @@ for words in "--resources 0" "--resources 65537" "--acquires 0" "--acquires 257"
   case_is "storm $words"
   read -ra words <<< "storm $words"
   run "${words[@]}" > "$work/out" 2> "$work/err"
-  ends 2 "" some $?
+  status=$?
+  ends 2 "" some "$status"
 done
 for words in "--resources 8" "--report" "--report a --report b"; do
   case_is "threads $words"
