@@ -158,13 +158,13 @@ same "the files" "./HANDLES
 case_is "on a machine that is large enough, a chain of crates has a run of its own, which ends with the other one"
 : > "$fake/ran"
 echo 60 > "$fake/takes"
-with_fake python3 -B - "$checkout" << 'BESIDE'
-import os, sys
+with_fake python3 -B - "$checkout" "$fake/ran" << 'BESIDE'
+import sys
 sys.path.insert(0, "wrapper")
 import beside
 beside.MIN_PROCESSORS = beside.MIN_MEMORY = 0
 with beside.further_runs(sys.argv[1], ["mm_low", "mm_service"]) as sessions:
-    while "ci mm_service checkout" not in open(f"{os.environ['PATH'].split(':')[0]}/../ran").read():
+    while "ci mm_service checkout" not in open(sys.argv[2]).read():
         pass
     print(len(sessions))
 BESIDE
