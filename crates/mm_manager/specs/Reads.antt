@@ -29,12 +29,13 @@ HasStatus m k (Err refusal) = (is_live m.table k ≡ false) × (refusal ≡ NoTr
 
 -- ---- the wait-for graph
 
-abbrev pub arrow : TableState → ℕ → ℕ → Option Wait
-arrow s p n = option_map (λ h. record { key = key_of s p; number = n; holder = h }) (owner_of s n)
+-- the wait of process p for number n, where somebody owns that
+abbrev pub edge : TableState → ℕ → ℕ → Option Wait
+edge s p n = option_map (λ h. record { key = key_of s p; number = n; holder = h }) (owner_of s n)
 
 -- for what process p waits, and whose that is
 abbrev pub wait_at : TableState → ℕ → Option Wait
-wait_at s p = option_and_then (arrow s p) (wait_of s p)
+wait_at s p = option_and_then (edge s p) (wait_of s p)
 
 -- each process from p on that waits, for which number, and whose that is, by rising process
 abbrev pub waits_from : TableState → ℕ → List Wait

@@ -62,7 +62,7 @@ pub enum Status {
     },
 }
 
-/// An arrow of the wait-for graph.
+/// An edge of the wait-for graph.
 #[derive(Clone, Copy, Debug, PartialEq, Eq)]
 pub struct Wait {
     /// Who waits.

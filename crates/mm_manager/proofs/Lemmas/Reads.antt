@@ -7,7 +7,7 @@ use Rattle.mm_rules.specs.Event.{tenant_of}
 use Rattle.mm_rules.specs.Laws.{Laws, IsHeld}
 use Rattle.mm_rules.proofs.States.Lookups.{waits_here}
 use Rattle.mm_rules.proofs.States.Vacate.{live_process}
-use Rattle.mm_manager.specs.Reads.{arrow, wait_at, waits_from}
+use Rattle.mm_manager.specs.Reads.{edge, wait_at, waits_from}
 use Rattle.mm_manager.specs.declared.reply.Wait.{Wait}
 use Rattle.mm_manager.proofs.Lemmas.Names.{waited_is_owned}
 
@@ -33,7 +33,7 @@ dead_by s p false is = refl
 pub no_tenant_waits : (s : TableState) → Laws s → (p : ℕ) → tenant_of s p ≡ None → wait_at s p ≡ None
 no_tenant_waits s laws p none =
     let idle = none_by s laws p (wait_of s p) refl (dead_by s p (slice_index_or s.live p false) none) in
-    ap (option_and_then (arrow s p)) idle
+    ap (option_and_then (edge s p)) idle
 
 -- ---- those from a process on, step by step
 
