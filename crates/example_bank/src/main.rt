@@ -82,7 +82,8 @@ fn sum_of(accounts: &[Account; 4]) -> u64 {
     sum
 }
 
-/// Makes all transfers, and prints how many were made, and the sum.
+/// Makes all transfers, and prints how many were made, and the sum. How many deadlocks there were differs from run to run, and goes to
+/// standard error.
 fn run<R: Threads + Wait + Print + Sync>(rt: &R, alloc: Global, locks: &Locks) -> io::Result<()> {
     let accounts = [
         open_account(b"accounts/1"),
@@ -104,6 +105,7 @@ fn run<R: Threads + Wait + Print + Sync>(rt: &R, alloc: Global, locks: &Locks) -
         }
     }
     println!(rt; "transfers: {transfers}")?;
+    eprintln!(rt; "deadlocks: {}", locks.totals(rt).deadlocks)?;
     let sum = sum_of(&accounts);
     println!(rt; "sum: {sum}")
 }
