@@ -3,7 +3,7 @@ ghost use Rattle.std.specs.Prelude.{◌≡◌, length};
 ghost use Rattle.mm_report.specs.Report.{AreEnds, AreNumbers, AreTotals};
 
 use crate::source::Source;
-use mm_workers::{Outcome, TalliedOutcome};
+use mm_clients::{Outcome, TalliedOutcome};
 use mm_workload::Workload;
 use serde::Serialize;
 use serde_json::Error;

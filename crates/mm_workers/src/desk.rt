@@ -1,8 +1,7 @@
 //! A shared table, as a worker with a pass calls it.
 ghost use Rattle.std.specs.Prelude.{◌≡◌};
 
-use crate::tally::Tally;
-use mm_clients::Steps;
+use mm_clients::{Steps, Tally};
 use mm_shared::{
     Acquired, Detected, Hint, Key, Name, Pass, Refusal, Released, Settled, SharedTable, Transmitted,
 };

@@ -3,8 +3,7 @@ ghost use Rattle.std.specs.Prelude.{◌≡◌, ◌+◌, ◌≤◌, [], vec_len, 
 ghost use Rattle.mm_clients.specs.End.{is_aborted};
 
 use crate::job::{Ended, Stopped};
-use crate::tally::Tally;
-use mm_clients::End;
+use mm_clients::{End, Tally};
 use mm_shared::{Name, Pass, SharedTable};
 use std::sync::ledger::Ledger;
 

@@ -5,8 +5,7 @@ ghost use Rattle.mm_shared.specs.Shares.{less_parts};
 ghost use Rattle.mm_clients.specs.End.{aborts_of};
 
 use crate::desk::Desk;
-use crate::tally::Tally;
-use mm_clients::{Client, End, Gate, Transmitter};
+use mm_clients::{Client, End, Gate, Tally, Transmitter};
 use mm_shared::{Name, Pass, SharedTable};
 use mm_workload::WorkStep;
 use std::sync::Wait;

@@ -7,10 +7,8 @@ ghost use Rattle.mm_clients.specs.End.{is_aborted};
 
 use crate::gather::{gather_clients, gather_transmitters};
 use crate::job::{Ended, Stopped};
-use crate::outcome::{Outcome, TalliedOutcome};
 use crate::start::{client_jobs, run_jobs, transmitter_jobs};
-use crate::tally::Tally;
-use mm_clients::{End, Gate};
+use mm_clients::{End, Gate, Outcome, TalliedOutcome, Tally};
 use mm_shared::{Name, Pass, Prepared, Refusal, SharedTable};
 use mm_workload::Workload;
 use std::alloc::{AllocError, Global};

@@ -1,6 +1,6 @@
 use Rattle.std.specs.Prelude.{◌≡◌, ◌≤◌, ◌+◌, count_by, take}
 use Rattle.mm_clients.specs.End.{is_finished, is_aborted, is_spent, is_refused}
-use Rattle.mm_workers.proofs.outcome.count_of.Given as goal
+use Rattle.mm_clients.proofs.outcome.count_of.Given as goal
 
 abbrev pub invariant-loop-end : goal.invariant-loop-end
 invariant-loop-end l = record {

@@ -2,8 +2,8 @@
 ghost use Rattle.std.specs.Prelude.{◌≡◌, count_by};
 ghost use Rattle.mm_clients.specs.End.{is_finished, is_aborted, is_spent, is_refused};
 
+use crate::end::End;
 use crate::tally::Tally;
-use mm_clients::End;
 use mm_shared::Report;
 use std::fmt;
 use std::fmt::{Display, Formatter};
