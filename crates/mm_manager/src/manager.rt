@@ -31,12 +31,23 @@ use std::marker::Model;
 /// A contract sees it as a `LockState` (`specs/LockState.antt`). A name has a number exactly while somebody owns it. Each call tells what
 /// it did for others, in `granted` and in `aborted`; a refused call changes nothing, tells of nobody and counts nothing. No call but `open`
 /// takes memory.
-#[derive(Drop)]
 pub struct LockManager {
     table: SettledTable,
     names: Names,
     lists: Lists,
     totals: Totals,
+}
+
+// By hand, so that a crate that drops a manager proves nothing of how its parts are dropped.
+impl Drop for LockManager {
+    fn drop(self) {
+        let LockManager {
+            table: _,
+            names: _,
+            lists: _,
+            totals: _,
+        } = self;
+    }
 }
 
 impl Model for LockManager {

@@ -19,13 +19,23 @@ use std::marker::Model;
 ///
 /// A contract sees it as a `SettledState`: the table, and what the last call told, whom it granted what and whom it changed. After a
 /// call that is refused both lists are empty, and the table is as it was. No call but `open` takes memory.
-#[derive(Drop)]
 pub struct SettledTable {
     table: Table,
     lists: Lists,
     /// How many events the table had accepted right after the last call that filled the lists. Once it accepts one more, what they have
     /// means nothing: so an accepted call that tells of nobody need not touch them.
     told_at: u64,
+}
+
+// By hand, so that a crate that drops a settled table proves nothing of how its parts are dropped.
+impl Drop for SettledTable {
+    fn drop(self) {
+        let SettledTable {
+            table: _,
+            lists: _,
+            told_at: _,
+        } = self;
+    }
 }
 
 impl Model for SettledTable {

@@ -25,10 +25,19 @@ const NOTHING: Settled = Settled {
 /// A contract sees it as a `TableState` (`specs/TableState.antt` of mm_rules). Each call is one event, or a read, by the definitions of
 /// `specs/Event.antt` of mm_rules: these give the reply, the refusal and the new state. A refused call changes nothing, and the refusals
 /// that a call can give stand in the order in which they are tested. No call but `open` takes memory.
-#[derive(Drop)]
 pub struct Table {
     records: Records,
     sets: Sets,
+}
+
+// By hand, so that a crate that drops a table proves nothing of how its parts are dropped.
+impl Drop for Table {
+    fn drop(self) {
+        let Table {
+            records: _,
+            sets: _,
+        } = self;
+    }
 }
 
 impl Model for Table {
