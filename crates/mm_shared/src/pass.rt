@@ -20,13 +20,25 @@ pub const ALL_PARTS: u64 = 1_048_576;
 ///
 /// The first pass comes from `Prepared::open`, and each other one is split off another. A pass that is dropped takes its parts along:
 /// then no pass has all parts again, and the table cannot be closed.
-#[derive(Drop)]
 pub struct Pass<N: Name, A: Ledger, V: Ledger, B: Ledger> {
     pub(crate) reader: Reader<N>,
     accepted: Share<A>,
     verdicts: Share<V>,
     aborts: Share<B>,
     parts: u64,
+}
+
+// By hand, so that a crate that drops a pass proves nothing of how its parts are dropped.
+impl<N: Name, A: Ledger, V: Ledger, B: Ledger> Drop for Pass<N, A, V, B> {
+    fn drop(self) {
+        let Pass {
+            reader: _,
+            accepted: _,
+            verdicts: _,
+            aborts: _,
+            parts: _,
+        } = self;
+    }
 }
 
 impl<N: Name, A: Ledger, V: Ledger, B: Ledger> Model for Pass<N, A, V, B> {

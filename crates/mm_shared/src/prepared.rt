@@ -40,20 +40,8 @@ impl Prepared {
         ensures refused { IfErr result (λ refusal. Opens config (Err refusal)) }
     {
         let table = Table::open(alloc, config)?;
-        Prepared::over(alloc, table, config.processes)
-    }
-
-    /// A table that was just opened, with a board and ledgers.
-    fn over(alloc: Global, table: Table, processes: u32) -> Result<Prepared, Refusal>
-        requires opened { table ≡ opening table.config }
-        requires sized { processes ≡ table.config.processes }
-        requires some_processes { 1 ≤ processes }
-        requires in_range { processes ≤ 65536 }
-        ensures table { IfOk result (λ prepared. prepared.table ≡ table) }
-        ensures refusal { IfErr result (λ refusal. refusal ≡ Refusal.Memory) }
-    {
-        let (table, (board, changed)) = beside(table, board_and_list(alloc, processes))?;
-        Ok(Prepared::of(table, board, changed, processes))
+        let (board, changed) = board_and_list(alloc, config.processes)?;
+        Ok(Prepared::of(table, board, changed, config.processes))
     }
 
     fn of(table: Table, board: RawBoard, changed: Vec<u32>, processes: u32) -> Prepared
@@ -135,15 +123,4 @@ fn board_and_list(alloc: Global, processes: u32) -> Result<(RawBoard, Vec<u32>),
         return Err(Refusal::Memory);
     };
     Ok((board, changed))
-}
-
-/// The value and what else was asked for, where that was given. A function over all types has a short proof, since it knows nothing of either.
-fn beside<T: Drop, U, E>(value: T, other: Result<U, E>) -> Result<(T, U), E>
-    ensures given { IfOk other (λ given. result ≡ Ok (value, given)) }
-    ensures refused { IfErr other (λ refused. result ≡ Err refused) }
-{
-    match other {
-        Ok(given) => Ok((value, given)),
-        Err(refused) => Err(refused),
-    }
 }
