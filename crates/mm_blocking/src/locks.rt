@@ -17,19 +17,25 @@ use std::sync::{Mutex, MutexGuard, Wait};
 /// How often a thread that finds the lock taken pauses before it asks for it again: long enough for several calls that change little.
 const PAUSES: u32 = 12;
 
-/// The most transactions that a manager can have at once.
-const MAX_TRANSACTIONS: u32 = 65_536;
-
 /// A lock manager that threads share by reference: a `LockManager` behind one lock, and beside it a place to sleep for each transaction.
 ///
 /// Each call takes the lock, makes one call of the manager, lets go, and wakes exactly those whom that call granted a name, or whose abort
 /// came due in it. So a call may wait for the lock, and `Transaction::lock` for a name too, but nobody sleeps under the lock. What the
 /// manager promises holds of whatever stands behind the lock at any time (`LockManager::keeps_laws`). No call but `open` takes memory.
-#[derive(Drop)]
 pub struct Locks {
     parkers: Parkers,
     /// The word of the lock has a cache line of its own: a thread that waits for it does not slow down the one that has the lock.
     desk: CachePadded<Mutex<CachePadded<Desk>>>,
+}
+
+// By hand, so that a crate that drops locks proves nothing of how their parts are dropped.
+impl Drop for Locks {
+    fn drop(self) {
+        let Locks {
+            parkers: _,
+            desk: _,
+        } = self;
+    }
 }
 
 /// Where threads sleep, and who is to be woken.
@@ -48,19 +54,6 @@ impl Room {
     }
 }
 
-/// The locks of a manager, where there is room beside it.
-fn put_together(manager: LockManager, room: Result<Room, AllocError>) -> Result<Locks, OpenError>
-    ensures { IfErr result (λ error. error ≡ OpenError.Memory) }
-{
-    match room {
-        Ok(room) => Ok(Locks::of(manager, room)),
-        Err(_) => {
-            drop(manager);
-            Err(OpenError::Memory)
-        }
-    }
-}
-
 impl Locks {
     /// Locks of this configuration: no transaction is live, and nobody owns a name.
     ///
@@ -72,9 +65,9 @@ impl Locks {
         ensures names { (result ≡ Err OpenError.Names) ↔ (¬ IsTransactionsOut config × IsNamesOut config) }
         ensures name_bytes { (result ≡ Err OpenError.NameBytes) ↔ (¬ IsTransactionsOut config × ¬ IsNamesOut config × IsNameBytesOut config) }
     {
-        let room = Room::open(alloc, config.transactions.min(MAX_TRANSACTIONS));
         let manager = LockManager::open(alloc, config)?;
-        put_together(manager, room)
+        let room = Room::open(alloc, config.transactions)?;
+        Ok(Locks::of(manager, room))
     }
 
     fn of(manager: LockManager, room: Room) -> Locks {
@@ -189,9 +182,7 @@ impl Locks {
         ensures refused { IfErr result (λ error. (error ≡ LockError.TimedOut) ⊎ (of_lock error ≡ true)) }
     {
         let mut wakes = Wakes::new();
-        let mut desk = self.locked(rt);
-        let answer = desk.take_back(key, name, &mut wakes);
-        drop(desk);
+        let answer = self.locked(rt).take_back(key, name, &mut wakes);
         self.wake(rt, &wakes);
         answer
     }
@@ -201,9 +192,7 @@ impl Locks {
         ensures refused { IfErr result (λ error. of_unlock error ≡ true) }
     {
         let mut wakes = Wakes::new();
-        let mut desk = self.locked(rt);
-        let answer = desk.unlock(key, name, &mut wakes);
-        drop(desk);
+        let answer = self.locked(rt).unlock(key, name, &mut wakes);
         self.wake(rt, &wakes);
         answer
     }
@@ -213,9 +202,7 @@ impl Locks {
         ensures refused { IfErr result (λ error. of_commit error ≡ true) }
     {
         let mut wakes = Wakes::new();
-        let mut desk = self.locked(rt);
-        let answer = desk.commit(key, &mut wakes);
-        drop(desk);
+        let answer = self.locked(rt).commit(key, &mut wakes);
         self.wake(rt, &wakes);
         answer
     }
@@ -223,9 +210,7 @@ impl Locks {
     /// `Desk::roll_back`, and wakes whom it told something.
     pub(crate) fn roll_back<R: Wait>(&self, rt: &R, key: Key) {
         let mut wakes = Wakes::new();
-        let mut desk = self.locked(rt);
-        let _ = desk.roll_back(key, &mut wakes);
-        drop(desk);
+        let _ = self.locked(rt).roll_back(key, &mut wakes);
         self.wake(rt, &wakes);
     }
 
