@@ -7,6 +7,20 @@ use mm_graph::{Edge, cycle_through, edges_of};
 use mm_table::{Key, Table};
 use std::alloc::{AllocError, Global};
 
+/// The lines that a picture for Mermaid begins with.
+static MERMAID_HEAD: [&str; 3] = [
+    "flowchart LR",
+    "    classDef cycle stroke:#c00000,stroke-width:3px",
+    "    classDef victim fill:#ffd0d0,stroke:#c00000,stroke-width:3px",
+];
+
+/// The lines that a picture for Graphviz begins with.
+static DOT_HEAD: [&str; 3] = [
+    "digraph waits {",
+    "    rankdir=LR;",
+    "    node [shape=box];",
+];
+
 /// Who reads a picture.
 #[derive(Clone, Copy)]
 pub enum Format {
@@ -44,16 +58,8 @@ pub fn draw(
 
 fn begin(sheet: &mut Sheet, format: Format) {
     let lines = match format {
-        Format::Mermaid => [
-            "flowchart LR",
-            "    classDef cycle stroke:#c00000,stroke-width:3px",
-            "    classDef victim fill:#ffd0d0,stroke:#c00000,stroke-width:3px",
-        ],
-        Format::Dot => [
-            "digraph waits {",
-            "    rankdir=LR;",
-            "    node [shape=box];",
-        ],
+        Format::Mermaid => &MERMAID_HEAD,
+        Format::Dot => &DOT_HEAD,
     };
     for line in lines {
         sheet.text(line);

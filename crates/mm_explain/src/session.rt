@@ -152,24 +152,24 @@ impl Session {
         if self.options.at.is_some() && !self.is_over() {
             return Err(ExplainFault::NoLine(self.lines));
         }
-        for (format, is_wanted) in [
-            (Format::Mermaid, self.options.mermaid),
-            (Format::Dot, self.options.dot),
-        ] {
-            if is_wanted
-                && draw(
-                    &mut self.sheet,
-                    self.alloc,
-                    &self.table,
-                    format,
-                    self.options.all,
-                )
-                .is_err()
-            {
-                return Err(ExplainFault::Memory);
-            }
+        if self.options.mermaid {
+            self.draw(Format::Mermaid)?;
+        }
+        if self.options.dot {
+            self.draw(Format::Dot)?;
         }
         Ok(self.malformed)
+    }
+
+    /// Adds the picture of this format.
+    fn draw(&mut self, format: Format) -> Result<(), AllocError> {
+        draw(
+            &mut self.sheet,
+            self.alloc,
+            &self.table,
+            format,
+            self.options.all,
+        )
     }
 }
 

@@ -2,24 +2,17 @@
 ghost use Rattle.std.specs.Prelude.{◌≡◌, ◌≤◌, ◌↔◌, IsTrue, vec_capacity};
 ghost use Rattle.mm_rules.specs.Victims.{IsOnCycle};
 
-use mm_graph::{cycle_through, edge_of};
+use mm_graph::{Edge, cycle_through, edge_of};
 use mm_table::{Config, Key, Mode, State, Table};
 use std::alloc::{AllocError, Global};
 
 /// What a table shows of a live transaction.
-#[derive(Clone, Copy, PartialEq, Eq)]
+#[derive(Clone, Copy)]
 pub struct Standing {
     pub key: Key,
     pub state: State,
     /// What it waits for, and the owner of that.
-    pub wait: Option<Wait>,
-}
-
-/// What a transaction waits for, and the owner of that.
-#[derive(Clone, Copy, PartialEq, Eq)]
-pub struct Wait {
-    pub resource: u32,
-    pub holder: Key,
+    pub wait: Option<Edge>,
 }
 
 impl Standing {
@@ -33,13 +26,7 @@ impl Standing {
 pub fn standing_of(table: &Table, process: u32) -> Option<Standing> {
     let key = table.tenant(process)?;
     let state = table.state(key).ok()?;
-    let wait = match edge_of(table, process) {
-        Some(edge) => Some(Wait {
-            resource: edge.resource,
-            holder: edge.holder,
-        }),
-        None => None,
-    };
+    let wait = edge_of(table, process);
     Some(Standing { key, state, wait })
 }
 

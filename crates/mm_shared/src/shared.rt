@@ -38,11 +38,7 @@ pub struct SharedTable<N: Name, A: Ledger, V: Ledger, B: Ledger> {
 // By hand, so that a crate that drops a shared table proves nothing of how its parts are dropped.
 impl<N: Name, A: Ledger, V: Ledger, B: Ledger> Drop for SharedTable<N, A, V, B> {
     fn drop(self) {
-        let SharedTable {
-            board: _,
-            processes: _,
-            lock: _,
-        } = self;
+        drop(self.into_inside());
     }
 }
 
