@@ -1,16 +1,26 @@
 //! A table that threads share. `on_a_table` opens one for each piece of work, under names of its own, lends it, and closes it: so the
 //! tests here own no table.
+//!
+//! - `seat`: the calls of a table, as the tests make them. `caller`: one thread that makes them.
+//! - `team`: threads that are at work at once, each with a part of a pass.
+//! - `lockers`: threads that acquire two resources in each transaction.
+//! - `threads`, `old_key`, `deadlocks`, `labels`, `exhausted`, `retired`: the tests, one each.
 ghost use Rattle.std.specs.Prelude.{◌≡◌, ◌<◌};
 
+mod caller;
 mod deadlocks;
 mod exhausted;
 mod labels;
+mod lockers;
 mod old_key;
 mod retired;
+mod seat;
+mod team;
 mod threads;
-mod worker;
 
 use crate::tests::same::same;
+use caller::{Job, Made};
+use labels::read_beside_deadlocks;
 use mm_shared::{CloseRefused, Config, Name, Pass, Prepared, Refusal, Report, SharedTable};
 use std::alloc::{AllocError, Global};
 use std::marker::Brand;
@@ -19,6 +29,7 @@ use std::sync::Wait;
 use std::sync::ledger::Ledger;
 use std::test::Fail;
 use std::thread::Threads;
+use team::{work_all, work_both, work_in_turn};
 
 /// How many parts the pass has that is split off at the opening. Work that needs a pass of its own has as many.
 const PARTS: u64 = 1000;
@@ -35,7 +46,7 @@ pub enum Work {
 }
 
 impl Work {
-    /// Does the work, and returns what the table is to have counted.
+    /// Does the work, and returns what was made.
     fn done<
         N: Name + Send + Sync,
         A: Ledger + Send + Sync,
@@ -49,57 +60,66 @@ impl Work {
         table: &SharedTable<N, A, V, B>,
         pass: &mut Pass<N, A, V, B>,
         other: &mut Pass<N, A, V, B>,
-    ) -> Result<Report, AllocError>
-        requires { (1000 < pass.old.parts) × (1 < other.old.parts) }
+    ) -> Result<Made, AllocError>
+        requires { (1 < pass.old.parts) × (1 < other.old.parts) }
     {
         match self {
-            Work::TwoThreads => Ok(threads::begin_and_finish_both(rt, table, pass, other)),
-            Work::KeptKey => Ok(old_key::keep_a_key(rt, table, pass)),
-            Work::Deadlocks => deadlocks::break_all(rt, alloc, table, pass),
-            Work::ReadLabels => labels::read_beside_deadlocks(rt, alloc, table, pass, other),
-            Work::AllLabels => exhausted::use_up_labels(rt, alloc, table, pass),
-            Work::AllSlots => retired::use_up_slots(rt, alloc, table, pass),
+            Work::TwoThreads => Ok(work_both(rt, table, pass, other, Job::Transactions)),
+            Work::KeptKey => Ok(work_both(rt, table, pass, other, Job::OldKey)),
+            Work::Deadlocks => {
+                work_all(rt, alloc, table, pass, deadlocks::THREADS, Job::Deadlocks)
+            }
+            Work::ReadLabels => read_beside_deadlocks(rt, alloc, table, pass, other),
+            Work::AllLabels => {
+                let jobs = [Job::Labels, Job::AfterLabels];
+                work_in_turn(rt, alloc, table, pass, exhausted::THREADS, jobs)
+            }
+            Work::AllSlots => {
+                let jobs = [Job::Slots, Job::AfterSlots];
+                work_in_turn(rt, alloc, table, pass, retired::THREADS, jobs)
+            }
         }
+    }
+
+    /// Ends the test unless so much was to be made, and returns what the table is to have counted.
+    fn judged(self, rt: &impl Abort, made: Made) -> Report {
+        match self {
+            Work::TwoThreads => return accepted(4000),
+            Work::KeptKey => return accepted(3),
+            Work::Deadlocks => deadlocks::are_broken(rt, made),
+            Work::ReadLabels => {}
+            Work::AllLabels => exhausted::are_used_up(rt, made),
+            Work::AllSlots => return retired::are_given_once(rt, made),
+        }
+        made.report
     }
 }
 
-/// Ends the test unless the table is not closed for want of a pass, and gives both back.
-fn refused_close<N: Name, A: Ledger, V: Ledger, B: Ledger>(
-    rt: &impl Abort,
-    table: SharedTable<N, A, V, B>,
-    pass: Pass<N, A, V, B>,
-) -> CloseRefused<N, A, V, B> {
-    let refused = table.close(pass).err().expect(rt, "a pass is missing");
-    same(rt, refused.refusal, Refusal::SharesMissing);
-    same(rt, refused.refusal.number(), 12);
-    refused
-}
-
-/// Ends the test unless the table is closed with this report.
-fn closes_with<N: Name, A: Ledger, V: Ledger, B: Ledger>(
-    rt: &impl Abort,
-    table: SharedTable<N, A, V, B>,
-    pass: Pass<N, A, V, B>,
+/// What came of the work on a table, and of its closes.
+#[derive(Clone, Copy)]
+struct Came {
+    made: Made,
+    /// Why the table was not closed with one pass alone.
+    refusal: Refusal,
+    /// What it reported once the other one was joined to that.
     report: Option<Report>,
-) {
-    same(rt, table.close(pass).ok(), report);
 }
 
-/// Ends the test unless the table is not closed with one pass alone, and is closed with this report once the other is joined to it.
-fn closes_with_both<N: Name, A: Ledger, V: Ledger, B: Ledger>(
+/// Ends the test unless the table is not closed with one pass alone. Returns why, and what the table reports once the other is joined to it.
+fn closed<N: Name, A: Ledger, V: Ledger, B: Ledger>(
     rt: &impl Abort,
     table: SharedTable<N, A, V, B>,
     pass: Pass<N, A, V, B>,
     other: Pass<N, A, V, B>,
-    report: Option<Report>,
-) {
+) -> (Refusal, Option<Report>) {
+    let refused = table.close(pass).err().expect(rt, "a pass is missing");
     let CloseRefused {
-        refusal: _,
+        refusal,
         table,
         mut pass,
-    } = refused_close(rt, table, pass);
+    } = refused;
     pass.join(&table, other);
-    closes_with(rt, table, pass, report);
+    (refusal, table.into_report(pass))
 }
 
 /// Opens the table, does the work with two passes, and closes it.
@@ -109,7 +129,7 @@ fn on_named<
     V: Ledger + Send + Sync,
     B: Ledger + Send + Sync,
     R: Threads + Wait + Abort + Sync,
->(rt: &R, alloc: Global, prepared: Prepared, work: Work) -> Result<(), AllocError>
+>(rt: &R, alloc: Global, prepared: Prepared, work: Work) -> Result<Came, AllocError>
     requires board { prepared.board ≡ N.board }
     requires accepted { (prepared.accepted.name ≡ A.name) × (prepared.accepted.parts ≡ A.parts) }
     requires verdicts { (prepared.verdicts.name ≡ V.name) × (prepared.verdicts.parts ≡ V.parts) }
@@ -118,8 +138,15 @@ fn on_named<
     let (table, mut pass) = prepared.open::<N, A, V, B>();
     let mut other = pass.split(&table, PARTS);
     let done = work.done(rt, alloc, &table, &mut pass, &mut other);
-    closes_with_both(rt, table, pass, other, done.ok());
-    done.map(|_| ())
+    let (refusal, report) = closed(rt, table, pass, other);
+    match done {
+        Ok(made) => Ok(Came {
+            made,
+            refusal,
+            report,
+        }),
+        Err(error) => Err(error),
+    }
 }
 
 /// Opens a table of this configuration, and does the work on it. Ends the test unless the table is closed with what the work is to make.
@@ -130,7 +157,10 @@ pub fn on_a_table<R: Threads + Wait + Abort + Sync>(
     work: Work,
 ) -> Result<(), Fail> {
     let prepared = Prepared::new(alloc, config)?;
-    on_named::<Brand, Brand, Brand, Brand, R>(rt, alloc, prepared, work)?;
+    let came = on_named::<Brand, Brand, Brand, Brand, R>(rt, alloc, prepared, work)?;
+    same(rt, came.refusal, Refusal::SharesMissing);
+    same(rt, came.refusal.number(), 12);
+    same(rt, came.report, Some(work.judged(rt, came.made)));
     Ok(())
 }
 

@@ -1,15 +1,14 @@
 //! A key that a thread keeps after its transaction has ended.
-ghost use Rattle.std.specs.Prelude.{◌<◌};
 
 use crate::tests::same::same;
-use crate::tests::shared::{Work, accepted, config, on_a_table};
-use mm_shared::{Key, Name, Pass, Refusal, Report, SharedTable};
+use crate::tests::shared::caller::Caller;
+use crate::tests::shared::seat::Calls;
+use crate::tests::shared::{Work, config, on_a_table};
+use mm_shared::{Key, Refusal};
 use std::process::Abort;
 use std::sync::Wait;
-use std::sync::ledger::Ledger;
 use std::test::Fail;
 use std::thread;
-use std::thread::{Threads, join};
 
 /// How many processes there are.
 const PROCESSES: u32 = 2;
@@ -22,89 +21,57 @@ fn key(generation: u32) -> Key {
     }
 }
 
-/// Ends the transaction of the first key, and begins the next one in its process.
-fn begin_again<N: Name, A: Ledger, V: Ledger, B: Ledger, R: Wait + Abort>(
-    rt: &R,
-    table: &SharedTable<N, A, V, B>,
-    pass: Pass<N, A, V, B>,
-) -> Pass<N, A, V, B> {
-    let mut pass = pass;
-    same(rt, table.finish(rt, &mut pass, key(1)), Ok(()));
-    same(rt, table.begin(rt, &mut pass), Ok(key(2)));
-    pass
-}
-
-/// Waits until process 0 has its second transaction.
-fn await_second<N: Name, A: Ledger, V: Ledger, B: Ledger, R: Wait>(
-    rt: &R,
-    table: &SharedTable<N, A, V, B>,
-    pass: &mut Pass<N, A, V, B>,
-) {
-    for _ in rt.forever() {
-        if table.tenant(rt, pass, 0) == Some(key(2)) {
-            return;
+impl<C: Calls> Caller<C> {
+    /// One of two threads gives process 0 its second transaction, and the other one calls by the key of the first.
+    pub fn keeps_a_key<R: Wait + Abort>(&mut self, rt: &R) {
+        if self.number == 0 {
+            self.begins_again(rt);
+        } else {
+            self.calls_by_old_keys(rt);
         }
-        thread::yield_now();
     }
-}
 
-/// Ends the test unless each call by this key is refused as stale.
-fn is_stale<N: Name, A: Ledger, V: Ledger, B: Ledger, R: Wait + Abort>(
-    rt: &R,
-    table: &SharedTable<N, A, V, B>,
-    pass: &mut Pass<N, A, V, B>,
-    key: Key,
-) {
-    let stale = Some(Refusal::Stale);
-    same(rt, table.acquire(rt, pass, key, 0).err(), stale);
-    same(rt, table.release(rt, pass, key, 0).err(), stale);
-    same(rt, table.finish(rt, pass, key).err(), stale);
-    same(rt, table.transmit(rt, pass, key).err(), stale);
-    same(rt, table.detect(rt, pass, key).err(), stale);
-    same(rt, table.abort(rt, pass, key).err(), stale);
-    same(rt, table.give_up(rt, pass, key).err(), stale);
-    same(rt, table.state(rt, pass, key).err(), stale);
-}
+    /// Begins and ends the transaction of the first key, and begins the next one in its process.
+    fn begins_again<R: Abort>(&mut self, rt: &R) {
+        same(rt, self.calls.begin(), Ok(key(1)));
+        same(rt, self.calls.finish(key(1)), Ok(()));
+        same(rt, self.calls.begin(), Ok(key(2)));
+    }
 
-/// Calls by the first key once its process has the second one, and by a key of a process that there is not.
-fn call_by_old_keys<N: Name, A: Ledger, V: Ledger, B: Ledger, R: Wait + Abort>(
-    rt: &R,
-    table: &SharedTable<N, A, V, B>,
-    pass: Pass<N, A, V, B>,
-) -> Pass<N, A, V, B> {
-    let mut pass = pass;
-    await_second(rt, table, &mut pass);
-    is_stale(rt, table, &mut pass, key(1));
-    let of_no_process = Key {
-        process: PROCESSES,
-        generation: 1,
-    };
-    is_stale(rt, table, &mut pass, of_no_process);
-    same(rt, table.tenant(rt, &mut pass, 0), Some(key(2)));
-    pass
-}
+    /// Calls by the first key once its process has the second one, and by a key of a process that there is not.
+    fn calls_by_old_keys<R: Wait + Abort>(&mut self, rt: &R) {
+        self.awaits_second(rt);
+        self.is_stale(rt, key(1));
+        let of_no_process = Key {
+            process: PROCESSES,
+            generation: 1,
+        };
+        self.is_stale(rt, of_no_process);
+        same(rt, self.calls.tenant(0), Some(key(2)));
+    }
 
-/// Two threads: one gives the process its second transaction, and the other one calls by the key of the first.
-pub fn keep_a_key<
-    N: Name + Send + Sync,
-    A: Ledger + Send + Sync,
-    V: Ledger + Send + Sync,
-    B: Ledger + Send + Sync,
-    R: Threads + Wait + Abort + Sync,
->(rt: &R, table: &SharedTable<N, A, V, B>, pass: &mut Pass<N, A, V, B>) -> Report
-    requires { 2 < pass.old.parts }
-{
-    same(rt, table.begin(rt, pass), Ok(key(1)));
-    let mine = pass.split(table, 1);
-    let theirs = pass.split(table, 1);
-    let (mine, theirs) = join(
-        rt,
-        || begin_again(rt, table, mine),
-        || call_by_old_keys(rt, table, theirs),
-    );
-    pass.join(table, mine);
-    pass.join(table, theirs);
-    accepted(3)
+    /// Waits until process 0 has its second transaction.
+    fn awaits_second<R: Wait>(&mut self, rt: &R) {
+        for _ in rt.forever() {
+            if self.calls.tenant(0) == Some(key(2)) {
+                return;
+            }
+            thread::yield_now();
+        }
+    }
+
+    /// Ends the test unless each call by this key is refused as stale.
+    fn is_stale<R: Abort>(&mut self, rt: &R, key: Key) {
+        let stale = Some(Refusal::Stale);
+        same(rt, self.calls.acquire(key, 0).err(), stale);
+        same(rt, self.calls.release(key, 0).err(), stale);
+        same(rt, self.calls.finish(key).err(), stale);
+        same(rt, self.calls.transmit(key).err(), stale);
+        same(rt, self.calls.detect(key).err(), stale);
+        same(rt, self.calls.abort(key).err(), stale);
+        same(rt, self.calls.give_up(key).err(), stale);
+        same(rt, self.calls.state(key).err(), stale);
+    }
 }
 
 #[test]

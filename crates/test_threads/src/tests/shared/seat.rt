@@ -1,0 +1,117 @@
+//! The calls of a table, as the tests make them. They have no clauses, so a test that makes many of them has a short proof.
+
+use mm_shared::{
+    Acquired, Detected, Key, Name, Pass, Refusal, Released, Settled, SharedTable, State,
+    Transmitted,
+};
+use std::sync::Wait;
+use std::sync::ledger::Ledger;
+
+/// What a thread calls.
+pub trait Calls {
+    fn begin(&mut self) -> Result<Key, Refusal>;
+
+    fn acquire(&mut self, key: Key, resource: u32) -> Result<Acquired, Refusal>;
+
+    fn release(&mut self, key: Key, resource: u32) -> Result<Released, Refusal>;
+
+    fn finish(&mut self, key: Key) -> Result<(), Refusal>;
+
+    fn transmit(&mut self, key: Key) -> Result<Transmitted, Refusal>;
+
+    fn detect(&mut self, key: Key) -> Result<Detected, Refusal>;
+
+    fn abort(&mut self, key: Key) -> Result<(), Refusal>;
+
+    fn give_up(&mut self, key: Key) -> Result<(), Refusal>;
+
+    fn settle(&mut self) -> Result<Settled, Refusal>;
+
+    fn state(&mut self, key: Key) -> Result<State, Refusal>;
+
+    fn owner(&mut self, resource: u32) -> Result<Option<Key>, Refusal>;
+
+    fn tenant(&mut self, process: u32) -> Option<Key>;
+
+    fn processes(&self) -> u32;
+}
+
+/// A shared table and a pass of it, at which one thread calls.
+pub struct Seat<'a, N: Name, A: Ledger, V: Ledger, B: Ledger, R: Wait> {
+    rt: &'a R,
+    table: &'a SharedTable<N, A, V, B>,
+    pass: Pass<N, A, V, B>,
+}
+
+impl<'a, N: Name, A: Ledger, V: Ledger, B: Ledger, R: Wait> Seat<'a, N, A, V, B, R> {
+    pub fn new(
+        rt: &'a R,
+        table: &'a SharedTable<N, A, V, B>,
+        pass: Pass<N, A, V, B>,
+    ) -> Seat<'a, N, A, V, B, R> {
+        Seat { rt, table, pass }
+    }
+
+    pub fn into_pass(self) -> Pass<N, A, V, B> {
+        let Seat {
+            rt: _,
+            table: _,
+            pass,
+        } = self;
+        pass
+    }
+}
+
+impl<'a, N: Name, A: Ledger, V: Ledger, B: Ledger, R: Wait> Calls for Seat<'a, N, A, V, B, R> {
+    fn begin(&mut self) -> Result<Key, Refusal> {
+        self.table.begin(self.rt, &mut self.pass)
+    }
+
+    fn acquire(&mut self, key: Key, resource: u32) -> Result<Acquired, Refusal> {
+        self.table.acquire(self.rt, &mut self.pass, key, resource)
+    }
+
+    fn release(&mut self, key: Key, resource: u32) -> Result<Released, Refusal> {
+        self.table.release(self.rt, &mut self.pass, key, resource)
+    }
+
+    fn finish(&mut self, key: Key) -> Result<(), Refusal> {
+        self.table.finish(self.rt, &mut self.pass, key)
+    }
+
+    fn transmit(&mut self, key: Key) -> Result<Transmitted, Refusal> {
+        self.table.transmit(self.rt, &mut self.pass, key)
+    }
+
+    fn detect(&mut self, key: Key) -> Result<Detected, Refusal> {
+        self.table.detect(self.rt, &mut self.pass, key)
+    }
+
+    fn abort(&mut self, key: Key) -> Result<(), Refusal> {
+        self.table.abort(self.rt, &mut self.pass, key)
+    }
+
+    fn give_up(&mut self, key: Key) -> Result<(), Refusal> {
+        self.table.give_up(self.rt, &mut self.pass, key)
+    }
+
+    fn settle(&mut self) -> Result<Settled, Refusal> {
+        self.table.settle(self.rt, &mut self.pass)
+    }
+
+    fn state(&mut self, key: Key) -> Result<State, Refusal> {
+        self.table.state(self.rt, &mut self.pass, key)
+    }
+
+    fn owner(&mut self, resource: u32) -> Result<Option<Key>, Refusal> {
+        self.table.owner(self.rt, &mut self.pass, resource)
+    }
+
+    fn tenant(&mut self, process: u32) -> Option<Key> {
+        self.table.tenant(self.rt, &mut self.pass, process)
+    }
+
+    fn processes(&self) -> u32 {
+        self.table.processes()
+    }
+}
