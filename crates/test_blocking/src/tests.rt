@@ -11,3 +11,4 @@ mod ends;
 mod helpers;
 mod many;
 mod refusals;
+mod work;

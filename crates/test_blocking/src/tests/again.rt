@@ -1,10 +1,10 @@
 //! Work that is done again after a deadlock.
-use crate::tests::helpers::{await_events, open, same};
+use crate::tests::helpers::{await_events, same};
+use crate::tests::work::{Work, on_locks};
 use mm_blocking::{LockError, Locks, Totals, Transaction};
 use std::process::Abort;
 use std::sync::{Barrier, Wait};
 use std::test::Fail;
-use std::thread::join;
 
 /// What the work of a test fails with.
 #[derive(Clone, Copy, Debug, PartialEq, Eq)]
@@ -36,7 +36,7 @@ fn rich<R: Wait>(transaction: &mut Transaction<'_, R>) -> Result<u32, WorkError>
 }
 
 /// A value is returned once its transaction is committed; an error of the work is returned, and its transaction rolled back.
-fn outcomes<R: Wait + Abort>(rt: &R, locks: &Locks) {
+pub fn outcomes<R: Wait + Abort>(rt: &R, locks: &Locks) {
     same(rt, locks.run(rt, 3, |one| poor(one)), Err(WorkError::Poor));
     same(
         rt,
@@ -61,9 +61,7 @@ fn outcomes<R: Wait + Abort>(rt: &R, locks: &Locks) {
 
 #[test]
 fn returns_what_came(rt: HostRuntime) -> Result<(), Fail> {
-    let locks = open(rt.alloc(), 1, 1)?;
-    outcomes(&rt, &locks);
-    Ok(())
+    on_locks(&rt, rt.alloc(), Work::Outcomes, 1, 1, 1)
 }
 
 const ROUNDS: u32 = 1_000;
@@ -87,8 +85,13 @@ fn crosses<R: Wait + Abort>(
     })
 }
 
-/// How often this thread was to try again.
-fn cross_often<R: Wait + Abort>(rt: &R, locks: &Locks, gate: &Barrier, names: [&[u8]; 2]) -> u64 {
+/// Meets the other thread so many times, which locks the names in the opposite order. Returns how often this thread was to try again.
+pub fn cross_often<R: Wait + Abort>(rt: &R, locks: &Locks, gate: &Barrier, number: usize) -> u64 {
+    let names: [&[u8]; 2] = if number == 0 {
+        [b"a", b"b"]
+    } else {
+        [b"b", b"a"]
+    };
     let mut again: u64 = 0;
     for _ in 0..ROUNDS {
         let attempts = crosses(rt, locks, gate, names).expect(
@@ -101,22 +104,18 @@ fn cross_often<R: Wait + Abort>(rt: &R, locks: &Locks, gate: &Barrier, names: [&
     again
 }
 
-/// Each of a thousand times both commit in the end, and each deadlock was one more attempt.
+/// Each of a thousand times both have committed in the end, and each deadlock was one more attempt.
+pub fn both_committed<R: Wait + Abort>(rt: &R, locks: &Locks, again: u64) {
+    let totals = locks.totals(rt);
+    same(rt, totals.committed, 2 * u64::from(ROUNDS));
+    same(rt, again, totals.deadlocks);
+    same(rt, totals.deadlocks >= u64::from(ROUNDS), true);
+    same(rt, totals.aborted, totals.deadlocks);
+}
+
 #[test]
 fn both_commit(rt: HostRuntime) -> Result<(), Fail> {
-    let locks = open(rt.alloc(), 2, 2)?;
-    let gate = Barrier::new(2);
-    let (one, two) = join(
-        &rt,
-        || cross_often(&rt, &locks, &gate, [b"a", b"b"]),
-        || cross_often(&rt, &locks, &gate, [b"b", b"a"]),
-    );
-    let totals = locks.totals(&rt);
-    same(&rt, totals.committed, 2 * u64::from(ROUNDS));
-    same(&rt, one.saturating_add(two), totals.deadlocks);
-    same(&rt, totals.deadlocks >= u64::from(ROUNDS), true);
-    same(&rt, totals.aborted, totals.deadlocks);
-    Ok(())
+    on_locks(&rt, rt.alloc(), Work::BothCommit, 2, 2, 2)
 }
 
 const ATTEMPTS: u32 = 3;
@@ -134,8 +133,8 @@ fn stands_in_the_way<R: Wait + Abort>(rt: &R, locks: &Locks, gate: &Barrier) {
 }
 
 /// Closes a cycle in each attempt. Returns how many there were.
-fn gives_up<R: Wait + Abort>(rt: &R, locks: &Locks, gate: &Barrier) -> u32 {
-    let mut attempts: u32 = 0;
+fn gives_up<R: Wait + Abort>(rt: &R, locks: &Locks, gate: &Barrier) -> u64 {
+    let mut attempts: u64 = 0;
     let outcome = locks.run(rt, ATTEMPTS, |transaction| {
         attempts = attempts.saturating_add(1);
         transaction.lock(b"a")?;
@@ -149,17 +148,23 @@ fn gives_up<R: Wait + Abort>(rt: &R, locks: &Locks, gate: &Barrier) -> u32 {
     attempts
 }
 
+/// One of two stands in the way, and the other one gives up. Returns how many attempts that one made.
+pub fn meets<R: Wait + Abort>(rt: &R, locks: &Locks, gate: &Barrier, number: usize) -> u64 {
+    if number == 0 {
+        stands_in_the_way(rt, locks, gate);
+        return 0;
+    }
+    gives_up(rt, locks, gate)
+}
+
+/// Each attempt was made, and rolled back.
+pub fn gave_up<R: Wait + Abort>(rt: &R, locks: &Locks, attempts: u64) {
+    same(rt, attempts, u64::from(ATTEMPTS));
+    same(rt, locks.totals(rt).aborted, u64::from(ATTEMPTS));
+}
+
 /// Where each attempt meets a deadlock, the last one's error is returned.
 #[test]
 fn ends_after_so_many_attempts(rt: HostRuntime) -> Result<(), Fail> {
-    let locks = open(rt.alloc(), 2, 2)?;
-    let gate = Barrier::new(2);
-    let (_, attempts) = join(
-        &rt,
-        || stands_in_the_way(&rt, &locks, &gate),
-        || gives_up(&rt, &locks, &gate),
-    );
-    same(&rt, attempts, ATTEMPTS);
-    same(&rt, locks.totals(&rt).aborted, u64::from(ATTEMPTS));
-    Ok(())
+    on_locks(&rt, rt.alloc(), Work::GivesUp, 2, 2, 2)
 }

@@ -1,5 +1,6 @@
 //! Threads that wait use next to no processor time.
-use crate::tests::helpers::{await_events, open, same};
+use crate::tests::helpers::{await_events, same};
+use crate::tests::work::{Work, on_locks};
 use mm_blocking::Locks;
 use std::process::Abort;
 use std::sync::{Barrier, Wait};
@@ -36,27 +37,27 @@ fn own<R: Wait + Clock + Abort>(rt: &R, locks: &Locks, gate: &Barrier) {
     same(rt, transaction.commit(), Ok(()));
 }
 
+/// One of all owns the name, and the others wait for it. Returns the processor time that this took, in microseconds.
+pub fn one_of_nine<R: Wait + Clock + CpuClock + Abort>(
+    rt: &R,
+    locks: &Locks,
+    gate: &Barrier,
+    number: usize,
+) -> u64 {
+    if number == 0 {
+        own(rt, locks, gate);
+        return 0;
+    }
+    gate.wait(rt);
+    wait(rt, locks)
+}
+
+/// All who waited used so much processor time.
+pub fn slept(rt: &impl Abort, time: u64) {
+    same(rt, time < MOST, true);
+}
+
 #[test]
 fn sleeps(rt: HostRuntime) -> Result<(), Fail> {
-    let locks = open(rt.alloc(), 9, 1)?;
-    let gate = Barrier::new(THREADS);
-    let times = thread::map_indices(
-        &rt,
-        rt.alloc(),
-        THREADS,
-        &|number| -> u64 {
-            if number == 0 {
-                own(&rt, &locks, &gate);
-                return 0;
-            }
-            gate.wait(&rt);
-            wait(&rt, &locks)
-        },
-    )?;
-    let mut sum: u64 = 0;
-    for time in times.as_slice() {
-        sum = sum.wrapping_add(*time);
-    }
-    same(&rt, sum < MOST, true);
-    Ok(())
+    on_locks(&rt, rt.alloc(), Work::Sleeps, 9, 1, THREADS)
 }

@@ -1,5 +1,6 @@
 //! A wait whose time is up while its transaction carries another's label.
-use crate::tests::helpers::{await_events, open, same};
+use crate::tests::helpers::{await_events, same};
+use crate::tests::work::{Work, on_locks};
 use mm_blocking::{LockError, Locks, Totals, Transaction};
 use std::process::Abort;
 use std::sync::Wait;
@@ -37,7 +38,7 @@ fn commit_late<R: Wait + Clock + Abort>(rt: &R, locks: &Locks, transaction: Tran
     same(rt, transaction.commit(), Ok(()));
 }
 
-fn meet<R: Wait + Clock + Abort + Threads + Sync>(rt: &R, locks: &Locks) {
+pub fn meet<R: Wait + Clock + Abort + Threads + Sync>(rt: &R, locks: &Locks) {
     let first = locks.begin(rt).expect(rt, "there is room");
     let mut second = locks.begin(rt).expect(rt, "there is room");
     let mut third = locks.begin(rt).expect(rt, "there is room");
@@ -56,14 +57,11 @@ fn meet<R: Wait + Clock + Abort + Threads + Sync>(rt: &R, locks: &Locks) {
     );
 }
 
-/// All three end. The first one is granted `b`, or its time was up before the second one waited.
-#[test]
-fn a_carried_wait_goes_on(rt: HostRuntime) -> Result<(), Fail> {
-    let locks = open(rt.alloc(), 3, 2)?;
-    meet(&rt, &locks);
+/// All three have ended.
+pub fn ended<R: Wait + Abort>(rt: &R, locks: &Locks) {
     same(
-        &rt,
-        locks.totals(&rt),
+        rt,
+        locks.totals(rt),
         Totals {
             begun: 3,
             committed: 3,
@@ -71,5 +69,10 @@ fn a_carried_wait_goes_on(rt: HostRuntime) -> Result<(), Fail> {
             deadlocks: 0,
         },
     );
-    Ok(())
+}
+
+/// All three end. The first one is granted `b`, or its time was up before the second one waited.
+#[test]
+fn a_carried_wait_goes_on(rt: HostRuntime) -> Result<(), Fail> {
+    on_locks(&rt, rt.alloc(), Work::Carried, 3, 2, 1)
 }

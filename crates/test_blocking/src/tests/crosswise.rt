@@ -1,10 +1,10 @@
 //! Two threads that lock the same two names in opposite orders.
-use crate::tests::helpers::{open, same};
-use mm_blocking::{LockError, Locks, Totals};
+use crate::tests::helpers::same;
+use crate::tests::work::{Work, on_locks};
+use mm_blocking::{LockError, Locks, Totals, Transaction};
 use std::process::Abort;
 use std::sync::{Barrier, Wait};
 use std::test::Fail;
-use std::thread::join;
 
 const ROUNDS: u32 = 300;
 
@@ -21,14 +21,31 @@ fn cross<R: Wait + Abort>(rt: &R, locks: &Locks, gate: &Barrier, names: [&[u8]; 
         Err(error) => {
             same(rt, error, LockError::Deadlock);
             same(rt, transaction.lock(b"third"), Err(LockError::Deadlock));
+            is_rolled_back(rt, locks, transaction);
             true
         }
     }
 }
 
-/// Meets the other thread so many times. Returns how often this one closed the cycle.
-fn cross_often<R: Wait + Abort>(rt: &R, locks: &Locks, gate: &Barrier, names: [&[u8]; 2]) -> u32 {
-    let mut deadlocks: u32 = 0;
+/// Ends the test unless a transaction in a deadlock is rolled back where it is dropped, and in every second round where its commit is refused.
+fn is_rolled_back<R: Wait + Abort>(rt: &R, locks: &Locks, transaction: Transaction<'_, R>) {
+    let before = locks.totals(rt).aborted;
+    if before % 2 == 0 {
+        same(rt, transaction.commit(), Err(LockError::Deadlock));
+    } else {
+        drop(transaction);
+    }
+    same(rt, locks.totals(rt).aborted, before.wrapping_add(1));
+}
+
+/// Meets the other thread so many times, which locks the names in the opposite order. Returns how often this one closed the cycle.
+pub fn cross_often<R: Wait + Abort>(rt: &R, locks: &Locks, gate: &Barrier, number: usize) -> u64 {
+    let names: [&[u8]; 2] = if number == 0 {
+        [b"a", b"b"]
+    } else {
+        [b"b", b"a"]
+    };
+    let mut deadlocks: u64 = 0;
     for _ in 0..ROUNDS {
         if cross(rt, locks, gate, names) {
             deadlocks = deadlocks.saturating_add(1);
@@ -38,21 +55,13 @@ fn cross_often<R: Wait + Abort>(rt: &R, locks: &Locks, gate: &Barrier, names: [&
     deadlocks
 }
 
-/// Each time one of the two is told of the deadlock, and the other one owns both names.
-#[test]
-fn one_of_two_is_told(rt: HostRuntime) -> Result<(), Fail> {
-    let locks = open(rt.alloc(), 2, 3)?;
-    let gate = Barrier::new(2);
-    let (one, two) = join(
-        &rt,
-        || cross_often(&rt, &locks, &gate, [b"a", b"b"]),
-        || cross_often(&rt, &locks, &gate, [b"b", b"a"]),
-    );
-    same(&rt, one.saturating_add(two), ROUNDS);
+/// Each time one of the two was told of the deadlock, and the other one owned both names.
+pub fn crossed<R: Wait + Abort>(rt: &R, locks: &Locks, deadlocks: u64) {
     let rounds = u64::from(ROUNDS);
+    same(rt, deadlocks, rounds);
     same(
-        &rt,
-        locks.totals(&rt),
+        rt,
+        locks.totals(rt),
         Totals {
             begun: 2 * rounds,
             committed: rounds,
@@ -60,5 +69,9 @@ fn one_of_two_is_told(rt: HostRuntime) -> Result<(), Fail> {
             deadlocks: rounds,
         },
     );
-    Ok(())
+}
+
+#[test]
+fn one_of_two_is_told(rt: HostRuntime) -> Result<(), Fail> {
+    on_locks(&rt, rt.alloc(), Work::Crosswise, 2, 3, 2)
 }

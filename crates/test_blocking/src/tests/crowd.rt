@@ -1,24 +1,21 @@
 //! A handful of threads over few names.
 ghost use Rattle.std.specs.Prelude.{◌<◌};
 
-use crate::tests::helpers::{open, same};
+use crate::tests::helpers::same;
+use crate::tests::work::{Owners, Work, on_locks};
 use mm_blocking::{LockError, Locks, Transaction};
 use std::process::Abort;
 use std::sync::Wait;
-use std::sync::atomic::AtomicU64;
 use std::sync::atomic::Ordering::SeqCst;
 use std::test::Fail;
 use std::thread;
 use std::time::{Clock, Duration};
 
-const NAMES: [&[u8]; 4] = [b"a", b"b", b"c", b"d"];
+static NAMES: [&[u8]; 4] = [b"a", b"b", b"c", b"d"];
 
 const THREADS: usize = 6;
 
 const COMMITS: u32 = 100;
-
-/// For each name, how many transactions believe that they own it.
-type Owners = [AtomicU64; 4];
 
 /// Numbers by chance.
 #[derive(Drop)]
@@ -106,7 +103,7 @@ fn attempt<R: Wait + Clock + Abort>(
 }
 
 /// Transactions of one thread, until so many have committed. Returns how many did not.
-fn client<R: Wait + Clock + Abort>(rt: &R, locks: &Locks, owners: &Owners, seed: usize) -> u64 {
+pub fn client<R: Wait + Clock + Abort>(rt: &R, locks: &Locks, owners: &Owners, seed: usize) -> u64 {
     let mut random = Random(seed as u64);
     let mut deadlocks: u64 = 0;
     let mut commits: u32 = 0;
@@ -123,31 +120,18 @@ fn client<R: Wait + Clock + Abort>(rt: &R, locks: &Locks, owners: &Owners, seed:
     unreachable!()
 }
 
+/// All threads have ended, and each deadlock was told to one.
+pub fn ended<R: Wait + Abort>(rt: &R, locks: &Locks, deadlocks: u64) {
+    let totals = locks.totals(rt);
+    let commits = THREADS as u64 * u64::from(COMMITS);
+    same(rt, totals.committed, commits);
+    same(rt, totals.begun, commits.wrapping_add(deadlocks));
+    same(rt, totals.deadlocks, deadlocks);
+    same(rt, totals.aborted, deadlocks);
+}
+
 /// No name has two owners at a time, all threads end, and each deadlock is told to one.
 #[test]
 fn a_crowd_ends(rt: HostRuntime) -> Result<(), Fail> {
-    let locks = open(rt.alloc(), 6, 4)?;
-    let owners = [
-        AtomicU64::new(0),
-        AtomicU64::new(0),
-        AtomicU64::new(0),
-        AtomicU64::new(0),
-    ];
-    let deadlocks = thread::map_indices(
-        &rt,
-        rt.alloc(),
-        THREADS,
-        &|seed| { client(&rt, &locks, &owners, seed) },
-    )?;
-    let mut sum: u64 = 0;
-    for count in deadlocks.as_slice() {
-        sum = sum.wrapping_add(*count);
-    }
-    let totals = locks.totals(&rt);
-    let commits = THREADS as u64 * u64::from(COMMITS);
-    same(&rt, totals.committed, commits);
-    same(&rt, totals.begun, commits.wrapping_add(sum));
-    same(&rt, totals.deadlocks, sum);
-    same(&rt, totals.aborted, sum);
-    Ok(())
+    on_locks(&rt, rt.alloc(), Work::Crowd, 6, 4, THREADS)
 }

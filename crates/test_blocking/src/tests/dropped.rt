@@ -1,5 +1,6 @@
 //! A transaction that is dropped at each point of its life at which it does not wait.
-use crate::tests::helpers::{open, same};
+use crate::tests::helpers::same;
+use crate::tests::work::{Work, on_locks};
 use mm_blocking::{LockError, Locks, Transaction};
 use std::process::Abort;
 use std::sync::Wait;
@@ -19,7 +20,7 @@ enum Point {
     TimedOut,
 }
 
-const POINTS: [Point; 8] = [
+static POINTS: [Point; 8] = [
     Point::Begun,
     Point::Locked,
     Point::LockedAll,
@@ -68,7 +69,7 @@ fn drop_at<R: Wait + Clock + Abort>(rt: &R, locks: &Locks, point: Point) {
     same(rt, next.commit(), Ok(()));
 }
 
-fn drop_at_each<R: Wait + Clock + Abort>(rt: &R, locks: &Locks) {
+pub fn drop_at_each<R: Wait + Clock + Abort>(rt: &R, locks: &Locks) {
     let mut owner = locks.begin(rt).expect(rt, "there is room");
     same(rt, owner.lock(b"z"), Ok(()));
     for point in &POINTS {
@@ -79,7 +80,5 @@ fn drop_at_each<R: Wait + Clock + Abort>(rt: &R, locks: &Locks) {
 
 #[test]
 fn leaves_nothing(rt: HostRuntime) -> Result<(), Fail> {
-    let locks = open(rt.alloc(), 2, 3)?;
-    drop_at_each(&rt, &locks);
-    Ok(())
+    on_locks(&rt, rt.alloc(), Work::Dropped, 2, 3, 1)
 }

@@ -1,10 +1,10 @@
 //! Names that are locked by one call, and work that is done again.
-use crate::tests::helpers::{await_events, open, same};
-use mm_blocking::{LockError, Locks, Totals, Transaction};
+use crate::tests::helpers::{await_events, same};
+use crate::tests::work::{Work, on_locks};
+use mm_blocking::{LockError, Locks, Totals};
 use std::process::Abort;
 use std::sync::{Barrier, Wait};
 use std::test::Fail;
-use std::thread::{Threads, join};
 
 /// Whether these names are owned by others: a transaction of its own tries each.
 fn busy<R: Wait + Abort>(rt: &R, locks: &Locks, names: [&[u8]; 3]) -> [bool; 3] {
@@ -17,7 +17,7 @@ fn busy<R: Wait + Abort>(rt: &R, locks: &Locks, names: [&[u8]; 3]) -> [bool; 3] 
 }
 
 /// Those before a refused name stay locked, and those behind it are not asked for.
-fn stops<R: Wait + Abort>(rt: &R, locks: &Locks) {
+pub fn stops<R: Wait + Abort>(rt: &R, locks: &Locks) {
     let mut one = locks.begin(rt).expect(rt, "there is room");
     same(rt, one.lock_all(&[]), Ok(()));
     same(rt, one.lock_all(&[b"a", b"b", b"a"]), Ok(()));
@@ -34,9 +34,7 @@ fn stops<R: Wait + Abort>(rt: &R, locks: &Locks) {
 
 #[test]
 fn stops_at_a_refusal(rt: HostRuntime) -> Result<(), Fail> {
-    let locks = open(rt.alloc(), 2, 8)?;
-    stops(&rt, &locks);
-    Ok(())
+    on_locks(&rt, rt.alloc(), Work::StopsAtRefusal, 2, 8, 1)
 }
 
 /// Two begins, three locks and two waits.
@@ -68,27 +66,35 @@ fn wants_all<R: Wait + Abort>(rt: &R, locks: &Locks, gate: &Barrier) {
     same(rt, transaction.commit(), Ok(()));
 }
 
+/// One of two owns some names, and the other one wants all.
+pub fn goes_on<R: Wait + Abort>(rt: &R, locks: &Locks, gate: &Barrier, number: usize) {
+    if number == 0 {
+        owns_two(rt, locks, gate);
+    } else {
+        wants_all(rt, locks, gate);
+    }
+}
+
 /// After each sleep it goes on with the names behind.
 #[test]
 fn goes_on_after_sleeps(rt: HostRuntime) -> Result<(), Fail> {
-    let locks = open(rt.alloc(), 3, 8)?;
-    let gate = Barrier::new(2);
-    join(
-        &rt,
-        || owns_two(&rt, &locks, &gate),
-        || wants_all(&rt, &locks, &gate),
-    );
-    Ok(())
+    on_locks(&rt, rt.alloc(), Work::GoesOnAfterSleeps, 3, 8, 2)
 }
 
 /// Owns `a`, and waits for `b` until the other one, which closes the cycle, is dropped.
-fn waits<R: Wait + Abort>(rt: &R, mut transaction: Transaction<'_, R>) {
+fn waits<R: Wait + Abort>(rt: &R, locks: &Locks, gate: &Barrier) {
+    let mut transaction = locks.begin(rt).expect(rt, "there is room");
+    same(rt, transaction.lock(b"a"), Ok(()));
+    gate.wait(rt);
     same(rt, transaction.lock(b"b"), Ok(()));
     same(rt, transaction.commit(), Ok(()));
 }
 
 /// Closes the cycle at the second of three names: it keeps the first one until it is dropped, and does not own the third.
-fn closes<R: Wait + Abort>(rt: &R, locks: &Locks, mut transaction: Transaction<'_, R>) {
+fn closes<R: Wait + Abort>(rt: &R, locks: &Locks, gate: &Barrier) {
+    let mut transaction = locks.begin(rt).expect(rt, "there is room");
+    same(rt, transaction.lock(b"b"), Ok(()));
+    gate.wait(rt);
     // Two begins, two locks, a wait.
     await_events(rt, locks, 2 + 2 + 2);
     same(
@@ -100,22 +106,20 @@ fn closes<R: Wait + Abort>(rt: &R, locks: &Locks, mut transaction: Transaction<'
     drop(transaction);
 }
 
-fn meet<R: Wait + Abort + Threads + Sync>(rt: &R, locks: &Locks) {
-    let mut one = locks.begin(rt).expect(rt, "there is room");
-    let mut two = locks.begin(rt).expect(rt, "there is room");
-    same(rt, one.lock(b"a"), Ok(()));
-    same(rt, two.lock(b"b"), Ok(()));
-    join(rt, move || waits(rt, one), move || closes(rt, locks, two));
+/// One of two waits, and the other one closes the cycle.
+pub fn closes_a_cycle<R: Wait + Abort>(rt: &R, locks: &Locks, gate: &Barrier, number: usize) {
+    if number == 0 {
+        waits(rt, locks, gate);
+    } else {
+        closes(rt, locks, gate);
+    }
 }
 
-#[test]
-fn stops_at_a_deadlock(rt: HostRuntime) -> Result<(), Fail> {
-    let locks = open(rt.alloc(), 3, 8)?;
-    meet(&rt, &locks);
-    // The transaction that tries is rolled back, as the one that closes the cycle is.
+/// The transaction that tried was rolled back, as the one that closed the cycle was.
+pub fn stopped<R: Wait + Abort>(rt: &R, locks: &Locks) {
     same(
-        &rt,
-        locks.totals(&rt),
+        rt,
+        locks.totals(rt),
         Totals {
             begun: 3,
             committed: 1,
@@ -123,5 +127,9 @@ fn stops_at_a_deadlock(rt: HostRuntime) -> Result<(), Fail> {
             deadlocks: 1,
         },
     );
-    Ok(())
+}
+
+#[test]
+fn stops_at_a_deadlock(rt: HostRuntime) -> Result<(), Fail> {
+    on_locks(&rt, rt.alloc(), Work::StopsAtDeadlock, 3, 8, 2)
 }

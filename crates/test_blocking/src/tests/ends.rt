@@ -1,14 +1,13 @@
 //! Transactions that end while others wait for what they own.
-use crate::tests::helpers::{await_events, open, same};
+use crate::tests::helpers::{await_events, same};
+use crate::tests::work::{Work, on_locks};
 use mm_blocking::Locks;
 use std::process::Abort;
 use std::sync::{Barrier, Wait};
 use std::test::Fail;
-use std::thread;
-use std::thread::join;
 
 /// More than a thread wakes at a time.
-const NAMES: [&[u8]; 12] = [
+static NAMES: [&[u8]; 12] = [
     b"0", b"1", b"2", b"3", b"4", b"5", b"6", b"7", b"8", b"9", b"10", b"11",
 ];
 
@@ -24,7 +23,10 @@ fn wait_for<R: Wait + Abort>(rt: &R, locks: &Locks, gate: &Barrier, name: &[u8])
 }
 
 /// Owns a name, and is dropped once another one waits for it.
-fn own_and_drop<R: Wait + Abort>(rt: &R, locks: &Locks, gate: &Barrier) {
+pub fn own_and_drop<R: Wait + Abort>(rt: &R, locks: &Locks, gate: &Barrier, number: usize) {
+    if number > 0 {
+        return wait_for(rt, locks, gate, b"0");
+    }
     let mut transaction = locks.begin(rt).expect(rt, "there is room");
     same(rt, transaction.lock(b"0"), Ok(()));
     gate.wait(rt);
@@ -35,18 +37,14 @@ fn own_and_drop<R: Wait + Abort>(rt: &R, locks: &Locks, gate: &Barrier) {
 /// A transaction that is dropped hands over what it owns, and whoever waits for that is woken.
 #[test]
 fn a_dropped_owner_wakes_its_waiter(rt: HostRuntime) -> Result<(), Fail> {
-    let locks = open(rt.alloc(), 2, 1)?;
-    let gate = Barrier::new(2);
-    join(
-        &rt,
-        || own_and_drop(&rt, &locks, &gate),
-        || wait_for(&rt, &locks, &gate, b"0"),
-    );
-    Ok(())
+    on_locks(&rt, rt.alloc(), Work::OwnerIsDropped, 2, 1, 2)
 }
 
 /// Owns and gives back a name, and then again, each time with a waiter.
-fn own_and_unlock<R: Wait + Abort>(rt: &R, locks: &Locks, gate: &Barrier) {
+pub fn own_and_unlock<R: Wait + Abort>(rt: &R, locks: &Locks, gate: &Barrier, number: usize) {
+    if number > 0 {
+        return wait_for(rt, locks, gate, b"0");
+    }
     let mut transaction = locks.begin(rt).expect(rt, "there is room");
     same(rt, transaction.lock(b"0"), Ok(()));
     gate.wait(rt);
@@ -59,18 +57,14 @@ fn own_and_unlock<R: Wait + Abort>(rt: &R, locks: &Locks, gate: &Barrier) {
 /// Who gives a name back wakes its waiter, and goes on.
 #[test]
 fn an_unlock_wakes_its_waiter(rt: HostRuntime) -> Result<(), Fail> {
-    let locks = open(rt.alloc(), 2, 1)?;
-    let gate = Barrier::new(2);
-    join(
-        &rt,
-        || own_and_unlock(&rt, &locks, &gate),
-        || wait_for(&rt, &locks, &gate, b"0"),
-    );
-    Ok(())
+    on_locks(&rt, rt.alloc(), Work::OwnerUnlocks, 2, 1, 2)
 }
 
-/// Owns all names, and commits once each has a waiter.
-fn own_all<R: Wait + Abort>(rt: &R, locks: &Locks, gate: &Barrier) {
+/// The last thread owns all names, and commits once each has a waiter.
+pub fn own_all<R: Wait + Abort>(rt: &R, locks: &Locks, gate: &Barrier, number: usize) {
+    if let Some(name) = NAMES.get(number) {
+        return wait_for(rt, locks, gate, *name);
+    }
     let mut transaction = locks.begin(rt).expect(rt, "there is room");
     for name in &NAMES {
         same(rt, transaction.lock(*name), Ok(()));
@@ -80,20 +74,13 @@ fn own_all<R: Wait + Abort>(rt: &R, locks: &Locks, gate: &Barrier) {
     same(rt, transaction.commit(), Ok(()));
 }
 
+/// Each of the thirteen has ended.
+pub fn woken<R: Wait + Abort>(rt: &R, locks: &Locks) {
+    same(rt, locks.events(rt), 13 + 12 * (1 + EVENTS_OF_WAIT) + 13);
+}
+
 /// A commit wakes each of the twelve that wait for what it owned.
 #[test]
 fn a_commit_wakes_all(rt: HostRuntime) -> Result<(), Fail> {
-    let locks = open(rt.alloc(), 13, 12)?;
-    let gate = Barrier::new(13);
-    thread::map_indices(
-        &rt,
-        rt.alloc(),
-        13,
-        &|index| match NAMES.get(index) {
-            Some(name) => wait_for(&rt, &locks, &gate, *name),
-            None => own_all(&rt, &locks, &gate),
-        },
-    )?;
-    same(&rt, locks.events(&rt), 13 + 12 * (1 + EVENTS_OF_WAIT) + 13);
-    Ok(())
+    on_locks(&rt, rt.alloc(), Work::OwnerCommits, 13, 12, 13)
 }

@@ -2,7 +2,7 @@
 
 use crate::tests::helpers::same;
 use mm_blocking::{LockError, Locks, ManagerConfig, Transaction};
-use std::alloc::Global;
+use std::alloc::{AllocError, Global};
 use std::process::Abort;
 use std::sync::Wait;
 use std::sync::atomic::AtomicU64;
@@ -93,31 +93,15 @@ fn client<R: Wait + Abort>(rt: &R, crowd: &Crowd<'_>, number: usize, commits: u6
     }
 }
 
-/// All threads over so many names, until each has committed so many transactions. Nobody is left over, and each deadlock was told to one who
-/// was then rolled back.
+/// Lets all threads meet over the names of these owners. Nobody is left over, and each deadlock was told to one who was then rolled back.
 fn meet<R: Wait + Abort + Threads + Sync>(
     rt: &R,
     alloc: Global,
-    count: usize,
+    locks: &Locks,
+    owners: &[AtomicU64],
     commits: u64,
-) -> Result<(), Fail> {
-    let locks = Locks::open(
-        alloc,
-        ManagerConfig {
-            transactions: 64,
-            names: 384,
-            name_bytes: 8,
-            seed: 5,
-        },
-    )?;
-    let mut owners = Vec::with_capacity(alloc, count)?;
-    for _ in 0..count {
-        owners.push(AtomicU64::new(0))?;
-    }
-    let crowd = Crowd {
-        locks: &locks,
-        owners: owners.as_slice(),
-    };
+) -> Result<(), AllocError> {
+    let crowd = Crowd { locks, owners };
     thread::map_indices(
         rt,
         alloc,
@@ -130,12 +114,44 @@ fn meet<R: Wait + Abort + Threads + Sync>(
     Ok(())
 }
 
+/// So many names that nobody owns.
+fn nobody(alloc: Global, count: usize) -> Result<Vec<AtomicU64>, AllocError> {
+    let mut owners = Vec::with_capacity(alloc, count)?;
+    for _ in 0..count {
+        owners.push(AtomicU64::new(0))?;
+    }
+    Ok(owners)
+}
+
+/// All threads over so many names, until each has committed so many transactions.
+fn meet_over<R: Wait + Abort + Threads + Sync>(
+    rt: &R,
+    alloc: Global,
+    count: usize,
+    commits: u64,
+) -> Result<(), Fail> {
+    let owners = nobody(alloc, count)?;
+    let locks = Locks::open(
+        alloc,
+        ManagerConfig {
+            transactions: 64,
+            names: 384,
+            name_bytes: 8,
+            seed: 5,
+        },
+    )?;
+    let met = meet(rt, alloc, &locks, owners.as_slice(), commits);
+    drop(locks);
+    met?;
+    Ok(())
+}
+
 #[test]
 fn over_sixteen_names(rt: HostRuntime) -> Result<(), Fail> {
-    meet(&rt, rt.alloc(), 16, 2)
+    meet_over(&rt, rt.alloc(), 16, 2)
 }
 
 #[test]
 fn over_a_thousand_names(rt: HostRuntime) -> Result<(), Fail> {
-    meet(&rt, rt.alloc(), 1_000, 10)
+    meet_over(&rt, rt.alloc(), 1_000, 10)
 }

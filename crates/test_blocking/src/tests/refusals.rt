@@ -1,5 +1,6 @@
 //! What one thread is told that has two transactions, and waits that end by time.
-use crate::tests::helpers::{open, same};
+use crate::tests::helpers::same;
+use crate::tests::work::{Work, on_locks};
 use mm_blocking::{LockError, Locks};
 use std::process::Abort;
 use std::sync::Wait;
@@ -7,7 +8,7 @@ use std::test::Fail;
 use std::time::{Clock, Duration};
 
 /// Each refusal of one who does not wait.
-fn refusals<R: Wait + Abort>(rt: &R, locks: &Locks) {
+pub fn refusals<R: Wait + Abort>(rt: &R, locks: &Locks) {
     let mut one = locks.begin(rt).expect(rt, "there is room");
     let two = locks.begin(rt).expect(rt, "there is room");
     same(rt, locks.begin(rt).err(), Some(LockError::TransactionsFull));
@@ -24,13 +25,11 @@ fn refusals<R: Wait + Abort>(rt: &R, locks: &Locks) {
 
 #[test]
 fn refuses(rt: HostRuntime) -> Result<(), Fail> {
-    let locks = open(rt.alloc(), 2, 1)?;
-    refusals(&rt, &locks);
-    Ok(())
+    on_locks(&rt, rt.alloc(), Work::Refusals, 2, 1, 1)
 }
 
 /// A name that another one owns is not had by a try, nor in time. Whoever gave up goes on, and has it once it is given back.
-fn tries<R: Wait + Clock + Abort>(rt: &R, locks: &Locks) {
+pub fn tries<R: Wait + Clock + Abort>(rt: &R, locks: &Locks) {
     let mut owner = locks.begin(rt).expect(rt, "there is room");
     let mut other = locks.begin(rt).expect(rt, "there is room");
     let short = Duration::from_millis(2);
@@ -54,7 +53,5 @@ fn tries<R: Wait + Clock + Abort>(rt: &R, locks: &Locks) {
 
 #[test]
 fn gives_up(rt: HostRuntime) -> Result<(), Fail> {
-    let locks = open(rt.alloc(), 2, 2)?;
-    tries(&rt, &locks);
-    Ok(())
+    on_locks(&rt, rt.alloc(), Work::TimesOut, 2, 2, 1)
 }
