@@ -1,5 +1,5 @@
 -- What a line is.
-use Rattle.std.specs.Prelude.{ℕ, List, [], ◌∷◌, length, nat_eq, nat_lt, slice_index, if◌then◌else◌}
+use Rattle.std.specs.Prelude.{ℕ, Bool, true, false, List, [], ◌∷◌, length, nat_eq, nat_lt, slice_index, if◌then◌else◌}
 use Rattle.std.specs.Option.{option_map_or}
 use Rattle.std.specs.Str.Lines.{strip_carriage_return}
 use Rattle.mm_script.specs.Forms.{call_of}
@@ -19,3 +19,9 @@ abbrev pub line_of : List ℕ → Line
 line_of bytes =
     if nat_lt 128 (length bytes) then kind.Malformed
     else line_of_words (words_of (strip_carriage_return bytes))
+
+-- the line is not in the language
+abbrev pub is_malformed : Line → Bool
+is_malformed kind.Malformed = true
+is_malformed kind.Silent = false
+is_malformed (kind.Call call) = false

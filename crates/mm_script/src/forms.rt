@@ -98,6 +98,20 @@ fn form_of(word: &[u8], forms: &[(&str, Form)]) -> Option<Form>
     None
 }
 
+/// The word of a call and what stands behind it, if this word calls.
+pub fn usage_of(word: &[u8]) -> Option<(&'static str, Form)> {
+    usage_in(word, &FORMS)
+}
+
+fn usage_in(word: &[u8], forms: &[(&'static str, Form)]) -> Option<(&'static str, Form)> {
+    for &(text, form) in forms {
+        if word == text.as_bytes() {
+            return Some((text, form));
+        }
+    }
+    None
+}
+
 impl Form {
     ghost use Rattle.mm_script.specs.private.Forms.{call_by, call_before};
 
@@ -109,6 +123,17 @@ impl Form {
             Form::Key(_) => "K",
             Form::KeyAndResource(_) => "K r",
             Form::Owner => "r",
+        }
+    }
+
+    /// How many words stand behind the word, and the same as a text.
+    pub fn wanted(self) -> (usize, &'static str) {
+        match self {
+            Form::Table(_) => (4, "four words, P R L G,"),
+            Form::Alone(_) => (0, "no word"),
+            Form::Key(_) => (1, "one word, K,"),
+            Form::KeyAndResource(_) => (2, "two words, K r,"),
+            Form::Owner => (1, "one word, r,"),
         }
     }
 

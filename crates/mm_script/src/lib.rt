@@ -2,6 +2,7 @@
 //!
 //! - `line`: what a line is.
 //! - `forms`: the calls that a line can make: a word, and what stands behind it.
+//! - `reason`: why a line is malformed.
 //! - `calls`: makes a call of the table that stands, if one does.
 //! - `reply`: replies, and how they are printed.
 //! - `engine`: a script as far as it is answered.
@@ -18,6 +19,7 @@ mod calls;
 mod engine;
 mod forms;
 mod line;
+mod reason;
 mod reply;
 
 pub use calls::make;
@@ -26,6 +28,7 @@ pub use forms::usages;
 pub use line::{Call, Header, Line, line_of};
 pub use mm_lines::Fault as ScriptFault;
 use mm_lines::{Input, Limits};
+pub use reason::{LineFault, line_fault};
 pub use reply::{MAX_REPLY, Reply, print_reply};
 use std::alloc::Global;
 use std::io::{Read, Write};
