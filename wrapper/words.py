@@ -1,6 +1,6 @@
 """What the words of a command line ask for, where no program is built that could say it.
 
-`asked(words)` gives a Script, Threads, Storm, Locks or Explain where the words ask for a run, a Help with the name of its text, or a Wrong with the
+`asked(words)` gives a Script, Threads, Storm, Locks or Explain where the words ask for a run, a Version, a Help with the name of its text, or a Wrong with the
 program's text (without its tips, which guess at what was meant). tests/try/words.sh holds these texts against the program's own."""
 from dataclasses import dataclass, field
 
@@ -9,13 +9,16 @@ U64_MOST = 2**64 - 1
 STORM_NUMBERS = {"seed": (0, U64_MOST), "clients": (1, 64), "transmitters": (0, 64), "resources": (1, 65536), "acquires": (1, 256)}
 LOCKS_NUMBERS = {"transactions": (1, 65536), "names": (1, 65536), "name-bytes": (1, 1024), "seed": (0, U64_MOST)}
 NONE_USAGE = "mmdetect [COMMAND]"
+SCRIPT_USAGE = "mmdetect script [OPTIONS]"
 THREADS_USAGE = "mmdetect threads [OPTIONS] <FILE>"
 STORM_USAGE = "mmdetect storm [OPTIONS]"
 LOCKS_USAGE = "mmdetect locks [OPTIONS]"
 EXPLAIN_USAGE = "mmdetect explain [OPTIONS] [FILE]"
 EXPLAIN_NUMBERS = {"at": (1, U64_MOST)}
 EXPLAIN_FLAGS = ("--mermaid", "--dot", "--all")
-# the options of each subcommand, with what the usage shows behind each
+# the options of the program and of each subcommand, with what the usage shows behind each
+NONE_OPTIONS = {"help": "", "version": ""}
+SCRIPT_OPTIONS = {"verbose": "", "help": ""}
 REPORT_OPTIONS = {"report": " <FILE>", "verbose": ""}
 STORM_OPTIONS = {**dict.fromkeys(STORM_NUMBERS, " <N>"), **REPORT_OPTIONS, "help": ""}
 THREADS_OPTIONS = {**REPORT_OPTIONS, "help": ""}
@@ -25,7 +28,7 @@ EXPLAIN_OPTIONS = {"mermaid": "", "dot": "", "all": "", "at": " <N>", "help": ""
 
 @dataclass
 class Script:
-    pass
+    verbose: bool = False
 
 
 @dataclass
@@ -52,6 +55,11 @@ class Explain:
 @dataclass
 class Help:
     of: str
+
+
+@dataclass
+class Version:
+    pass
 
 
 @dataclass
@@ -88,12 +96,14 @@ def of_command(words):
     first, rest = words[0], words[1:]
     if first in ("-h", "--help"):
         return Help("mmdetect")
+    if first in ("-V", "--version"):
+        return Version()
     if first == "help":
         return of_help(rest)
     if first in PARTS:
         return PARTS[first](rest)
     if first.startswith("-") and first != "-":
-        raise unexpected(first, NONE_USAGE)
+        raise Reading([], NONE_USAGE, NONE_OPTIONS).unexpected(first)
     raise unknown(first)
 
 
@@ -138,15 +148,6 @@ def of_help(words):
     raise unknown(words[0])
 
 
-def of_script(words):
-    if not words or words == ["--"]:
-        return Script()
-    word = words[1] if words[0] == "--" else words[0]
-    if words[0] in ("-h", "--help"):
-        return Help("script")
-    raise unexpected(word, "mmdetect script")
-
-
 @dataclass
 class Reading:
     """Words of a subcommand as far as they are read."""
@@ -170,7 +171,7 @@ class Reading:
         near = nearest(name[2:], self.options) if name.startswith("--") and len(name) > 2 else None
         if near is None:
             return unexpected(name if name.startswith("--") else word, self.usage)
-        place = self.usage.partition(" [OPTIONS]")
+        place = self.usage.removesuffix(" [COMMAND]").partition(" [OPTIONS]")
         return unexpected(name, f"{place[0]} --{near}{self.options[near]}{place[2]}")
 
     def take_flag(self, word):
@@ -191,6 +192,23 @@ class Reading:
         take_value(self, name, "FILE", has_value, value)
         self.shown.append("--report <FILE>")
         return True
+
+
+def of_script(words):
+    reading, is_open = Reading(list(words), SCRIPT_USAGE, SCRIPT_OPTIONS), True
+    while reading.left:
+        word = reading.left.pop(0)
+        if is_open and word == "--":
+            is_open = False
+        elif is_open and word in ("-h", "--help"):
+            return Help("script")
+        elif is_open and reading.take_flag(word):
+            continue
+        elif is_open and word.startswith("-") and word != "-":
+            raise reading.unexpected(word)
+        else:
+            raise unexpected(word, SCRIPT_USAGE)
+    return Script(reading.verbose)
 
 
 def of_threads(words):

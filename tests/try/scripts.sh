@@ -37,6 +37,54 @@ case_is "a malformed line"
 printf 'fly\nbegin' | run > "$work/out" 2> "$work/err"
 ends 1 $'malformed\nno table' "" $?
 
+# What is told of malformed lines: the replies stay as they are.
+# says_verbose SCRIPT REPLIES COMPLAINTS: the script, and the same one without the flag
+says_verbose() {
+  printf '%b' "$1" > "$work/verbose"
+  run script --verbose < "$work/verbose" > "$work/out" 2> "$work/err"
+  ends 1 "$2" "$3" $?
+  run script < "$work/verbose" > "$work/out" 2> "$work/err"
+  ends 1 "$2" "" $?
+}
+case_is "each kind of malformed line"
+long=$(printf '%0129d' 0)
+says_verbose "table 1 1 9 9\n# 2\nfly 0.1\n$long\nacquire 0.1\nbegin now  please\nsettle x\nowner\nfinish 1\nacquire 0. 0\nacquire 0.0 -1\nowner 4294967296\r\ntable 1 x 9 9\ntable2 1 1 18446744073709551616 9\ntable 1 1 9 9.\ntable 1 1 9\nBegin\n\tbegin\n \nabort 4294967296.1" \
+  "ok
+$(for _ in {1..17}; do echo malformed; done)" \
+  "line 3: no call has this word
+line 4: the line has more than 128 bytes
+line 5: acquire wants two words, K r, behind it, but has 1
+line 6: begin wants no word behind it, but has 2
+line 7: settle wants no word behind it, but has 1
+line 8: owner wants one word, r, behind it, but has 0
+line 9: K is not two numbers from 0 to 4294967295 with a dot between them
+line 10: K is not two numbers from 0 to 4294967295 with a dot between them
+line 11: r is not a whole number from 0 to 4294967295
+line 12: r is not a whole number from 0 to 4294967295
+line 13: R is not a whole number from 0 to 4294967295
+line 14: L is not a whole number from 0 to 18446744073709551615
+line 15: G is not a whole number from 0 to 4294967295
+line 16: table wants four words, P R L G, behind it, but has 3
+line 17: no call has this word
+line 18: no call has this word
+line 20: K is not two numbers from 0 to 4294967295 with a dot between them"
+case_is "a script without a malformed line, with -v"
+run script -v < "$work/script" > "$work/out" 2> "$work/err"
+ends 0 "$first_replies" "" $?
+case_is "lines that come in pieces, with --verbose"
+{ for piece in 'be' 'gin\nfly' ' away\nfl' 'y'; do printf '%b' "$piece"; sleep 0.1; done; } | run script --verbose > "$work/out" 2> "$work/err"
+ends 1 $'no table\nmalformed\nmalformed' $'line 2: no call has this word\nline 3: no call has this word' $?
+case_is "a read fault, with --verbose"
+run script --verbose < / > "$work/out" 2> "$work/err"
+ends 3 "" some $?
+reports "line 1: "
+same "the last line on standard error" "read fault" "$(tail -n 1 "$work/err")"
+case_is "a script that is too long, with --verbose"
+{ head -c 16777210 /dev/zero | tr '\0' '\n' && printf 'fly\nbegin'; } | run script --verbose > "$work/out" 2> "$work/err"
+ends 3 "malformed" "line 16777211: no call has this word
+line 16777212: the script has more than 16777216 bytes
+input too long" $?
+
 # Lines that are typed: each reply is there before the next line is given.
 case_is "typed lines"
 mkfifo "$work/lines" "$work/replies"

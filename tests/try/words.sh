@@ -10,7 +10,7 @@ as_unbuilt() {
 }
 
 # Help goes to standard output.
-for line in --help -h help "script --help" "script -h" "help script" "threads --help" "storm -h" "help storm" "locks --help" "locks --names 2 -h" "help locks" "help help" "threads a -h" "explain -h" "help explain" "explain x --dot --help" "threads --report a -h" "storm --report=a --acquires 2 --help"; do
+for line in --help -h help "script --help" "script -h" "script -v --help" "help script" "threads --help" "storm -h" "help storm" "locks --help" "locks --names 2 -h" "help locks" "help help" "threads a -h" "explain -h" "help explain" "explain x --dot --help" "threads --report a -h" "storm --report=a --acquires 2 --help"; do
   read -ra words <<< "$line"
   case_is "$line"
   run "${words[@]}" < "$work/script" > "$work/out" 2> "$work/err"
@@ -65,7 +65,7 @@ for part in "  script " "  threads " "  storm " "  locks " "  explain "; do
 done
 
 # Wrong words: nothing is run.
-for line in fly --fly -x - "script extra" "script script" "script --fly" "script --verbose" "fly script" "help fly" "help --help" --version \
+for line in fly --fly -x - "script extra" "script script" "script --fly" "script --verbos" "script -v -v" "script --verbose extra" "script --hel" "script -- -v" "fly script" "help fly" "help --help" "-- --version" \
   Script scrip prove threads "threads a b" "threads --fly a" "threads -v -v a" --verbose "-- x" "storm extra" "storm --clients 0" \
   "storm --clients 65" "storm --clients" "storm --clients -1" "storm --transmitters 65" "storm --seed 18446744073709551616" \
   "storm --seed x" "storm --seed=" "storm --seed -1" "storm --clients 8 --clients 8" "storm --verbose --verbose" "storm --resources 0" \
@@ -80,6 +80,34 @@ for line in fly --fly -x - "script extra" "script script" "script --fly" "script
   ends 2 "" some $?
   [ "$line" = prove ] || as_unbuilt 2
 done
+# The version: that of the program, and with the commit from the wrapper, at once.
+version=$(sed -n 's/^pub const VERSION: &str = "\(.*\)";$/\1/p' crates/mm_command/src/version.rt)
+commit=
+[ ! -e .git ] || commit=" ($(git describe --always --dirty))"
+for word in --version -V; do
+  case_is "$word of the program"
+  crates/mm_detect/out/mm_detect "$word" > "$work/out" 2> "$work/err"
+  ends 0 "mmdetect $version" "" $?
+  case_is "$word"
+  run "$word" > "$work/out" 2> "$work/err"
+  ends 0 "mmdetect ${version%%,*}$commit,${version#*,}" "" $?
+done
+case_is "--version where nothing is built"
+cp "$work/out" "$work/out2"
+wrapper/unbuilt --version > "$work/out" 2> "$work/err"
+ends 0 "$(cat "$work/out2")" "" $?
+case_is "--version in a folder that is no checkout of git"
+mkdir -p "$work/plain/crates/mm_command/src"
+cp -r mmdetect wrapper "$work/plain"
+cp crates/mm_command/src/version.rt "$work/plain/crates/mm_command/src"
+"$work/plain/mmdetect" --version > "$work/out" 2> "$work/err"
+ends 0 "mmdetect $version" "" $?
+case_is "--version into a full device"
+run --version > /dev/full 2> "$work/err"
+status=$?
+: > "$work/out"
+ends 3 "" "write fault" "$status"
+
 case_is "an empty word"
 words=("")
 run "" < "$work/script" > "$work/out" 2> "$work/err"

@@ -86,6 +86,9 @@ runs_no ci
 case_is "a short script in a pipe is answered by a try"
 printf 'begin' | with_fake "$checkout/mmdetect" script > "$work/out" 2> "$work/err"
 ends 1 "tried example_script try -- begin" some $?
+case_is "a verbose script is answered by a try of the whole program"
+printf 'begin' | with_fake "$checkout/mmdetect" script --verbose > "$work/out" 2> "$work/err"
+ends 1 "tried mm_detect try -- script --verbose begin" some $?
 case_is "a workload is answered by a try"
 (cd "$work" && echo '{}' > work.json && with_fake "$checkout/mmdetect" threads work.json -v) > "$work/out" 2> "$work/err"
 ends 1 "tried mm_detect try --data work.json=$work/work.json -- threads work.json -v " some $?

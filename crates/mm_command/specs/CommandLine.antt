@@ -1,5 +1,5 @@
 -- What a command line asks for. The first word is the program's name.
-use Rattle.std.specs.Prelude.{◌≡◌, ◌⊎◌, ℕ, List, [], ◌∷◌, Bool, true, false, Option, Some, None, codes, drop, is_some}
+use Rattle.std.specs.Prelude.{◌≡◌, ◌⊎◌, ℕ, List, [], ◌∷◌, Bool, true, false, Option, Some, None, codes, drop, is_some, option_and_then}
 use Rattle.clap.specs.Words.{App, IsAmong, Kinds, Row, Rule, Text, first_of, kind_of, new_app, new_rule, one_of, with_rule, with_subcommand}
 use Rattle.clap.specs.Values.{IsUnsignedIn}
 use Rattle.clap.specs.declared.builder.action.ArgAction.TheVariants.{Set, SetTrue}
@@ -47,7 +47,7 @@ abbrev pub file_rule : Rule
 file_rule = record (new_rule (codes "FILE")) { required = true; action = Some Set }
 
 abbrev pub script_app : App
-script_app = new_app (codes "script")
+script_app = with_rule (new_app (codes "script")) verbose_rule
 
 abbrev pub threads_app : App
 threads_app = with_rule (with_rule (with_rule (new_app (codes "threads")) file_rule) report_rule) verbose_rule
@@ -89,23 +89,36 @@ locks_seed_rule = free_number_rule (codes "seed") 0 18446744073709551615
 abbrev pub locks_app : App
 locks_app = with_rule (with_rule (with_rule (with_rule (new_app (codes "locks")) transactions_rule) names_rule) name_bytes_rule) locks_seed_rule
 
--- the words that there are, as clap sees them, and what clap adds, which is `help`, `--help` and `-h`
+-- a command that says its version
+abbrev pub versioned_app : Text → App
+versioned_app name = record (new_app name) { top = record (new_app name).top { has_version = true } }
+
+-- the words that there are, as clap sees them, and what clap adds, which is `help`, `--help` and `-h`, `--version` and `-V`
 abbrev pub program : App
 program =
-    with_subcommand (with_subcommand (with_subcommand (with_subcommand (with_subcommand (new_app (codes "mmdetect")) script_app.top) threads_app.top) storm_app.top) locks_app.top)
+    with_subcommand (with_subcommand (with_subcommand (with_subcommand (with_subcommand (versioned_app (codes "mmdetect")) script_app.top) threads_app.top) storm_app.top) locks_app.top)
     explain_app.top
 
 -- no word, or `script`
 abbrev pub AsksForScript : List Text → Type 0
 AsksForScript words = (drop 1 words ≡ []) ⊎ (drop 1 words ≡ codes "script" ∷ [])
 
+-- `script --verbose` or `script -v`
+abbrev pub AsksForVerboseScript : List Text → Type 0
+AsksForVerboseScript words = (drop 1 words ≡ codes "script" ∷ codes "--verbose" ∷ []) ⊎ (drop 1 words ≡ codes "script" ∷ codes "-v" ∷ [])
+
 -- `--help` or `-h`
 abbrev pub AsksForHelp : List Text → Type 0
 AsksForHelp words = (drop 1 words ≡ codes "--help" ∷ []) ⊎ (drop 1 words ≡ codes "-h" ∷ [])
 
+-- `--version` or `-V`
+abbrev pub AsksForVersion : List Text → Type 0
+AsksForVersion words = (drop 1 words ≡ codes "--version" ∷ []) ⊎ (drop 1 words ≡ codes "-V" ∷ [])
+
 -- what to do at an error of that kind
 abbrev pub request_by : ErrorKind → Error → Request
 request_by kind.DisplayHelp error = Help error
+request_by kind.DisplayVersion error = Help error
 request_by kind.OutOfMemory error = Memory
 request_by _ error = Wrong error
 
@@ -121,9 +134,21 @@ IsByFault faults request = (request ≡ Memory) ⊎ ((error : Error) × IsAmong 
 abbrev pub IsScriptName : Option Text → Type 0
 IsScriptName name = (name ≡ None) ⊎ (name ≡ Some (codes "script"))
 
+-- what the matches of the subcommand that clap entered say of `--verbose`
+abbrev pub verbose_in : Option (Text × List Row) → Option Text
+verbose_in entered = option_and_then (λ p. one_of (codes "verbose") p.1) entered
+
+-- a flag is not given
+abbrev pub IsOff : Option Text → Type 0
+IsOff said = (said ≡ None) ⊎ (said ≡ Some (codes "false"))
+
+-- a flag is given
+abbrev pub IsOn : Option Text → Type 0
+IsOn said = said ≡ Some (codes "true")
+
 -- something is run
 abbrev pub runs : Request → Bool
-runs Script = true
+runs (Script verbose) = true
 runs (Threads file report verbose) = true
 runs (Storm options report verbose) = true
 runs (Locks options) = true
@@ -164,7 +189,10 @@ HasWanted name rows = (name ≡ codes "threads" → HasText (codes "FILE") rows)
 
 -- the request, where memory was not refused
 abbrev pub IsScript : Request → Type 0
-IsScript request = (request ≡ Script) ⊎ (request ≡ Memory)
+IsScript request = (request ≡ Script false) ⊎ (request ≡ Memory)
+
+abbrev pub IsVerboseScript : Request → Type 0
+IsVerboseScript request = (request ≡ Script true) ⊎ (request ≡ Memory)
 
 abbrev pub IsHelp : Request → Type 0
 IsHelp request = ((text : Error) × (request ≡ Help text)) ⊎ (request ≡ Memory)

@@ -3,9 +3,9 @@
 //! - `program`: the words that there are.
 //! - `explain`: those of `explain`.
 //! - `options`: the numbers of a generated workload, and those of a lock service.
-ghost use Rattle.std.specs.Prelude.{◌≡◌, ◌≢◌, ◌↔◌, List, [], IfOk, IfSome, IsSome, IsTrue, codes, true, map};
-ghost use Rattle.clap.specs.Words.{FailsBy, HasMatchesOf, Text, fault_of, found_of, rows_of, subcommand_name_of};
-ghost use Rattle.mm_command.specs.CommandLine.{AsksForHelp, AsksForScript, HasLimits, HasNumbers, HasShape, HasText, HasWanted, IsByFault, IsHelp, IsRun, IsScript, IsScriptName, program, request_at, runs};
+ghost use Rattle.std.specs.Prelude.{◌≡◌, ◌≢◌, ◌↔◌, List, [], IfOk, IfSome, IsSome, IsTrue, Some, codes, false, true, map};
+ghost use Rattle.clap.specs.Words.{FailsBy, HasMatchesOf, Text, fault_of, found_of, one_of, rows_of, subcommand_name_of, subcommand_rows_of};
+ghost use Rattle.mm_command.specs.CommandLine.{AsksForHelp, AsksForScript, AsksForVerboseScript, AsksForVersion, HasLimits, HasNumbers, HasShape, HasText, HasWanted, IsByFault, IsHelp, IsOff, IsOn, IsRun, IsScript, IsScriptName, IsVerboseScript, program, request_at, runs, verbose_in};
 ghost use Rattle.mm_command.specs.Limits.{AreLimits, AreShape};
 
 mod explain;
@@ -26,8 +26,10 @@ use std::{env, io};
 /// What a command line asks for.
 #[derive(Drop)]
 pub enum Request {
-    /// A script is to be run.
-    Script,
+    /// A script is to be run, and perhaps it is told what is wrong with its lines.
+    Script {
+        verbose: bool,
+    },
     /// The workload in this file is to be run, and a report on it written to a file, where one is named.
     Threads {
         file: String,
@@ -47,7 +49,7 @@ pub enum Request {
         file: Option<String>,
         options: ExplainOptions,
     },
-    /// Help, with its text.
+    /// Help, or the version, with its text.
     Help(Error),
     /// The words are no command line of this program; the text says why.
     Wrong(Error),
@@ -75,7 +77,9 @@ fn asked_or_refused(rt: &HostRuntime) -> Result<Request, AllocError> {
 /// Returns what the words ask for; the first is the program's name. Allocates.
 pub fn request_of<S: AsStr>(alloc: Global, words: &[S]) -> Request
     ensures script { AsksForScript (map S.text words.now) → IsScript result }
+    ensures verbose { AsksForVerboseScript (map S.text words.now) → IsVerboseScript result }
     ensures help { AsksForHelp (map S.text words.now) → IsHelp result }
+    ensures version { AsksForVersion (map S.text words.now) → IsHelp result }
     ensures faultless { runs result ≡ true → fault_of program (map S.text words.now) ≡ [] }
     ensures taken { fault_of program (map S.text words.now) ≡ [] → IsRun result }
     ensures wrong { fault_of program (map S.text words.now) ≢ [] → IsByFault (fault_of program (map S.text words.now)) result }
@@ -89,7 +93,9 @@ pub fn request_of<S: AsStr>(alloc: Global, words: &[S]) -> Request
 /// The same. The help on `locks` ends with this text.
 fn request_with<S: AsStr>(alloc: Global, locks_after: &str, words: &[S]) -> Request
     ensures script { AsksForScript (map S.text words.now) → IsScript result }
+    ensures verbose { AsksForVerboseScript (map S.text words.now) → IsVerboseScript result }
     ensures help { AsksForHelp (map S.text words.now) → IsHelp result }
+    ensures version { AsksForVersion (map S.text words.now) → IsHelp result }
     ensures faultless { runs result ≡ true → fault_of program (map S.text words.now) ≡ [] }
     ensures taken { fault_of program (map S.text words.now) ≡ [] → IsRun result }
     ensures wrong { fault_of program (map S.text words.now) ≢ [] → IsByFault (fault_of program (map S.text words.now)) result }
@@ -117,6 +123,7 @@ fn by_error(error: Error) -> Request
 {
     match error.kind() {
         ErrorKind::DisplayHelp => Request::Help(error),
+        ErrorKind::DisplayVersion => Request::Help(error),
         ErrorKind::OutOfMemory => Request::Memory,
         _ => Request::Wrong(error),
     }
@@ -124,18 +131,20 @@ fn by_error(error: Error) -> Request
 
 /// The request that follows from what clap found.
 fn by_matches(alloc: Global, matches: &ArgMatches<'_>) -> Request
-    ensures script { IsScriptName (subcommand_name_of matches.now) → IsScript result }
+    ensures script { IsScriptName (subcommand_name_of matches.now) → IsOff (verbose_in (subcommand_rows_of matches.now)) → IsScript result }
+    ensures verbose { subcommand_name_of matches.now ≡ Some (codes "script") → IsOn (verbose_in (subcommand_rows_of matches.now)) → IsVerboseScript result }
     ensures taken { (words : List Text) → HasMatchesOf program words matches.now → fault_of program words ≡ [] → IsRun result }
 {
     match matches.subcommand() {
         Some((name, own)) => by_subcommand(alloc, name, own),
-        None => Request::Script,
+        None => Request::Script { verbose: false },
     }
 }
 
 /// The request that follows from a subcommand and what clap found for it.
 fn by_subcommand(alloc: Global, name: &str, own: &ArgMatches<'_>) -> Request
-    ensures script { name.now ≡ codes "script" → IsScript result }
+    ensures script { name.now ≡ codes "script" → IsOff (one_of (codes "verbose") (rows_of (found_of own.now))) → IsScript result }
+    ensures verbose { name.now ≡ codes "script" → IsOn (one_of (codes "verbose") (rows_of (found_of own.now))) → IsVerboseScript result }
     ensures taken { HasWanted name.now (rows_of (found_of own.now)) → IsRun result }
 {
     let asked = match name {
@@ -143,9 +152,19 @@ fn by_subcommand(alloc: Global, name: &str, own: &ArgMatches<'_>) -> Request
         "storm" => storm(alloc, own),
         "locks" => locks(alloc, own),
         "explain" => request_to_explain(alloc, own),
-        _ => return Request::Script,
+        _ => return script(own),
     };
     asked.unwrap_or(Request::Memory)
+}
+
+fn script(own: &ArgMatches<'_>) -> Request
+    ensures quiet { IsOff (one_of (codes "verbose") (rows_of (found_of own.now))) → result ≡ Request.Script false }
+    ensures verbose { IsOn (one_of (codes "verbose") (rows_of (found_of own.now))) → result ≡ Request.Script true }
+    ensures runs { runs result ≡ true }
+{
+    Request::Script {
+        verbose: own.get_flag("verbose"),
+    }
 }
 
 fn threads(alloc: Global, own: &ArgMatches<'_>) -> Result<Request, AllocError>

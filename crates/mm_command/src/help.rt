@@ -54,6 +54,8 @@ pub const REPORT: &str = "Writes what ran and what came of it to FILE, as JSON";
 
 pub const VERBOSE: &str = "Says on standard error how the run goes";
 
+pub const SCRIPT_VERBOSE: &str = "Says on standard error which lines are malformed, and why";
+
 /// The script language with its ranges and refusals, what workloads print, and the exit statuses. No line has more than 80 bytes.
 pub const AFTER: &str = "\
 A script is read from standard input, and each of its calls has one reply on

@@ -21,7 +21,7 @@ EndsExplain _ = ⊥
 
 -- each request has an end of its own, but for the two kinds of workload, which end alike
 abbrev pub IsEndOf : Request → Ending → Type 0
-IsEndOf request.Script (ending.Ran lines) = ⊤
+IsEndOf (request.Script verbose) (ending.Ran lines) = ⊤
 IsEndOf (request.Threads file report verbose) (ending.Worked status) = ⊤
 IsEndOf (request.Storm options report verbose) (ending.Worked status) = ⊤
 IsEndOf (request.Locks options) end = EndsService end

@@ -3,6 +3,7 @@
 //! - `explain`: explains a script.
 //! - `file`: the bytes of a file.
 //! - `locks`: a lock service.
+//! - `script`: runs a script, and tells what is wrong with its lines.
 //! - `work`: runs of workloads. `work_end`: what came of one. `verbose`: what is printed meanwhile for a person. `reported`: a run whose
 //!   report is written to a file.
 //! - `ending`: how a run of the program ends, and the status that it exits with.
@@ -15,6 +16,7 @@ mod explain;
 mod file;
 mod locks;
 mod reported;
+mod script;
 mod verbose;
 mod work;
 mod work_end;
@@ -29,6 +31,7 @@ use mm_script::{ScriptFault, run_script};
 use mm_table::Refusal;
 use mm_workload::Workload;
 use reported::{Reporting, run_reported};
+use script::run_verbose_script;
 use std::alloc::Global;
 use std::io::{IsTerminal, Read, Write};
 use std::process::ExitCode;
@@ -61,7 +64,10 @@ fn answer<R: Runtime + RandomSource + Threads + Wait + Sync, I: Read, W: Write +
     ensures { IsEndOf request.now result }
 {
     match request {
-        Request::Script => Ending::Ran(run_script(alloc, input, output)),
+        Request::Script { verbose: false } => Ending::Ran(run_script(alloc, input, output)),
+        Request::Script { verbose: true } => {
+            Ending::Ran(run_verbose_script(rt, alloc, input, output))
+        }
         Request::Locks(options) => run_locks(rt, alloc, options, input, output),
         Request::Explain { file, options } => {
             let is_terminal = output.is_terminal();

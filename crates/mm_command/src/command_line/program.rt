@@ -5,7 +5,10 @@ ghost use Rattle.clap.specs.declared.builder.command.Command.TheViews.{out-Comma
 ghost use Rattle.mm_command.specs.CommandLine.{free_number_rule, locks_app, number_rule, program, report_rule, script_app, storm_app, storm_numbers_app, threads_app, verbose_rule};
 
 use super::explain::explain_command;
-use crate::help::{ABOUT, AFTER, LOCKS, REPORT, SCRIPT, STORM, THREADS, VERBOSE};
+use crate::help::{
+    ABOUT, AFTER, LOCKS, REPORT, SCRIPT, SCRIPT_VERBOSE, STORM, THREADS, VERBOSE,
+};
+use crate::version::VERSION;
 use clap::builder::ValueParser;
 use clap::{Arg, ArgAction, Command};
 use std::alloc::{AllocError, Global};
@@ -26,7 +29,7 @@ pub const MAX_ACQUIRES: u32 = 256;
 pub fn command<'a>(alloc: Global, locks_after: &'a str) -> Result<Command<'a>, AllocError>
     ensures { IfOk result (λ made. app_of made ≡ program) }
 {
-    let script = script_command(alloc);
+    let script = script_command(alloc)?;
     let threads = threads_command(alloc)?;
     let storm = storm_command(alloc)?;
     let locks = locks_command(alloc, locks_after)?;
@@ -34,6 +37,7 @@ pub fn command<'a>(alloc: Global, locks_after: &'a str) -> Result<Command<'a>, A
     Command::new(alloc, "mmdetect")
         .bin_name("mmdetect")?
         .about(ABOUT)
+        .version(VERSION)
         .after_help(AFTER)
         .subcommand(script)?
         .subcommand(threads)?
@@ -42,12 +46,13 @@ pub fn command<'a>(alloc: Global, locks_after: &'a str) -> Result<Command<'a>, A
         .subcommand(explain)
 }
 
-fn script_command<'a>(alloc: Global) -> Command<'a>
-    ensures { (app_of result ≡ script_app) × ((fields_of result).has_globals ≡ false) }
+fn script_command<'a>(alloc: Global) -> Result<Command<'a>, AllocError>
+    ensures { IfOk result (λ made. (app_of made ≡ script_app) × ((fields_of made).has_globals ≡ false)) }
 {
     Command::new(alloc, "script")
         .about(SCRIPT)
         .after_help(AFTER)
+        .arg(verbose(alloc, SCRIPT_VERBOSE))
 }
 
 fn threads_command<'a>(alloc: Global) -> Result<Command<'a>, AllocError>
@@ -60,7 +65,7 @@ fn threads_command<'a>(alloc: Global) -> Result<Command<'a>, AllocError>
         .about(THREADS)
         .arg(file)?
         .arg(report(alloc))?
-        .arg(verbose(alloc))
+        .arg(verbose(alloc, VERBOSE))
 }
 
 fn storm_command<'a>(alloc: Global) -> Result<Command<'a>, AllocError>
@@ -68,7 +73,7 @@ fn storm_command<'a>(alloc: Global) -> Result<Command<'a>, AllocError>
 {
     storm_numbers_command(alloc)?
         .arg(report(alloc))?
-        .arg(verbose(alloc))
+        .arg(verbose(alloc, VERBOSE))
 }
 
 /// A storm with its numbers alone.
@@ -97,7 +102,7 @@ fn locks_command<'a>(alloc: Global, locks_after: &'a str) -> Result<Command<'a>,
 }
 
 /// The flag `--verbose`.
-fn verbose<'a>(alloc: Global) -> Arg<'a>
+fn verbose<'a>(alloc: Global, help: &'a str) -> Arg<'a>
     ensures rule { rule_of result ≡ verbose_rule }
     ensures local { result.global ≡ false }
 {
@@ -105,7 +110,7 @@ fn verbose<'a>(alloc: Global) -> Arg<'a>
         .long("verbose")
         .short('v')
         .action(ArgAction::SetTrue)
-        .help(VERBOSE)
+        .help(help)
 }
 
 /// The option `--report FILE`.
