@@ -5,9 +5,7 @@ ghost use Rattle.clap.specs.declared.builder.command.Command.TheViews.{out-Comma
 ghost use Rattle.mm_command.specs.CommandLine.{free_number_rule, locks_app, number_rule, program, report_rule, script_app, storm_app, storm_numbers_app, threads_app, verbose_rule};
 
 use super::explain::explain_command;
-use crate::help::{
-    ABOUT, AFTER, LOCKS, REPORT, SCRIPT, SCRIPT_VERBOSE, STORM, THREADS, VERBOSE,
-};
+use crate::help::{ABOUT, AFTER, LOCKS, REPORT, SCRIPT, SCRIPT_VERBOSE, STORM, THREADS, VERBOSE};
 use crate::version::VERSION;
 use clap::builder::ValueParser;
 use clap::{Arg, ArgAction, Command};

@@ -6,7 +6,7 @@ use std::process::Abort;
 use std::sync::{Barrier, Wait};
 use std::test::Fail;
 
-const ROUNDS: u32 = 300;
+const ROUNDS: u32 = 1_000;
 
 /// Locks the first name, waits until the other thread has its own, and asks for that one. Returns whether that closed the cycle.
 fn cross<R: Wait + Abort>(rt: &R, locks: &Locks, gate: &Barrier, names: [&[u8]; 2]) -> bool {

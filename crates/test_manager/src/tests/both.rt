@@ -14,7 +14,7 @@ use std::test::Fail;
 const TRANSACTIONS: u32 = 12;
 
 /// The names that are asked for. All but the last two can be names, and there are more of these than can be owned at once.
-const NAMES: [&[u8]; 11] = [
+static NAMES: [&[u8]; 11] = [
     b"a", b"ab", b"abc", b"abcd", b"b", b"ba", b"\0", b"\0\0", b"\xff", b"", b"abcde",
 ];
 

@@ -86,7 +86,7 @@ fn comes_so<R: Abort>(rt: &R, alloc: Global, case: &Case) -> Result<(), Fail> {
     Ok(())
 }
 
-const ALL_STEPS: Case = Case {
+static ALL_STEPS: Case = Case {
     processes: 1,
     holders: &[],
     work: &[WorkStep::Acquire(0), WorkStep::Release(0)],
@@ -101,7 +101,7 @@ fn a_client_that_makes_all_of_its_steps(rt: HostRuntime) -> Result<(), Fail> {
     comes_so(&rt, rt.alloc(), &ALL_STEPS)
 }
 
-const MEETS_ITSELF: Case = Case {
+static MEETS_ITSELF: Case = Case {
     processes: 1,
     holders: &[],
     work: &[WorkStep::Meet(1), WorkStep::Meet(1)],
@@ -116,7 +116,7 @@ fn a_client_that_meets_itself(rt: HostRuntime) -> Result<(), Fail> {
     comes_so(&rt, rt.alloc(), &MEETS_ITSELF)
 }
 
-const NO_RESOURCE: Case = Case {
+static NO_RESOURCE: Case = Case {
     processes: 1,
     holders: &[],
     work: &[WorkStep::Acquire(5)],
@@ -131,7 +131,7 @@ fn a_resource_that_there_is_not(rt: HostRuntime) -> Result<(), Fail> {
     comes_so(&rt, rt.alloc(), &NO_RESOURCE)
 }
 
-const ITS_OWN: Case = Case {
+static ITS_OWN: Case = Case {
     processes: 1,
     holders: &[],
     work: &[WorkStep::Acquire(0), WorkStep::Acquire(0)],
@@ -151,7 +151,7 @@ const HOLDER: Key = Key {
     generation: 1,
 };
 
-const NOT_HANDED_OVER: Case = Case {
+static NOT_HANDED_OVER: Case = Case {
     processes: 2,
     holders: &[HOLDER],
     work: &[WorkStep::Acquire(0)],

@@ -58,7 +58,7 @@ const MEETS: [WorkStep; 3] = [
 ];
 
 /// A turn for the begin, and one for each asking at the gate.
-const TO_THE_END: [Case; 4] = [
+static TO_THE_END: [Case; 4] = [
     Case {
         work: &MEETS,
         turns: 3,
@@ -112,7 +112,7 @@ const TO_THE_END: [Case; 4] = [
 const FULL: (Call, Answer) = (Call::Begin, Answer::Refused(Refusal::Full));
 
 /// A begin that finds no free slot is tried again, a turn each.
-const WHERE_IT_IS_FULL: [Case; 3] = [
+static WHERE_IT_IS_FULL: [Case; 3] = [
     Case {
         work: &[],
         turns: 3,

@@ -4,7 +4,7 @@ use crate::tests::same::same;
 use mm_workers::{End, Outcome, Report};
 use std::test::Fail;
 
-const ENDS: [End; 10] = [
+static ENDS: [End; 10] = [
     End::Refused(7),
     End::Spent,
     End::Aborted,

@@ -49,7 +49,7 @@ fn changes_are_told(
     Ok(())
 }
 
-const KEYS: [(&str, &str, &str); 7] = [
+static KEYS: [(&str, &str, &str); 7] = [
     (r#""processes":2,"#, "", "the key processes is missing"),
     (r#""resources":2,"#, "", "the key resources is missing"),
     (
@@ -81,7 +81,7 @@ const TRANSMITTERS: &str = "the key transmitters is not a whole number from 0 to
 
 const TURNS: &str = "the key turns is not a whole number from 1 to 1000000000";
 
-const NUMBERS: [(&str, &str, &str); 13] = [
+static NUMBERS: [(&str, &str, &str); 13] = [
     (
         r#""processes":2"#,
         r#""processes":4294967296"#,
@@ -141,7 +141,7 @@ const WORD: &str = "client 1, step 2: the word is not acquire, release or meet";
 
 const NUMBER: &str = "client 1, step 2: the number is not a whole number from 0 to 4294967295";
 
-const STEPS: [(&str, &str, &str); 13] = [
+static STEPS: [(&str, &str, &str); 13] = [
     (SECOND_STEP, r#"["acquire",0,0]"#, FORM),
     (SECOND_STEP, r#"["acquire"]"#, FORM),
     (SECOND_STEP, r#"[0,"acquire"]"#, FORM),
@@ -170,7 +170,7 @@ fn steps(rt: HostRuntime) -> Result<(), Fail> {
 const CLIENTS: &str = "the key clients is not an array of 1 to 64 clients";
 
 /// So many clients, each of so many steps, and what is told.
-const COUNTS: [(usize, usize, &str); 4] = [
+static COUNTS: [(usize, usize, &str); 4] = [
     (0, 0, CLIENTS),
     (65, 0, CLIENTS),
     (65, 257, CLIENTS),
@@ -189,7 +189,7 @@ fn counts_are_told(
     Ok(())
 }
 
-const NO_CLIENTS: [(&str, &str, &str); 2] = [
+static NO_CLIENTS: [(&str, &str, &str); 2] = [
     ("\"clients\":[", "\"clients\":8,\"others\":[", CLIENTS),
     (
         SECOND_CLIENT,
@@ -205,7 +205,7 @@ fn clients(rt: HostRuntime) -> Result<(), Fail> {
     changes_are_told(&rt, rt.alloc(), &NO_CLIENTS)
 }
 
-const NO_OBJECT: [(&str, &str, &str); 8] = [
+static NO_OBJECT: [(&str, &str, &str); 8] = [
     (
         "]]]}",
         "]]]} word",
@@ -249,7 +249,7 @@ const NO_OBJECT: [(&str, &str, &str); 8] = [
 ];
 
 /// Whole files, and what is told.
-const FILES: [(&str, &str); 4] = [
+static FILES: [(&str, &str); 4] = [
     ("[]", "the file is not a JSON object"),
     ("7", "the file is not a JSON object"),
     ("", "line 1, column 0: the JSON text ends too soon"),

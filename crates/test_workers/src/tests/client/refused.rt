@@ -21,7 +21,7 @@ struct Refused {
 
 const WORK: [WorkStep; 2] = [WorkStep::Acquire(0), WorkStep::Release(0)];
 
-const REFUSED: [Refused; 7] = [
+static REFUSED: [Refused; 7] = [
     Refused {
         work: &WORK,
         before: &[],

@@ -12,7 +12,7 @@ const TWO: [WorkStep; 2] = [WorkStep::Acquire(0), WorkStep::Acquire(1)];
 const NOT_WAITING: Answer = Answer::Refused(Refusal::NotWaiting);
 
 /// A verdict, new or standing, leads to an abort, and what is left of the work is not done.
-const TO_A_VERDICT: [Case; 2] = [
+static TO_A_VERDICT: [Case; 2] = [
     Case {
         work: &TWO,
         turns: 3,
@@ -44,7 +44,7 @@ const TO_A_VERDICT: [Case; 2] = [
 ];
 
 /// Where it waits no longer, the resource is its own, and it goes on with its next step.
-const UNTIL_IT_IS_ITS_OWN: [Case; 2] = [
+static UNTIL_IT_IS_ITS_OWN: [Case; 2] = [
     Case {
         work: &TWO,
         turns: 2,
@@ -78,7 +78,7 @@ const UNTIL_IT_IS_ITS_OWN: [Case; 2] = [
 ];
 
 /// Where its turns are used up, it makes no further call of the table.
-const UNTIL_IT_IS_SPENT: [Case; 2] = [
+static UNTIL_IT_IS_SPENT: [Case; 2] = [
     Case {
         work: &TWO,
         turns: 1,
