@@ -4,6 +4,7 @@
 
 use mm_blocking::{LockError, Locks, ManagerConfig};
 use std::alloc::Global;
+use std::io::Eprint;
 use std::sync::Wait;
 use std::sync::atomic::AtomicU64;
 use std::sync::atomic::Ordering::SeqCst;
@@ -84,7 +85,11 @@ fn sum_of(accounts: &[Account; 4]) -> u64 {
 
 /// Makes all transfers, and prints how many were made, and the sum. How many deadlocks there were differs from run to run, and goes to
 /// standard error.
-fn run<R: Threads + Wait + Print + Sync>(rt: &R, alloc: Global, locks: &Locks) -> io::Result<()> {
+fn run<R: Threads + Wait + Print + Eprint + Sync>(
+    rt: &R,
+    alloc: Global,
+    locks: &Locks,
+) -> io::Result<()> {
     let accounts = [
         open_account(b"accounts/1"),
         open_account(b"accounts/2"),
