@@ -2,11 +2,12 @@
 import re
 
 from memory.answers import AMPLE, REFUSED
+from memory.opened import own
 from memory.program import refused
 from memory.requests import all_in_turn
 
-# So many threads lock one to six of so many names, in each way that there is, for so many milliseconds.
-CROWD = ["crowd", "4", "16", "500"]
+# Threads that lock one to six of sixteen names, in each way that there is.
+CROWD = ["crowd", "4", "16"]
 # What the bank says on standard error; the number differs from run to run.
 DEADLOCKS = re.compile(r"deadlocks: \d+\n")
 
@@ -24,17 +25,18 @@ def opening(cases, scratch, bank):
     all_in_turn(cases, scratch, "locks that threads sleep for", [bank], judge)
 
 
-def calls(cases, scratch, name, command):
-    """Threads that begin, lock, wait, unlock, commit and drop transactions."""
-    run = refused(scratch, command, threads=1)
-    faults = []
-    if run.status != 0 or DEADLOCKS.sub("", run.errors) or run.output in ("", "no memory\n") or run.counts.by_threads != 0:
-        faults.append(f"{run.says()}, {run.counts}")
-    told = f"{run.counts.started} threads, each request of a thread is refused: {run.counts.by_threads} were made"
-    cases.ends(name, told, faults)
+def calls(cases, scratch, locks):
+    """Threads that begin, lock, wait, unlock, commit and drop transactions, for half a second and for a millisecond: the number of requests is
+    that of the opening and of the starts. (A thread that is started may start others, so a thread's requests cannot be refused.)"""
+    few, many = (refused(scratch, [locks, *CROWD, milliseconds]) for milliseconds in ("1", "500"))
+    faults = [f"{run.says()}, {run.counts}" for run in (few, many) if run.status != 0 or run.errors]
+    commits = [int(run.output.split()[1]) for run in (few, many)] if not faults else [0, 0]
+    if own(few) != own(many) or commits[1] < 1000 + commits[0]:
+        faults.append(f"{few.says()}, {few.counts}; {many.says()}, {many.counts}")
+    told = f"{own(few)} requests for {commits[0]} transactions, and {own(many)} for {commits[1]}"
+    cases.ends("a crowd of threads that lock names", told, faults)
 
 
 def all_locks(cases, scratch, bank, locks):
     opening(cases, scratch, bank)
-    calls(cases, scratch, "the threads of a bank", [bank])
-    calls(cases, scratch, "a crowd of threads that lock names", [locks, *CROWD])
+    calls(cases, scratch, locks)
