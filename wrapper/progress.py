@@ -1,6 +1,6 @@
 """How far `rt ci` is with the crates of the program, and how long it may still take.
 
-wrapper/seconds has, for each crate, when its proof had ended in one run from nothing on two processors. Each time that a crate ends, the
+wrapper/seconds has, for each crate, when its proof had ended in one run from nothing on four processors. Each time that a crate ends, the
 time that is left is reckoned anew: what was left in that run, times how much faster or slower this one has been so far."""
 import os
 import re
