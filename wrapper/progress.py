@@ -25,12 +25,12 @@ def text_of(path):
         return ""
 
 
-def under_way(sessions):
-    """The crates that are proved by the processes of these sessions. (Nothing is read of what they print: that would take it away from rt.)"""
+def under_way(session):
+    """The crates that are proved by the processes of this session. (Nothing is read of what they print: that would take it away from rt.)"""
     found = set()
     for name in filter(str.isdigit, os.listdir("/proc")):
         words = text_of(f"/proc/{name}/cmdline").split("\0")
-        if "--crate-name" in words and session_of(name) in sessions:
+        if "--crate-name" in words and session_of(name) == session:
             found.add(words[words.index("--crate-name") + 1])
     return found
 
@@ -41,8 +41,8 @@ def session_of(process):
 
 
 class Reckoning:
-    def __init__(self, seconds, crates, log, sessions):
-        self.names, self.log, self.sessions = names_of(text_of(crates)), log, sessions
+    def __init__(self, seconds, crates, log, session):
+        self.names, self.log, self.session = names_of(text_of(crates)), log, session
         rows = [line.split() for line in text_of(seconds).splitlines() if line and not line.startswith("#")]
         self.ends = {name: float(end) for name, end in rows}
         self.whole = max(self.ends.values(), default=0.0)
@@ -56,7 +56,7 @@ class Reckoning:
         is_new = len(ended) != self.seen
         if is_new:
             self.reckon(ended, now)
-        names = sorted(under_way(self.sessions) - ended.keys())
+        names = sorted(under_way(self.session) - ended.keys())
         text = f"{len(ended)} of {len(self.names)} crates proved; " + "".join(f"{name} " for name in names) + f"under way; {now - self.started:.0f} s"
         if self.whole:
             text += f", about {about(self.left - (now - self.at))} left"

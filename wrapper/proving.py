@@ -9,7 +9,6 @@ import subprocess
 import tempfile
 import time
 
-import beside
 import progress
 import telling
 
@@ -70,9 +69,7 @@ def proved_and_kept(top):
     stage = tempfile.mkdtemp(prefix=STAGE)
     try:
         lay_out(top, stage)
-        with beside.further_runs(stage, progress.names_of(progress.text_of(f"{stage}/crates.txt"))) as sessions:
-            proved = is_proved(top, stage, log, sessions)
-        if not proved:
+        if not is_proved(top, stage, log):
             raise Stopped(FAILED, f"the build failed; what the toolchain said is in {log}")
         take(stage, out)
     finally:
@@ -96,12 +93,12 @@ def lay_out(top, stage):
         shutil.copytree(f"{top}/crates/{name}", f"{stage}/crates/{name}", ignore=shutil.ignore_patterns("out", "must-fail"))
 
 
-def is_proved(top, stage, log, sessions):
-    """Runs the toolchain there, says how far it is, and returns whether all is proved, built and run. Further runs have these sessions."""
+def is_proved(top, stage, log):
+    """Runs the toolchain there, says how far it is, and returns whether all is proved, built and run."""
     with open(log, "w", encoding="utf-8") as said:
         child = subprocess.Popen(["rt", "ci"], cwd=stage, stdin=subprocess.DEVNULL, stdout=said, stderr=said, start_new_session=True)
     try:
-        reckoning = progress.Reckoning(f"{top}/wrapper/seconds", f"{stage}/crates.txt", log, {child.pid, *sessions})
+        reckoning = progress.Reckoning(f"{top}/wrapper/seconds", f"{stage}/crates.txt", log, child.pid)
         while child.poll() is None:
             reckoning.tell()
             try:

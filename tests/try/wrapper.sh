@@ -158,26 +158,6 @@ same "the files" "./HANDLES
 ./crates/mm_low/src/lib.rt" "$(cat "$fake/staged")"
 
 # What stands is used until a source changes.
-case_is "on a machine that is large enough, a chain of crates has a run of its own, which ends with the other one"
-: > "$fake/ran"
-echo 60 > "$fake/takes"
-with_fake python3 -B - "$checkout" "$fake/ran" << 'BESIDE'
-import sys
-sys.path.insert(0, "wrapper")
-import beside
-beside.MIN_PROCESSORS = beside.MIN_MEMORY = 0
-with beside.further_runs(sys.argv[1], ["mm_low", "mm_service"]) as sessions:
-    while "ci mm_service checkout" not in open(sys.argv[2]).read():
-        pass
-    print(len(sessions))
-BESIDE
-status=$?
-echo 0 > "$fake/takes"
-same status 0 "$status"
-same "the runs" "version wrapper
-ci mm_service checkout" "$(cut -d ' ' -f 2- "$fake/ran" | sed "s/${PWD##*/}/wrapper/")"
-awaits_end() { ! kill -0 "$(sed -n 's/ ci .*//p' "$fake/ran")" 2> /dev/null; }
-awaits_end || fails "the run of its own goes on"
 case_is "nothing is built where nothing has changed"
 builds_nothing "low main"
 proved_first "mmdetect prove proves, and runs nothing"
