@@ -11,7 +11,7 @@ ghost use Rattle.mm_manager.specs.private.Room.{HasReserve};
 ghost use Rattle.mm_manager.specs.LockState.{KeepOwned};
 
 use crate::Key;
-use crate::numbers::{forget_each, forget_unowned};
+use crate::numbers::{forget_each, forget_released};
 use mm_names::Names;
 use mm_settled::{Released, SettledTable};
 
@@ -41,7 +41,7 @@ pub fn release(
     let Ok(answer) = table.release(key, number) else {
         return None;
     };
-    forget_unowned(table.table(), names, number);
+    forget_released(names, number, answer);
     Some(answer)
 }
 

@@ -1,15 +1,15 @@
 //! A number has a name exactly while it has an owner.
-ghost use Rattle.std.specs.Prelude.{◌≡◌, ◌⊎◌, Ok, Err, Some, fold, IfOk, IfErr, OnOk, OnErr};
+ghost use Rattle.std.specs.Prelude.{◌≡◌, ◌⊎◌, Ok, Err, Some, fold, IfOk, IfErr, OnOk, OnErr, IsSome};
 ghost use Rattle.mm_names.specs.Names.{name_of, Interns, IsRefusedAsFull};
 ghost use Rattle.mm_rules.specs.TableState.{owner_of};
 ghost use Rattle.mm_manager.specs.Permit.{may_ask, may_name, may_ask_for};
 ghost use Rattle.mm_manager.specs.Refused.{UnlockRefused};
-ghost use Rattle.mm_manager.specs.private.Numbers.{forgotten, bare};
+ghost use Rattle.mm_manager.specs.private.Numbers.{forgotten, left_by, bare};
 
 use crate::permit::{may_ask, may_name};
 use crate::{Key, Refusal};
 use mm_names::{Names, NamesError};
-use mm_settled::Table;
+use mm_settled::{Released, Table};
 
 /// The owner of a number; `None` where it has none, or is not one of the numbers.
 pub fn owner_of(table: &Table, number: u32) -> Option<Key>
@@ -73,8 +73,18 @@ pub fn not_released(table: &Table, key: Key) -> Refusal
     }
 }
 
+/// Takes its name from a number whose release was answered so, where nobody owns it now.
+pub fn forget_released(names: &mut Names, number: u32, answer: Released)
+    requires { IsSome (name_of names.old number) }
+    ensures { names.new ≡ left_by answer names.old number }
+{
+    if let Released::Free = answer {
+        names.forget(number);
+    }
+}
+
 /// Takes its name from a number that nobody owns.
-pub fn forget_unowned(table: &Table, names: &mut Names, number: u32)
+fn forget_unowned(table: &Table, names: &mut Names, number: u32)
     ensures { names.new ≡ forgotten table.now names.old number }
 {
     if owner_of(table, number).is_none() {

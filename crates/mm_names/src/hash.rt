@@ -89,12 +89,15 @@ fn folded(a: u64, b: u64) -> u64
 }
 
 /// The four bytes from `at` on as one number, the lowest first.
+// Copied, and not read one by one: so the compiler makes one load of them.
 #[inline]
 fn half_word(name: &[u8], at: usize) -> u64
     requires { at + 4 ≤ length name.now }
     ensures { result ≡ read_u32 name.now at }
 {
-    u32::from_le_bytes([name[at], name[at + 1], name[at + 2], name[at + 3]]) as u64
+    let mut bytes = [0; 4];
+    bytes.copy_from_slice(&name[at..at + 4]);
+    u32::from_le_bytes(bytes) as u64
 }
 
 /// The eight bytes from `at` on as one number, the lowest first.

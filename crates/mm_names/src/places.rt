@@ -120,16 +120,37 @@ impl Places {
     }
 }
 
-/// Writes a name to its place, eight bytes at a time: for most names that costs less than a call of the C library.
+/// Writes a name to its place. For most names that costs less than a call of the C library.
 #[inline]
 fn copy(place: &mut [u8], name: &[u8])
     requires { length place.old ≡ length name.now }
     ensures { place.new ≡ name.now }
 {
-    if name.len() < 8 {
-        place.copy_from_slice(name);
-        return;
+    match name.len() {
+        0..=7 => place.copy_from_slice(name),
+        8..=16 => copy_ends(place, name),
+        _ => copy_words(place, name),
     }
+}
+
+/// Writes a name of 8 to 16 bytes to its place, by its first eight bytes and its last eight.
+#[inline]
+fn copy_ends(place: &mut [u8], name: &[u8])
+    requires long { 8 ≤ length name.now }
+    requires short { length name.now ≤ 16 }
+    requires place { length place.old ≡ length name.now }
+    ensures { place.new ≡ name.now }
+{
+    copy_word(place, name, 0);
+    copy_word(place, name, name.len() - 8);
+}
+
+/// Writes a name of eight bytes or more to its place, eight bytes at a time.
+fn copy_words(place: &mut [u8], name: &[u8])
+    requires long { 8 ≤ length name.now }
+    requires place { length place.old ≡ length name.now }
+    ensures { place.new ≡ name.now }
+{
     let mut done = 0;
     'words: while name.len() - done >= 8 {
         copy_word(place, name, done);

@@ -1,6 +1,8 @@
 -- Names and owners by number.
 use Rattle.std.specs.Prelude.{◌≡◌, ◌↔◌, ℕ, [], None, length, is_some, if◌then◌else◌}
 use Rattle.mm_names.specs.Names.{NameTable, name_of, with_name}
+use Rattle.mm_rules.specs.declared.reply.Released.{Released}
+use Rattle.mm_rules.specs.declared.reply.Released.TheVariants.{Free, To}
 use Rattle.mm_rules.specs.TableState.{TableState, owner_of}
 use Rattle.mm_manager.specs.LockState.{LockState}
 use Rattle.mm_manager.specs.Totals.{nothing_counted}
@@ -13,6 +15,11 @@ pub record AreNumbered (s : TableState) (t : NameTable) : Type 0 where
 -- the names without that of n, where nobody owns n
 abbrev pub forgotten : TableState → NameTable → ℕ → NameTable
 forgotten s t n = if is_some (owner_of s n) then t else with_name t n None
+
+-- the names after a release of n was answered so
+abbrev pub left_by : Released → NameTable → ℕ → NameTable
+left_by Free t n = with_name t n None
+left_by (To k) t n = t
 
 -- a manager of these, in which no abort is due, nothing is told and nothing is counted
 abbrev pub bare : TableState → NameTable → LockState

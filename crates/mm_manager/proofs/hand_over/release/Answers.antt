@@ -1,14 +1,12 @@
-use Rattle.std.proofs.Common.{Ok, Err, ap, ◌∙◌}
+use Rattle.std.proofs.Common.{Ok, Err}
 use Rattle.mm_names.specs.Names.{name_of}
-use Rattle.mm_rules.specs.TableState.{TableState}
 use Rattle.mm_rules.specs.Event.{Release}
 use Rattle.mm_settled.specs.Calls.{Makes, Made}
-use Rattle.mm_manager.specs.private.Numbers.{forgotten}
 use Rattle.mm_manager.proofs.Lemmas.Owners.{release_leaves}
 use Rattle.mm_manager.proofs.Lemmas.Forgets.{NamesFollow, released_names}
 use Rattle.mm_manager.proofs.Lemmas.Numbers.{is_some_not_none}
 use Rattle.mm_manager.proofs.Lemmas.Room.{release_room}
-use Rattle.mm_manager.proofs.Lemmas.Unlocks.{was_owned, not_owned}
+use Rattle.mm_manager.proofs.Lemmas.Unlocks.{was_owned, not_owned, released_forgets}
 use Rattle.mm_manager.proofs.hand_over.release.Goals as goal
 
 pub returns-in_default-clause-refused : goal.returns-in_default-clause-refused
@@ -16,18 +14,18 @@ returns-in_default-clause-refused c =
     let refuses : Makes (Release c.args.key c.args.number) c.args.table.now.table (Err c.in_default.field-0) c.release.new.self.table = rw c.in_default.is at c.release.ensures.makes in
     not_owned c.args.table.now.table c.release.new.self.table c.args.key c.args.number c.in_default.field-0 c.is_at_rest.ensures.laws c.requires.left refuses
 
-made : (c : goal.After-forget_unowned) → Made (Release c.args.key c.args.number) c.args.table.now.table c.in-Ok.answer c.release.new.self.table
+made : (c : goal.After-forget_released) → Made (Release c.args.key c.args.number) c.args.table.now.table c.in-Ok.answer c.release.new.self.table
 made c =
     let makes : Makes (Release c.args.key c.args.number) c.args.table.now.table (Ok c.in-Ok.answer) c.release.new.self.table = rw c.in-Ok.is at c.release.ensures.makes in
     makes
 
-follow : (c : goal.After-forget_unowned) → NamesFollow c.args.names.now c.release.new.self.table c.forget_unowned.new.names
+follow : (c : goal.After-forget_released) → NamesFollow c.args.names.now c.release.new.self.table c.forget_released.new.names
 follow c =
     let s = c.args.table.now.table in
     let u = c.release.new.self.table in
     let leaves = release_leaves s u c.args.key c.args.number c.in-Ok.answer c.is_at_rest.ensures.laws (made c) in
-    released_names s u c.args.names.now c.forget_unowned.new.names c.args.number c.requires.numbered (is_some_not_none (name_of c.args.names.now c.args.number) c.requires.named) leaves
-    (c.forget_unowned.ensures ∙ ap (λ (t : TableState). forgotten t c.args.names.now c.args.number) c.table.ensures)
+    released_names s u c.args.names.now c.forget_released.new.names c.args.number c.requires.numbered (is_some_not_none (name_of c.args.names.now c.args.number) c.requires.named) leaves
+    (released_forgets s u c.args.names.now c.forget_released.new.names c.args.key c.args.number c.in-Ok.answer c.is_at_rest.ensures.laws (made c) c.forget_released.ensures)
 
 pub returns-clause-names : goal.returns-clause-names
 returns-clause-names c = (follow c).kept

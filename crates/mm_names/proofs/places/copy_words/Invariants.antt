@@ -1,6 +1,6 @@
 use Rattle.std.proofs.Common.{◌≡◌, ◌≤◌, ◌-◌, length}
 use Rattle.mm_names.proofs.Lemmas.Copied.{copied}
-use Rattle.mm_names.proofs.places.copy.Given as goal
+use Rattle.mm_names.proofs.places.copy_words.Given as goal
 
 -- so many bytes are copied
 abbrev pub invariant-words : goal.invariant-words

@@ -1,7 +1,7 @@
 use Rattle.std.proofs.Common.{◌-◌, ◌+◌, length, take, drop, ap, ◌∙◌, arith}
 use borrow.Rule.Slice.PartMut.{put_mid}
 use Rattle.mm_names.proofs.Lemmas.Copied.{copied-more, copied-all}
-use Rattle.mm_names.proofs.places.copy.Goals as goal
+use Rattle.mm_names.proofs.places.copy_words.Goals as goal
 
 pub words-preserved : goal.words-preserved
 words-preserved c =
@@ -10,7 +10,7 @@ words-preserved c =
     record {
       place = c.copy_word.ensures
           ∙ ap (λ xs. put_mid done 8 xs (take 8 (drop done name))) c.words.invariant.place
-          ∙ copied-more name c.args.place.now c.requires done done 8 c.words.invariant.within (omega arith) (omega arith);
+          ∙ copied-more name c.args.place.now c.requires.place done done 8 c.words.invariant.within (omega arith) (omega arith);
       within = omega (arith, c.words-test.true);
     }
 
@@ -20,5 +20,5 @@ returns-then-done-name c =
     let at = length name - 8 in
     c.copy_word-then-done-name.ensures
     ∙ ap (λ xs. put_mid at 8 xs (take 8 (drop at name))) c.words.invariant.place
-    ∙ copied-more name c.args.place.now c.requires c.words.done at 8 c.words.invariant.within (omega (arith, c.words-test.false, c.if-name-lt8.false)) (omega (arith, c.words-test.false, c.words.invariant.within))
-    ∙ copied-all name c.args.place.now c.requires (at + 8) (omega (arith, c.if-name-lt8.false))
+    ∙ copied-more name c.args.place.now c.requires.place c.words.done at 8 c.words.invariant.within (omega (arith, c.words-test.false, c.requires.long)) (omega (arith, c.words-test.false, c.words.invariant.within))
+    ∙ copied-all name c.args.place.now c.requires.place (at + 8) (omega (arith, c.requires.long))
