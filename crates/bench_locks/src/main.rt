@@ -2,7 +2,7 @@
 //! how many nanoseconds that took, how many transactions were committed, how often one was aborted after a deadlock, and how often a name was
 //! found with two owners at a time. The ways:
 //!
-//! - `one`: four locks, one after the other. `all`: four locks by `lock_all`. `run`: the same by `run`.
+//! - `one`: four locks, one after the other. `all`: four locks by `lock_all`. `with`: by `begin_with`. `run`: by `run` with `lock_all`.
 //! - `crowd`: one to six locks, in each of these ways, and each looks whether it is the only owner of its names.
 //! - `sleep`: one owns a name until the end, and all others wait for it.
 //!

@@ -12,6 +12,8 @@ pub enum Way {
     One,
     /// Transactions of four locks by one call.
     All,
+    /// The same by the call that begins the transaction.
+    With,
     /// The same by `Locks::run`.
     Run,
     /// Transactions of one to six locks, each of which looks whether it is the only owner of its names.
@@ -26,6 +28,7 @@ impl Way {
         match name {
             "one" => Some(Way::One),
             "all" => Some(Way::All),
+            "with" => Some(Way::With),
             "run" => Some(Way::Run),
             "crowd" => Some(Way::Crowd),
             "sleep" => Some(Way::Sleep),

@@ -25,6 +25,11 @@ fn all_at_once<R: Wait>(rt: &R, locks: &Locks, names: &[&[u8]]) -> Result<(), Lo
     transaction.commit()
 }
 
+/// The same by the call that begins it.
+fn from_the_start<R: Wait>(rt: &R, locks: &Locks, names: &[&[u8]]) -> Result<(), LockError> {
+    locks.begin_with(rt, names)?.commit()
+}
+
 /// The same by `run`.
 fn run<R: Wait>(rt: &R, locks: &Locks, names: &[&[u8]]) -> Result<(), LockError> {
     locks.run(rt, u32::MAX, |transaction| transaction.lock_all(names))
@@ -35,6 +40,7 @@ fn transfer<R: Wait>(rt: &R, shared: &Shared<'_>, names: &[&[u8]]) -> Result<(),
     match shared.way {
         Way::One => one_by_one(rt, shared.locks, names),
         Way::All => all_at_once(rt, shared.locks, names),
+        Way::With => from_the_start(rt, shared.locks, names),
         _ => run(rt, shared.locks, names),
     }
 }

@@ -77,6 +77,16 @@ abbrev pub left : List (List ℕ) → Result ℕ LockError → Result (List (Lis
 left names (Ok place) = Ok (drop place names)
 left names (Err error) = Err error
 
+-- a transaction starts and then asks for these names; or it does not start
+abbrev pub StartsWith : LockState → List (List ℕ) → Result (Key × Result (List (List ℕ)) LockError) LockError → LockState → Type 0
+StartsWith old names (Ok (k, answer)) new = (mid : LockState) × Starts old (Ok k) mid × AsksEach mid k names answer new
+StartsWith old names (Err error) new = Starts old (Err error) new
+
+-- the key of who started, and which names are left
+abbrev pub with_left : List (List ℕ) → Result (Key × Result ℕ LockError) LockError → Result (Key × Result (List (List ℕ)) LockError) LockError
+with_left names (Ok (k, answer)) = Ok (k, left names answer)
+with_left names (Err error) = Err error
+
 -- a try: k owns the name, or another one does, or it is refused
 abbrev pub Tries : LockState → Key → List ℕ → Result Bool LockError → LockState → Type 0
 Tries old k name (Ok true) new = Gets old k name new ⊎ (Owns old k name × (new ≡ untold old))

@@ -1,11 +1,11 @@
 //! The manager behind the lock.
-ghost use Rattle.std.specs.Prelude.{◌≡◌, ◌⊎◌, ◌↔◌, [], ℕ, IfErr, IsTrue, true, drop, Result};
+ghost use Rattle.std.specs.Prelude.{◌≡◌, ◌⊎◌, ◌↔◌, [], ℕ, IfErr, IfOk, IsTrue, true, drop, Result};
 ghost use Rattle.mm_manager.specs.LockState.{Owns};
 ghost use Rattle.mm_manager.specs.Calls.{Aborts, Cancels};
 ghost use Rattle.mm_manager.specs.Reads.{HasStatus};
 ghost use Rattle.mm_manager.specs.declared.refusal.Refusal.{Refusal as RefusalValue};
 ghost use Rattle.mm_manager.specs.declared.reply.Status.{Status as StatusValue};
-ghost use Rattle.mm_blocking.specs.Calls.{Starts, Asks, AsksEach, GoesOn, Tries, Finds, TimesOut, GivesBack, Ends, bytes_of, left, is_deadlock};
+ghost use Rattle.mm_blocking.specs.Calls.{Starts, StartsWith, Asks, AsksEach, GoesOn, Tries, Finds, TimesOut, GivesBack, Ends, bytes_of, left, with_left, is_deadlock};
 ghost use Rattle.mm_blocking.specs.Errors.{of_begin, of_lock, of_try, of_unlock, of_commit};
 ghost use Rattle.mm_blocking.specs.Wakes.{IsToWake, Notes, told};
 
@@ -40,6 +40,20 @@ impl Desk {
         ensures refused { IfErr result (λ error. of_begin error ≡ true) }
     {
         self.manager.begin().map_err(LockError::of_refusal)
+    }
+
+    /// Starts a transaction, and asks for these names as `lock_each` from the first one on. Returns its key, and what came of the names.
+    pub fn begin_with(
+        &mut self,
+        names: &[&[u8]],
+    ) -> Result<(Key, Result<usize, LockError>), LockError>
+        ensures starts { StartsWith self.old.manager (bytes_of names.now) (with_left (bytes_of names.now) result) self.new.manager }
+        ensures begun { IfErr result (λ error. of_begin error ≡ true) }
+        ensures asked { IfOk result (λ started. IfErr started.1 (λ error. of_lock error ≡ true)) }
+    {
+        let key = self.begin()?;
+        let place = self.lock_each(key, names, 0);
+        Ok((key, place))
     }
 
     /// Asks for a name.

@@ -1,5 +1,5 @@
 //! What threads share.
-ghost use Rattle.std.specs.Prelude.{◌≡◌, ◌⊎◌, ◌↔◌, true, Err, IfErr};
+ghost use Rattle.std.specs.Prelude.{◌≡◌, ◌⊎◌, ◌↔◌, true, Err, IfErr, IfOk};
 ghost use Rattle.mm_blocking.specs.Errors.{of_begin, of_lock, of_try, of_unlock, of_commit};
 ghost use Rattle.mm_manager.specs.Opening.{IsTransactionsOut, IsNamesOut, IsNameBytesOut};
 
@@ -11,11 +11,14 @@ use crate::wakes::{Unwoken, Wakes};
 use crossbeam_utils::CachePadded;
 use mm_manager::{Key, LockManager, ManagerConfig, OpenError, Totals};
 use std::alloc::{AllocError, Global};
-use std::hint::spin_loop;
 use std::sync::{Mutex, MutexGuard, Wait};
+use std::thread;
 
-/// How often a thread that finds the lock taken pauses before it asks for it again: long enough for several calls that change little.
-const PAUSES: u32 = 12;
+/// How often a thread that finds the lock taken yields its processor before it asks for the lock again.
+const FIRST_YIELDS: u32 = 2;
+
+/// How often a thread asks again before it sleeps until the lock is free. Before each further time it yields twice as often.
+const TURNS: u32 = 8;
 
 /// A lock manager that threads share by reference: a `LockManager` behind one lock, and beside it a place to sleep for each transaction.
 ///
@@ -35,6 +38,13 @@ impl Drop for Locks {
             parkers: _,
             desk: _,
         } = self;
+    }
+}
+
+/// Yields the processor so often, which takes the time of several calls each.
+fn stay_away(yields: u32) {
+    for _ in 0..yields {
+        thread::yield_now();
     }
 }
 
@@ -88,11 +98,17 @@ impl Locks {
         }
     }
 
-    /// Waits for the lock, and takes it. Asking again at once would slow down the one that has it, who is done soon.
+    /// Waits for the lock, and takes it. Asking again at once would slow down the one that has it, who is done soon: so the thread stays away
+    /// for longer and longer, and the other one makes several calls in the meantime.
     #[inline(never)]
     fn contended<R: Wait>(&self, rt: &R) -> MutexGuard<'_, CachePadded<Desk>> {
-        for _ in 0..PAUSES {
-            spin_loop();
+        let mut yields = FIRST_YIELDS;
+        for _ in 0..TURNS {
+            stay_away(yields);
+            if let Some(guard) = self.desk.try_lock() {
+                return guard;
+            }
+            yields = yields.saturating_mul(2);
         }
         self.desk.lock(rt)
     }
@@ -104,6 +120,30 @@ impl Locks {
         ensures refused { IfErr result (λ error. of_begin error ≡ true) }
     {
         let key = self.begin_key(rt)?;
+        self.begun(rt, key)
+    }
+
+    /// Begins a transaction and locks these names for it in the order given: `begin` and then `Transaction::lock_all`, but both under one
+    /// taking of the manager's lock.
+    ///
+    /// Refused as `begin` is, and as `lock_all` is; a transaction that began is then rolled back. It costs what the two calls cost.
+    pub fn begin_with<'m, R: Wait>(
+        &'m self,
+        rt: &'m R,
+        names: &[&[u8]],
+    ) -> Result<Transaction<'m, R>, LockError>
+        ensures refused { IfErr result (λ error. (of_begin error ≡ true) ⊎ (of_lock error ≡ true)) }
+    {
+        let (key, place) = self.begin_key_with(rt, names)?;
+        let transaction = self.begun(rt, key)?;
+        transaction.go_on(names, place?)?;
+        Ok(transaction)
+    }
+
+    /// The transaction of a key that has just begun.
+    fn begun<'m, R: Wait>(&'m self, rt: &'m R, key: Key) -> Result<Transaction<'m, R>, LockError>
+        ensures refused { IfErr result (λ error. of_begin error ≡ true) }
+    {
         match self.parkers.of(key.process) {
             Some(parker) => Ok(Transaction::new(rt, self, parker, key)),
             // There is a parker for each process of the manager.
@@ -112,6 +152,17 @@ impl Locks {
                 Err(LockError::TransactionsFull)
             }
         }
+    }
+
+    fn begin_key_with<R: Wait>(
+        &self,
+        rt: &R,
+        names: &[&[u8]],
+    ) -> Result<(Key, Result<usize, LockError>), LockError>
+        ensures begun { IfErr result (λ error. of_begin error ≡ true) }
+        ensures asked { IfOk result (λ started. IfErr started.1 (λ error. of_lock error ≡ true)) }
+    {
+        self.locked(rt).begin_with(names)
     }
 
     fn begin_key<R: Wait>(&self, rt: &R) -> Result<Key, LockError>

@@ -98,6 +98,14 @@ impl<'m, R: Wait> Transaction<'m, R> {
         ensures refused { IfErr result (λ error. of_lock error ≡ true) }
     {
         let place = self.locks.lock_each(self.rt, self.key, names, 0)?;
+        self.go_on(names, place)
+    }
+
+    /// Returns at once where the place is behind all names; else the transaction waits for the name at this place.
+    #[inline]
+    pub(crate) fn go_on(&self, names: &[&[u8]], place: usize) -> Result<(), LockError>
+        ensures refused { IfErr result (λ error. of_lock error ≡ true) }
+    {
         if place >= names.len() {
             return Ok(());
         }

@@ -11,15 +11,24 @@ use crate::pass::Pass;
 use crossbeam_utils::CachePadded;
 use mm_board::{Board, Name};
 use mm_table::{Acquired, Detected, Key, Refusal, Released, Settled, State, Transmitted};
-use std::fmt;
 use std::fmt::{Debug, Formatter};
-use std::hint::spin_loop;
 use std::marker::Model;
 use std::sync::ledger::Ledger;
 use std::sync::{Mutex, MutexGuard, Wait};
+use std::{fmt, thread};
 
-/// How often a thread that finds the lock taken pauses before it asks for it again: long enough for several calls that change little.
-const PAUSES: u32 = 12;
+/// How often a thread that finds the lock taken yields its processor before it asks for the lock again.
+const FIRST_YIELDS: u32 = 2;
+
+/// How often a thread asks again before it sleeps until the lock is free. Before each further time it yields twice as often.
+const TURNS: u32 = 8;
+
+/// Yields the processor so often, which takes the time of several calls each.
+fn stay_away(yields: u32) {
+    for _ in 0..yields {
+        thread::yield_now();
+    }
+}
 
 /// A lock table that threads share by reference: an `Inside` behind one lock, and beside it the board on which its labels and holders are
 /// read without the lock.
@@ -96,11 +105,17 @@ impl<N: Name, A: Ledger, V: Ledger, B: Ledger> SharedTable<N, A, V, B> {
         }
     }
 
-    /// Waits for the lock, and takes it. Asking again at once would slow down the one that has it, who is done soon.
+    /// Waits for the lock, and takes it. Asking again at once would slow down the one that has it, who is done soon: so the thread stays away
+    /// for longer and longer, and the other one makes several calls in the meantime.
     #[inline(never)]
     fn contended<R: Wait>(&self, rt: &R) -> MutexGuard<'_, CachePadded<Inside<N, A, V, B>>> {
-        for _ in 0..PAUSES {
-            spin_loop();
+        let mut yields = FIRST_YIELDS;
+        for _ in 0..TURNS {
+            stay_away(yields);
+            if let Some(guard) = self.lock.try_lock() {
+                return guard;
+            }
+            yields = yields.saturating_mul(2);
         }
         self.lock.lock(rt)
     }
