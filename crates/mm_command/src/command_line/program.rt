@@ -1,6 +1,6 @@
 //! The words that there are: a function for each subcommand.
 ghost use Rattle.std.specs.Prelude.{◌≡◌, IfOk, false};
-ghost use Rattle.clap.specs.Words.{app_of, rule_of};
+ghost use Rattle.clap.specs.Words.{App, app_of, rule_of, with_subcommand};
 ghost use Rattle.clap.specs.declared.builder.command.Command.TheViews.{out-Command as fields_of};
 ghost use Rattle.mm_command.specs.CommandLine.{free_number_rule, locks_app, number_rule, program, report_rule, script_app, storm_app, storm_numbers_app, threads_app, verbose_rule};
 
@@ -27,21 +27,26 @@ pub const MAX_ACQUIRES: u32 = 256;
 pub fn command<'a>(alloc: Global, locks_after: &'a str) -> Result<Command<'a>, AllocError>
     ensures { IfOk result (λ made. app_of made ≡ program) }
 {
-    let script = script_command(alloc)?;
-    let threads = threads_command(alloc)?;
-    let storm = storm_command(alloc)?;
-    let locks = locks_command(alloc, locks_after)?;
-    let explain = explain_command(alloc)?;
-    Command::new(alloc, "mmdetect")
+    let whole = Command::new(alloc, "mmdetect")
         .bin_name("mmdetect")?
         .about(ABOUT)
         .version(VERSION)
-        .after_help(AFTER)
-        .subcommand(script)?
-        .subcommand(threads)?
-        .subcommand(storm)?
-        .subcommand(locks)?
-        .subcommand(explain)
+        .after_help(AFTER);
+    let whole = add(whole, script_command(alloc))?;
+    let whole = add(whole, threads_command(alloc))?;
+    let whole = add(whole, storm_command(alloc))?;
+    let whole = add(whole, locks_command(alloc, locks_after))?;
+    add(whole, explain_command(alloc))
+}
+
+/// The program with one subcommand more, where both were made. Each subcommand is added by a call, so that no function owns several.
+fn add<'a>(
+    whole: Command<'a>,
+    part: Result<Command<'a>, AllocError>,
+) -> Result<Command<'a>, AllocError>
+    ensures { (app : App) → IfOk part.entry (λ own. (app_of own ≡ app) × ((fields_of own).has_globals ≡ false)) → IfOk result (λ made. app_of made ≡ with_subcommand (app_of whole.entry) app.top) }
+{
+    whole.subcommand(part?)
 }
 
 fn script_command<'a>(alloc: Global) -> Result<Command<'a>, AllocError>

@@ -14,12 +14,12 @@ use std::test::Fail;
 use test_support::Row;
 
 /// A script whose one slot is retired, and its replies.
-const SCRIPT: &str = "table 1 1 9 2\nbegin\nfinish 0.1\nbegin\nfinish 0.2\nbegin\n";
+static SCRIPT: &str = "table 1 1 9 2\nbegin\nfinish 0.1\nbegin\nfinish 0.2\nbegin\n";
 
 const REPLIES: &str = "ok\nkey 0.1\nfinished\nkey 0.2\nfinished\nrefused 6 Full\n";
 
 /// The example of mm_script's page: the last line needs no newline, and one line is malformed.
-const EXAMPLE: Row = Row {
+static EXAMPLE: Row = Row {
     name: "example",
     input: "table 1 1 9 9\nbegin\nfly",
     output: "ok\nkey 0.1\nmalformed\n",
@@ -65,6 +65,9 @@ fn are_answered_until(
     }
 }
 
+/// Two whole lines, and a half of the third.
+static THREE_LINES: &str = "begin\nfly\nbeg";
+
 const ONE: &str = "no table\n";
 
 const TWO: &str = "no table\nmalformed\n";
@@ -81,11 +84,12 @@ static READS: [FailingRead; 6] = [
 /// After two whole lines and a half of the third a read fails: the two are answered, and nothing is read or written after it.
 #[test]
 fn read_fails(rt: HostRuntime) -> Result<(), Fail> {
-    let script = "begin\nfly\nbeg";
-    are_answered_until(&rt, rt.alloc(), script, ErrorKind::Other, &READS);
-    are_answered_until(&rt, rt.alloc(), script, ErrorKind::Interrupted, &READS);
+    are_answered_until(&rt, rt.alloc(), THREE_LINES, ErrorKind::Other, &READS);
+    are_answered_until(&rt, rt.alloc(), THREE_LINES, ErrorKind::Interrupted, &READS);
     Ok(())
 }
+
+static TABLE_AND_LINES: &str = "table 1 1 9 9\nbegin\nbeg";
 
 const BEGUN: &str = "ok\nkey 0.1\n";
 
@@ -98,11 +102,10 @@ static READS_WITHIN_A_LINE: [FailingRead; 3] = [
 /// A read fails in the middle of a line: the lines before it are answered, and it is not.
 #[test]
 fn read_fails_within_a_line(rt: HostRuntime) -> Result<(), Fail> {
-    let script = "table 1 1 9 9\nbegin\nbeg";
     are_answered_until(
         &rt,
         rt.alloc(),
-        script,
+        TABLE_AND_LINES,
         ErrorKind::Other,
         &READS_WITHIN_A_LINE,
     );

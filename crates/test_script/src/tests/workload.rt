@@ -15,7 +15,7 @@ use std::process::Abort;
 use std::test::Fail;
 
 /// Two clients that acquire two resources crosswise.
-const CROSSWISE: &str =
+static CROSSWISE: &str =
     r#"{"processes":2,"resources":2,"label_limit":1000,"generation_limit":9,"transmitters":1,"turns":10000000,"clients":[[["acquire",0],["meet",2],["acquire",1]],[["acquire",1],["meet",2],["acquire",0]]]}"#;
 
 /// The text with other text in place of its part.
@@ -49,6 +49,10 @@ fn begins_with(
     Ok(())
 }
 
+/// The clients of the text.
+static CLIENTS: &str =
+    r#"[["acquire",0],["meet",2],["acquire",1]],[["acquire",1],["meet",2],["acquire",0]]"#;
+
 /// The text with these clients, each of so many steps.
 fn with_clients(alloc: Global, clients: usize, steps: usize) -> Result<String, Fail> {
     let mut text = String::new(alloc);
@@ -60,12 +64,7 @@ fn with_clients(alloc: Global, clients: usize, steps: usize) -> Result<String, F
         }
         text.push(']')?;
     }
-    let clients = text.as_str();
-    changed(
-        alloc,
-        r#"[["acquire",0],["meet",2],["acquire",1]],[["acquire",1],["meet",2],["acquire",0]]"#,
-        clients,
-    )
+    changed(alloc, CLIENTS, text.as_str())
 }
 
 /// The text with one more key, whose value is this many arrays in one another.
@@ -90,29 +89,36 @@ fn has_steps(rt: &impl Abort, work: &Workload, clients: &[&[WorkStep]]) {
     }
 }
 
-#[test]
-fn what_is_read(rt: HostRuntime) -> Result<(), Fail> {
-    let work = Workload::read(rt.alloc(), CROSSWISE.as_bytes())?;
+static FIRST: [WorkStep; 3] = [
+    WorkStep::Acquire(0),
+    WorkStep::Meet(2),
+    WorkStep::Acquire(1),
+];
+
+static SECOND: [WorkStep; 3] = [
+    WorkStep::Acquire(1),
+    WorkStep::Meet(2),
+    WorkStep::Acquire(0),
+];
+
+/// Ends the test unless it is the workload of the text.
+fn is_crosswise(rt: &impl Abort, work: &Workload) {
     let config = Config {
         processes: 2,
         resources: 2,
         label_limit: 1000,
         generation_limit: 9,
     };
-    same(&rt, work.config(), config);
-    same(&rt, work.transmitters(), 1);
-    same(&rt, work.turns(), 10_000_000);
-    let first = [
-        WorkStep::Acquire(0),
-        WorkStep::Meet(2),
-        WorkStep::Acquire(1),
-    ];
-    let second = [
-        WorkStep::Acquire(1),
-        WorkStep::Meet(2),
-        WorkStep::Acquire(0),
-    ];
-    has_steps(&rt, &work, &[first.as_slice(), second.as_slice()]);
+    same(rt, work.config(), config);
+    same(rt, work.transmitters(), 1);
+    same(rt, work.turns(), 10_000_000);
+    has_steps(rt, work, &[FIRST.as_slice(), SECOND.as_slice()]);
+}
+
+#[test]
+fn what_is_read(rt: HostRuntime) -> Result<(), Fail> {
+    let work = Workload::read(rt.alloc(), CROSSWISE.as_bytes())?;
+    is_crosswise(&rt, &work);
     Ok(())
 }
 
@@ -124,11 +130,16 @@ fn are_without_steps(rt: &impl Abort, alloc: Global) -> Result<(), Fail> {
     Ok(())
 }
 
+fn is_without_processes(rt: &impl Abort, alloc: Global) -> Result<(), Fail> {
+    let none = read_changed(alloc, "\"processes\":2", "\"processes\":0")?;
+    same(rt, none.config().processes, 0);
+    Ok(())
+}
+
 /// A table that cannot be opened is no fault of a workload, and neither is a resource that is not there or a client without steps.
 #[test]
 fn what_is_tested_later(rt: HostRuntime) -> Result<(), Fail> {
-    let none = read_changed(rt.alloc(), "\"processes\":2", "\"processes\":0")?;
-    same(&rt, none.config().processes, 0);
+    is_without_processes(&rt, rt.alloc())?;
     begins_with(
         &rt,
         rt.alloc(),
@@ -138,25 +149,40 @@ fn what_is_tested_later(rt: HostRuntime) -> Result<(), Fail> {
     are_without_steps(&rt, rt.alloc())
 }
 
+/// Ends the test unless there are 64 clients of 256 steps.
+fn are_most_clients(rt: &impl Abort, work: &Workload) {
+    same(rt, work.clients().len(), 64);
+    for client in work.clients() {
+        same(rt, client.len(), 256);
+    }
+}
+
+fn most_clients(alloc: Global) -> Result<Workload, Fail> {
+    let text = with_clients(alloc, 64, 256)?;
+    Ok(Workload::read(alloc, text.as_bytes())?)
+}
+
+/// Most of the numbers of the text, and the greatest that they can be.
+static NUMBERS: &str = "1000,\"generation_limit\":9,\"transmitters\":1,\"turns\":10000000";
+
+static GREATEST: &str =
+    "18446744073709551615,\"generation_limit\":4294967295,\"transmitters\":64,\"turns\":1000000000";
+
+fn are_greatest(rt: &impl Abort, work: &Workload) {
+    same(rt, work.config().label_limit, u64::MAX);
+    same(rt, work.config().generation_limit, u32::MAX);
+    same(rt, work.transmitters(), 64);
+    same(rt, work.turns(), 1_000_000_000);
+}
+
 /// The greatest numbers of all.
 #[test]
 fn the_greatest(rt: HostRuntime) -> Result<(), Fail> {
-    let text = with_clients(rt.alloc(), 64, 256)?;
-    let work = Workload::read(rt.alloc(), text.as_bytes())?;
-    same(&rt, work.clients().len(), 64);
-    for client in work.clients() {
-        same(&rt, client.len(), 256);
-    }
-    let text = changed(
-        rt.alloc(),
-        "1000,\"generation_limit\":9,\"transmitters\":1,\"turns\":10000000",
-        "18446744073709551615,\"generation_limit\":4294967295,\"transmitters\":64,\"turns\":1000000000",
-    )?;
-    let work = Workload::read(rt.alloc(), text.as_bytes())?;
-    same(&rt, work.config().label_limit, u64::MAX);
-    same(&rt, work.config().generation_limit, u32::MAX);
-    same(&rt, work.transmitters(), 64);
-    same(&rt, work.turns(), 1_000_000_000);
+    let work = most_clients(rt.alloc())?;
+    are_most_clients(&rt, &work);
+    drop(work);
+    let work = read_changed(rt.alloc(), NUMBERS, GREATEST)?;
+    are_greatest(&rt, &work);
     Ok(())
 }
 
@@ -166,14 +192,19 @@ static OF_THE_SAME: [(&str, &str); 3] = [
     ("[\"acquire\",0]", "[\"\\u0061cquire\",0]"),
 ];
 
+/// Ends the test unless arrays in one another are passed over.
+fn are_passed_over(rt: &impl Abort, alloc: Global) -> Result<(), Fail> {
+    let nested = with_nested_arrays(alloc, 126)?;
+    let work = Workload::read(alloc, nested.as_bytes())?;
+    same(rt, work.turns(), 10_000_000);
+    Ok(())
+}
+
 /// Other keys are passed over, spaces too, and an escaped word is that word.
 #[test]
 fn other_texts_of_the_same(rt: HostRuntime) -> Result<(), Fail> {
     for change in &OF_THE_SAME {
         begins_with(&rt, rt.alloc(), *change, WorkStep::Acquire(0))?;
     }
-    let nested = with_nested_arrays(rt.alloc(), 126)?;
-    let work = Workload::read(rt.alloc(), nested.as_bytes())?;
-    same(&rt, work.turns(), 10_000_000);
-    Ok(())
+    are_passed_over(&rt, rt.alloc())
 }

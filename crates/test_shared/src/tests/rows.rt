@@ -1,11 +1,12 @@
 //! The worked scripts, made on a shared table and on a table side by side.
 
-use crate::tests::call::{Call, Verb, call_of, config_of, is_told};
+use crate::tests::call::{call_of, is_told, on_shared};
 use crate::tests::same::same;
 use crate::tests::shared::{Work, on_a_table};
+use mm_script::{Call, make};
 use mm_shared::{Config, Name, Pass, Report, SharedTable};
-use mm_table::{Table, Totals};
-use std::alloc::{AllocError, Global};
+use mm_table::Table;
+use std::alloc::Global;
 use std::process::Abort;
 use std::sync::Wait;
 use std::sync::ledger::Ledger;
@@ -24,45 +25,45 @@ fn have_the_same_tenants<N: Name, A: Ledger, V: Ledger, B: Ledger, R: Wait + Abo
     }
 }
 
-/// Makes one call on both tables. Its answer is this reply on either, and both have the same tenants afterwards.
+/// Makes a call on both tables. Its answer is this reply on either, and both have the same tenants afterwards.
 fn call_both<N: Name, A: Ledger, V: Ledger, B: Ledger, R: Wait + Abort>(
     rt: &R,
     alloc: Global,
     shared: &SharedTable<N, A, V, B>,
     pass: &mut Pass<N, A, V, B>,
-    table: &mut Table,
+    table: &mut Option<Table>,
     call: Call,
     reply: &str,
-) -> Result<(), AllocError> {
-    is_told(rt, alloc, call.on_table(table), reply)?;
-    if !matches!(call.verb, Verb::Totals) {
-        is_told(rt, alloc, call.on_shared(rt, shared, pass), reply)?;
+) {
+    is_told(rt, make(table, alloc, call), reply);
+    if !matches!(call, Call::Totals | Call::Table { .. }) {
+        is_told(rt, on_shared(rt, shared, pass, call), reply);
     }
-    have_the_same_tenants(rt, shared, pass, table);
-    Ok(())
+    if let Some(table) = table {
+        have_the_same_tenants(rt, shared, pass, table);
+    }
 }
 
-/// Makes the calls of a script on both tables, which are open: each line after the first, with its reply.
+/// Makes the calls of a script on both tables: each line with its reply. The first one opens the table beside the shared one.
 fn calls_agree<N: Name, A: Ledger, V: Ledger, B: Ledger, R: Wait + Abort>(
     rt: &R,
     alloc: Global,
     shared: &SharedTable<N, A, V, B>,
     pass: &mut Pass<N, A, V, B>,
-    table: &mut Table,
+    table: &mut Option<Table>,
     row: &Row,
-) -> Result<(), AllocError> {
+) {
     let mut replies = row.output.lines();
-    let _ = replies.next();
-    for line in row.input.lines().skip(1) {
+    for line in row.input.lines() {
         let call = call_of(line).expect(rt, "a call");
         let reply = replies.next().expect(rt, "a reply");
-        call_both(rt, alloc, shared, pass, table, call, reply)?;
+        call_both(rt, alloc, shared, pass, table, call, reply);
     }
-    Ok(())
 }
 
-/// What a shared table is to report beside a table that has counted so much.
-fn report_of(totals: Totals) -> Report {
+/// What a shared table is to report beside this table.
+fn report_of(table: &Table) -> Report {
+    let totals = table.totals();
     Report {
         accepted: totals.accepted,
         verdicts: totals.verdicts,
@@ -74,23 +75,30 @@ fn report_of(totals: Totals) -> Report {
 pub fn beside_a_table<N: Name, A: Ledger, V: Ledger, B: Ledger, R: Wait + Abort>(
     rt: &R,
     alloc: Global,
-    config: Config,
     shared: &SharedTable<N, A, V, B>,
     pass: &mut Pass<N, A, V, B>,
     row: &Row,
-) -> Result<Report, AllocError> {
-    let mut table = Table::open(alloc, config).expect(rt, "a table");
-    let agreed = calls_agree(rt, alloc, shared, pass, &mut table, row);
-    let report = report_of(table.totals());
+) -> Report {
+    let mut table = None;
+    calls_agree(rt, alloc, shared, pass, &mut table, row);
+    let report = table.as_ref().map(|table| report_of(table));
     drop(table);
-    agreed.map(|()| report)
+    report.expect(rt, "a table")
+}
+
+/// The configuration of the table that a line opens.
+fn config_of(line: &str) -> Option<Config> {
+    match call_of(line) {
+        Some(Call::Table { config, .. }) => Some(config),
+        _ => None,
+    }
 }
 
 /// Opens a shared table for the script, and makes its calls.
 fn on_both<R: Wait + Abort>(rt: &R, alloc: Global, row: &'static Row) -> Result<(), Fail> {
     let first = row.input.lines().next().ok_or("a line")?;
     let config = config_of(first).ok_or("a configuration")?;
-    on_a_table(rt, alloc, config, Work::Script(config, row))
+    on_a_table(rt, alloc, config, Work::Script(row))
 }
 
 /// Those scripts that begin by opening a table and have no malformed line.

@@ -24,8 +24,8 @@ const PARTS: u64 = 1000;
 /// What is done with a table, by two passes that have all its parts together.
 #[derive(Clone, Copy)]
 pub enum Work {
-    /// The calls of a script, which opens a table of this configuration.
-    Script(Config, &'static Row),
+    /// The calls of a script.
+    Script(&'static Row),
     /// Calls, and looks at the board, and what the table has counted then.
     Turns(&'static [Turn], Report),
     /// Calls that list whom to wake.
@@ -43,8 +43,11 @@ impl Work {
         other: &mut Pass<N, A, V, B>,
     ) -> Result<Report, AllocError> {
         match self {
-            Work::Script(config, row) => beside_a_table(rt, alloc, config, table, pass, row),
-            Work::Turns(turns, report) => watch(rt, alloc, table, pass, other, turns, report),
+            Work::Script(row) => Ok(beside_a_table(rt, alloc, table, pass, row)),
+            Work::Turns(turns, report) => {
+                watch(rt, table, pass, other, turns);
+                Ok(report)
+            }
             Work::Wakes => wakes::list_all(rt, alloc, table, pass),
         }
     }

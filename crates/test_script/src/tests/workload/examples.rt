@@ -2,6 +2,8 @@
 
 use crate::tests::same::same;
 use mm_workload::Workload;
+use std::alloc::Global;
+use std::process::Abort;
 use std::test::Fail;
 
 const CROSSWISE: &str = r#"{
@@ -72,27 +74,39 @@ const CHAIN: &str = r#"{
 }
 "#;
 
-/// Each text, with its processes, clients and steps.
-static FILES: [(&str, u32, usize, usize); 4] = [
+/// A text, with its processes, clients and steps.
+type File = (&'static str, u32, usize, usize);
+
+static FILES: [File; 4] = [
     (CROSSWISE, 2, 2, 6),
     (PHILOSOPHERS, 5, 5, 15),
     (HOT_RESOURCE, 8, 8, 20),
     (CHAIN, 5, 5, 11),
 ];
 
+/// How many steps the clients have together.
+fn steps_of(work: &Workload) -> usize {
+    let mut count = 0usize;
+    for client in work.clients() {
+        count = count.saturating_add(client.len());
+    }
+    count
+}
+
+fn is_read(rt: &impl Abort, alloc: Global, file: &File) -> Result<(), Fail> {
+    let (text, processes, clients, steps) = *file;
+    let work = Workload::read(alloc, text.as_bytes())?;
+    same(rt, work.config().processes, processes);
+    same(rt, work.clients().len(), clients);
+    same(rt, steps_of(&work), steps);
+    Ok(())
+}
+
 /// Each is read, with so many processes, clients and steps.
 #[test]
 fn are_read(rt: HostRuntime) -> Result<(), Fail> {
     for file in &FILES {
-        let (text, processes, clients, steps) = *file;
-        let work = Workload::read(rt.alloc(), text.as_bytes())?;
-        same(&rt, work.config().processes, processes);
-        same(&rt, work.clients().len(), clients);
-        let mut count = 0usize;
-        for client in work.clients() {
-            count = count.saturating_add(client.len());
-        }
-        same(&rt, count, steps);
+        is_read(&rt, rt.alloc(), file)?;
     }
     Ok(())
 }

@@ -1,11 +1,10 @@
 //! What is read on the board of a shared table, without its lock.
 
-use crate::tests::call::{call_of, is_told};
+use crate::tests::call::{call_of, is_told, on_shared};
 use crate::tests::same::same;
 use crate::tests::shared::{Work, config, on_a_table};
 use mm_label::Label;
 use mm_shared::{Hint, HintKind, Name, Pass, Report, SharedTable};
-use std::alloc::{AllocError, Global};
 use std::process::Abort;
 use std::sync::Wait;
 use std::sync::ledger::Ledger;
@@ -61,14 +60,13 @@ fn scanned<N: Name, A: Ledger, V: Ledger, B: Ledger>(
 /// Makes a call. Ends the test where it has another reply.
 fn calls<N: Name, A: Ledger, V: Ledger, B: Ledger, R: Wait + Abort>(
     rt: &R,
-    alloc: Global,
     table: &SharedTable<N, A, V, B>,
     pass: &mut Pass<N, A, V, B>,
     line: &str,
     reply: &str,
-) -> Result<(), AllocError> {
+) {
     let call = call_of(line).expect(rt, "a call");
-    is_told(rt, alloc, call.on_shared(rt, table, pass), reply)
+    is_told(rt, on_shared(rt, table, pass, call), reply);
 }
 
 impl Step {
@@ -76,40 +74,35 @@ impl Step {
     fn make<N: Name, A: Ledger, V: Ledger, B: Ledger, R: Wait + Abort>(
         self,
         rt: &R,
-        alloc: Global,
         table: &SharedTable<N, A, V, B>,
         pass: &mut Pass<N, A, V, B>,
-    ) -> Result<(), AllocError> {
+    ) {
         match self {
-            Step::Calls(line, reply) => return calls(rt, alloc, table, pass, line, reply),
+            Step::Calls(line, reply) => calls(rt, table, pass, line, reply),
             Step::Peeks(process, counter, of) => {
                 same(rt, peeked(table, pass, process), Label::new(counter, of));
             }
             Step::HasNot(process) => same(rt, peeked(table, pass, process), None),
             Step::Scans(hints) => same(rt, scanned(table, pass), hints),
         }
-        Ok(())
     }
 }
 
-/// Makes the steps one after the other, each by its pass. The table is then to have counted so much.
+/// Makes the steps one after the other, each by its pass.
 pub fn watch<N: Name, A: Ledger, V: Ledger, B: Ledger, R: Wait + Abort>(
     rt: &R,
-    alloc: Global,
     table: &SharedTable<N, A, V, B>,
     pass: &mut Pass<N, A, V, B>,
     other: &mut Pass<N, A, V, B>,
     turns: &[Turn],
-    report: Report,
-) -> Result<Report, AllocError> {
+) {
     for turn in turns {
         let Turn(by, step) = *turn;
         match by {
-            By::First => step.make(rt, alloc, table, pass)?,
-            By::Other => step.make(rt, alloc, table, other)?,
+            By::First => step.make(rt, table, pass),
+            By::Other => step.make(rt, table, other),
         }
     }
-    Ok(report)
 }
 
 const NONE: [Option<Hint>; 3] = [None, None, None];

@@ -1,7 +1,7 @@
 //! Whom the calls of a shared table list that are to be woken.
 ghost use Rattle.std.specs.Prelude.{◌≤◌, vec_capacity};
 
-use crate::tests::call::{call_of, is_told};
+use crate::tests::call::{call_of, is_told, on_shared_waking};
 use crate::tests::same::same;
 use crate::tests::shared::{Work, config, on_a_table};
 use mm_shared::{Name, Pass, Report, SharedTable};
@@ -42,40 +42,36 @@ const COUNTED: Report = Report {
 /// Makes the call of a line. Ends the test where it has another reply, or lists other processes. `wake` has room for each process.
 fn make<N: Name, A: Ledger, V: Ledger, B: Ledger, R: Wait + Abort>(
     rt: &R,
-    alloc: Global,
     table: &SharedTable<N, A, V, B>,
     pass: &mut Pass<N, A, V, B>,
     wake: &mut Vec<u32>,
     line: &str,
     reply: &str,
     woken: &[u32],
-) -> Result<(), AllocError>
+)
     requires { table.now ≤ vec_capacity wake.old }
     ensures { table.now ≤ vec_capacity wake.new }
 {
     let call = call_of(line).expect(rt, "a call");
     wake.clear();
-    let answer = call.on_shared_waking(rt, table, pass, wake);
-    is_told(rt, alloc, answer, reply)?;
+    let answer = on_shared_waking(rt, table, pass, wake, call);
+    is_told(rt, answer, reply);
     same(rt, wake.as_slice(), woken);
-    Ok(())
 }
 
 /// Makes these calls. `wake` has room for each process.
 fn make_all<N: Name, A: Ledger, V: Ledger, B: Ledger, R: Wait + Abort>(
     rt: &R,
-    alloc: Global,
     table: &SharedTable<N, A, V, B>,
     pass: &mut Pass<N, A, V, B>,
     wake: &mut Vec<u32>,
-) -> Result<(), AllocError>
+)
     requires { table.now ≤ vec_capacity wake.old }
 {
     for call in &CALLS {
         let (line, reply, woken) = *call;
-        make(rt, alloc, table, pass, wake, line, reply, woken)?;
+        make(rt, table, pass, wake, line, reply, woken);
     }
-    Ok(())
 }
 
 /// Makes these calls, and returns what the table is to have counted then.
@@ -86,7 +82,7 @@ pub fn list_all<N: Name, A: Ledger, V: Ledger, B: Ledger, R: Wait + Abort>(
     pass: &mut Pass<N, A, V, B>,
 ) -> Result<Report, AllocError> {
     let mut wake = Vec::with_capacity(alloc, table.processes() as usize)?;
-    make_all(rt, alloc, table, pass, &mut wake)?;
+    make_all(rt, table, pass, &mut wake);
     Ok(COUNTED)
 }
 
