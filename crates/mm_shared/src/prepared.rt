@@ -31,7 +31,7 @@ pub struct Prepared {
 }
 
 impl Prepared {
-    /// Opens a table of this configuration, in which no process is live and no resource has an owner.
+    /// Opens a table of this configuration, which has no transaction, and in which no resource has an owner.
     ///
     /// Refused as `BadConfig` or `Memory`, as `Table::open` is. This is the one call of this crate that takes memory: for the table, for
     /// the board, and for a list of the processes that an event changed.
