@@ -4,42 +4,18 @@
 
 #[allow(dead_code)] // no workload makes all of its calls
 mod plain;
+mod words;
 
 use plain::{Acquired, Config, Detected, Key, Refusal, Table};
 use std::sync::{Mutex, MutexGuard};
 use std::thread;
 use std::time::{Duration, Instant};
+use words::Words;
 
 const TRANSMITTERS: u32 = 2;
 const RESOURCES: u32 = 8;
 const MAX_DRAWS: u32 = 4;
 const TURNS: u64 = 10_000_000;
-
-/// The generator PCG-XSH-RR, on stream 0.
-struct Words {
-    state: u64,
-}
-
-impl Words {
-    fn new(seed: u64) -> Words {
-        let mut words = Words { state: 0 };
-        words.step();
-        words.state = words.state.wrapping_add(seed);
-        words.step();
-        words
-    }
-
-    fn step(&mut self) {
-        self.state = self.state.wrapping_mul(6_364_136_223_846_793_005).wrapping_add(1);
-    }
-
-    fn next(&mut self) -> u32 {
-        let state = self.state;
-        self.step();
-        let shifted = ((state >> 18 ^ state) >> 27) as u32;
-        shifted.rotate_right((state >> 59) as u32)
-    }
-}
 
 /// The resources that each client of a storm acquires, in order.
 fn storm(seed: u64, clients: u32) -> Vec<Vec<u32>> {

@@ -3,11 +3,14 @@
 //! how many transactions were committed, and how often one was aborted after a deadlock. Names are kept in a `HashMap` while they are locked,
 //! and a wait is refused where a walk from owner to owner comes back to the one that is to wait.
 
+mod words;
+
 use std::collections::{HashMap, VecDeque};
 use std::sync::atomic::{AtomicBool, Ordering};
 use std::sync::{Barrier, Mutex};
 use std::thread::{self, Thread};
 use std::time::{Duration, Instant};
+use words::Words;
 
 const NONE: usize = usize::MAX;
 
@@ -180,32 +183,6 @@ impl Drop for Transaction<'_> {
             bed.granted.store(true, Ordering::Release);
             thread.expect("who waits has a thread").unpark();
         }
-    }
-}
-
-/// The generator PCG-XSH-RR, on stream 0.
-struct Words {
-    state: u64,
-}
-
-impl Words {
-    fn new(seed: u64) -> Words {
-        let mut words = Words { state: 0 };
-        words.step();
-        words.state = words.state.wrapping_add(seed);
-        words.step();
-        words
-    }
-
-    fn step(&mut self) {
-        self.state = self.state.wrapping_mul(6_364_136_223_846_793_005).wrapping_add(1);
-    }
-
-    fn next(&mut self) -> u32 {
-        let state = self.state;
-        self.step();
-        let shifted = ((state >> 18 ^ state) >> 27) as u32;
-        shifted.rotate_right((state >> 59) as u32)
     }
 }
 

@@ -194,39 +194,52 @@ class Reading:
         return True
 
 
-def of_script(words):
-    reading, is_open = Reading(list(words), SCRIPT_USAGE, SCRIPT_OPTIONS), True
+def asks_for_help(reading, most_files, take):
+    """Reads all words: options, each by `take`, and so many files at most. Returns whether help is asked for before a word is wrong."""
+    is_open = True
     while reading.left:
         word = reading.left.pop(0)
         if is_open and word == "--":
             is_open = False
         elif is_open and word in ("-h", "--help"):
-            return Help("script")
-        elif is_open and reading.take_flag(word):
-            continue
+            return True
         elif is_open and word.startswith("-") and word != "-":
-            raise reading.unexpected(word)
+            take(reading, word)
+        elif len(reading.files) == most_files:
+            raise unexpected(word, reading.usage)
         else:
-            raise unexpected(word, SCRIPT_USAGE)
+            reading.files.append(word)
+    return False
+
+
+def take_flag(reading, word):
+    if not reading.take_flag(word):
+        raise reading.unexpected(word)
+
+
+def take_flag_or_report(reading, word):
+    if not reading.take_report(word):
+        take_flag(reading, word)
+
+
+def take_switch_or_number(reading, word):
+    if word.partition("=")[0] in EXPLAIN_FLAGS:
+        take_switch(reading, word)
+    else:
+        take_number(reading, word, EXPLAIN_NUMBERS)
+
+
+def of_script(words):
+    reading = Reading(list(words), SCRIPT_USAGE, SCRIPT_OPTIONS)
+    if asks_for_help(reading, 0, take_flag):
+        return Help("script")
     return Script(reading.verbose)
 
 
 def of_threads(words):
-    reading, is_open = Reading(list(words), THREADS_USAGE, THREADS_OPTIONS), True
-    while reading.left:
-        word = reading.left.pop(0)
-        if is_open and word == "--":
-            is_open = False
-        elif is_open and word in ("-h", "--help"):
-            return Help("threads")
-        elif is_open and (reading.take_flag(word) or reading.take_report(word)):
-            continue
-        elif is_open and word.startswith("-") and word != "-":
-            raise reading.unexpected(word)
-        elif reading.files:
-            raise unexpected(word, THREADS_USAGE)
-        else:
-            reading.files.append(word)
+    reading = Reading(list(words), THREADS_USAGE, THREADS_OPTIONS)
+    if asks_for_help(reading, 1, take_flag_or_report):
+        return Help("threads")
     if not reading.files:
         usage = " ".join(["mmdetect threads", *reading.shown, "<FILE>"])
         raise wrong("the following required arguments were not provided:\n  <FILE>", usage)
@@ -255,21 +268,9 @@ def of_locks(words):
 
 
 def of_explain(words):
-    reading, is_open = Reading(list(words), EXPLAIN_USAGE, EXPLAIN_OPTIONS), True
-    while reading.left:
-        word = reading.left.pop(0)
-        if is_open and word == "--":
-            is_open = False
-        elif is_open and word in ("-h", "--help"):
-            return Help("explain")
-        elif is_open and word.partition("=")[0] in EXPLAIN_FLAGS:
-            take_switch(reading, word)
-        elif is_open and word.startswith("-") and word != "-":
-            take_number(reading, word, EXPLAIN_NUMBERS)
-        elif reading.files:
-            raise unexpected(word, EXPLAIN_USAGE)
-        else:
-            reading.files.append(word)
+    reading = Reading(list(words), EXPLAIN_USAGE, EXPLAIN_OPTIONS)
+    if asks_for_help(reading, 1, take_switch_or_number):
+        return Help("explain")
     return Explain(reading.files[0] if reading.files else None)
 
 

@@ -3,7 +3,7 @@ ghost use Rattle.std.specs.Prelude.{◌≡◌, ◌<◌, ◌≤◌, IfOk, IsTrue}
 ghost use Rattle.mm_label.specs.Label.{label_le, opening_label};
 ghost use Rattle.mm_board.specs.Views.{processes_of};
 
-use mm_board::{Memory, Name, RawBoard};
+use mm_board::{MAX_PROCESSES, Memory, Name, RawBoard};
 use mm_label::Label;
 use std::alloc::Global;
 use std::marker::Brand;
@@ -31,7 +31,7 @@ pub fn watch_labels(
     first: Label,
     second: Label,
 ) -> Result<Watched, Memory>
-    requires processes_in_range { processes ≤ 65536 }
+    requires processes_in_range { processes ≤ MAX_PROCESSES }
     requires process_in_range { process < processes }
     requires first_rises { IsTrue (label_le (opening_label process) first) }
     requires second_rises { IsTrue (label_le first second) }

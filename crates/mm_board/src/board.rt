@@ -16,7 +16,7 @@ use std::alloc::{AllocError, Global};
 use std::marker::{Model, PhantomData};
 
 /// A board has at most so many processes.
-pub const MAX_PROCESSES: u32 = 65_536;
+pub const MAX_PROCESSES: u32 = mm_limits::MAX_PROCESSES;
 
 /// The label words of all processes, and then their holder words. Each split and join loads the first, the label word of process 0.
 type Words = Table<(), View, u32, BoardRule, Global>;

@@ -5,8 +5,8 @@ ghost use Rattle.mm_shared.specs.Shares.{Shares, CountsEvent};
 
 use mm_shared::{Acquired, Detected, Hint, Key, Refusal, Released, Settled, Transmitted};
 
-/// What a worker needs of a table: its nine events, who lives in a process, and a look for labels to pass on. A `Desk` meets it, and so
-/// does a `Table`.
+/// What a worker needs of a table: its nine events, which transaction uses a process, and a look for labels to pass on. A `Desk` meets
+/// it, and so does a `Table`.
 ///
 /// An event counts as it does in a pass (`CountsEvent`). Each call refuses and costs what the call of its name of `Table` does.
 pub trait Steps {
@@ -33,7 +33,7 @@ pub trait Steps {
     fn transmit(&mut self, key: Key) -> Result<Transmitted, Refusal>
         ensures { CountsEvent (Transmit key) result (shares self.old) (shares self.new) };
 
-    /// Gives a waiting transaction a verdict where its label has come round.
+    /// Gives a waiting transaction a verdict where its two labels and its holder's public one are one label.
     fn detect(&mut self, key: Key) -> Result<Detected, Refusal>
         ensures { CountsEvent (Detect key) result (shares self.old) (shares self.new) };
 

@@ -7,8 +7,8 @@ use mm_shared::{Detected, Hint, HintKind, Transmitted};
 use std::marker::Model;
 use std::thread;
 
-/// A worker that looks for a process whose label may be raised or whose verdict may be due, and transmits or detects for whoever lives
-/// there, again and again, until all clients have left or its turns are used up. A turn is one such look. It never aborts.
+/// A worker that looks for a process whose label may be raised or whose verdict may be due, and transmits or detects for the transaction
+/// that uses it, again and again, until all clients have left or its turns are used up. A turn is one such look. It never aborts.
 ///
 /// A contract sees it as its table.
 #[derive(Drop)]
@@ -81,8 +81,8 @@ impl<S: Steps + Drop, G: Gate + Drop> Transmitter<S, G> {
         if next < self.processes { next } else { 0 }
     }
 
-    /// Makes the event that a hint suggests, for whoever lives in its process. `false` where it changed nothing: there is no hint, nobody
-    /// lives there, or the labels are others by now.
+    /// Makes the event that a hint suggests, for the transaction that uses its process. `false` where it changed nothing: there is no hint,
+    /// no transaction uses the process, or the labels are others by now.
     fn follow(&mut self, hint: Option<Hint>) -> bool
         ensures aborts { (S.shares self.new).aborts ≡ (S.shares self.old).aborts }
         ensures parts { (S.shares self.new).parts ≡ (S.shares self.old).parts }

@@ -7,6 +7,7 @@ use Rattle.clap.specs.declared.builder.value_parser.ValueParser.TheVariants.{Uns
 use Rattle.clap.specs.declared.error.Error.{Error}
 use Rattle.clap.specs.declared.error.kind.ErrorKind.{ErrorKind}
 use Rattle.clap.specs.declared.error.kind.ErrorKind.TheVariants as kind
+use Rattle.mm_limits.specs.declared.TheConstants.{MAX_ACQUIRES, MAX_CLIENTS, MAX_NAMES, MAX_NAME_BYTES, MAX_PROCESSES, MAX_RESOURCES, MAX_TRANSMITTERS}
 use Rattle.mm_command.specs.Explain.{explain_app}
 use Rattle.mm_command.specs.declared.command_line.Request.{Request}
 use Rattle.mm_command.specs.declared.command_line.Request.TheVariants.{Script, Threads, Storm, Locks, Explain, Help, Wrong, Memory}
@@ -56,16 +57,16 @@ abbrev pub seed_rule : Rule
 seed_rule = number_rule (codes "seed") 0 18446744073709551615 (codes "1")
 
 abbrev pub clients_rule : Rule
-clients_rule = number_rule (codes "clients") 1 64 (codes "8")
+clients_rule = number_rule (codes "clients") 1 MAX_CLIENTS (codes "8")
 
 abbrev pub transmitters_rule : Rule
-transmitters_rule = number_rule (codes "transmitters") 0 64 (codes "2")
+transmitters_rule = number_rule (codes "transmitters") 0 MAX_TRANSMITTERS (codes "2")
 
 abbrev pub resources_rule : Rule
-resources_rule = number_rule (codes "resources") 1 65536 (codes "8")
+resources_rule = number_rule (codes "resources") 1 MAX_RESOURCES (codes "8")
 
 abbrev pub acquires_rule : Rule
-acquires_rule = number_rule (codes "acquires") 1 256 (codes "4")
+acquires_rule = number_rule (codes "acquires") 1 MAX_ACQUIRES (codes "4")
 
 -- the options that give a storm its numbers
 abbrev pub storm_numbers_app : App
@@ -75,13 +76,13 @@ abbrev pub storm_app : App
 storm_app = with_rule (with_rule storm_numbers_app report_rule) verbose_rule
 
 abbrev pub transactions_rule : Rule
-transactions_rule = number_rule (codes "transactions") 1 65536 (codes "65536")
+transactions_rule = number_rule (codes "transactions") 1 MAX_PROCESSES (codes "65536")
 
 abbrev pub names_rule : Rule
-names_rule = number_rule (codes "names") 1 65536 (codes "65536")
+names_rule = number_rule (codes "names") 1 MAX_NAMES (codes "65536")
 
 abbrev pub name_bytes_rule : Rule
-name_bytes_rule = number_rule (codes "name-bytes") 1 1024 (codes "64")
+name_bytes_rule = number_rule (codes "name-bytes") 1 MAX_NAME_BYTES (codes "64")
 
 abbrev pub locks_seed_rule : Rule
 locks_seed_rule = free_number_rule (codes "seed") 0 18446744073709551615
@@ -169,7 +170,7 @@ HasNumber name low high rows = (text : Text) × (one_of name rows ≡ Some text)
 
 -- they have the numbers of the workers of a generated workload
 abbrev pub HasWorkers : List Row → Type 0
-HasWorkers rows = HasNumber (codes "seed") 0 18446744073709551615 rows × HasNumber (codes "clients") 1 64 rows × HasNumber (codes "transmitters") 0 64 rows
+HasWorkers rows = HasNumber (codes "seed") 0 18446744073709551615 rows × HasNumber (codes "clients") 1 MAX_CLIENTS rows × HasNumber (codes "transmitters") 0 MAX_TRANSMITTERS rows
 
 -- they have the numbers of what its clients acquire
 abbrev pub HasShape : List Row → Type 0
@@ -181,7 +182,7 @@ HasNumbers rows = HasWorkers rows × HasShape rows
 
 -- they have the numbers of a lock service
 abbrev pub HasLimits : List Row → Type 0
-HasLimits rows = HasNumber (codes "transactions") 1 65536 rows × HasNumber (codes "names") 1 65536 rows × HasNumber (codes "name-bytes") 1 1024 rows
+HasLimits rows = HasNumber (codes "transactions") 1 MAX_PROCESSES rows × HasNumber (codes "names") 1 MAX_NAMES rows × HasNumber (codes "name-bytes") 1 MAX_NAME_BYTES rows
 
 -- what the matches of the subcommand of this name have to have
 abbrev pub HasWanted : Text → List Row → Type 0

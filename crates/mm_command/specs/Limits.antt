@@ -1,11 +1,12 @@
 -- The limits that a lock service can have, and those of what the clients of a storm acquire.
 use Rattle.std.specs.Prelude.{ℕ, ◌≤◌}
+use Rattle.mm_limits.specs.declared.TheConstants.{MAX_NAMES, MAX_NAME_BYTES, MAX_PROCESSES}
 
 -- how many transactions and names there can be at once, and how many bytes a name may have
 pub record AreLimits (transactions names name_bytes : ℕ) : Type 0 where
-  pub few_transactions : (1 ≤ transactions) × (transactions ≤ 65536)
-  pub few_names : (1 ≤ names) × (names ≤ 65536)
-  pub short_names : (1 ≤ name_bytes) × (name_bytes ≤ 1024)
+  pub few_transactions : (1 ≤ transactions) × (transactions ≤ MAX_PROCESSES)
+  pub few_names : (1 ≤ names) × (names ≤ MAX_NAMES)
+  pub short_names : (1 ≤ name_bytes) × (name_bytes ≤ MAX_NAME_BYTES)
 
 -- how many resources there are, and how many words give a client a resource at most
 pub record AreShape (resources acquires : ℕ) : Type 0 where

@@ -17,6 +17,7 @@ use clap::error::ErrorKind;
 use clap::{ArgMatches, Error};
 pub use explain::ExplainOptions;
 use explain::{file_of, options_of};
+use mm_limits::{MAX_NAME_BYTES, MAX_NAMES, MAX_PROCESSES};
 pub use options::{LocksOptions, StormOptions};
 use program::{MAX_ACQUIRES, MAX_CLIENTS, MAX_RESOURCES, MAX_TRANSMITTERS, command};
 use std::alloc::{AllocError, Global};
@@ -275,9 +276,9 @@ fn request_to_explain(alloc: Global, own: &ArgMatches<'_>) -> Result<Request, Al
 fn are_limits(transactions: u32, names: u32, name_bytes: u32) -> bool
     ensures { IsTrue result ↔ AreLimits transactions names name_bytes }
 {
-    (1..=65_536).contains(&transactions)
-        && (1..=65_536).contains(&names)
-        && (1..=1_024).contains(&name_bytes)
+    (1..=MAX_PROCESSES).contains(&transactions)
+        && (1..=MAX_NAMES).contains(&names)
+        && (1..=MAX_NAME_BYTES).contains(&name_bytes)
 }
 
 /// An error, which shows the usage and no more of the help.

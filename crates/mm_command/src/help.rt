@@ -101,7 +101,7 @@ A refused call changes nothing and has the reply 'refused N Name':
    3 Waiting          the transaction waits
    4 AlreadyOwns      the transaction owns the resource that it asks for
    5 NotOwner         the transaction does not own what it releases
-   6 Full             no slot is free
+   6 Full             no process is free
    7 LabelsExhausted  a label would pass the label limit
    8 NotWaiting       the transaction is active
    9 NoVerdict        no verdict stands for the transaction

@@ -1,12 +1,13 @@
 //! The calls by which names are handed over: a release, and the end of a transaction. There is room for each, so none is refused.
-ghost use Rattle.std.specs.Prelude.{◌≡◌, ◌≤◌, Ok, Some, None, true, IsSome, IfSome, IfNone, OnSome, vec_capacity};
+ghost use Rattle.std.specs.Prelude.{◌≡◌, ◌≤◌, ◌↔◌, ℕ, Ok, Some, None, true, IsSome, IfSome, IfNone, OnSome, fold, vec_capacity};
+ghost use Rattle.mm_list_lemmas.specs.Members.{Among};
 ghost use Rattle.mm_names.specs.Names.{name_of};
 ghost use Rattle.mm_rules.specs.TableState.{is_live, has_verdict, owner_of, wait_of};
 ghost use Rattle.mm_rules.specs.Event.{Release, Finish, Abort};
 ghost use Rattle.mm_manager.specs.Permit.{may_ask};
 ghost use Rattle.mm_settled.specs.Calls.{Made, OthersKeepVerdicts};
 ghost use Rattle.mm_settled.specs.Grants.{Tells, EndsWaits};
-ghost use Rattle.mm_manager.specs.private.Numbers.{AreNumbered};
+ghost use Rattle.mm_manager.specs.private.Numbers.{AreNumbered, forgotten};
 ghost use Rattle.mm_manager.specs.private.Room.{HasReserve};
 ghost use Rattle.mm_manager.specs.LockState.{KeepOwned};
 
@@ -62,11 +63,11 @@ pub fn finish(table: &mut SettledTable, names: &mut Names, owned: &mut Vec<u32>,
     ensures left { HasReserve table.new.table }
 {
     table.is_at_rest();
-    table.table().owned_by(key, owned);
+    list_owned(table, owned, key);
     let Ok(()) = table.finish(key) else {
         unreachable!();
     };
-    forget_each(table.table(), names, owned);
+    forget_listed(table, names, owned);
 }
 
 /// `SettledTable::abort`: each name of the transaction keeps its number exactly where somebody owns it then.
@@ -86,9 +87,25 @@ pub fn abort(table: &mut SettledTable, names: &mut Names, owned: &mut Vec<u32>, 
     ensures left { HasReserve table.new.table }
 {
     table.is_at_rest();
-    table.table().owned_by(key, owned);
+    list_owned(table, owned, key);
     let Ok(()) = table.abort(key) else {
         unreachable!();
     };
-    forget_each(table.table(), names, owned);
+    forget_listed(table, names, owned);
+}
+
+/// Lists what the transaction owns, in place of what `owned` held.
+fn list_owned(table: &SettledTable, owned: &mut Vec<u32>, key: Key)
+    requires { table.now.table.config.resources ≤ vec_capacity owned.old }
+    ensures listed { (n : ℕ) → Among n owned.new.items ↔ (owner_of table.now.table n ≡ Some key) }
+    ensures room { vec_capacity owned.new ≡ vec_capacity owned.old }
+{
+    table.table().owned_by(key, owned);
+}
+
+/// Takes their names from those of these numbers that nobody owns.
+fn forget_listed(table: &SettledTable, names: &mut Names, numbers: &[u32])
+    ensures { names.new ≡ fold (forgotten table.now.table) names.old numbers.now }
+{
+    forget_each(table.table(), names, numbers);
 }

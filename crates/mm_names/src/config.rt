@@ -12,7 +12,7 @@ pub struct NamesConfig {
 }
 
 impl NamesConfig {
-    pub const MAX_NAMES: u32 = 65_536;
+    pub const MAX_NAMES: u32 = mm_limits::MAX_NAMES;
 
-    pub const MAX_NAME_BYTES: u32 = 1_024;
+    pub const MAX_NAME_BYTES: u32 = mm_limits::MAX_NAME_BYTES;
 }

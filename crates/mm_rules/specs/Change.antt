@@ -32,7 +32,7 @@ hand_over s r = give_to s r (waiters_of s r)
 
 -- ---- vacate, abort
 
--- the slot of n is first of the free ones, under its next generation; at the last generation it is retired
+-- process n is the first of the free ones, under its next generation; at the last generation it is retired
 abbrev pub free_slot : TableState → ℕ → TableState
 free_slot s n =
     let generation = slice_index s.generations n in
@@ -41,7 +41,7 @@ free_slot s n =
     then record left { generations = slice_set s.generations n (generation + 1); free = n ∷ s.free }
     else left
 
--- n hands over all that it owns, in rising order, and its slot is freed
+-- process n hands over all that it owns, in rising order, and is freed
 abbrev pub vacate : TableState → ℕ → TableState
 vacate s n = free_slot (fold hand_over s (resources_of s n)) n
 

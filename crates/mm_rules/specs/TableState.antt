@@ -3,6 +3,7 @@ use Rattle.std.specs.Prelude.{ℕ, ◌≤◌, ◌<◌, ◌^◌, ◌≡◌, Bool,
 use Rattle.std.specs.List.{range_with_len}
 use Rattle.std.specs.Option.{option_map_or}
 use Rattle.mm_label.specs.Label.{Label, opening_label, word_of}
+use Rattle.mm_limits.specs.declared.TheConstants.{MAX_PROCESSES, MAX_RESOURCES}
 use Rattle.mm_rules.specs.declared.config.Config.{Config}
 use Rattle.mm_arena.specs.declared.key.Key.{Key}
 use Rattle.mm_rules.specs.declared.reply.Totals.{Totals}
@@ -10,8 +11,8 @@ use Rattle.mm_rules.specs.Graph.{Graph}
 
 -- the numbers that a table may be opened with
 pub record IsInRange (c : Config) : Type 0 where
-  pub processes : (1 ≤ c.processes) × (c.processes ≤ 65536)
-  pub resources : (1 ≤ c.resources) × (c.resources ≤ 65536)
+  pub processes : (1 ≤ c.processes) × (c.processes ≤ MAX_PROCESSES)
+  pub resources : (1 ≤ c.resources) × (c.resources ≤ MAX_RESOURCES)
   pub label_limit : (1 ≤ c.label_limit) × (c.label_limit < 2 ^ 44)
   pub generation_limit : 1 ≤ c.generation_limit
 
@@ -95,7 +96,7 @@ waited_for waits n = option_map (λ w. w.resource) (find (is_of n) waits)
 abbrev pub wait_of : TableState → ℕ → Option ℕ
 wait_of s n = waited_for s.waits n
 
--- a live process that does not wait is active
+-- a live transaction that does not wait is active
 abbrev pub is_waiting : TableState → ℕ → Bool
 is_waiting s n = is_some (wait_of s n)
 

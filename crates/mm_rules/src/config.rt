@@ -9,16 +9,16 @@ pub struct Config {
     pub resources: u32,
     /// The greatest counter that a label may have: 1 to 17,592,186,044,415.
     pub label_limit: u64,
-    /// The last generation of a process: 1 to 4,294,967,295. A slot that is freed at it is never given again.
+    /// The last generation of a process: 1 to 4,294,967,295. A process that is freed at it is never given again.
     pub generation_limit: u32,
 }
 
 impl Config {
     ghost use Rattle.mm_rules.specs.TableState.{IsInRange};
 
-    pub const MAX_PROCESSES: u32 = 65536;
+    pub const MAX_PROCESSES: u32 = mm_limits::MAX_PROCESSES;
 
-    pub const MAX_RESOURCES: u32 = 65536;
+    pub const MAX_RESOURCES: u32 = mm_limits::MAX_RESOURCES;
 
     pub const MAX_LABEL_LIMIT: u64 = 17_592_186_044_415;
 

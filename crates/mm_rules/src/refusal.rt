@@ -15,7 +15,7 @@ pub enum Refusal {
     AlreadyOwns,
     #[error("the transaction does not own the resource")]
     NotOwner,
-    #[error("no slot is free")]
+    #[error("no process is free")]
     Full,
     #[error("a label would pass the label limit")]
     LabelsExhausted,

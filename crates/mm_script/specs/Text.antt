@@ -1,6 +1,7 @@
 -- What a script is answered.
 use Rattle.std.specs.Prelude.{◌≡◌, ℕ, ◌+◌, ◌≤◌, ◌<◌, ◌⊎◌, List, [], ◌∷◌, ◌++◌, Option, Some, None, Result, Ok, Err}
 use Rattle.std.specs.Result.{result_ok}
+use Rattle.mm_limits.specs.declared.TheConstants.{MAX_PROCESSES}
 use Rattle.mm_table.specs.config.Config.{Config}
 use Rattle.mm_table.specs.refusal.Refusal.{Refusal}
 use Rattle.mm_table.specs.refusal.Refusal.TheVariants.{BadConfig}
@@ -46,7 +47,7 @@ RepliesWithTable calls.Totals old reply new = (reply ≡ replies.Counted old.tot
 -- how many processes a header allows
 abbrev pub most_processes : Header → ℕ
 most_processes headers.Table = 4096
-most_processes headers.Table2 = 65536
+most_processes headers.Table2 = MAX_PROCESSES
 
 -- what opening a table by a header comes to: a bad configuration where there are more processes than it allows, and else what opening one comes to
 abbrev pub OpensBy : Header → Config → Result TableState Refusal → Type 0

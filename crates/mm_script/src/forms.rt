@@ -1,5 +1,5 @@
 //! The calls that a line can make: a word, and what stands behind it.
-ghost use Rattle.std.specs.Prelude.{◌≡◌, map};
+ghost use Rattle.std.specs.Prelude.{◌≡◌, map, option_map};
 ghost use Rattle.std.specs.Map.{lookup};
 ghost use Rattle.std.specs.Str.{bytes_eq};
 ghost use Rattle.mm_script.specs.Forms.{call_of, forms};
@@ -83,19 +83,10 @@ fn usages_of(forms: &[(&'static str, Form); 14]) -> [(&'static str, &'static str
 pub fn call_of(word: &[u8], arguments: &mut Words<'_>) -> Option<Call>
     ensures { result ≡ call_of word.now (words_left arguments.old) }
 {
-    form_of(word, &FORMS)?.call(arguments)
-}
-
-/// What stands behind a word, by the first of these forms that has it.
-fn form_of(word: &[u8], forms: &[(&str, Form)]) -> Option<Form>
-    ensures { result ≡ lookup (bytes_eq word.now) (map (λ form. (form.0.now, form.1)) forms.now) }
-{
-    for &(text, form) in forms {
-        if word == text.as_bytes() {
-            return Some(form);
-        }
+    match usage_in(word, &FORMS) {
+        Some((_, form)) => form.call(arguments),
+        None => None,
     }
-    None
 }
 
 /// The word of a call and what stands behind it, if this word calls.
@@ -103,7 +94,10 @@ pub fn usage_of(word: &[u8]) -> Option<(&'static str, Form)> {
     usage_in(word, &FORMS)
 }
 
-fn usage_in(word: &[u8], forms: &[(&'static str, Form)]) -> Option<(&'static str, Form)> {
+/// The first of these forms that has the word.
+fn usage_in(word: &[u8], forms: &[(&'static str, Form)]) -> Option<(&'static str, Form)>
+    ensures { option_map (λ usage. usage.1) result ≡ lookup (bytes_eq word.now) (map (λ form. (form.0.now, form.1)) forms.now) }
+{
     for &(text, form) in forms {
         if word == text.as_bytes() {
             return Some((text, form));

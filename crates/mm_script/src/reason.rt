@@ -11,7 +11,7 @@ use thiserror::Error;
 /// Why a line is malformed, for a person.
 #[derive(Clone, Copy, Debug, PartialEq, Eq, Error)]
 pub enum LineFault {
-    #[error("the line has more than 128 bytes")]
+    #[error("the line has more than {max} bytes", max = MAX_LINE)]
     TooLong,
     #[error("no call has this word")]
     Word,

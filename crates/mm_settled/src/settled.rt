@@ -50,7 +50,7 @@ impl Model for SettledTable {
 }
 
 impl SettledTable {
-    /// A table of this configuration, in which no process is live and no resource has an owner.
+    /// A table of this configuration, which has no transaction, and in which no resource has an owner.
     ///
     /// Refused as `BadConfig` exactly where a number is out of its range, and as `Memory` only where a request for memory was
     /// refused. This is the one call that takes memory: what `Table::open` takes, for each process 16 bytes and a bit more, and for
@@ -131,7 +131,7 @@ impl SettledTable {
         answer
     }
 
-    /// Ends an active transaction: hands over all that it owns, by rising number, each resource as `release` does, and frees its slot.
+    /// Ends an active transaction: hands over all that it owns, by rising number, each resource as `release` does, and frees its process.
     /// Nobody gets a verdict.
     ///
     /// Refused as `CountsExhausted` where an event and a settle can no longer be counted, and else as `Table::finish` is: `Stale`,

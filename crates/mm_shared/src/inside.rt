@@ -137,7 +137,7 @@ impl<N: Name, A: Ledger, V: Ledger, B: Ledger> Inside<N, A, V, B> {
         Ok(answer)
     }
 
-    /// `Table::finish`: ends the transaction, hands over all that it owns, and frees its slot.
+    /// `Table::finish`: ends the transaction, hands over all that it owns, and frees its process.
     ///
     /// Refused as `CountsExhausted`, `Stale`, `Waiting` or `LabelsExhausted`. `O(its resources + their waiters)`.
     pub fn finish(
@@ -187,8 +187,8 @@ impl<N: Name, A: Ledger, V: Ledger, B: Ledger> Inside<N, A, V, B> {
         Ok(answer)
     }
 
-    /// `Table::detect`: gives the waiting transaction a verdict where its label has come round to its holder. The pass counts a new verdict,
-    /// and not one that stands already.
+    /// `Table::detect`: gives the waiting transaction a verdict where its two labels and its holder's public one are one label. The pass
+    /// counts a new verdict, and not one that stands already.
     ///
     /// Refused as `CountsExhausted`, `Stale` or `NotWaiting`. Constant time.
     pub fn detect(

@@ -31,7 +31,7 @@ pub struct Prepared {
 }
 
 impl Prepared {
-    /// Opens a table of this configuration, in which no process is live and no resource has an owner.
+    /// Opens a table of this configuration, which has no transaction, and in which no resource has an owner.
     ///
     /// Refused as `BadConfig` or `Memory`, as `Table::open` is. This is the one call of this crate that takes memory: for the table, for
     /// the board, and for a list of the processes that an event changed.
@@ -111,7 +111,7 @@ impl Prepared {
 /// What the board and the list of the changed need, for so many processes.
 fn board_and_list(alloc: Global, processes: u32) -> Result<(RawBoard, Vec<u32>), Refusal>
     requires some_processes { 1 ≤ processes }
-    requires in_range { processes ≤ 65536 }
+    requires in_range { processes ≤ Config.MAX_PROCESSES }
     ensures as_many { IfOk result (λ made. processes_of made.0 ≡ processes) }
     ensures room { IfOk result (λ made. processes ≤ vec_capacity made.1) }
     ensures refusal { IfErr result (λ refusal. refusal ≡ Refusal.Memory) }

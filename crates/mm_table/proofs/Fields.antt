@@ -1,7 +1,6 @@
 -- What the fields of `Records` stand for, and what each change of them means: from the code to the definitions.
 
--- one field: the transactions, labels, owners
-pub mod Transactions
+-- one field: the labels, the owners
 pub mod Labels
 pub mod Ownership
 -- the opening

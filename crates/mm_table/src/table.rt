@@ -52,7 +52,7 @@ impl Model for Table {
 }
 
 impl Table {
-    /// A table of this configuration, in which no process is live and no resource has an owner.
+    /// A table of this configuration, which has no transaction, and in which no resource has an owner.
     ///
     /// Refused as `BadConfig` exactly where a number is out of its range, and as `Memory` only where a request for memory was
     /// refused. This is the one call that takes memory: for the transactions, for the labels, for what is kept of each resource,
@@ -121,7 +121,7 @@ impl Table {
         answer
     }
 
-    /// Ends the transaction: hands over all that it owns, each resource as `release` does, and frees its slot. The slot is the next
+    /// Ends the transaction: hands over all that it owns, each resource as `release` does, and frees its process. The process is the next
     /// to be given again, under the next generation; at the last generation it is retired, and never given again.
     ///
     /// Refused as `CountsExhausted`, `Stale`, `Waiting` or `LabelsExhausted`; the last is tested for all of its resources before
@@ -165,11 +165,11 @@ impl Table {
         self.records.detect(key)
     }
 
-    /// Ends a transaction with a verdict: takes back its wait, and then hands over all that it owns and frees its slot as `finish` does.
+    /// Ends a transaction with a verdict: takes back its wait, and then hands over all that it owns and frees its process as `finish` does.
     ///
     /// Refused as `CountsExhausted`, `Stale`, `NoVerdict` or `LabelsExhausted`; a refused call keeps the wait and the verdict.
     /// `O(its resources + their waiters)`.
-    /// That a convicted transaction gives way is Mitchell and Merritt's rule; how it hands over is this project's.
+    /// That a victim ends is Mitchell and Merritt's rule; how it hands over is this project's.
     pub fn abort(&mut self, key: Key) -> Result<(), Refusal>
         ensures { Step (Abort key) self.old result self.new }
     {

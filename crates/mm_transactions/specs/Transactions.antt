@@ -50,11 +50,11 @@ verdict_of t n = slice_index_or t.verdicts n false
 abbrev pub told : Transactions → Key → Option Transaction
 told t k = if is_live t k then Some (record { waits_for = waited_for t.waits k.process; has_verdict = verdict_of t k.process }) else None
 
--- the first free process is live
+-- the first free process gets a live key
 abbrev pub begun : Transactions → Transactions
 begun t = record t { free = drop 1 t.free; live = slice_set t.live (slice_index t.free 0) true }
 
--- the slot of n is first of the free ones, under its next generation; at the last generation it is retired
+-- process n is the first of the free ones, under its next generation; at the last generation it is retired
 abbrev pub freed : Transactions → ℕ → Transactions
 freed t n =
     let generation = slice_index t.generations n in

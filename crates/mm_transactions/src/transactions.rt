@@ -64,7 +64,7 @@ impl Transactions {
         })
     }
 
-    /// A new transaction in the first free slot, in constant time. `None` exactly where no slot is free, and then nothing changes.
+    /// A new transaction in the first free process, in constant time. `None` exactly where no process is free, and then nothing changes.
     #[inline]
     pub fn begin(&mut self) -> Option<Key>
         ensures { MatchOption result
@@ -81,7 +81,7 @@ impl Transactions {
         Some(key)
     }
 
-    /// Ends a live transaction that neither waits nor has a verdict, in constant time. Its slot is the first to be given again, under
+    /// Ends a live transaction that neither waits nor has a verdict, in constant time. Its process is the first to be given again, under
     /// the next generation; at the last generation it is retired.
     #[inline]
     pub fn end(&mut self, key: Key)

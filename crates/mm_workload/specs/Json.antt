@@ -4,6 +4,8 @@ use Rattle.std.specs.Str.{bytes_eq}
 use Rattle.serde_json.specs.Data.{Data, Items, no_items, item}
 use Rattle.serde_json.specs.Find.{get, at, as_number, as_u64, as_str, as_array}
 use Rattle.serde_json.specs.Read.{read}
+use Rattle.mm_limits.specs.declared.TheConstants.{MAX_CLIENTS, MAX_STEPS, MAX_TRANSMITTERS}
+use Rattle.mm_workload.specs.declared.limits.TheConstants.{MAX_BYTES, MAX_TURNS}
 use Rattle.mm_rules.specs.declared.config.Config.{Config}
 use Rattle.mm_workload.specs.declared.step.WorkStep.{WorkStep}
 use Rattle.mm_workload.specs.declared.step.WorkStep.TheVariants.{Acquire, Release, Meet}
@@ -48,13 +50,13 @@ count (item d ds) = 1 + count ds
 abbrev pub all_in : {X : Type 0} → ℕ → ℕ → (Data → Option X) → Items → Option (List X)
 all_in least most f ds = if nat_le least (count ds) && nat_le (count ds) most then all_of f ds else None
 
--- the steps of a client: an array of 0 to 256 steps
+-- the steps of a client: an array of so many steps at most
 abbrev pub steps_of : Data → Option (List WorkStep)
-steps_of d = option_and_then (all_in 0 256 step_of) (as_array d)
+steps_of d = option_and_then (all_in 0 MAX_STEPS step_of) (as_array d)
 
--- the clients: an array of 1 to 64 arrays of steps
+-- the clients: an array of arrays of steps, one at least and so many at most
 abbrev pub clients_of : Data → Option (List (List WorkStep))
-clients_of d = option_and_then (all_in 1 64 steps_of) (as_array d)
+clients_of d = option_and_then (all_in 1 MAX_CLIENTS steps_of) (as_array d)
 
 -- the clients under their key
 abbrev pub clients_in : Data → Option (List (List WorkStep))
@@ -70,13 +72,13 @@ pub record SaysConfig (d : Data) (c : Config) : Type 0 where
 -- an object says this workload, by seven keys
 pub record SaysWork (d : Data) (w : Work) : Type 0 where
   pub config : SaysConfig d w.config
-  pub transmitters : whole_at 0 64 (codes "transmitters") d ≡ Some w.transmitters
-  pub turns : whole_at 1 1000000000 (codes "turns") d ≡ Some w.turns
+  pub transmitters : whole_at 0 MAX_TRANSMITTERS (codes "transmitters") d ≡ Some w.transmitters
+  pub turns : whole_at 1 MAX_TURNS (codes "turns") d ≡ Some w.turns
   pub clients : clients_in d ≡ Some w.clients
 
--- at most 1,048,576 bytes say this workload: they are UTF-8, and the text of a JSON value that says it
+-- so many bytes at most say this workload: they are UTF-8, and the text of a JSON value that says it
 pub record Says (bytes : List ℕ) (w : Work) : Type 0 where
-  pub few : length bytes ≤ 1048576
+  pub few : length bytes ≤ MAX_BYTES
   pub utf8 : IsUtf8 bytes
   pub value : (d : Data) × (read bytes ≡ Some d) × SaysWork d w
 

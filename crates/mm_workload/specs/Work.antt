@@ -1,6 +1,8 @@
 -- What a contract sees of a workload.
 use Rattle.std.specs.Prelude.{ℕ, ◌≤◌, List, length}
 use Rattle.std.specs.List.{All}
+use Rattle.mm_limits.specs.declared.TheConstants.{MAX_CLIENTS, MAX_STEPS, MAX_TRANSMITTERS}
+use Rattle.mm_workload.specs.declared.limits.TheConstants.{MAX_TURNS}
 use Rattle.mm_rules.specs.declared.config.Config.{Config}
 use Rattle.mm_workload.specs.declared.step.WorkStep.{WorkStep}
 
@@ -11,15 +13,15 @@ pub record Work : Type 0 where
   pub turns : ℕ
   pub clients : List (List WorkStep)
 
--- a client has at most 256 steps
+-- a client has so many steps at most
 abbrev pub IsShort : List WorkStep → Type 0
-IsShort steps = length steps ≤ 256
+IsShort steps = length steps ≤ MAX_STEPS
 
 -- the ranges that each workload keeps
 pub record IsWithinLimits (w : Work) : Type 0 where
-  pub transmitters : w.transmitters ≤ 64
+  pub transmitters : w.transmitters ≤ MAX_TRANSMITTERS
   pub some_turns : 1 ≤ w.turns
-  pub turns : w.turns ≤ 1000000000
+  pub turns : w.turns ≤ MAX_TURNS
   pub some_clients : 1 ≤ length w.clients
-  pub clients : length w.clients ≤ 64
+  pub clients : length w.clients ≤ MAX_CLIENTS
   pub steps : All IsShort w.clients

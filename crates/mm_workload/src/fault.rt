@@ -1,3 +1,4 @@
+use crate::limits::{MAX_BYTES, MAX_CLIENTS, MAX_STEPS};
 use std::alloc::{AllocError, AllocFailed};
 use thiserror::Error;
 
@@ -15,7 +16,7 @@ pub enum WorkFault {
 /// Where a workload is malformed, and why. Clients count from 1, and so do the steps of a client.
 #[derive(Clone, Copy, Debug, PartialEq, Eq, Error)]
 pub enum Place {
-    #[error("the file is longer than 1048576 bytes")]
+    #[error("the file is longer than {max} bytes", max = MAX_BYTES)]
     TooLong,
     /// Not a JSON text in UTF-8, or one that `serde_json` refuses. Line and column are `serde_json`'s, which often names the
     /// start of a word or a number.
@@ -41,9 +42,9 @@ pub enum Place {
         least: u64,
         most: u64,
     },
-    #[error("the key clients is not an array of 1 to 64 clients")]
+    #[error("the key clients is not an array of 1 to {max} clients", max = MAX_CLIENTS)]
     Clients,
-    #[error("client {0} is not an array of at most 256 steps")]
+    #[error("client {0} is not an array of at most {max} steps", max = MAX_STEPS)]
     Client(usize),
     #[error("client {client}, step {step}: {fault}")]
     Step {

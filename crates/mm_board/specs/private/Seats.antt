@@ -1,12 +1,13 @@
 -- What ties a board, its publisher and its readers to the name that they carry.
 use Rattle.std.specs.Prelude.{◌≡◌, ℕ, ◌+◌, ◌≤◌, [], length}
 use Rattle.atomic_table.specs.Seated.{TableId}
+use Rattle.mm_limits.specs.declared.TheConstants.{MAX_PROCESSES}
 use Rattle.mm_board.specs.declared.views.View.TheVariants.{Publishes, Reads}
 use Rattle.mm_board.specs.Steps.{SeatState, published_of, seen_of}
 
 -- the words are those of the board, two for each process
 abbrev pub IsBoardOf : TableId → TableId → ℕ → Type 0
-IsBoardOf board table_id processes = (table_id ≡ board) × (processes + processes ≡ board.words) × (1 ≤ processes) × (processes ≤ 65536)
+IsBoardOf board table_id processes = (table_id ≡ board) × (processes + processes ≡ board.words) × (1 ≤ processes) × (processes ≤ MAX_PROCESSES)
 
 -- the seat is a reader's
 abbrev pub IsReading : SeatState → Type 0

@@ -18,12 +18,8 @@ use Rattle.clap.specs.declared.builder.value_parser.ValueParser.{ValueParser}
 use Rattle.clap.specs.declared.builder.value_parser.ValueParser.TheVariants.{Unsigned}
 use Rattle.clap.specs.declared.error.kind.ErrorKind.TheVariants as kind
 use Rattle.std.specs.Borrow.{Bor}
-use Rattle.std.specs.Result.{IfOk, result_unwrap_or}
-use Rattle.std.specs.declared.alloc.AllocError.{AllocError}
 use Rattle.clap.specs.Simple.{HasMatchesOf, subcommand_rows_of}
 use Rattle.clap.specs.declared.parser.matches.ArgMatches.{ArgMatches}
-use Rattle.mm_command.specs.declared.command_line.Request.{Request}
-use Rattle.mm_command.specs.declared.command_line.Request.TheVariants.{Memory}
 use Rattle.mm_command.proofs.Lemmas.CommandLine.{simple}
 use Rattle.std.specs.Str.Parse.{ParsesUnsigned, digits_value, without_leading_plus}
 use Rattle.clap.specs.Matches.{ReadsOne, first_value, one_text}
@@ -31,7 +27,7 @@ use Rattle.clap.specs.Values.{IsUnsignedIn}
 use Rattle.clap.specs.declared.parser.matches.Found.{Found}
 use Rattle.clap.proofs.WalkLemmas.{first_value-rows, one_text-rows}
 use Rattle.clap.proofs.ValueTestLemmas.{accepts-Accepts}
-use Rattle.mm_command.specs.CommandLine.{HasLimits, HasNumber, HasNumbers, HasShape, HasText, HasWanted, HasWorkers, IsRun, program, runs}
+use Rattle.mm_command.specs.CommandLine.{HasLimits, HasNumber, HasNumbers, HasShape, HasText, HasWanted, HasWorkers, program}
 use Rattle.mm_command.proofs.Lemmas.Walked.{Listed, find_listed, or_none}
 use Rattle.mm_command.proofs.Lemmas.Filled.{EachFits, HasOne, default_has, given_has, has_found, leaf_fits}
 
@@ -275,11 +271,6 @@ pair_is (Some p) name rows first second =
     let a : p.0 ≡ name = cc in
     let b : p.1 ≡ rows = cc in
     ap₂ (λ x y. Some (x, y)) a b
-
--- what a request comes to that runs something, unless memory was refused
-pub run_or_memory : (r : Result Request AllocError) → IfOk r (λ q. runs q ≡ true) → IsRun (result_unwrap_or r Memory)
-run_or_memory (Ok q) is = inl is
-run_or_memory (Err e) is = inr refl
 
 -- ---- what the calls read of them
 

@@ -9,16 +9,17 @@ use crate::help::{ABOUT, AFTER, LOCKS, REPORT, SCRIPT, SCRIPT_VERBOSE, STORM, TH
 use crate::version::VERSION;
 use clap::builder::ValueParser;
 use clap::{Arg, ArgAction, Command};
+use mm_limits::{MAX_NAME_BYTES, MAX_NAMES, MAX_PROCESSES};
 use std::alloc::{AllocError, Global};
 
 /// How many clients a storm may have.
-pub const MAX_CLIENTS: u32 = 64;
+pub const MAX_CLIENTS: u32 = mm_limits::MAX_CLIENTS;
 
 /// How many transmitters a storm may have.
-pub const MAX_TRANSMITTERS: u32 = 64;
+pub const MAX_TRANSMITTERS: u32 = mm_limits::MAX_TRANSMITTERS;
 
 /// How many resources a storm may have.
-pub const MAX_RESOURCES: u32 = 65_536;
+pub const MAX_RESOURCES: u32 = mm_limits::MAX_RESOURCES;
 
 /// How many words may give a client of a storm a resource.
 pub const MAX_ACQUIRES: u32 = 256;
@@ -98,9 +99,9 @@ fn locks_command<'a>(alloc: Global, locks_after: &'a str) -> Result<Command<'a>,
     Command::new(alloc, "locks")
         .about(LOCKS)
         .after_help(locks_after)
-        .arg(number(alloc, "transactions", 1, 65_536, "65536"))?
-        .arg(number(alloc, "names", 1, 65_536, "65536"))?
-        .arg(number(alloc, "name-bytes", 1, 1_024, "64"))?
+        .arg(number(alloc, "transactions", 1, MAX_PROCESSES as u64, "65536"))?
+        .arg(number(alloc, "names", 1, MAX_NAMES as u64, "65536"))?
+        .arg(number(alloc, "name-bytes", 1, MAX_NAME_BYTES as u64, "64"))?
         .arg(free_number(alloc, "seed", 0, u64::MAX))
 }
 

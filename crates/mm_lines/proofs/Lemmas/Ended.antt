@@ -25,10 +25,6 @@ end_of : {ra ra2 : Option (List ℕ)} {input read : InputState} {some : Bool} (r
 end_of {some = false} r e = r.end
 end_of {some = true} r e = absurd (cc)
 
--- where a read gave nothing the reader is at its end
-pub ends_at_end : (ra ra2 : Option (List ℕ)) (input read : InputState) (some : Bool) → Reads ra ra2 input read some → some ≡ false → IsAtEnd ra2
-ends_at_end ra ra2 input read some r e = (end_of r e).1
-
 module _ {S : Type 0} {answers : S → List ℕ → List ℕ → ℕ → S → Type 0} {longest : ℕ} {text : Bool → S → List (List ℕ) → List ℕ → ℕ → Type 0} (rules : IsText answers longest text)
     {IsLawful : S → Type 0} {start : S} {rb ra wb wa : Option (List ℕ)} {t malformed : ℕ} {state : S} where
   -- where no newline is left the replies are those to the lines whose newline came

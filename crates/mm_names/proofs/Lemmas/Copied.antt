@@ -1,6 +1,6 @@
 -- A name that is copied to its place a piece after the other.
 use Rattle.std.proofs.Common.{◌≡◌, ◌≤◌, ◌+◌, ◌-◌, ℕ, List, ◌++◌, length, take, drop, ap, sym, ◌∙◌, arith, append_assoc, append-nil}
-use Rattle.std.proofs.lemmas.List.{take-append-le, take-take, take_all, drop-drop, drop_all, length-take-le, length-take, length-drop, length-append}
+use Rattle.std.proofs.lemmas.List.{take-append-le, take-take, take_all, drop-drop, drop_all, length-take-le}
 use Rattle.std.proofs.Math.Seq.{take-add, drop-append-add}
 use borrow.Rule.Slice.PartMut.{put_mid}
 
@@ -9,9 +9,6 @@ abbrev pub copied : ℕ → List ℕ → List ℕ → List ℕ
 copied d name place = take d name ++ drop d place
 
 module _ (name place : List ℕ) (long : length place ≡ length name) where
-  pub length-copied : (d : ℕ) → d ≤ length name → length (copied d name place) ≡ length name
-  length-copied d within = omega (arith, length-append (take d name) (drop d place), length-take-le d name within, length-drop d place, long)
-
   -- with the k bytes from `at` on
   pub copied-more : (d at k : ℕ) → d ≤ length name → at ≤ d → d ≤ at + k → put_mid at k (copied d name place) (take k (drop at name)) ≡ copied (at + k) name place
   copied-more d at k within start end =

@@ -1,9 +1,8 @@
 -- Which number stands in which list.
-use Rattle.std.proofs.Common.{◌≡◌, ◌≢◌, ◌↔◌, ℕ, zero, suc, ◌+◌, ◌*◌, ◌/◌, ◌%◌, ◌^◌, ◌<◌, ◌≤◌, List, [], ◌∷◌, ◌++◌, length, set, get_or, cond, Option, Some, None, option_map, is_some, IsSome, true, false, count_by, refl, sym, ap, subst, ◌∙◌, inl, inr, arith, length-set, length-append, append-nil, lit<, replicate}
+use Rattle.std.proofs.Common.{◌≡◌, ◌≢◌, ◌↔◌, ℕ, zero, suc, ◌+◌, ◌<◌, ◌≤◌, List, [], ◌∷◌, ◌++◌, length, set, get_or, cond, Option, Some, None, option_map, is_some, IsSome, true, false, count_by, refl, sym, ap, subst, ◌∙◌, inl, inr, arith, length-set, length-append, append-nil, replicate}
 use Rattle.std.proofs.lemmas.Bool.{cases_eq, cases_lt}
 use Rattle.std.proofs.lemmas.List.{get_or-set_same, get_or-set_other, get_or_past, length-map, length-replicate}
 use Rattle.std.proofs.lemmas.List.Sums.{sum_by-set}
-use Rattle.std.proofs.Math.Nat.{mod-lt, div-lt_iff_lt-mul, mul-lt-mul_of_pos_right}
 use Rattle.mm_list_lemmas.specs.Members.{Among, NoRepeat, without}
 use Rattle.mm_list_lemmas.proofs.Lemmas.Among.{among_append, among_left, among_right}
 use Rattle.mm_list_lemmas.proofs.Lemmas.Cut.{no_repeat_around}
@@ -12,7 +11,6 @@ use Rattle.mm_owned.specs.Owned.{Ownership, unowned, owner_at, given, freed}
 use Rattle.mm_names.specs.declared.config.TheConstants.NamesConfig.{MAX_NAMES}
 use Rattle.mm_names.specs.declared.spots.Spots.{Spots}
 use Rattle.mm_names.specs.Names.{NameTable, name_of, named_count, nameless, with_name, IsNamed, IsFree, IsFull}
-use Rattle.mm_names.specs.private.Hash.{hash_of}
 use Rattle.mm_names.specs.private.Spots.{spot_of}
 use Rattle.mm_names.specs.private.Index.{AreAll, AreIndexed}
 
@@ -33,34 +31,14 @@ some_in_range t n some = elim (cases_lt n (length t.names)) [
 pub free_not_full : (t : NameTable) (n : ℕ) → IsFree t n → IsFull t → ⊥
 free_not_full t n free full = let never : is_some (name_of t n) ≡ false = ap is_some free.1 in absurd (let both : true ≡ false = sym (full n free.0) ∙ never in cc)
 
--- the list of a name is one of those for names
-scaled-below : (x lists : ℕ) → 1 ≤ lists → x % 2 ^ 32 * lists / 2 ^ 32 < lists
-scaled-below x lists some =
-    let less : x % 2 ^ 32 * lists < 2 ^ 32 * lists = mul-lt-mul_of_pos_right (mod-lt x (lit< tt)) (omega arith) in
-    (div-lt_iff_lt-mul (lit< tt)).1 (omega (arith, less))
-
-pub spot_of-below : (s : Spots) (name : List ℕ) → (spot_of s name).process < s.lists
-spot_of-below s name = scaled-below (hash_of s.hash name / 2 ^ 32) s.lists s.some_lists
-
 -- how many have a name after one was given or taken
 named_count-set : (t : NameTable) (n : ℕ) (name : Option (List ℕ)) → n < length t.names → named_count (with_name t n name) + cond (is_some (name_of t n)) 1 0 ≡ named_count t + cond (is_some name) 1 0
 named_count-set t n name below = sum_by-set (λ o. cond (is_some o) 1 0) t.names n name None below
 
 module _ (t : NameTable) (index : Ownership) (spots : Spots) (free : List ℕ) (indexed : AreIndexed t index spots free) where
-  -- who has a name stands at its spot
-  pub at_spot : (n : ℕ) (name : List ℕ) → name_of t n ≡ Some name → owner_at index n ≡ Some (spot_of spots name)
-  at_spot n name is = indexed.spots_of n ∙ ap (option_map (spot_of spots)) is
-
   -- a free number stands nowhere
   pub at_none : (n : ℕ) → IsFree t n → owner_at index n ≡ None
   at_none n is_free = indexed.spots_of n ∙ ap (option_map (spot_of spots)) is_free.1
-
-  -- where no number is listed as free, each has a name
-  pub none_free : free ≡ [] → IsFull t
-  none_free none n below = named (name_of t n) refl where
-    named : (o : Option (List ℕ)) → name_of t n ≡ o → IsSome o
-    named (Some name) is = refl
-    named None is = absurd (let never : Among n [] = subst (Among n) none ((indexed.listed n).1 (below, is)) in never)
 
   -- a number that gets this name, or loses its own
   module _ (n : ℕ) (below : n < length t.names) (name : Option (List ℕ)) (fresh : (m : ℕ) (x : List ℕ) → name ≡ Some x → name_of t m ≡ Some x → ⊥) where

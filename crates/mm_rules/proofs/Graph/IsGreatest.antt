@@ -1,6 +1,6 @@
 -- A raise leaves the greatest label along the waits of each process as it was, and where no raise applies that is the one shown.
 use Rattle.std.specs.Prelude.{ℕ, ◌≡◌, ◌≤◌, List, [], ◌∷◌, ◌++◌, ⊤}
-use Rattle.std.proofs.Common.{inl, inr, arith, sym, ap, ◌∙◌, refl}
+use Rattle.std.proofs.Common.{inl, inr, arith, sym, ◌∙◌, refl}
 use Rattle.mm_rules.specs.Graph.{Graph, WaitsFor, Path, IsGreatest, IsSettled}
 use Rattle.mm_rules.proofs.Graph.Change.{Raises}
 use Rattle.mm_rules.proofs.Graph.Walks.{walk_again}
@@ -22,25 +22,6 @@ module _ (g new : Graph) (n h : ℕ) (r : Raises g n h new) where
   -- where a path leads to the one that is raised, it leads on to the holder
   path_to_holder : (k : ℕ) (places : List ℕ) (x : ℕ) → x ≡ n → Path g k places x → Path g k (places ++ (h ∷ [])) h
   path_to_holder k places x e path = one_further g k places x h path (rw e r.waits)
-
-  pub raise_keeps_greatest : (k L : ℕ) → IsGreatest g k L → IsGreatest new k L
-  raise_keeps_greatest k L was =
-      let past : was.place ≡ n → g.public h ≤ L = λ e. was.bound (was.places ++ (h ∷ [])) h (path_to_holder k was.places was.place e was.along) in
-      record {
-        bound = λ places x path.
-            let before : Path g k places x = path_before k places x path in
-            elim (raised_shows g new n h r x) [
-              | inl now ↦ omega (arith, now.1, was.bound (places ++ (h ∷ [])) h (path_to_holder k places x now.0 before))
-              | inr same ↦ omega (arith, same.1, was.bound places x before)
-            ];
-        place = was.place;
-        places = was.places;
-        along = raise_keeps_path g new n h r k was.places was.place was.along;
-        met = elim (raised_shows g new n h r was.place) [
-          | inl now ↦ omega (arith, was.met, r.below, ap g.public now.0, past now.0)
-          | inr same ↦ same.1 ∙ was.met
-        ];
-      }
 
   bound_before : (k L : ℕ) → IsGreatest new k L → (places : List ℕ) (x : ℕ) → Path g k places x → g.public x ≤ L
   bound_before k L is places x path =

@@ -1,8 +1,6 @@
 -- What is added to a set: one process, and those of a queue one after the other.
-use Rattle.std.proofs.Common.{◌≡◌, ◌⊎◌, ◌<◌, ◌++◌, ℕ, Bool, true, List, [], ◌∷◌, length, slice_set, inl, inr, refl, sym, ap, ◌∙◌, length-set}
+use Rattle.std.proofs.Common.{◌≡◌, ◌⊎◌, ◌<◌, ℕ, Bool, true, List, ◌∷◌, length, slice_set, inl, inr, refl, sym, ap, ◌∙◌, length-set}
 use Rattle.std.proofs.lemmas.Bool.{cases_eq}
-use Rattle.mm_list_lemmas.specs.Members.{Among}
-use Rattle.mm_list_lemmas.proofs.Lemmas.Among.{among_append, among_left}
 use Rattle.mm_rules.specs.TableState.{Wait}
 use Rattle.mm_bit_set.specs.BitSet.{has}
 use Rattle.mm_settle.specs.Steps.Added.{Adds, AddsAll}
@@ -29,29 +27,7 @@ adds_only n old new adds k here = elim (cases_eq k n) [
   | inr apart ↦ inl (sym (adds.others k apart) ∙ here)
 ]
 
-pub adds_nobody : (set : List Bool) → AddsAll [] set set
-adds_nobody set = record { kept = λ n was. was; added = λ w among. absurd among; only = λ n here. inl here; sized = refl }
-
 module _ (w : Wait) (ws : List Wait) (a b c : List Bool) (n : ℕ) (its : w.key.process ≡ n) where
-  -- n after those of a queue
-  pub adds_last : AddsAll ws a b → Adds n b c → AddsAll (ws ++ w ∷ []) a c
-  adds_last all one = record {
-    kept = λ k was. adds_kept n b c one k (all.kept k was);
-    added = λ v among. elim (among_append ws (w ∷ []) v among) [
-      | inl before ↦ adds_kept n b c one v.key.process (all.added v before)
-      | inr last ↦ elim last [ inl is ↦ ap (λ (u : Wait). has c u.key.process) is ∙ ap (has c) its ∙ one.here | inr never ↦ absurd never ]
-    ];
-    only = λ k here. elim (adds_only n b c one k here) [
-      | inl before ↦ elim (all.only k before) [ inl was ↦ inl was | inr found ↦ inr (found.0, among_left ws (w ∷ []) found.0 found.1, found.2) ]
-      | inr e ↦ inr (w, here_last ws, its ∙ sym e)
-    ];
-    sized = one.sized ∙ all.sized;
-  }
-    where
-      here_last : (vs : List Wait) → Among w (vs ++ w ∷ [])
-      here_last [] = inl refl
-      here_last (v ∷ vs) = inr (here_last vs)
-
   -- n before those of a queue
   pub adds_first : Adds n a b → AddsAll ws b c → AddsAll (w ∷ ws) a c
   adds_first one all = record {

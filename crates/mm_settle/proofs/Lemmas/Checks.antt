@@ -1,11 +1,9 @@
 -- The detects of those that are left to check are the detects of all that wait.
 use Rattle.std.proofs.Common.{◌≡◌, ◌≢◌, ◌+◌, ◌-◌, ◌<◌, ◌≤◌, ◌&&◌, ℕ, Bool, true, false, not, List, [], ◌∷◌, None, length, filter, fold, count_by, slice_set, inl, inr, refl, sym, ap, ◌∙◌, arith, length-set, get_or-set_same}
-use Rattle.std.specs.Option.{option_map_or}
 use Rattle.std.specs.List.{range_with_len}
-use Rattle.std.proofs.lemmas.Bool.{cases_Bool, cases_eq, cases_lt, and_parts, not-true}
-use Rattle.mm_label.specs.Label.{label_eq}
+use Rattle.std.proofs.lemmas.Bool.{cases_Bool, cases_eq, cases_lt}
 use Rattle.mm_list_lemmas.specs.Members.{Among}
-use Rattle.mm_rules.specs.TableState.{TableState, private_of, public_of, has_verdict, holder_of, is_waiting, waiting_processes}
+use Rattle.mm_rules.specs.TableState.{TableState, has_verdict, holder_of, is_waiting, waiting_processes}
 use Rattle.mm_rules.specs.Change.{can_transmit, can_detect, detect}
 use Rattle.mm_rules.specs.Laws.{Laws}
 use Rattle.mm_list_lemmas.proofs.Lemmas.Range.{among_range_gives}
@@ -15,7 +13,7 @@ use Rattle.mm_rules.proofs.States.Detect.{convicted, detect_still, detect_convic
 use Rattle.mm_bit_set.specs.BitSet.{has, HasNoneFrom, IsNextMember}
 use Rattle.mm_settle.specs.Steps.Pass.{ahead}
 use Rattle.mm_settle.specs.Steps.Detects.{IsDetecting, IsDetected}
-use Rattle.mm_settle.proofs.Lemmas.Frames.{detects_from, idle_detects_not, not_waiting_idle}
+use Rattle.mm_settle.proofs.Lemmas.Frames.{idle_detects_not, not_waiting_idle}
 use Rattle.mm_settle.proofs.Lemmas.Skips.{one, count_first, skip_detects, skip_detects_then, skip_count, skip_count_then, ahead_split, between}
 use Rattle.mm_settle.proofs.Lemmas.Passes.{has_apart, has_cleared}
 
@@ -42,17 +40,6 @@ detect_done s n laws inside = elim (cases_Bool (can_detect s n)) [
       ap (λ (t : TableState). can_detect t n) (detect_convicts s n can) ∙ first_fails (has_verdict (convicted s n) n) _ _ given
   | inr no_detect ↦ ap (λ (t : TableState). can_detect t n) (detect_still s n no_detect) ∙ no_detect
 ]
-
--- who can detect had no verdict
-pub due_had_none : (s : TableState) (n : ℕ) → can_detect s n ≡ true → has_verdict s n ≡ false
-due_had_none s n can =
-    let due : detects_from s n (holder_of s n) ≡ true = can in
-    let own = (and_parts (not (has_verdict s n) && label_eq (private_of s n) (public_of s n)) (option_map_or (λ h. label_eq (public_of s n) (public_of s h)) (holder_of s n) false) due).0 in
-    not-true (has_verdict s n) (and_parts (not (has_verdict s n)) (label_eq (private_of s n) (public_of s n)) own).0
-
--- and gets one
-pub due_has_one : (s : TableState) (n : ℕ) → n < length s.verdicts → can_detect s n ≡ true → has_verdict (detect s n) n ≡ true
-due_has_one s n within can = ap (λ (t : TableState). has_verdict t n) (detect_convicts s n can) ∙ get_or-set_same s.verdicts n true false within
 
 detect_transmits : (s : TableState) (n k : ℕ) → can_transmit (detect s n) k ≡ can_transmit s k
 detect_transmits s n k = elim (cases_Bool (can_detect s n)) [

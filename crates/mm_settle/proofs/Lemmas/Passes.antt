@@ -39,9 +39,6 @@ not_cleared marks n k none = elim (cases_eq k n) [
 
 module _ (s : TableState) (processes from n : ℕ) (low : from ≤ n) (inside : n < processes)
     (before : (k : ℕ) → from ≤ k → k < n → can_transmit s k ≡ false) where
-  skipped : List ℕ
-  skipped = range_with_len from (n - from)
-
   none_of_skipped : (k : ℕ) → Among k (range_with_len from (n - from)) → can_transmit s k ≡ false
   none_of_skipped k found = let both = between from n k low found in before k both.0 both.1
 
@@ -78,9 +75,6 @@ module _ (s : TableState) (from raises : ℕ) (pending checks : List Bool) (now 
 
   turn_raises : raises + (one (can_transmit now n) + raises_along (transmit now n) (ahead (n + 1) s.config.processes)) ≡ sweep_raises s
   turn_raises = omega (arith, next_raises now s.config.processes from n next.at_least next_within before_next, way.raised)
-
-  taken : List Bool
-  taken = slice_set pending n false
 
   -- n could not transmit: it is left to check
   pub pass_still : can_transmit now n ≡ false → IsPassing s (n + 1) raises (slice_set pending n false) (slice_set checks n true) now

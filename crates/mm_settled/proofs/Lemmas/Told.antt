@@ -1,5 +1,5 @@
 -- What a call tells, as a contract sees it.
-use Rattle.std.proofs.Common.{◌≡◌, ◌≤◌, ◌+◌, ℕ, Bool, true, false, [], Option, Some, None, Ok, drop, slice_set, slice_index, if◌then◌else◌, sym, ap, subst, ◌∙◌, arith}
+use Rattle.std.proofs.Common.{◌≡◌, ◌≤◌, ◌+◌, ℕ, Bool, true, false, [], Option, Some, None, Ok, drop, slice_set, slice_index, if◌then◌else◌, sym, ap, ◌∙◌, arith}
 use Rattle.std.proofs.lemmas.Bool.{eq-eqb, ne_eqb}
 use Rattle.mm_arena.specs.declared.key.Key.{Key}
 use Rattle.mm_rules.specs.declared.reply.Acquired.{Acquired}
@@ -7,9 +7,9 @@ use Rattle.mm_rules.specs.TableState.{TableState, key_of, owner_of}
 use Rattle.mm_rules.specs.Event.{Begin, Acquire, Step, begin_tests, acquire_tests, acquire_answer, acquire_change}
 use Rattle.mm_rules.proofs.States.Outcome.{counting}
 use Rattle.mm_settle.specs.Touched.{changed_processes}
-use Rattle.mm_settled.specs.Grants.{grants, Tells, EndsWaits}
+use Rattle.mm_settled.specs.Grants.{grants, Tells}
 use Rattle.mm_settled.specs.declared.lists.Lists.{Lists}
-use Rattle.mm_settled.specs.private.Told.{TellsOf, TellsIf, is_told}
+use Rattle.mm_settled.specs.private.Told.{TellsIf, is_told}
 use Rattle.mm_settled.proofs.Lemmas.Accepted.{accepted}
 
 pub tells_if : (told : Bool) (old new : TableState) (lists : Lists) → TellsIf told old new lists
@@ -26,14 +26,6 @@ tells_nothing false old new lists granted changed none nobody = (none, nobody)
 
 pub told_now : (at : ℕ) (s : TableState) → at ≡ s.totals.accepted → is_told at s ≡ true
 told_now at s is = eq-eqb at s.totals.accepted is
-
-pub tells_now : (at : ℕ) (old new : TableState) (lists : Lists) → at ≡ new.totals.accepted → TellsOf old new lists
-    → Tells old record { table = new; granted = if is_told at new then lists.granted.items else []; changed = if is_told at new then lists.changed.items else [] }
-tells_now at old new lists is told = tells_if (is_told at new) old new lists (subst (λ b. TellsIf b old new lists) (sym (told_now at new is)) told)
-
-pub ends_now : (at : ℕ) (old new : TableState) (n : ℕ) (lists : Lists) → at ≡ new.totals.accepted → EndsWaits old new n lists.granted.items
-    → EndsWaits old new n (if is_told at new then lists.granted.items else [])
-ends_now at old new n lists is ended = subst (λ b. EndsWaits old new n (if b then lists.granted.items else [])) (sym (told_now at new is)) ended
 
 -- ---- an event was accepted since
 

@@ -11,7 +11,7 @@ use crate::{Key, Refusal};
 use mm_bit_set::BitSet;
 
 impl Records {
-    /// Takes back the wait of a transaction with a verdict, hands over all that it owns, frees its slot, and adds those that this
+    /// Takes back the wait of a transaction with a verdict, hands over all that it owns, frees its process, and adds those that this
     /// changes to the touched. `O(its resources + their waiters)`.
     pub fn abort(&mut self, key: Key, touched: &mut BitSet) -> Result<(), Refusal>
         requires laws { Laws self.old }

@@ -7,7 +7,7 @@ use super::Records;
 use crate::{Key, Refusal};
 
 impl Records {
-    /// A new transaction in the first free slot. Constant time.
+    /// A new transaction in the first free process. Constant time.
     #[inline(always)]
     pub fn begin(&mut self) -> Result<Key, Refusal>
         ensures { Gives (begun self.old) result self.new }

@@ -1,4 +1,4 @@
-//! A transaction ends: all that it owns is handed over, and its slot is freed.
+//! A transaction ends: all that it owns is handed over, and its process is freed.
 ghost use Rattle.std.specs.Prelude.{◌≡◌, ◌<◌, IsTrue, None, IsFalse, fold, length, OnOk};
 ghost use Rattle.mm_rules.specs.TableState.{wait_of, is_live, has_verdict, resources_of};
 ghost use Rattle.mm_rules.specs.Change.{hand_over, free_slot, vacate, vacate_fits};
@@ -12,7 +12,7 @@ use crate::{Key, Refusal};
 use mm_bit_set::BitSet;
 
 impl Records {
-    /// Hands over all that the transaction owns, frees its slot, and adds those that this changes to the touched.
+    /// Hands over all that the transaction owns, frees its process, and adds those that this changes to the touched.
     /// `O(its resources + their waiters)`.
     pub fn finish(&mut self, key: Key, touched: &mut BitSet) -> Result<(), Refusal>
         requires laws { Laws self.old }
@@ -43,7 +43,7 @@ impl Records {
         Ok(())
     }
 
-    /// Hands over all that a live transaction owns, and frees its slot. The order in which it hands over makes no difference.
+    /// Hands over all that a live transaction owns, and frees its process. The order in which it hands over makes no difference.
     pub(super) fn vacate(&mut self, key: Key, touched: &mut BitSet)
         requires laws { Laws self.old }
         requires live { IsTrue (is_live self.old key) }
@@ -98,7 +98,7 @@ impl Records {
         }
     }
 
-    /// Frees the slot of a live transaction that neither waits nor has a verdict.
+    /// Frees the process of a live transaction that neither waits nor has a verdict.
     fn free_slot(&mut self, key: Key)
         requires live { IsTrue (is_live self.old key) }
         requires active { wait_of self.old key.process ≡ None }

@@ -1,6 +1,5 @@
 -- The items of an array in turn, and how many there are.
-use Rattle.std.proofs.Common.{◌≡◌, ◌∙◌, ap, sym, refl, ℕ, suc, ◌+◌, ◌<◌, ◌≤◌, true, false, List, [], ◌∷◌, ◌++◌, length, drop, get_or, nat_le, ◌&&◌, cond, if◌then◌else◌, Option, Some, None, option_map, option_and_then, drop-cons, arith}
-use Rattle.std.proofs.lemmas.List.{append_assoc}
+use Rattle.std.proofs.Common.{◌≡◌, ◌∙◌, ap, refl, ℕ, ◌+◌, ◌<◌, ◌≤◌, true, false, List, [], ◌∷◌, ◌++◌, length, drop, nat_le, ◌&&◌, cond, if◌then◌else◌, Option, Some, None, option_map, option_and_then, arith}
 use Rattle.std.proofs.lemmas.Grind.{common_steps}
 use Rattle.std.proofs.lemmas.Bool.{le-leb, lt-leb}
 use Rattle.serde_json.specs.Data.{Data, Items}
@@ -12,33 +11,6 @@ use Rattle.mm_workload.specs.Json.{all_of, all_in, count}
 -- what was made so far, and what the rest gives
 abbrev pub GoesOn : {X : Type 0} → (Data → Option X) → List X → List Value → List Value → Type 0
 GoesOn f made all rest = all_of f (items_view all) ≡ option_map (λ more. made ++ more) (all_of f (items_view rest))
-
-with_none : {X : Type 0} → (o : Option (List X)) → o ≡ option_map (λ more. [] ++ more) o
-with_none None = refl
-with_none (Some xs) = refl
-
-pub goes_on-first : {X : Type 0} → (f : Data → Option X) (all : List Value) → GoesOn f [] all all
-goes_on-first f all = with_none (all_of f (items_view all))
-
-one_more : {X : Type 0} → (made : List X) (x : X) (o : Option (List X)) →
-    option_map (λ more. made ++ more) (option_map (λ xs. x ∷ xs) o) ≡ option_map (λ more. (made ++ x ∷ []) ++ more) o
-one_more made x None = refl
-one_more made x (Some xs) = ap Some (sym (append_assoc made (x ∷ []) xs))
-
-first_of : {X : Type 0} → (f : Data → Option X) (v : Value) (rest : List Value) →
-    all_of f (items_view (v ∷ rest)) ≡ option_and_then (λ x. option_map (λ xs. x ∷ xs) (all_of f (items_view rest))) (f (view v))
-first_of f v rest = refl
-
-pub goes_on-next : {X : Type 0} → (f : Data → Option X) (made : List X) (all : List Value) (v : Value) (rest : List Value) (x : X) →
-    f (view v) ≡ Some x → GoesOn f made all (v ∷ rest) → GoesOn f (made ++ x ∷ []) all rest
-goes_on-next f made all v rest x is on =
-    on ∙ (ap (λ o. option_map (λ more. made ++ more) (option_and_then (λ y. option_map (λ xs. y ∷ xs) (all_of f (items_view rest))) o)) is
-    ∙ one_more made x (all_of f (items_view rest)))
-
-pub goes_on-none : {X : Type 0} → (f : Data → Option X) (made : List X) (all : List Value) (v : Value) (rest : List Value) →
-    f (view v) ≡ None → GoesOn f made all (v ∷ rest) → all_of f (items_view all) ≡ None
-goes_on-none f made all v rest is on =
-    on ∙ ap (λ o. option_map (λ more. made ++ more) (option_and_then (λ y. option_map (λ xs. y ∷ xs) (all_of f (items_view rest))) o)) is
 
 append_none : {X : Type 0} → (xs : List X) → xs ++ [] ≡ xs
 append_none [] = refl
@@ -81,13 +53,6 @@ pub goes_on-end : {X : Type 0} → (f : Data → Option X) (made : List X) (all 
     GoesOn f made all (drop i all) → all_of f (items_view all) ≡ Some made
 goes_on-end f made all i h on =
     goes_on-last f made all (on ∙ ap (λ rest. option_map (λ more. made ++ more) (all_of f (items_view rest))) (drop_all all i h))
-
--- an item that does not fit
-pub goes_on-stop : {X : Type 0} → (f : Data → Option X) (made : List X) (all : List Value) (i : ℕ) (v : Value) → i < length all → v ≡ get_or all i v →
-    f (view v) ≡ None → GoesOn f made all (drop i all) → all_of f (items_view all) ≡ None
-goes_on-stop f made all i v h is none on =
-    let at : drop i all ≡ v ∷ drop (suc i) all = drop-cons all i v h ∙ ap (λ w. w ∷ drop (suc i) all) (sym is) in
-    goes_on-none f made all v (drop (suc i) all) none (on ∙ ap (λ rest. option_map (λ more. made ++ more) (all_of f (items_view rest))) at)
 
 -- the items of an array that may be absent
 pub in_array : {X : Type 0} → (f : Items → Option X) (o : Option Data) → option_and_then (λ d. option_and_then f (as_array d)) o ≡ option_and_then f (option_and_then as_array o)

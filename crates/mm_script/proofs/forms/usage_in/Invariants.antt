@@ -1,7 +1,7 @@
 use Rattle.std.proofs.Common.{◌≡◌, map, drop}
 use Rattle.std.specs.Map.{lookup}
 use Rattle.std.specs.Str.{bytes_eq}
-use Rattle.mm_script.proofs.forms.form_of.Given as goal
+use Rattle.mm_script.proofs.forms.usage_in.Given as goal
 
 -- the word is none of those before
 abbrev pub invariant-loop-text : goal.invariant-loop-text

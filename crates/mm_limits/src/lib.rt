@@ -1,0 +1,26 @@
+//! The greatest numbers that more than one crate names. It has no code.
+#![tactic(auto)]
+
+/// How many processes a table can have: so many transactions at once.
+pub const MAX_PROCESSES: u32 = 65_536;
+
+/// How many resources a table can have.
+pub const MAX_RESOURCES: u32 = 65_536;
+
+/// How many names can be locked at once. Each is a resource of a table.
+pub const MAX_NAMES: u32 = MAX_RESOURCES;
+
+/// How many bytes a name can have.
+pub const MAX_NAME_BYTES: u32 = 1_024;
+
+/// How many clients a workload can have.
+pub const MAX_CLIENTS: u32 = 64;
+
+/// How many transmitters a workload can have.
+pub const MAX_TRANSMITTERS: u32 = 64;
+
+/// How many steps a client of a workload can have.
+pub const MAX_STEPS: u32 = 256;
+
+/// How many words can give a client of a generated workload a resource. Each gives one step at most.
+pub const MAX_ACQUIRES: u32 = MAX_STEPS;
