@@ -82,10 +82,6 @@ module _ (ps qs w x y : List ℕ) (u v t : List Bool) (first : Notes ps w u x v)
     sized = second.sized ∙ first.sized;
   }
 
--- nobody is noted
-pub notes_none : (w : List ℕ) (u : List Bool) → Notes [] w u w u
-notes_none w u = record { told = λ p none within. absurd none; kept = λ p was. was; only = λ p is. inl is; sized = refl }
-
 -- the next one of a list
 pub notes_next : {X : Type 0} (f : X → ℕ) (xs : List X) (i : ℕ) (d : X) (w x y : List ℕ) (u v t : List Bool) → i < length xs → Notes (map f (take i xs)) w u x v
     → Notes (f (slice_index_or xs i d) ∷ []) x v y t → Notes (map f (take (i + 1) xs)) w u y t

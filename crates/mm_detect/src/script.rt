@@ -27,7 +27,7 @@ pub fn run_verbose_script<R: Eprint, I: Read, W: Write>(
     };
     let outcome = run_script(alloc, &mut script, writer);
     if let Err(ScriptFault::TooLong) = outcome {
-        script.tell(&"the script has more than 16777216 bytes");
+        script.tell(&format_args!("the script has more than {INPUT_LIMIT} bytes"));
     }
     outcome
 }

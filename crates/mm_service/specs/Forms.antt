@@ -4,6 +4,7 @@ use Rattle.std.specs.List.{list_all}
 use Rattle.std.specs.Map.{lookup}
 use Rattle.std.specs.Str.{bytes_eq}
 use Rattle.mm_arena.specs.declared.key.Key.{Key}
+use Rattle.mm_limits.specs.declared.TheConstants.{MAX_NAME_BYTES}
 use Rattle.mm_lines.specs.Words.{◌>>=◌, key_of}
 use Rattle.mm_service.specs.declared.line.Request.{Request}
 use Rattle.mm_service.specs.declared.line.Request.TheVariants as requests
@@ -20,9 +21,9 @@ pub record AskedFor : Type 0 where
 abbrev pub is_name_byte : ℕ → Bool
 is_name_byte b = (nat_le 0x21 b && nat_le b 0x7e) || nat_le 0x80 b
 
--- at most 1,024 such bytes
+-- so many such bytes at most
 abbrev pub name_of_word : List ℕ → Option (List ℕ)
-name_of_word word = if nat_le (length word) 1024 && list_all is_name_byte word then Some word else None
+name_of_word word = if nat_le (length word) MAX_NAME_BYTES && list_all is_name_byte word then Some word else None
 
 -- nothing: this request
 abbrev pub alone : Request → List (List ℕ) → Option AskedFor

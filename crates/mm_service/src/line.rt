@@ -3,12 +3,13 @@ ghost use Rattle.std.specs.Prelude.{◌≡◌};
 ghost use Rattle.mm_service.specs.Line.{line_of};
 
 use crate::forms::request_of;
+use crate::reply::MAX_NAME;
 use mm_lines::{Words, without_carriage_return};
 use mm_manager::Key;
 use mm_requests::{KeyRequest, NameRequest};
 
-/// The longest request in bytes: `unlock`, a key of 16 bytes, a name of 1,024, and two spaces.
-const MAX_REQUEST: usize = 1_048;
+/// The longest request in bytes: `unlock`, a key of 16 bytes, the longest name, and two spaces.
+const MAX_REQUEST: usize = MAX_NAME + 24;
 
 /// The longest line that can be a request, in bytes: the longest request and a carriage return.
 pub const MAX_LINE: usize = MAX_REQUEST + 1;

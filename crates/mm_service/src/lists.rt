@@ -2,6 +2,7 @@
 ghost use Rattle.std.specs.Prelude.{◌≡◌, ◌≤◌, ◌+◌, ◌++◌, ℕ, List, [], length, codes, vec_capacity, OnOk, IsOkUnless};
 ghost use Rattle.arrayvec.specs.ArrayVec.{array_vec_len};
 ghost use Rattle.mm_lines.specs.Output.{Prints, Writes};
+ghost use Rattle.mm_limits.specs.declared.TheConstants.{MAX_NAMES};
 ghost use Rattle.mm_manager.specs.Reads.{waits_of};
 ghost use Rattle.mm_service.specs.Reply.{line_text};
 ghost use Rattle.mm_service.specs.Text.{AreHeld, HoldsText, edge_lines, graph_text, names_text, told_line, told_text};
@@ -9,6 +10,7 @@ ghost use Rattle.mm_service.specs.Text.{AreHeld, HoldsText, edge_lines, graph_te
 use crate::reply::{
     MAX_NAMED, MAX_REPLY, end_line, name_at, print_aborted, print_edge, print_granted, print_line,
 };
+use mm_limits::MAX_NAMES;
 use mm_lines::{Fault, OUTPUT_LEN, Output, make_room, print_number, print_text};
 use mm_manager::{Grant, Key, LockManager};
 use std::alloc::{AllocError, Global};
@@ -18,13 +20,13 @@ use std::io::Write;
 #[derive(Drop)]
 pub struct Numbers {
     items: Vec<u32>,
-    ghost room: { 65536 ≤ vec_capacity items },
+    ghost room: { MAX_NAMES ≤ vec_capacity items },
 }
 
 impl Numbers {
     /// Takes 256 KiB.
     pub fn new(alloc: Global) -> Result<Self, AllocError> {
-        let items = Vec::with_capacity(alloc, 65_536)?;
+        let items = Vec::with_capacity(alloc, MAX_NAMES as usize)?;
         Ok(Numbers { items })
     }
 }

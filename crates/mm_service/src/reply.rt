@@ -4,6 +4,7 @@ ghost use Rattle.arrayvec.specs.ArrayVec.{array_vec_len};
 ghost use Rattle.mm_lines.specs.Output.{Prints};
 ghost use Rattle.mm_service.specs.Reply.{line_text, answer_text, begun_text, lock_text, try_text, unlocked_text, committed_text, abort_text, cancel_text, owner_text, totals_text, status_text, wait_text, due_text, granted_text, aborted_text, edge_text, refusal_word, name_at};
 
+use mm_limits::MAX_NAME_BYTES;
 use mm_lines::{OUTPUT_LEN, Output, print_key, print_number, print_text};
 use mm_manager::{Abort, Cancel, Key, Lock, LockManager, Refusal, Status, Totals, TryLock};
 
@@ -14,7 +15,7 @@ pub const MAX_REPLY: usize = 128;
 pub const MAX_NAMED: usize = 1_200;
 
 /// A name has at most so many bytes.
-pub const MAX_NAME: usize = 1_024;
+pub const MAX_NAME: usize = MAX_NAME_BYTES as usize;
 
 /// Ends a line.
 pub fn end_line(output: &mut Output)

@@ -1,5 +1,5 @@
 -- What an unlock, an end and a cancel do, from the parts to what a contract sees.
-use Rattle.std.proofs.Common.{◌≡◌, ℕ, true, false, List, [], Some, Result, Ok, Err, IfErr, OnOk, OnErr, inl, inr, refl, sym, ap, subst, ◌∙◌, slice_set}
+use Rattle.std.proofs.Common.{◌≡◌, ℕ, true, false, List, Some, Result, Ok, Err, IfErr, OnOk, OnErr, inl, inr, refl, sym, ap, subst, ◌∙◌, slice_set}
 use Rattle.std.proofs.lemmas.List.{set-get_or}
 use Rattle.mm_arena.specs.declared.key.Key.{Key}
 use Rattle.mm_bit_set.specs.BitSet.{has}
@@ -19,7 +19,7 @@ use Rattle.mm_manager.specs.declared.reply.Abort as reply
 use Rattle.mm_manager.specs.declared.reply.Cancel as cancel
 use Rattle.mm_manager.specs.declared.reply.Cancel.TheVariants as cancels
 use Rattle.mm_manager.specs.declared.reply.Abort.TheVariants.{Done, Later}
-use Rattle.mm_manager.specs.private.Aborts.{AbortsWaiting, GaveUp, seen, cancel_of}
+use Rattle.mm_manager.specs.private.Aborts.{AbortsWaiting, seen, cancel_of}
 use Rattle.mm_manager.specs.private.Handed.{Handed, IsUntouched}
 use Rattle.mm_manager.specs.private.HandsDown.{IsEnding, IsReleased}
 use Rattle.mm_manager.proofs.Lemmas.Told.{released_unlocks, ended_by}
@@ -83,11 +83,3 @@ module _ (s u : TableState) (t named : NameTable) (l cleared m : Lists) (before 
   due_cancels may Later came_due totals is_due (step, table, names, due, nobody) =
       let still = due ∙ ap (λ ds. slice_set ds k.process true) marks ∙ ap (slice_set l.due.items k.process) (sym is_due) ∙ set-get_or l.due.items k.process false in
       (step, λ i. record { table = table i; names = names i; due = still i; granted = nobody.granted i; aborted = nobody.aborted i; totals = totals i })
-
--- where no abort is due: the names, the marks and the counts stay, and nobody is told of
-pub waiting_cancels : (s u : TableState) (t : NameTable) (l m : Lists) (before : Totals) (k : Key) (came_due : ℕ) → m.due ≡ l.due → m.granted.items ≡ [] → m.aborted.items ≡ [] → has l.due.items k.process ≡ false
-    → (answer : cancel.Cancel) → GaveUp s k answer u → Cancels (seen s t l before) k (Ok answer) (seen u t m (after_cancel before (Ok answer) (has l.due.items k.process) came_due))
-waiting_cancels s u t l m before k came_due due granted aborted not_due cancels.Withdrawn step =
-    inl (not_due, (step, λ i. record { table = u; names = t; due = (due i).items; granted = granted i; aborted = aborted i; totals = after_cancel before (Ok cancels.Withdrawn) (not_due i) came_due }))
-waiting_cancels s u t l m before k came_due due granted aborted not_due cancels.Carried (step, same) =
-    (step, λ i. record { table = same i; names = t; due = (due i).items; granted = granted i; aborted = aborted i; totals = before })

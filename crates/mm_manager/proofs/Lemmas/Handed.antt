@@ -20,7 +20,7 @@ use Rattle.mm_manager.specs.private.Numbers.{AreNumbered}
 use Rattle.mm_manager.specs.LockState.{KeepOwned}
 use Rattle.mm_manager.proofs.Lemmas.Numbers.{some_or_not}
 use Rattle.mm_manager.proofs.Lemmas.Granted.{grants_once, granted_more}
-use Rattle.mm_manager.proofs.Lemmas.Due.{among_of_taken, keep_then, down_then, cleared_stays, was_marked}
+use Rattle.mm_manager.proofs.Lemmas.Due.{among_of_taken, keep_then, down_then, cleared_stays}
 
 pub waits_something : (s : TableState) (p : ℕ) → is_waiting s p ≡ true → (q : ℕ) × (wait_of s p ≡ Some q)
 waits_something s p waiting = some_or_not (wait_of s p) (λ none. let never : true ≡ false = sym waiting ∙ ap is_some none in cc)
@@ -42,9 +42,6 @@ convicted_not_due s due n waits convicted = elim (cases_Bool (has due n)) [
 ]
 
 -- ---- a mark that is taken away
-
-pub unmarked : (s : TableState) (due : List Bool) (q : ℕ) → DueWait s due → DueWait s (slice_set due q false)
-unmarked s due q waits p marked = waits p (was_marked due q p marked)
 
 pub unmarked_here : (due : List Bool) (q : ℕ) → has (slice_set due q false) q ≡ false
 unmarked_here due q = elim (cases_lt q (length due)) [

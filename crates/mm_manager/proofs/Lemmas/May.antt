@@ -66,14 +66,6 @@ told_by s k state false dead is = (let never : Err Stale ≡ Ok state = is in ab
 pub is_told : (s : TableState) (k : Key) (state : State) → state_of s k ≡ Ok state → IsTold s k state
 is_told s k state is = told_by s k state (is_live s k) refl is
 
--- who is refused the state is not live
-dead_by : (s : TableState) (k : Key) (b : Bool) → is_live s k ≡ b → (e : table.Refusal) → (if b then Ok (told s k) else Err Stale) ≡ Err e → is_live s k ≡ false
-dead_by s k true live e is = (let never : Ok (told s k) ≡ Err e = is in absurd (cc))
-dead_by s k false dead e is = dead
-
-pub is_dead : (s : TableState) (k : Key) (e : table.Refusal) → state_of s k ≡ Err e → is_live s k ≡ false
-is_dead s k e is = dead_by s k (is_live s k) refl e is
-
 active_mode : (o : Option ℕ) (v : Bool) → mode_of o v ≡ mode.Active → o ≡ None
 active_mode None v is = refl
 active_mode (Some n) true is = (let never : mode.Convicted n ≡ mode.Active = is in absurd (cc))

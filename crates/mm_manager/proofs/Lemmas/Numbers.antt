@@ -1,11 +1,9 @@
 -- Names and owners by number, after one of them changed.
-use Rattle.std.proofs.Common.{◌≡◌, ◌↔◌, ◌<◌, ℕ, zero, suc, List, [], ◌∷◌, length, true, false, is_some, Option, Some, None, refl, sym, ap, subst, ◌∙◌, inl, inr, arith, slice_set, slice_index_or, length-set, get_or-set_same, get_or-set_other}
+use Rattle.std.proofs.Common.{◌≡◌, ◌↔◌, ◌<◌, ℕ, zero, suc, List, [], ◌∷◌, length, true, false, is_some, Option, Some, None, refl, sym, ap, ◌∙◌, inl, inr, arith, slice_set, slice_index_or, length-set, get_or-set_same, get_or-set_other}
 use Rattle.std.proofs.lemmas.Bool.{cases_eq}
-use Rattle.std.proofs.lemmas.List.{set-get_or}
 use Rattle.mm_arena.specs.declared.key.Key.{Key}
 use Rattle.mm_list_lemmas.specs.Members.{Among}
 use Rattle.mm_names.specs.Names.{NameTable, name_of, with_name}
-use Rattle.mm_names.proofs.Lemmas.Index.{named_in_range}
 use Rattle.mm_rules.specs.TableState.{TableState, owner_of}
 use Rattle.mm_rules.specs.Laws.{Laws}
 use Rattle.mm_manager.specs.private.Numbers.{AreNumbered}
@@ -22,13 +20,6 @@ some_or_not None some = absurd (some refl)
 some_or_not (Some x) some = (x, refl)
 
 module _ (s : TableState) (t : NameTable) (numbered : AreNumbered s t) where
-  -- a number with an owner has a name, and one with a name an owner
-  pub owned_has_name : (n : ℕ) (k : Key) → owner_of s n ≡ Some k → (name : List ℕ) × (name_of t n ≡ Some name)
-  owned_has_name n k owned = some_or_not (name_of t n) (λ none. some_not_none (owner_of s n) k owned ((numbered.named n).0 none))
-
-  pub named_has_owner : (n : ℕ) (name : List ℕ) → name_of t n ≡ Some name → (k : Key) × (owner_of s n ≡ Some k)
-  named_has_owner n name named = some_or_not (owner_of s n) (λ none. some_not_none (name_of t n) name named ((numbered.named n).1 none))
-
   pub numbered_alike : (u : TableState) → u.owners ≡ s.owners → u.config ≡ s.config → AreNumbered u t
   numbered_alike u owners config = record {
     as_many = numbered.as_many ∙ ap (λ c. c.resources) (sym config);
@@ -57,16 +48,6 @@ module _ (s : TableState) (t : NameTable) (numbered : AreNumbered s t) where
               (λ none. owner_there ∙ (numbered.named q).0 (sym name_there ∙ none), λ none. name_there ∙ (numbered.named q).1 (sym owner_there ∙ none))
         ];
       }
-
-  -- n has another owner, and its name stays
-  pub numbered_kept : Laws s → (n : ℕ) (name : List ℕ) → name_of t n ≡ Some name → (k : Key)
-      → (u : TableState) → u.owners ≡ slice_set s.owners n (Some k) → u.config ≡ s.config → AreNumbered u t
-  numbered_kept laws n name named k u owners config =
-      let same : with_name t n (Some name) ≡ t
-      = ap (λ names. record { names = names; name_bytes = t.name_bytes }) (ap (slice_set t.names n) (sym named) ∙ set-get_or t.names n None) in
-      subst (AreNumbered u) same
-      (numbered_set laws n (named_in_range t n name named) (Some k) (Some name)
-      ((λ never. (let no : Some name ≡ None = never in absurd (cc))), (λ never. (let no : Some k ≡ None = never in absurd (cc)))) u owners config)
 
 pub among_at : (ns : List ℕ) (i : ℕ) → i < length ns → Among (slice_index_or ns i 0) ns
 among_at [] i within = absurd (omega (arith, within))

@@ -1,5 +1,5 @@
 -- Who waits, and for what.
-use Rattle.std.proofs.Common.{◌≡◌, ◌+◌, ◌-◌, ◌<◌, ◌≤◌, ◌∷◌, ℕ, suc, Bool, true, false, [], Option, Some, None, is_some, option_and_then, slice_index_or, if◌then◌else◌, refl, sym, ap, ◌∙◌, arith}
+use Rattle.std.proofs.Common.{◌≡◌, ◌+◌, ◌-◌, ◌<◌, ◌∷◌, ℕ, suc, Bool, true, false, Option, Some, None, is_some, option_and_then, slice_index_or, if◌then◌else◌, refl, sym, ap, ◌∙◌, arith}
 use Rattle.std.specs.List.{cons_option, filter_map, range_with_len}
 use Rattle.mm_list_lemmas.proofs.Lemmas.Among.{all_at}
 use Rattle.mm_rules.specs.TableState.{TableState, key_of, is_live, owner_of, wait_of}
@@ -49,7 +49,3 @@ waits_some s p w below is = waits_step s p below ∙ ap (λ o. cons_option o (wa
 -- and else it is passed
 pub waits_none : (s : TableState) (p : ℕ) → p < s.config.processes → wait_at s p ≡ None → waits_from s p ≡ waits_from s (p + 1)
 waits_none s p below is = waits_step s p below ∙ ap (λ o. cons_option o (waits_from s (p + 1))) is
-
--- behind the last process none is left
-pub waits_end : (s : TableState) (p : ℕ) → s.config.processes ≤ p → waits_from s p ≡ []
-waits_end s p past = ap (λ n. filter_map (wait_at s) (range_with_len p n)) (let none : s.config.processes - p ≡ 0 = omega arith in none)

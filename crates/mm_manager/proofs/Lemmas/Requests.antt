@@ -1,10 +1,9 @@
 -- What a request leaves of names and owners.
-use Rattle.std.proofs.Common.{◌≡◌, ◌<◌, ◌+◌, ◌++◌, ℕ, true, false, List, [], ◌∷◌, length, Option, Some, None, Ok, IsTrue, refl, sym, ap, ◌∙◌, inl, inr, slice_set, slice_index, slice_index_or, length-set, get_or-set_same, nat_eq}
+use Rattle.std.proofs.Common.{◌≡◌, ◌<◌, ◌+◌, ◌++◌, ℕ, true, false, List, [], ◌∷◌, length, Option, Some, None, Ok, IsTrue, refl, sym, ap, ◌∙◌, inl, inr, slice_set, slice_index, slice_index_or, get_or-set_same, nat_eq}
 use Rattle.std.proofs.lemmas.Bool.{and_parts, eqb-true}
 use Rattle.mm_arena.specs.declared.key.Key.{Key}
 use Rattle.mm_label.specs.Label.{Label}
 use Rattle.mm_names.specs.Names.{NameTable, name_of, with_name, Interns}
-use Rattle.mm_names.proofs.Lemmas.Index.{named_in_range}
 use Rattle.mm_rules.specs.declared.reply.Acquired.{Acquired}
 use Rattle.mm_rules.specs.declared.reply.Acquired.TheVariants as acquired
 use Rattle.mm_rules.specs.TableState.{TableState, is_live, owner_of, owns, wait_of}
@@ -96,11 +95,6 @@ free_granted s u k n (locked.Deadlock h) free locks = absurd (some_not_none (own
 pub interned_name : (t u : NameTable) (name : List ℕ) (n : ℕ) → Interns t name n u → name_of u n ≡ Some name
 interned_name t u name n (inl known) = ap (λ v. name_of v n) known.1 ∙ known.0
 interned_name t u name n (inr fresh) = ap (λ v. name_of v n) fresh.2 ∙ get_or-set_same t.names n (Some name) None fresh.1.0
-
--- there are as many names as before, and the number is one of them
-pub interned_in_range : (t u : NameTable) (name : List ℕ) (n : ℕ) → Interns t name n u → (length u.names ≡ length t.names) × (n < length t.names)
-interned_in_range t u name n (inl known) = (ap (λ v. length v.names) known.1, named_in_range t n name known.0)
-interned_in_range t u name n (inr fresh) = (ap (λ v. length v.names) fresh.2 ∙ length-set t.names n (Some name), fresh.1.0)
 
 module _ (s : TableState) (t : NameTable) (numbered : AreNumbered s t) (u : NameTable) (name : List ℕ) (n : ℕ) where
   -- the name of a number that is owned was known

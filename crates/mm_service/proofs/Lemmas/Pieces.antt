@@ -1,5 +1,5 @@
 -- What is written piece by piece.
-use Rattle.std.proofs.Common.{◌≡◌, ◌∙◌, sym, ap, subst, ℕ, ◌+◌, ◌<◌, List, [], ◌∷◌, ◌++◌, length, drop, get_or, Option, append_assoc, append-nil, codes}
+use Rattle.std.proofs.Common.{◌≡◌, ◌∙◌, sym, ap, subst, ℕ, ◌+◌, ◌<◌, List, ◌∷◌, ◌++◌, length, drop, get_or, Option, append_assoc, codes}
 use Rattle.std.proofs.lemmas.List.{at_drop_more}
 use Rattle.mm_lines.specs.Output.{Writes}
 use Rattle.mm_service.specs.Reply.{line_text}
@@ -14,10 +14,6 @@ pub writes_piece : (before after : Option (List ℕ)) (bytes kept piece rest now
 writes_piece before after bytes kept piece rest now w is =
     let same : kept ++ (piece ++ rest) ≡ now ++ rest = sym (append_assoc kept piece rest) ∙ ap (λ l. l ++ rest) (sym is) in
     subst (Writes before after bytes) same w
-
--- nothing is left
-pub writes_all : (before after : Option (List ℕ)) (bytes kept rest : List ℕ) → Writes before after bytes (kept ++ rest) → rest ≡ [] → Writes before after bytes kept
-writes_all before after bytes kept rest w none = subst (Writes before after bytes) (ap (λ l. kept ++ l) none ∙ append-nil kept) w
 
 -- a text that is printed is kept
 pub writes_printed : (at : Option (List ℕ)) (old text new : List ℕ) → new ≡ old ++ text → Writes at at (old ++ text) new
