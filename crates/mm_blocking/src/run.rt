@@ -37,16 +37,15 @@ impl Locks {
     {
         let mut backoff = Backoff::first();
         let bed = Parker::new();
+        let mut outcome = attempt(self, rt, &mut work);
         for _ in 1..attempts {
-            match attempt(self, rt, &mut work) {
-                Ok(value) => return Ok(value),
-                Err(Failure::Other(error)) => return Err(error),
-                Err(Failure::Deadlock { error: _, key }) => {
-                    bed.park_timeout(rt, backoff.next(key));
-                }
-            }
+            let Err(Failure::Deadlock { error: _, key }) = &outcome else {
+                break;
+            };
+            bed.park_timeout(rt, backoff.next(*key));
+            outcome = attempt(self, rt, &mut work);
         }
-        match attempt(self, rt, &mut work) {
+        match outcome {
             Ok(value) => Ok(value),
             Err(Failure::Other(error)) => Err(error),
             Err(Failure::Deadlock { error, key: _ }) => Err(error),
