@@ -8,6 +8,8 @@ from memory.requests import all_in_turn
 
 # Threads that lock one to six of sixteen names, in each way that there is.
 CROWD = ["crowd", "4", "16"]
+# What the bank prints where memory for the locks is refused.
+NO_MEMORY = "a request for memory was refused\n"
 # What the bank says on standard error; the number differs from run to run.
 DEADLOCKS = re.compile(r"deadlocks: \d+\n")
 
@@ -19,7 +21,7 @@ def opening(cases, scratch, bank):
     def judge(run):
         if (run.status, run.output) == (ample.status, ample.output) and DEADLOCKS.fullmatch(run.errors):
             return AMPLE
-        is_told = run.output == "no memory\n" if run.status == 0 else run.output == "" and run.errors != ""
+        is_told = run.output == NO_MEMORY if run.status == 0 else run.output == "" and run.errors != ""
         return REFUSED if is_told else None
 
     all_in_turn(cases, scratch, "locks that threads sleep for", [bank], judge)

@@ -134,7 +134,10 @@ pub fn timed_work<
     requires aborts { (prepared.aborts.name ≡ B.name) × (prepared.aborts.parts ≡ B.parts) }
 {
     let (table, mut pass) = prepared.open::<N, A, V, B>();
-    time_of(rt, &table, &mut pass, work, count)
+    let taken = time_of(rt, &table, &mut pass, work, count);
+    drop(pass);
+    drop(table);
+    taken
 }
 
 fn time_of<

@@ -19,19 +19,74 @@ fn grant<N: Name, A: Ledger, V: Ledger, B: Ledger, R: Wait>(
     table.finish(rt, pass, key)
 }
 
+/// Begins two transactions.
+fn begin_two<N: Name, A: Ledger, V: Ledger, B: Ledger, R: Wait>(
+    rt: &R,
+    table: &SharedTable<N, A, V, B>,
+    pass: &mut Pass<N, A, V, B>,
+) -> Result<(Key, Key), Refusal> {
+    let first = table.begin(rt, pass)?;
+    let second = table.begin(rt, pass)?;
+    Ok((first, second))
+}
+
+/// Acquires a resource for each of two transactions.
+fn acquire_two<N: Name, A: Ledger, V: Ledger, B: Ledger, R: Wait>(
+    rt: &R,
+    table: &SharedTable<N, A, V, B>,
+    pass: &mut Pass<N, A, V, B>,
+    keys: (Key, Key),
+    resources: (u32, u32),
+) -> Result<(), Refusal> {
+    table.acquire(rt, pass, keys.0, resources.0)?;
+    table.acquire(rt, pass, keys.1, resources.1)?;
+    Ok(())
+}
+
+/// Finishes two transactions, the second one first.
+fn finish_two<N: Name, A: Ledger, V: Ledger, B: Ledger, R: Wait>(
+    rt: &R,
+    table: &SharedTable<N, A, V, B>,
+    pass: &mut Pass<N, A, V, B>,
+    keys: (Key, Key),
+) -> Result<(), Refusal> {
+    table.finish(rt, pass, keys.1)?;
+    table.finish(rt, pass, keys.0)
+}
+
+/// Aborts the second of two transactions, and finishes the first.
+fn end_two<N: Name, A: Ledger, V: Ledger, B: Ledger, R: Wait>(
+    rt: &R,
+    table: &SharedTable<N, A, V, B>,
+    pass: &mut Pass<N, A, V, B>,
+    keys: (Key, Key),
+) -> Result<(), Refusal> {
+    table.abort(rt, pass, keys.1)?;
+    table.finish(rt, pass, keys.0)
+}
+
 /// Two transactions, one of which waits for the other.
 pub fn block<N: Name, A: Ledger, V: Ledger, B: Ledger, R: Wait>(
     rt: &R,
     table: &SharedTable<N, A, V, B>,
     pass: &mut Pass<N, A, V, B>,
 ) -> Result<(), Refusal> {
-    let first = table.begin(rt, pass)?;
-    let second = table.begin(rt, pass)?;
-    table.acquire(rt, pass, first, 0)?;
-    table.acquire(rt, pass, second, 0)?;
-    table.release(rt, pass, first, 0)?;
-    table.finish(rt, pass, second)?;
-    table.finish(rt, pass, first)
+    let keys = begin_two(rt, table, pass)?;
+    acquire_two(rt, table, pass, keys, (0, 0))?;
+    table.release(rt, pass, keys.0, 0)?;
+    finish_two(rt, table, pass, keys)
+}
+
+/// Two transactions that wait for each other.
+fn cross<N: Name, A: Ledger, V: Ledger, B: Ledger, R: Wait>(
+    rt: &R,
+    table: &SharedTable<N, A, V, B>,
+    pass: &mut Pass<N, A, V, B>,
+) -> Result<(Key, Key), Refusal> {
+    let keys = begin_two(rt, table, pass)?;
+    acquire_two(rt, table, pass, keys, (0, 1))?;
+    acquire_two(rt, table, pass, keys, (1, 0))?;
+    Ok(keys)
 }
 
 /// Two transactions that wait for each other. The second one is aborted.
@@ -40,16 +95,10 @@ fn deadlock<N: Name, A: Ledger, V: Ledger, B: Ledger, R: Wait>(
     table: &SharedTable<N, A, V, B>,
     pass: &mut Pass<N, A, V, B>,
 ) -> Result<(), Refusal> {
-    let first = table.begin(rt, pass)?;
-    let second = table.begin(rt, pass)?;
-    table.acquire(rt, pass, first, 0)?;
-    table.acquire(rt, pass, second, 1)?;
-    table.acquire(rt, pass, first, 1)?;
-    table.acquire(rt, pass, second, 0)?;
-    table.transmit(rt, pass, first)?;
-    table.detect(rt, pass, second)?;
-    table.abort(rt, pass, second)?;
-    table.finish(rt, pass, first)
+    let keys = cross(rt, table, pass)?;
+    table.transmit(rt, pass, keys.0)?;
+    table.detect(rt, pass, keys.1)?;
+    end_two(rt, table, pass, keys)
 }
 
 /// Two transactions that wait for each other, and a settle that finds them. The second one is aborted.
@@ -58,15 +107,9 @@ fn settle<N: Name, A: Ledger, V: Ledger, B: Ledger, R: Wait>(
     table: &SharedTable<N, A, V, B>,
     pass: &mut Pass<N, A, V, B>,
 ) -> Result<(), Refusal> {
-    let first = table.begin(rt, pass)?;
-    let second = table.begin(rt, pass)?;
-    table.acquire(rt, pass, first, 0)?;
-    table.acquire(rt, pass, second, 1)?;
-    table.acquire(rt, pass, first, 1)?;
-    table.acquire(rt, pass, second, 0)?;
+    let keys = cross(rt, table, pass)?;
     table.settle(rt, pass)?;
-    table.abort(rt, pass, second)?;
-    table.finish(rt, pass, first)
+    end_two(rt, table, pass, keys)
 }
 
 /// Hands the resource over, and waits for it again. Returns who has it then.

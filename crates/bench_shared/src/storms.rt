@@ -26,17 +26,15 @@ pub struct Storms {
 impl Storms {
     /// One storm more.
     fn add(&mut self, nanoseconds: u64, outcome: &Outcome) {
-        let aborted = number_of(outcome, End::Aborted);
-        let finished = number_of(outcome, End::Finished);
         self.nanoseconds = self.nanoseconds.wrapping_add(nanoseconds);
-        self.finished = self.finished.wrapping_add(finished);
-        self.aborted = self.aborted.wrapping_add(aborted);
+        for end in &outcome.ends {
+            match end {
+                End::Finished => self.finished = self.finished.wrapping_add(1),
+                End::Aborted => self.aborted = self.aborted.wrapping_add(1),
+                End::Spent | End::Refused(_) => {}
+            }
+        }
     }
-}
-
-/// How many clients ended so.
-fn number_of(outcome: &Outcome, end: End) -> u64 {
-    outcome.ends.iter().filter(|other| **other == end).count() as u64
 }
 
 /// Runs a workload on a table that is opened for it. `None` where memory is refused.
@@ -49,6 +47,19 @@ fn run_workload<R: Threads + Wait + Sync>(
     let workers = clients + workload.transmitters();
     let gates = shared_gates(rt, alloc, clients, workers).ok()?;
     run_threads(rt, alloc, workload, gates).ok()
+}
+
+/// Runs a storm, and adds what came of it. `None` where memory is refused.
+fn run_storm<R: Threads + Wait + Clock + Sync>(
+    rt: &R,
+    alloc: Global,
+    workload: &Workload,
+    storms: &mut Storms,
+) -> Option<()> {
+    let start = now(rt);
+    let outcome = run_workload(rt, alloc, workload)?;
+    storms.add(nanoseconds_since(rt, start), &outcome);
+    Some(())
 }
 
 /// Runs the storms of seeds 1 to `count`, one after another, each with so many clients. To make a storm takes no part of the time.
@@ -69,9 +80,7 @@ pub fn run_storms<R: Threads + Wait + Clock + Sync>(
     for place in 0..count {
         let seed = u64::from(place) + 1;
         let workload = storm(alloc, seed, clients, TRANSMITTERS).ok()?;
-        let start = now(rt);
-        let outcome = run_workload(rt, alloc, &workload)?;
-        storms.add(nanoseconds_since(rt, start), &outcome);
+        run_storm(rt, alloc, &workload, &mut storms)?;
     }
     Some(storms)
 }

@@ -122,10 +122,12 @@ fn main(rt: HostRuntime) -> io::Result<()> {
         name_bytes: 16,
         seed: 1,
     };
-    let Ok(locks) = Locks::open(rt.alloc(), config) else {
-        return println!(rt; "no memory");
-    };
-    let told = run(&rt, rt.alloc(), &locks);
-    drop(locks);
-    told
+    match Locks::open(rt.alloc(), config) {
+        Ok(locks) => {
+            let told = run(&rt, rt.alloc(), &locks);
+            drop(locks);
+            told
+        }
+        Err(error) => println!(rt; "{error}"),
+    }
 }

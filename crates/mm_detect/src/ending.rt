@@ -3,6 +3,7 @@ ghost use Rattle.std.specs.Prelude.{◌≡◌};
 ghost use Rattle.mm_detect.specs.Ending.{ending_status, fault_told, status_of};
 
 use mm_script::ScriptFault;
+use std::io::Print;
 
 /// How a run of the program ended.
 #[derive(Clone, Copy)]
@@ -57,4 +58,9 @@ pub fn fault(ending: &Ending) -> Option<ScriptFault>
         Ending::Worked(told) => told.err(),
         Ending::Refused(told) => told.err(),
     }
+}
+
+/// Prints that memory was refused.
+pub fn print_no_memory(rt: &impl Print) -> Result<(), ScriptFault> {
+    println!(rt; "refused 10 Memory").map_err(|_| ScriptFault::Write)
 }

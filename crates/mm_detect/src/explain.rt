@@ -1,7 +1,7 @@
 //! Explains a script, that of a file or of standard input.
 ghost use Rattle.mm_detect.specs.Answer.{EndsExplain};
 
-use crate::ending::Ending;
+use crate::ending::{Ending, print_no_memory};
 use mm_command::ExplainOptions;
 use mm_explain::{ExplainFault, Options, explain};
 use mm_script::ScriptFault;
@@ -72,9 +72,7 @@ fn ending_of<R: Eprint + Print>(rt: &R, outcome: Result<u64, ExplainFault>) -> E
     match outcome {
         Ok(malformed) => Ending::Ran(Ok(malformed)),
         Err(ExplainFault::Lines(fault)) => Ending::Ran(Err(fault)),
-        Err(ExplainFault::Memory) => {
-            Ending::Refused(println!(rt; "refused 10 Memory").map_err(|_| ScriptFault::Write))
-        }
+        Err(ExplainFault::Memory) => Ending::Refused(print_no_memory(rt)),
         Err(fault @ ExplainFault::NoLine(_)) => {
             let _ = eprintln!(rt; "{fault}");
             Ending::Wrong

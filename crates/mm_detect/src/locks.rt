@@ -1,9 +1,8 @@
 //! A lock service, on any reader and writer.
 ghost use Rattle.mm_detect.specs.Answer.{EndsService};
 
-use crate::ending::Ending;
+use crate::ending::{Ending, print_no_memory};
 use mm_command::LocksOptions;
-use mm_script::ScriptFault;
 use mm_service::{LockService, ManagerConfig};
 use std::alloc::Global;
 use std::io;
@@ -34,9 +33,7 @@ pub fn run_locks<R: Print + Eprint + RandomSource, I: Read, W: Write>(
     };
     match LockService::open(alloc, config) {
         Ok(mut service) => Ending::Ran(service.run(input, output)),
-        Err(_) => {
-            Ending::Refused(println!(rt; "refused 10 Memory").map_err(|_| ScriptFault::Write))
-        }
+        Err(_) => Ending::Refused(print_no_memory(rt)),
     }
 }
 

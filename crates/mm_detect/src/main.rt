@@ -21,7 +21,7 @@ mod verbose;
 mod work;
 mod work_end;
 
-use ending::{Ending, fault, status};
+use ending::{Ending, fault, print_no_memory, status};
 use explain::run_explain;
 use file::{Taken, taken_from};
 use locks::run_locks;
@@ -33,7 +33,8 @@ use mm_workload::Workload;
 use reported::{Reporting, run_reported};
 use script::run_verbose_script;
 use std::alloc::Global;
-use std::io::{IsTerminal, Read, Write};
+use std::fmt::Display;
+use std::io::{Eprint, IsTerminal, Print, Read, Write};
 use std::process::ExitCode;
 use std::random::RandomSource;
 use std::rt::Runtime;
@@ -97,18 +98,22 @@ fn answer<R: Runtime + RandomSource + Threads + Wait + Sync, I: Read, W: Write +
             let told = told_of(report.as_ref(), *verbose);
             Ending::Worked(run_storm(rt, alloc, *options, told, output))
         }
-        Request::Help(text) => {
-            Ending::Helped(print!(rt; "{text}").map_err(|_| ScriptFault::Write))
-        }
+        Request::Help(text) => Ending::Helped(print_text(rt, text)),
         Request::Wrong(text) => {
-            // Where standard error cannot be written either, the status alone reports it.
-            let _ = eprint!(rt; "{text}");
+            tell_text(rt, text);
             Ending::Wrong
         }
-        Request::Memory => {
-            Ending::Refused(println!(rt; "refused 10 Memory").map_err(|_| ScriptFault::Write))
-        }
+        Request::Memory => Ending::Refused(print_no_memory(rt)),
     }
+}
+
+fn print_text<R: Print, T: Display>(rt: &R, text: &T) -> Result<(), ScriptFault> {
+    print!(rt; "{text}").map_err(|_| ScriptFault::Write)
+}
+
+fn tell_text<R: Eprint, T: Display>(rt: &R, text: &T) {
+    // Where standard error cannot be written either, the status alone reports it.
+    let _ = eprint!(rt; "{text}");
 }
 
 /// What is told of a run beside its two lines.

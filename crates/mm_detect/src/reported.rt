@@ -8,6 +8,7 @@ use crate::work::{print_end, print_fault, quiet_end};
 use crate::work_end::WorkEnd;
 use mm_report::{RunReport, Source, report_of, text_of};
 use mm_script::ScriptFault;
+use mm_workers::TalliedOutcome;
 use mm_workload::{WorkFault, Workload};
 use std::alloc::Global;
 use std::fs;
@@ -61,12 +62,55 @@ fn reported<R: Runtime + Threads + Wait + Sync, W: Write>(
     let begun = Instant::now(rt).ok();
     let end = end_of(rt, alloc, source, reporting.verbose, work);
     let seconds = seconds_since(rt, begun);
-    let status = print_end(&end, writer)?;
-    if let WorkEnd::Ran(ran) = &end {
-        let report = report_of(source, work, ran, seconds);
-        write_report(rt, alloc, reporting.path, &report)?;
+    let told = tell(
+        rt,
+        alloc,
+        source,
+        reporting.path,
+        work,
+        &end,
+        seconds,
+        writer,
+    );
+    drop(end);
+    told
+}
+
+/// Prints what came of the workload, and writes the report where it was run.
+fn tell<R: Files + Eprint, W: Write>(
+    rt: &R,
+    alloc: Global,
+    source: Source<'_>,
+    path: &str,
+    work: &Workload,
+    end: &WorkEnd,
+    seconds: Option<f64>,
+    writer: &mut W,
+) -> Result<u8, ScriptFault>
+    ensures status { IfOk result (λ status. status ≡ work_status end.now) }
+    ensures fault { IfErr result (λ fault. fault ≡ ScriptFault.Write) }
+{
+    let status = print_end(end, writer)?;
+    if let WorkEnd::Ran(ran) = end {
+        write_run(rt, alloc, path, source, work, ran, seconds)?;
     }
     Ok(status)
+}
+
+/// Writes the report on a run.
+fn write_run<R: Files + Eprint>(
+    rt: &R,
+    alloc: Global,
+    path: &str,
+    source: Source<'_>,
+    work: &Workload,
+    ran: &TalliedOutcome,
+    seconds: Option<f64>,
+) -> Result<(), ScriptFault>
+    ensures { IfErr result (λ fault. fault ≡ ScriptFault.Write) }
+{
+    let report = report_of(source, work, ran, seconds);
+    write_report(rt, alloc, path, &report)
 }
 
 /// Runs the workload, and tells how that goes where it is wanted.

@@ -1,5 +1,5 @@
 //! Work that is done again after a deadlock.
-use crate::tests::helpers::{await_events, same};
+use crate::tests::helpers::{await_events, begin, commits, same, takes};
 use crate::tests::work::{Work, on_locks};
 use mm_blocking::{LockError, Locks, Totals, Transaction};
 use std::process::Abort;
@@ -19,32 +19,41 @@ impl From<LockError> for WorkError {
     }
 }
 
-fn poor<R: Wait>(transaction: &mut Transaction<'_, R>) -> Result<u32, WorkError> {
-    transaction.lock(b"a")?;
-    Err(WorkError::Poor)
+/// What the work of a test comes to, once it has locked `a`.
+#[derive(Clone, Copy)]
+enum Plan {
+    /// It fails by itself.
+    Poor,
+    /// It asks for a name that is refused.
+    Refused,
+    /// It returns a value.
+    Rich,
 }
 
-fn refused<R: Wait>(transaction: &mut Transaction<'_, R>) -> Result<u32, WorkError> {
-    transaction.lock(b"a")?;
-    transaction.lock(b"")?;
-    Ok(7)
-}
+impl Plan {
+    fn made<R: Wait>(self, transaction: &mut Transaction<'_, R>) -> Result<u32, WorkError> {
+        transaction.lock(b"a")?;
+        match self {
+            Plan::Poor => return Err(WorkError::Poor),
+            Plan::Refused => transaction.lock(b"")?,
+            Plan::Rich => {}
+        }
+        Ok(7)
+    }
 
-fn rich<R: Wait>(transaction: &mut Transaction<'_, R>) -> Result<u32, WorkError> {
-    transaction.lock(b"a")?;
-    Ok(7)
+    /// What comes of it by at most so many attempts.
+    fn outcome<R: Wait>(self, rt: &R, locks: &Locks, attempts: u32) -> Result<u32, WorkError> {
+        locks.run(rt, attempts, |transaction| self.made(transaction))
+    }
 }
 
 /// A value is returned once its transaction is committed; an error of the work is returned, and its transaction rolled back.
 pub fn outcomes<R: Wait + Abort>(rt: &R, locks: &Locks) {
-    same(rt, locks.run(rt, 3, |one| poor(one)), Err(WorkError::Poor));
-    same(
-        rt,
-        locks.run(rt, 3, |one| refused(one)),
-        Err(WorkError::Refused(LockError::NameEmpty)),
-    );
-    same(rt, locks.run(rt, 3, |one| rich(one)), Ok(7));
-    same(rt, locks.run(rt, 0, |one| rich(one)), Ok(7));
+    same(rt, Plan::Poor.outcome(rt, locks, 3), Err(WorkError::Poor));
+    let refused = WorkError::Refused(LockError::NameEmpty);
+    same(rt, Plan::Refused.outcome(rt, locks, 3), Err(refused));
+    same(rt, Plan::Rich.outcome(rt, locks, 3), Ok(7));
+    same(rt, Plan::Rich.outcome(rt, locks, 0), Ok(7));
     same(
         rt,
         locks.totals(rt),
@@ -123,12 +132,12 @@ const ATTEMPTS: u32 = 3;
 /// Owns `b` and waits for `a` before each attempt of the other one closes the cycle.
 fn stands_in_the_way<R: Wait + Abort>(rt: &R, locks: &Locks, gate: &Barrier) {
     for _ in 0..ATTEMPTS {
-        let mut transaction = locks.begin(rt).expect(rt, "there is room");
-        same(rt, transaction.lock(b"b"), Ok(()));
+        let mut transaction = begin(rt, locks);
+        takes(rt, &mut transaction, b"b");
         gate.wait(rt);
         gate.wait(rt);
-        same(rt, transaction.lock(b"a"), Ok(()));
-        same(rt, transaction.commit(), Ok(()));
+        takes(rt, &mut transaction, b"a");
+        commits(rt, transaction);
     }
 }
 

@@ -1,5 +1,5 @@
 //! Threads that wait use next to no processor time.
-use crate::tests::helpers::{await_events, same};
+use crate::tests::helpers::{await_events, begin, commits, same, takes};
 use crate::tests::work::{Work, on_locks};
 use mm_blocking::Locks;
 use std::process::Abort;
@@ -16,9 +16,9 @@ const MOST: u64 = 20_000;
 /// Waits for the name. Returns the processor time that this took, in microseconds.
 fn wait<R: Wait + CpuClock + Abort>(rt: &R, locks: &Locks) -> u64 {
     let start = rt.thread_cpu_time().expect(rt, "the clock can be read");
-    let mut transaction = locks.begin(rt).expect(rt, "there is room");
-    same(rt, transaction.lock(b"a"), Ok(()));
-    same(rt, transaction.commit(), Ok(()));
+    let mut transaction = begin(rt, locks);
+    takes(rt, &mut transaction, b"a");
+    commits(rt, transaction);
     let end = rt.thread_cpu_time().expect(rt, "the clock can be read");
     let took = end.saturating_sub(start);
     took.as_secs()
@@ -28,13 +28,13 @@ fn wait<R: Wait + CpuClock + Abort>(rt: &R, locks: &Locks) -> u64 {
 
 /// Owns the name until all others have waited for half a second.
 fn own<R: Wait + Clock + Abort>(rt: &R, locks: &Locks, gate: &Barrier) {
-    let mut transaction = locks.begin(rt).expect(rt, "there is room");
-    same(rt, transaction.lock(b"a"), Ok(()));
+    let mut transaction = begin(rt, locks);
+    takes(rt, &mut transaction, b"a");
     gate.wait(rt);
     // A begin and a lock, and for each of the eight a begin and a wait.
     await_events(rt, locks, 2 + 8 * 3);
     thread::sleep(rt, Duration::from_millis(500));
-    same(rt, transaction.commit(), Ok(()));
+    commits(rt, transaction);
 }
 
 /// One of all owns the name, and the others wait for it. Returns the processor time that this took, in microseconds.

@@ -1,5 +1,5 @@
 //! A wait whose time is up while its transaction carries another's label.
-use crate::tests::helpers::{await_events, same};
+use crate::tests::helpers::{await_events, begin, commits, gives, same, takes};
 use crate::tests::work::{Work, on_locks};
 use mm_blocking::{LockError, Locks, Totals, Transaction};
 use std::process::Abort;
@@ -15,35 +15,35 @@ const FIRST_WAITS: u64 = 3 + 2 + 2;
 /// Waits for `b` for a time. Where its owner came to wait in time, the label of that one is carried, and the wait goes on until the grant.
 fn wait_in_time<R: Wait + Clock + Abort>(rt: &R, mut transaction: Transaction<'_, R>) {
     match transaction.lock_for(b"b", Duration::from_millis(100)) {
-        Ok(()) => same(rt, transaction.unlock(b"b"), Ok(())),
+        Ok(()) => gives(rt, &mut transaction, b"b"),
         Err(error) => {
             same(rt, error, LockError::TimedOut);
             same(rt, transaction.unlock(b"b"), Err(LockError::NotOwner));
         }
     }
-    same(rt, transaction.commit(), Ok(()));
+    commits(rt, transaction);
 }
 
 /// Owns `b`, and waits for `a` once another one waits for `b`.
 fn wait_between<R: Wait + Abort>(rt: &R, locks: &Locks, mut transaction: Transaction<'_, R>) {
     await_events(rt, locks, FIRST_WAITS);
-    same(rt, transaction.lock(b"a"), Ok(()));
-    same(rt, transaction.commit(), Ok(()));
+    takes(rt, &mut transaction, b"a");
+    commits(rt, transaction);
 }
 
 /// Owns `a` until the time of the first one is up.
 fn commit_late<R: Wait + Clock + Abort>(rt: &R, locks: &Locks, transaction: Transaction<'_, R>) {
     await_events(rt, locks, FIRST_WAITS + 2);
     thread::sleep(rt, Duration::from_millis(150));
-    same(rt, transaction.commit(), Ok(()));
+    commits(rt, transaction);
 }
 
 pub fn meet<R: Wait + Clock + Abort + Threads + Sync>(rt: &R, locks: &Locks) {
-    let first = locks.begin(rt).expect(rt, "there is room");
-    let mut second = locks.begin(rt).expect(rt, "there is room");
-    let mut third = locks.begin(rt).expect(rt, "there is room");
-    same(rt, second.lock(b"b"), Ok(()));
-    same(rt, third.lock(b"a"), Ok(()));
+    let first = begin(rt, locks);
+    let mut second = begin(rt, locks);
+    let mut third = begin(rt, locks);
+    takes(rt, &mut second, b"b");
+    takes(rt, &mut third, b"a");
     join(
         rt,
         move || wait_in_time(rt, first),

@@ -1,5 +1,5 @@
 //! Two threads that lock the same two names in opposite orders.
-use crate::tests::helpers::same;
+use crate::tests::helpers::{begin, commits, same, takes};
 use crate::tests::work::{Work, on_locks};
 use mm_blocking::{LockError, Locks, Totals, Transaction};
 use std::process::Abort;
@@ -10,12 +10,12 @@ const ROUNDS: u32 = 1_000;
 
 /// Locks the first name, waits until the other thread has its own, and asks for that one. Returns whether that closed the cycle.
 fn cross<R: Wait + Abort>(rt: &R, locks: &Locks, gate: &Barrier, names: [&[u8]; 2]) -> bool {
-    let mut transaction = locks.begin(rt).expect(rt, "there is room for two");
-    same(rt, transaction.lock(names[0]), Ok(()));
+    let mut transaction = begin(rt, locks);
+    takes(rt, &mut transaction, names[0]);
     gate.wait(rt);
     match transaction.lock(names[1]) {
         Ok(()) => {
-            same(rt, transaction.commit(), Ok(()));
+            commits(rt, transaction);
             false
         }
         Err(error) => {

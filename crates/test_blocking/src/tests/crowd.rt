@@ -1,7 +1,7 @@
 //! A handful of threads over few names.
 ghost use Rattle.std.specs.Prelude.{◌<◌};
 
-use crate::tests::helpers::same;
+use crate::tests::helpers::{begin, commits, same};
 use crate::tests::work::{Owners, Work, on_locks};
 use mm_blocking::{LockError, Locks, Transaction};
 use std::process::Abort;
@@ -88,7 +88,7 @@ fn attempt<R: Wait + Clock + Abort>(
     owners: &Owners,
     random: &mut Random,
 ) -> bool {
-    let mut transaction = locks.begin(rt).expect(rt, "there is room for each thread");
+    let mut transaction = begin(rt, locks);
     let mut mine = [false; 4];
     let is_done = lock_some(rt, &mut transaction, owners, &mut mine, random);
     for name in 0..4usize {
@@ -97,7 +97,7 @@ fn attempt<R: Wait + Clock + Abort>(
         }
     }
     if is_done {
-        same(rt, transaction.commit(), Ok(()));
+        commits(rt, transaction);
     }
     is_done
 }

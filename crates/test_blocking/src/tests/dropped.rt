@@ -1,5 +1,5 @@
 //! A transaction that is dropped at each point of its life at which it does not wait.
-use crate::tests::helpers::same;
+use crate::tests::helpers::{begin, commits, gives, same, takes};
 use crate::tests::work::{Work, on_locks};
 use mm_blocking::{LockError, Locks, Transaction};
 use std::process::Abort;
@@ -36,11 +36,11 @@ fn come_to<R: Wait + Clock + Abort>(rt: &R, transaction: &mut Transaction<'_, R>
     let short = Duration::from_millis(1);
     match point {
         Point::Begun => {}
-        Point::Locked => same(rt, transaction.lock(b"a"), Ok(())),
+        Point::Locked => takes(rt, transaction, b"a"),
         Point::LockedAll => same(rt, transaction.lock_all(&[b"a", b"b"]), Ok(())),
         Point::GaveBack => {
             same(rt, transaction.lock_all(&[b"a", b"b"]), Ok(()));
-            same(rt, transaction.unlock(b"a"), Ok(()));
+            gives(rt, transaction, b"a");
         }
         Point::Tried => same(rt, transaction.try_lock(b"z"), Ok(false)),
         Point::Refused => same(rt, transaction.lock(b""), Err(LockError::NameEmpty)),
@@ -59,23 +59,23 @@ fn come_to<R: Wait + Clock + Abort>(rt: &R, transaction: &mut Transaction<'_, R>
 
 /// A transaction is dropped at this point. Then all names but `z` are free, and there is room for another one.
 fn drop_at<R: Wait + Clock + Abort>(rt: &R, locks: &Locks, point: Point) {
-    let mut transaction = locks.begin(rt).expect(rt, "there is room");
+    let mut transaction = begin(rt, locks);
     come_to(rt, &mut transaction, point);
     drop(transaction);
-    let mut next = locks.begin(rt).expect(rt, "there is room again");
+    let mut next = begin(rt, locks);
     same(rt, next.try_lock(b"a"), Ok(true));
     same(rt, next.try_lock(b"b"), Ok(true));
     same(rt, next.try_lock(b"z"), Ok(false));
-    same(rt, next.commit(), Ok(()));
+    commits(rt, next);
 }
 
 pub fn drop_at_each<R: Wait + Clock + Abort>(rt: &R, locks: &Locks) {
-    let mut owner = locks.begin(rt).expect(rt, "there is room");
-    same(rt, owner.lock(b"z"), Ok(()));
+    let mut owner = begin(rt, locks);
+    takes(rt, &mut owner, b"z");
     for point in &POINTS {
         drop_at(rt, locks, *point);
     }
-    same(rt, owner.commit(), Ok(()));
+    commits(rt, owner);
 }
 
 #[test]

@@ -1,5 +1,5 @@
 //! Names that are locked by one call, and work that is done again.
-use crate::tests::helpers::{await_events, same};
+use crate::tests::helpers::{await_events, begin, commits, gives, same, takes};
 use crate::tests::work::{Work, on_locks};
 use mm_blocking::{LockError, Locks, Totals};
 use std::process::Abort;
@@ -8,7 +8,7 @@ use std::test::Fail;
 
 /// Whether these names are owned by others: a transaction of its own tries each.
 fn busy<R: Wait + Abort>(rt: &R, locks: &Locks, names: [&[u8]; 3]) -> [bool; 3] {
-    let mut probe = locks.begin(rt).expect(rt, "there is room");
+    let mut probe = begin(rt, locks);
     let mut busy = [false; 3];
     for place in 0..3usize {
         busy[place] = probe.try_lock(names[place]) == Ok(false);
@@ -18,7 +18,7 @@ fn busy<R: Wait + Abort>(rt: &R, locks: &Locks, names: [&[u8]; 3]) -> [bool; 3] 
 
 /// Those before a refused name stay locked, and those behind it are not asked for.
 pub fn stops<R: Wait + Abort>(rt: &R, locks: &Locks) {
-    let mut one = locks.begin(rt).expect(rt, "there is room");
+    let mut one = begin(rt, locks);
     same(rt, one.lock_all(&[]), Ok(()));
     same(rt, one.lock_all(&[b"a", b"b", b"a"]), Ok(()));
     same(rt, busy(rt, locks, [b"a", b"b", b"c"]), [true, true, false]);
@@ -28,8 +28,21 @@ pub fn stops<R: Wait + Abort>(rt: &R, locks: &Locks) {
         Err(LockError::NameTooLong),
     );
     same(rt, busy(rt, locks, [b"b", b"c", b"d"]), [true, true, false]);
-    same(rt, one.commit(), Ok(()));
+    commits(rt, one);
     same(rt, busy(rt, locks, [b"a", b"b", b"c"]), [false; 3]);
+    begins_or_not(rt, locks);
+}
+
+/// One that is refused a name with which it is to begin is rolled back.
+fn begins_or_not<R: Wait + Abort>(rt: &R, locks: &Locks) {
+    let refused = locks.begin_with(rt, &[b"a", b"nine byte", b"b"]);
+    same(rt, refused.err(), Some(LockError::NameTooLong));
+    same(rt, busy(rt, locks, [b"a", b"b", b"c"]), [false; 3]);
+    let two = locks
+        .begin_with(rt, &[b"a", b"b"])
+        .expect(rt, "nobody owns them");
+    same(rt, busy(rt, locks, [b"a", b"b", b"c"]), [true, true, false]);
+    commits(rt, two);
 }
 
 #[test]
@@ -42,20 +55,20 @@ const BOTH_WAIT: u64 = 2 + 3 + 2;
 
 /// Owns `b` and `d` until the other one waits for `b`, and then hands over one after the other.
 fn owns_two<R: Wait + Abort>(rt: &R, locks: &Locks, gate: &Barrier) {
-    let mut transaction = locks.begin(rt).expect(rt, "there is room");
+    let mut transaction = begin(rt, locks);
     same(rt, transaction.lock_all(&[b"d", b"b"]), Ok(()));
     gate.wait(rt);
     await_events(rt, locks, BOTH_WAIT);
-    same(rt, transaction.unlock(b"b"), Ok(()));
+    gives(rt, &mut transaction, b"b");
     // The unlock, a lock of `c` and a wait for `d`.
     await_events(rt, locks, BOTH_WAIT + 1 + 1 + 2);
-    same(rt, transaction.commit(), Ok(()));
+    commits(rt, transaction);
 }
 
 /// Sleeps for `b` and then for `d`, and owns all five in the end.
 fn wants_all<R: Wait + Abort>(rt: &R, locks: &Locks, gate: &Barrier) {
     gate.wait(rt);
-    let mut transaction = locks.begin(rt).expect(rt, "there is room");
+    let mut transaction = begin(rt, locks);
     same(
         rt,
         transaction.lock_all(&[b"a", b"b", b"c", b"d", b"e"]),
@@ -63,7 +76,7 @@ fn wants_all<R: Wait + Abort>(rt: &R, locks: &Locks, gate: &Barrier) {
     );
     same(rt, busy(rt, locks, [b"a", b"b", b"c"]), [true; 3]);
     same(rt, busy(rt, locks, [b"c", b"d", b"e"]), [true; 3]);
-    same(rt, transaction.commit(), Ok(()));
+    commits(rt, transaction);
 }
 
 /// One of two owns some names, and the other one wants all.
@@ -81,19 +94,52 @@ fn goes_on_after_sleeps(rt: HostRuntime) -> Result<(), Fail> {
     on_locks(&rt, rt.alloc(), Work::GoesOnAfterSleeps, 3, 8, 2)
 }
 
+/// Owns `b` until the other one waits for it: after two begins, two locks and a wait.
+fn owns_one<R: Wait + Abort>(rt: &R, locks: &Locks, gate: &Barrier) {
+    let mut transaction = begin(rt, locks);
+    takes(rt, &mut transaction, b"b");
+    gate.wait(rt);
+    await_events(rt, locks, 2 + 2 + 2);
+    commits(rt, transaction);
+}
+
+/// Begins with three names, and sleeps for the second one.
+fn begins_with_three<R: Wait + Abort>(rt: &R, locks: &Locks, gate: &Barrier) {
+    gate.wait(rt);
+    let transaction = locks
+        .begin_with(rt, &[b"a", b"b", b"c"])
+        .expect(rt, "nobody waits for it");
+    same(rt, busy(rt, locks, [b"a", b"b", b"c"]), [true; 3]);
+    commits(rt, transaction);
+}
+
+/// One of two owns a name, and the other one begins with three.
+pub fn begins_asleep<R: Wait + Abort>(rt: &R, locks: &Locks, gate: &Barrier, number: usize) {
+    if number == 0 {
+        owns_one(rt, locks, gate);
+    } else {
+        begins_with_three(rt, locks, gate);
+    }
+}
+
+#[test]
+fn begins_after_a_sleep(rt: HostRuntime) -> Result<(), Fail> {
+    on_locks(&rt, rt.alloc(), Work::BeginsAsleep, 3, 8, 2)
+}
+
 /// Owns `a`, and waits for `b` until the other one, which closes the cycle, is dropped.
 fn waits<R: Wait + Abort>(rt: &R, locks: &Locks, gate: &Barrier) {
-    let mut transaction = locks.begin(rt).expect(rt, "there is room");
-    same(rt, transaction.lock(b"a"), Ok(()));
+    let mut transaction = begin(rt, locks);
+    takes(rt, &mut transaction, b"a");
     gate.wait(rt);
-    same(rt, transaction.lock(b"b"), Ok(()));
-    same(rt, transaction.commit(), Ok(()));
+    takes(rt, &mut transaction, b"b");
+    commits(rt, transaction);
 }
 
 /// Closes the cycle at the second of three names: it keeps the first one until it is dropped, and does not own the third.
 fn closes<R: Wait + Abort>(rt: &R, locks: &Locks, gate: &Barrier) {
-    let mut transaction = locks.begin(rt).expect(rt, "there is room");
-    same(rt, transaction.lock(b"b"), Ok(()));
+    let mut transaction = begin(rt, locks);
+    takes(rt, &mut transaction, b"b");
     gate.wait(rt);
     // Two begins, two locks, a wait.
     await_events(rt, locks, 2 + 2 + 2);

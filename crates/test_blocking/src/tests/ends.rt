@@ -1,5 +1,5 @@
 //! Transactions that end while others wait for what they own.
-use crate::tests::helpers::{await_events, same};
+use crate::tests::helpers::{await_events, begin, commits, gives, same, takes};
 use crate::tests::work::{Work, on_locks};
 use mm_blocking::Locks;
 use std::process::Abort;
@@ -17,9 +17,9 @@ const EVENTS_OF_WAIT: u64 = 2;
 /// Locks a name that another one owns, and commits.
 fn wait_for<R: Wait + Abort>(rt: &R, locks: &Locks, gate: &Barrier, name: &[u8]) {
     gate.wait(rt);
-    let mut transaction = locks.begin(rt).expect(rt, "there is room");
-    same(rt, transaction.lock(name), Ok(()));
-    same(rt, transaction.commit(), Ok(()));
+    let mut transaction = begin(rt, locks);
+    takes(rt, &mut transaction, name);
+    commits(rt, transaction);
 }
 
 /// Owns a name, and is dropped once another one waits for it.
@@ -27,8 +27,8 @@ pub fn own_and_drop<R: Wait + Abort>(rt: &R, locks: &Locks, gate: &Barrier, numb
     if number > 0 {
         return wait_for(rt, locks, gate, b"0");
     }
-    let mut transaction = locks.begin(rt).expect(rt, "there is room");
-    same(rt, transaction.lock(b"0"), Ok(()));
+    let mut transaction = begin(rt, locks);
+    takes(rt, &mut transaction, b"0");
     gate.wait(rt);
     await_events(rt, locks, 3 + EVENTS_OF_WAIT);
     drop(transaction);
@@ -45,13 +45,13 @@ pub fn own_and_unlock<R: Wait + Abort>(rt: &R, locks: &Locks, gate: &Barrier, nu
     if number > 0 {
         return wait_for(rt, locks, gate, b"0");
     }
-    let mut transaction = locks.begin(rt).expect(rt, "there is room");
-    same(rt, transaction.lock(b"0"), Ok(()));
+    let mut transaction = begin(rt, locks);
+    takes(rt, &mut transaction, b"0");
     gate.wait(rt);
     await_events(rt, locks, 3 + EVENTS_OF_WAIT);
-    same(rt, transaction.unlock(b"0"), Ok(()));
-    same(rt, transaction.lock(b"0"), Ok(()));
-    same(rt, transaction.commit(), Ok(()));
+    gives(rt, &mut transaction, b"0");
+    takes(rt, &mut transaction, b"0");
+    commits(rt, transaction);
 }
 
 /// Who gives a name back wakes its waiter, and goes on.
@@ -65,13 +65,13 @@ pub fn own_all<R: Wait + Abort>(rt: &R, locks: &Locks, gate: &Barrier, number: u
     if let Some(name) = NAMES.get(number) {
         return wait_for(rt, locks, gate, *name);
     }
-    let mut transaction = locks.begin(rt).expect(rt, "there is room");
+    let mut transaction = begin(rt, locks);
     for name in &NAMES {
-        same(rt, transaction.lock(*name), Ok(()));
+        takes(rt, &mut transaction, *name);
     }
     gate.wait(rt);
     await_events(rt, locks, 13 + 12 * (1 + EVENTS_OF_WAIT));
-    same(rt, transaction.commit(), Ok(()));
+    commits(rt, transaction);
 }
 
 /// Each of the thirteen has ended.

@@ -1,5 +1,5 @@
 //! What one thread is told that has two transactions, and waits that end by time.
-use crate::tests::helpers::same;
+use crate::tests::helpers::{begin, commits, gives, same, takes};
 use crate::tests::work::{Work, on_locks};
 use mm_blocking::{LockError, Locks};
 use std::process::Abort;
@@ -9,18 +9,18 @@ use std::time::{Clock, Duration};
 
 /// Each refusal of one who does not wait.
 pub fn refusals<R: Wait + Abort>(rt: &R, locks: &Locks) {
-    let mut one = locks.begin(rt).expect(rt, "there is room");
-    let two = locks.begin(rt).expect(rt, "there is room");
+    let mut one = begin(rt, locks);
+    let two = begin(rt, locks);
     same(rt, locks.begin(rt).err(), Some(LockError::TransactionsFull));
     same(rt, one.lock(b""), Err(LockError::NameEmpty));
     same(rt, one.lock(b"nine byte"), Err(LockError::NameTooLong));
     same(rt, one.unlock(b"a"), Err(LockError::NotOwner));
-    same(rt, one.lock(b"a"), Ok(()));
-    same(rt, one.lock(b"a"), Ok(()));
+    takes(rt, &mut one, b"a");
+    takes(rt, &mut one, b"a");
     same(rt, one.lock(b"b"), Err(LockError::NamesFull));
     same(rt, one.try_lock(b"b"), Err(LockError::NamesFull));
-    same(rt, two.commit(), Ok(()));
-    same(rt, one.commit(), Ok(()));
+    commits(rt, two);
+    commits(rt, one);
 }
 
 #[test]
@@ -30,10 +30,10 @@ fn refuses(rt: HostRuntime) -> Result<(), Fail> {
 
 /// A name that another one owns is not had by a try, nor in time. Whoever gave up goes on, and has it once it is given back.
 pub fn tries<R: Wait + Clock + Abort>(rt: &R, locks: &Locks) {
-    let mut owner = locks.begin(rt).expect(rt, "there is room");
-    let mut other = locks.begin(rt).expect(rt, "there is room");
+    let mut owner = begin(rt, locks);
+    let mut other = begin(rt, locks);
     let short = Duration::from_millis(2);
-    same(rt, owner.lock(b"a"), Ok(()));
+    takes(rt, &mut owner, b"a");
     same(rt, other.lock_for(b"b", short), Ok(()));
     same(rt, other.try_lock(b"a"), Ok(false));
     same(rt, other.lock_for(b"a", short), Err(LockError::TimedOut));
@@ -43,12 +43,12 @@ pub fn tries<R: Wait + Clock + Abort>(rt: &R, locks: &Locks) {
         Err(LockError::TimedOut),
     );
     same(rt, owner.try_lock(b"b"), Ok(false));
-    same(rt, owner.unlock(b"a"), Ok(()));
+    gives(rt, &mut owner, b"a");
     same(rt, other.try_lock(b"a"), Ok(true));
     same(rt, owner.lock_for(b"b", short), Err(LockError::TimedOut));
     drop(other);
     same(rt, owner.lock_for(b"b", short), Ok(()));
-    same(rt, owner.commit(), Ok(()));
+    commits(rt, owner);
 }
 
 #[test]

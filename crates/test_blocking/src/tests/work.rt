@@ -28,6 +28,7 @@ pub enum Work {
     Dropped,
     StopsAtRefusal,
     GoesOnAfterSleeps,
+    BeginsAsleep,
     StopsAtDeadlock,
     OwnerIsDropped,
     OwnerUnlocks,
@@ -57,6 +58,7 @@ impl Work {
             Work::Dropped => dropped::drop_at_each(rt, locks),
             Work::StopsAtRefusal => each::stops(rt, locks),
             Work::GoesOnAfterSleeps => each::goes_on(rt, locks, gate, number),
+            Work::BeginsAsleep => each::begins_asleep(rt, locks, gate, number),
             Work::StopsAtDeadlock => each::closes_a_cycle(rt, locks, gate, number),
             Work::OwnerIsDropped => ends::own_and_drop(rt, locks, gate, number),
             Work::OwnerUnlocks => ends::own_and_unlock(rt, locks, gate, number),
@@ -82,6 +84,7 @@ impl Work {
             | Work::Dropped
             | Work::StopsAtRefusal
             | Work::GoesOnAfterSleeps
+            | Work::BeginsAsleep
             | Work::OwnerIsDropped
             | Work::OwnerUnlocks
             | Work::Refusals

@@ -151,8 +151,34 @@ fn none_fell(rt: &impl Abort, seen: &Seen, made: Made) {
     same(rt, made.report.verdicts, made.report.aborts);
 }
 
-/// Lets the reader read with the second pass and the others make deadlocks with the first, and returns what these made. The reader is given
-/// the labels that it reads at first.
+/// Lets the reader read with the second pass and the others make deadlocks with the first, and returns what these made.
+fn work_beside_reader<
+    N: Name + Send + Sync,
+    A: Ledger + Send + Sync,
+    V: Ledger + Send + Sync,
+    B: Ledger + Send + Sync,
+    R: Threads + Wait + Abort + Sync,
+>(
+    rt: &R,
+    alloc: Global,
+    table: &SharedTable<N, A, V, B>,
+    pass: &mut Pass<N, A, V, B>,
+    other: &mut Pass<N, A, V, B>,
+    seen: &mut Seen,
+) -> Result<Made, AllocError> {
+    let signals = &Signals {
+        enough: AtomicBool::new(false),
+        done: AtomicBool::new(false),
+    };
+    let ((), made) = join(
+        rt,
+        || read_often(table, other, seen, signals),
+        || work_until_enough(rt, alloc, table, pass, signals),
+    );
+    made
+}
+
+/// The same, by a reader that is given the labels that it reads at first. Ends the test unless it saw none fall.
 pub fn read_beside_deadlocks<
     N: Name + Send + Sync,
     A: Ledger + Send + Sync,
@@ -172,18 +198,11 @@ pub fn read_beside_deadlocks<
         falls: 0,
         reads: 0,
     };
-    let signals = &Signals {
-        enough: AtomicBool::new(false),
-        done: AtomicBool::new(false),
-    };
-    let ((), made) = join(
-        rt,
-        || read_often(table, other, &mut seen, signals),
-        || work_until_enough(rt, alloc, table, pass, signals),
-    );
-    let made = made?;
-    none_fell(rt, &seen, made);
-    Ok(made)
+    let made = work_beside_reader(rt, alloc, table, pass, other, &mut seen);
+    if let Ok(made) = &made {
+        none_fell(rt, &seen, *made);
+    }
+    made
 }
 
 // What each read gives is proved: no label is below the one before. The test shows that the program that was built does it.
