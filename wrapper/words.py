@@ -6,7 +6,7 @@ from dataclasses import dataclass, field
 
 U64_MOST = 2**64 - 1
 # each number of a subcommand, with its range
-STORM_NUMBERS = {"seed": (0, U64_MOST), "clients": (1, 64), "transmitters": (0, 64), "resources": (1, 65536), "acquires": (1, 256)}
+STORM_NUMBERS = {"seed": (0, U64_MOST), "clients": (1, 64), "transmitters": (0, 64), "resources": (1, 65536), "acquires": (1, 256), "transactions": (1, 1000000)}
 LOCKS_NUMBERS = {"transactions": (1, 65536), "names": (1, 65536), "name-bytes": (1, 1024), "seed": (0, U64_MOST)}
 NONE_USAGE = "mmdetect [COMMAND]"
 SCRIPT_USAGE = "mmdetect script [OPTIONS]"

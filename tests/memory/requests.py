@@ -94,6 +94,8 @@ def storms(cases, scratch, program):
     all_in_turn(cases, scratch, "storm", [program, "storm"], ends_of(8))
     command = [program, "storm", "--clients", "16", "--transmitters", "0", "--seed", "7"]
     all_in_turn(cases, scratch, "storm of 16 clients", command, ends_of(16))
+    command = [program, "storm", "--clients", "4", "--resources", "2", "--acquires", "3", "--transactions", "5"]
+    all_in_turn(cases, scratch, "storm of several transactions", command, ends_of(4 * 5))
 
 
 # Two transactions that lock names and deadlock, one whose abort comes later, and each request that reads.

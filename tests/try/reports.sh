@@ -15,10 +15,11 @@ sys.exit(not (text.endswith("}\n") and eval(sys.argv[3])))
 PYTHON
 }
 
-# its_lines: the report has the numbers of the two lines, and of its clients, and no more aborts than waits
+# its_lines: the report has the numbers of the two lines, and of its clients and their transactions, and no more aborts than waits
 its_lines() {
   told 'o == [ends["finished"], ends["aborted"], ends["spent"], ends["refused"], totals["verdicts"], totals["aborts"]]'
-  told 'sum(ends.values()) == r["workload"]["clients"] and totals["aborts"] <= r["waits"] <= totals["accepted"] >= r["raises"]'
+  told 'sum(ends.values()) == r["workload"]["clients"] * r["source"].get("transactions", 1) and ends["aborted"] == totals["aborts"]'
+  told 'totals["aborts"] <= r["waits"] <= totals["accepted"] >= r["raises"]'
   told '0 < r["seconds"] < 600'
 }
 
@@ -51,16 +52,26 @@ reported 5 threads "$work/workload"
 told 'ends == {"finished": 0, "aborted": 0, "spent": 1, "refused": 1}'
 
 reported 0 storm
-told 'r["source"] == {"command": "storm", "seed": 1, "resources": 8, "acquires": 4}'
+told 'r["source"] == {"command": "storm", "seed": 1, "resources": 8, "acquires": 4, "transactions": 1}'
 told 'r["workload"] == {"clients": 8, "transmitters": 2, "turns": 10000000, "processes": 8, "resources": 8, "label_limit": 1000000000, "generation_limit": 9}'
 reported 0 storm --seed 18446744073709551615 --clients 1 --transmitters 0
 told 'r["source"]["seed"] == 18446744073709551615 and r["waits"] == 0 and r["raises"] == 0'
 reported 0 storm --seed 7 -v
 reports "storm: clients 8, transmitters 2, turns of each 10000000"
 reported 0 storm --seed 3 --clients 32 --transmitters 4 --resources 2 --acquires 2
-told 'r["source"] == {"command": "storm", "seed": 3, "resources": 2, "acquires": 2} and r["workload"]["resources"] == 2'
+told 'r["source"] == {"command": "storm", "seed": 3, "resources": 2, "acquires": 2, "transactions": 1} and r["workload"]["resources"] == 2'
 reported 0 storm --clients 64 --transmitters 64 --resources 65536 --acquires 256
 told 'r["workload"]["resources"] == 65536'
+
+# Several transactions a client: each of them has an end, and no limit of the table is in the way.
+reported 0 storm --seed 3 --clients 8 --resources 2 --acquires 3 --transactions 3
+told 'r["source"] == {"command": "storm", "seed": 3, "resources": 2, "acquires": 3, "transactions": 3}'
+told 'r["workload"] == {"clients": 8, "transmitters": 2, "turns": 10000000, "processes": 8, "resources": 2, "label_limit": 17592186044415, "generation_limit": 4294967295}'
+told 'ends["finished"] + ends["aborted"] == 24 and totals["verdicts"] == totals["aborts"] == ends["aborted"]'
+reported 0 storm --clients 64 --transmitters=0 --resources 3 --acquires 4 --transactions 100 --verbose
+told 'ends["finished"] + ends["aborted"] == 6400 and totals["verdicts"] == totals["aborts"] == ends["aborted"]'
+reported 0 storm --clients 1 --transmitters 0 --resources 1 --acquires 1 --transactions 1000000
+told 'ends["finished"] == 1000000 and totals["accepted"] == 3000000 and r["waits"] == 0'
 
 case_is "a report of a name with a space and an equals sign"
 run storm "--report=$work/a report" > "$work/out" 2> "$work/err"
@@ -114,22 +125,26 @@ status=$?
 ends 1 "malformed workload" "$work/workload: the file is not a JSON object" "$status"
 
 # A storm of another shape: what it acquires is computed by tests/storm_table anew.
-while read -r seed resources acquires; do
-  case_is "the calls of a storm of $resources resources and $acquires acquires"
+while read -r seed resources acquires transactions; do
+  case_is "the calls of a storm of $resources resources, $acquires acquires and $transactions transactions"
   rm -f "$work/report"
-  run storm --clients 1 --transmitters 0 --seed "$seed" --resources "$resources" --acquires "$acquires" --report "$work/report" > "$work/out" 2> "$work/err"
+  run storm --clients 1 --transmitters 0 --seed "$seed" --resources "$resources" --acquires "$acquires" --transactions "$transactions" --report "$work/report" > "$work/out" 2> "$work/err"
   status=$?
   ends 0 "$(cat "$work/out")" "" "$status"
-  told "totals['accepted'] == 2 + $(tests/storm_table "$seed" "$resources" "$acquires")"
+  told "totals['accepted'] == 2 * $transactions + $(tests/storm_table "$seed" "$resources" "$acquires" "$transactions")"
 done << 'ROWS'
-1 8 4
-1 8 256
-2 1 256
-3 65536 256
-4 100 17
-5 2 1
-6 65536 1
-18446744073709551615 3 2
+1 8 4 1
+1 8 256 1
+2 1 256 1
+3 65536 256 1
+4 100 17 1
+5 2 1 1
+6 65536 1 1
+18446744073709551615 3 2 1
+1 8 4 2
+2 1 256 3
+3 65536 256 10
+18446744073709551615 3 2 1000
 ROWS
 case_is "a storm without options is that of the usual numbers"
 run storm --verbose --clients 1 --transmitters 0 > "$work/out" 2> "$work/err"
@@ -139,15 +154,30 @@ run storm --verbose --clients 1 --transmitters 0 --resources 8 --acquires 4 > "$
 ends 0 "$(cat "$work/out2")" "$(cat "$work/err")" $status
 same "accepted calls" "$(cat "$work/accepted")" "$(sed -n 's/.*calls accepted //p' "$work/err2")"
 
+# told_alone WORDS..: all that is told of a storm of one client, but for the time, which is all that differs from run to run
+told_alone() {
+  rm -f "$work/report"
+  run storm --clients 1 --transmitters 0 --verbose --report "$work/report" "$@" > "$work/out" 2> "$work/err"
+  same status 0 $?
+  sed 's/^took [0-9.]* s/took/; /"seconds": /d' "$work/out" "$work/err" "$work/report" > "$work/told"
+}
+
+case_is "storm --transactions 1 is a storm without the option"
+told_alone
+cp "$work/told" "$work/told2"
+told_alone --transactions 1
+same "what is told" "$(cat "$work/told2")" "$(cat "$work/told")"
+
 for words in "--resources 0" "--resources 65537" "--acquires 0" "--acquires 257" "--resources" "--resources x" "--acquires -1" \
-  "--acquires 4 --acquires 4" "--report" "--report a --report b"; do
+  "--acquires 4 --acquires 4" "--transactions 0" "--transactions 1000001" "--transactions" "--transactions x" "--transactions -1" \
+  "--transactions 2 --transactions 2" "--report" "--report a --report b"; do
   case_is "storm $words"
   read -ra words <<< "storm $words"
   run "${words[@]}" > "$work/out" 2> "$work/err"
   status=$?
   ends 2 "" some "$status"
 done
-for words in "--resources 8" "--report" "--report a --report b"; do
+for words in "--resources 8" "--transactions 2" "--report" "--report a --report b"; do
   case_is "threads $words"
   read -ra words <<< "threads $words examples/workloads/crosswise.json"
   run "${words[@]}" > "$work/out" 2> "$work/err"

@@ -10,7 +10,7 @@ as_unbuilt() {
 }
 
 # Help goes to standard output.
-for line in --help -h help "script --help" "script -h" "script -v --help" "help script" "threads --help" "storm -h" "help storm" "locks --help" "locks --names 2 -h" "help locks" "help help" "threads a -h" "explain -h" "help explain" "explain x --dot --help" "threads --report a -h" "storm --report=a --acquires 2 --help"; do
+for line in --help -h help "script --help" "script -h" "script -v --help" "help script" "threads --help" "storm -h" "help storm" "locks --help" "locks --names 2 -h" "help locks" "help help" "threads a -h" "explain -h" "help explain" "explain x --dot --help" "threads --report a -h" "storm --report=a --acquires 2 --help" "storm --transactions 2 -h"; do
   read -ra words <<< "$line"
   case_is "$line"
   run "${words[@]}" < "$work/script" > "$work/out" 2> "$work/err"
@@ -69,7 +69,7 @@ for line in fly --fly -x - "script extra" "script script" "script --fly" "script
   Script scrip prove threads "threads a b" "threads --fly a" "threads -v -v a" --verbose "-- x" "storm extra" "storm --clients 0" \
   "storm --clients 65" "storm --clients" "storm --clients -1" "storm --transmitters 65" "storm --seed 18446744073709551616" \
   "storm --seed x" "storm --seed=" "storm --seed -1" "storm --clients 8 --clients 8" "storm --verbose --verbose" "storm --resources 0" \
-  "storm --resources=65537" "storm --acquires 257" "storm --acquires 0" "storm --report" "storm --report a --report b" "storm --report -v" \
+  "storm --resources=65537" "storm --acquires 257" "storm --acquires 0" "storm --transactions 0" "storm --transactions 1000001" "storm --transactions" "storm --transactions=x" "storm --transaction 3" "storm --report" "storm --report a --report b" "storm --report -v" \
   "threads -v" "threads -v --report a" "threads --report a -v" "threads a --verbos" "threads --hel a" "threads a --reporty=3" "storm --seed -v" "storm --seed --clients 3" \
   "storm --clint 3" "storm --hel" "storm --xyz" "locks --name 3" "explain --merm" "explain --al x" "explain --at --dot" "threads a --report" "threads --report a --report=b c" "threads --report a" "threads a --resources 8" \
   "explain a b" "explain --fly" "explain --at" "explain --at 0" "explain --at x" "explain --at 1 --at 2" "explain --dot --dot" "explain --dot=yes"; do

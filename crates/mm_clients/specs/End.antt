@@ -24,3 +24,9 @@ is_spent e = false
 abbrev pub is_refused : End → Bool
 is_refused (Refused number) = true
 is_refused e = false
+
+-- another transaction may follow one that ends so
+abbrev pub ends_well : End → Bool
+ends_well Finished = true
+ends_well Aborted = true
+ends_well e = false

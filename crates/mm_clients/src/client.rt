@@ -1,19 +1,21 @@
-//! A client runs one transaction.
-ghost use Rattle.std.specs.Prelude.{◌≡◌, ◌+◌, false, IfErr};
-ghost use Rattle.mm_clients.specs.End.{is_aborted, aborts_of};
+//! A client runs transactions, one after another.
+ghost use Rattle.std.specs.Prelude.{◌≡◌, ◌+◌, ◌<◌, false, true, IfErr};
+ghost use Rattle.mm_clients.specs.End.{is_aborted, aborts_of, ends_well};
 
+use crate::earlier::{ClientEnds, Earlier};
 use crate::end::End;
 use crate::gate::Gate;
 use crate::steps::Steps;
 use mm_shared::{Acquired, Detected, Key, Refusal};
-use mm_workload::WorkStep;
+use mm_workload::{Coming, WorkStep};
 use std::marker::Model;
 use std::thread;
 
-/// A worker that runs one transaction: it begins, makes its steps in order, and finishes, or is aborted where it gets a verdict.
+/// A worker that runs a transaction, and then perhaps others: it begins, makes its steps in order, and finishes, or is aborted where it gets
+/// a verdict.
 ///
-/// Each asking at the gate, each try at `begin` and each round of waiting uses one of its turns. Where it needs one and all are used, it
-/// ends `Spent` and calls the table no more: what it owns then stays owned. A contract sees it as its table.
+/// Each asking at the gate, each try at `begin` and each round of waiting uses one of the turns, which each transaction has anew. Where it
+/// needs one and all are used, it ends `Spent` and calls the table no more: what it owns then stays owned. A contract sees it as its table.
 #[derive(Drop)]
 pub struct Client<S: Steps + Drop, G: Gate + Drop> {
     steps: S,
@@ -72,6 +74,51 @@ impl<S: Steps + Drop, G: Gate + Drop> Client<S, G> {
         let end = self.transaction();
         self.gate.leave();
         end
+    }
+
+    /// Runs the transaction, and then each of these where the one before it finished or was aborted, and leaves the gate last. Each makes
+    /// its calls as `run` does, with all turns, and one abort exactly where it ends `Aborted`, and else none. Takes memory where the steps
+    /// of the first one have no room for others; a transaction for which that is refused ends as `Refused` in place of its begin.
+    pub fn run_all(&mut self, coming: &mut Coming) -> ClientEnds
+        ensures aborts { (S.shares self.new).aborts ≡ (S.shares self.old).aborts + result.earlier.aborted + aborts_of result.last }
+        ensures parts { (S.shares self.new).parts ≡ (S.shares self.old).parts }
+        ensures few { result.earlier.finished + result.earlier.aborted < 1000000 }
+        ensures all { ends_well result.last ≡ true → result.earlier.finished + result.earlier.aborted + 1 ≡ coming.old.shape.transactions }
+    {
+        let ends = self.transactions(coming);
+        self.gate.leave();
+        ends
+    }
+
+    /// The transactions, from the begin of the first one to the end of the last one.
+    fn transactions(&mut self, coming: &mut Coming) -> ClientEnds
+        ensures aborts { (S.shares self.new).aborts ≡ (S.shares self.old).aborts + result.earlier.aborted + aborts_of result.last }
+        ensures parts { (S.shares self.new).parts ≡ (S.shares self.old).parts }
+        ensures few { result.earlier.finished + result.earlier.aborted < 1000000 }
+        ensures all { ends_well result.last ≡ true → result.earlier.finished + result.earlier.aborted + 1 ≡ coming.old.shape.transactions }
+    {
+        let turns = self.turns;
+        let mut earlier = Earlier::NONE;
+        let mut last = self.transaction();
+        for _more in 0..coming.count() {
+            if !earlier.count(last) {
+                return ClientEnds { earlier, last };
+            }
+            last = self.next(coming, turns);
+        }
+        ClientEnds { earlier, last }
+    }
+
+    /// The next one of these transactions, with so many turns.
+    fn next(&mut self, coming: &mut Coming, turns: u64) -> End
+        ensures aborts { (S.shares self.new).aborts ≡ (S.shares self.old).aborts + aborts_of result }
+        ensures parts { (S.shares self.new).parts ≡ (S.shares self.old).parts }
+    {
+        if coming.draw(&mut self.work).is_err() {
+            return End::Refused(Refusal::Memory.number());
+        }
+        self.turns = turns;
+        self.transaction()
     }
 
     /// The transaction, from its begin to its end.

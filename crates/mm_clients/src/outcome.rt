@@ -1,7 +1,8 @@
 //! What came of a workload, and the two lines that say so.
-ghost use Rattle.std.specs.Prelude.{◌≡◌, count_by};
+ghost use Rattle.std.specs.Prelude.{◌≡◌, ◌+◌, count_by};
 ghost use Rattle.mm_clients.specs.End.{is_finished, is_aborted, is_spent, is_refused};
 
+use crate::earlier::Earlier;
 use crate::end::End;
 use crate::tally::Tally;
 use mm_shared::Report;
@@ -11,8 +12,10 @@ use std::fmt::{Display, Formatter};
 /// What came of a workload.
 #[derive(Debug, Drop)]
 pub struct Outcome {
-    /// How each client ended, in the order of the clients.
+    /// How the last transaction of each client ended, in the order of the clients.
     pub ends: Vec<End>,
+    /// How the transactions before these ended, of all clients.
+    pub earlier: Earlier,
     /// What the table counted.
     pub report: Report,
 }
@@ -25,7 +28,7 @@ pub struct TalliedOutcome {
     pub tally: Tally,
 }
 
-/// How many clients ended in each way.
+/// How many transactions of clients ended in each way.
 #[derive(Clone, Copy, Debug, PartialEq, Eq)]
 pub struct EndCounts {
     pub finished: usize,
@@ -35,26 +38,26 @@ pub struct EndCounts {
 }
 
 impl Outcome {
-    /// Returns how many clients ended in each way. `O(clients)`.
+    /// Returns how many transactions ended in each way, of all clients. `O(clients)`.
     pub fn counted(&self) -> EndCounts
-        ensures finished { result.finished ≡ count_by is_finished self.now.ends.items }
-        ensures aborted { result.aborted ≡ count_by is_aborted self.now.ends.items }
+        ensures finished { result.finished ≡ count_by is_finished self.now.ends.items + self.now.earlier.finished }
+        ensures aborted { result.aborted ≡ count_by is_aborted self.now.ends.items + self.now.earlier.aborted }
         ensures spent { result.spent ≡ count_by is_spent self.now.ends.items }
         ensures refused { result.refused ≡ count_by is_refused self.now.ends.items }
     {
-        count_of(self.ends.as_slice())
+        count_of(self.ends.as_slice(), self.earlier)
     }
 }
 
-fn count_of(ends: &[End]) -> EndCounts
-    ensures finished { result.finished ≡ count_by is_finished ends.now }
-    ensures aborted { result.aborted ≡ count_by is_aborted ends.now }
+fn count_of(ends: &[End], earlier: Earlier) -> EndCounts
+    ensures finished { result.finished ≡ count_by is_finished ends.now + earlier.finished }
+    ensures aborted { result.aborted ≡ count_by is_aborted ends.now + earlier.aborted }
     ensures spent { result.spent ≡ count_by is_spent ends.now }
     ensures refused { result.refused ≡ count_by is_refused ends.now }
 {
     let mut counted = EndCounts {
-        finished: 0,
-        aborted: 0,
+        finished: earlier.finished as usize,
+        aborted: earlier.aborted as usize,
         spent: 0,
         refused: 0,
     };
@@ -69,7 +72,7 @@ fn count_of(ends: &[End]) -> EndCounts
     counted
 }
 
-/// Two lines: how many clients ended in each way, and how many verdicts and aborts the table counted. No newline follows the second.
+/// Two lines: how many transactions of clients ended in each way, and how many verdicts and aborts the table counted. No newline follows the second.
 impl Display for Outcome {
     fn fmt<W: fmt::Write>(&self, f: &mut Formatter<W>) -> fmt::Result {
         let EndCounts {

@@ -68,9 +68,14 @@ resources_rule = number_rule (codes "resources") 1 MAX_RESOURCES (codes "8")
 abbrev pub acquires_rule : Rule
 acquires_rule = number_rule (codes "acquires") 1 MAX_ACQUIRES (codes "4")
 
+abbrev pub storm_transactions_rule : Rule
+storm_transactions_rule = number_rule (codes "transactions") 1 1000000 (codes "1")
+
 -- the options that give a storm its numbers
 abbrev pub storm_numbers_app : App
-storm_numbers_app = with_rule (with_rule (with_rule (with_rule (with_rule (new_app (codes "storm")) seed_rule) clients_rule) transmitters_rule) resources_rule) acquires_rule
+storm_numbers_app =
+    with_rule (with_rule (with_rule (with_rule (with_rule (with_rule (new_app (codes "storm")) seed_rule) clients_rule) transmitters_rule) resources_rule) acquires_rule)
+    storm_transactions_rule
 
 abbrev pub storm_app : App
 storm_app = with_rule (with_rule storm_numbers_app report_rule) verbose_rule
@@ -172,9 +177,9 @@ HasNumber name low high rows = (text : Text) × (one_of name rows ≡ Some text)
 abbrev pub HasWorkers : List Row → Type 0
 HasWorkers rows = HasNumber (codes "seed") 0 18446744073709551615 rows × HasNumber (codes "clients") 1 MAX_CLIENTS rows × HasNumber (codes "transmitters") 0 MAX_TRANSMITTERS rows
 
--- they have the numbers of what its clients acquire
+-- they have the numbers of what its clients do
 abbrev pub HasShape : List Row → Type 0
-HasShape rows = HasNumber (codes "resources") 1 65536 rows × HasNumber (codes "acquires") 1 256 rows
+HasShape rows = HasNumber (codes "resources") 1 65536 rows × HasNumber (codes "acquires") 1 256 rows × HasNumber (codes "transactions") 1 1000000 rows
 
 -- they have the numbers of a generated workload
 abbrev pub HasNumbers : List Row → Type 0

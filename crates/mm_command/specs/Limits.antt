@@ -1,4 +1,4 @@
--- The limits that a lock service can have, and those of what the clients of a storm acquire.
+-- The limits that a lock service can have, and those of what the clients of a storm do.
 use Rattle.std.specs.Prelude.{ℕ, ◌≤◌}
 use Rattle.mm_limits.specs.declared.TheConstants.{MAX_NAMES, MAX_NAME_BYTES, MAX_PROCESSES}
 
@@ -8,7 +8,8 @@ pub record AreLimits (transactions names name_bytes : ℕ) : Type 0 where
   pub few_names : (1 ≤ names) × (names ≤ MAX_NAMES)
   pub short_names : (1 ≤ name_bytes) × (name_bytes ≤ MAX_NAME_BYTES)
 
--- how many resources there are, and how many words give a client a resource at most
-pub record AreShape (resources acquires : ℕ) : Type 0 where
+-- how many resources there are, how many words give a transaction a resource at most, and how many transactions each client makes
+pub record AreShape (resources acquires transactions : ℕ) : Type 0 where
   pub some_resources : (1 ≤ resources) × (resources ≤ 65536)
   pub some_acquires : (1 ≤ acquires) × (acquires ≤ 256)
+  pub some_transactions : (1 ≤ transactions) × (transactions ≤ 1000000)

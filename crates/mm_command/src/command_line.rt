@@ -19,7 +19,9 @@ pub use explain::ExplainOptions;
 use explain::{file_of, options_of};
 use mm_limits::{MAX_NAME_BYTES, MAX_NAMES, MAX_PROCESSES};
 pub use options::{LocksOptions, StormOptions};
-use program::{MAX_ACQUIRES, MAX_CLIENTS, MAX_RESOURCES, MAX_TRANSMITTERS, command};
+use program::{
+    MAX_ACQUIRES, MAX_CLIENTS, MAX_RESOURCES, MAX_TRANSACTIONS, MAX_TRANSMITTERS, command,
+};
 use std::alloc::{AllocError, Global};
 use std::convert::AsStr;
 use std::{env, io};
@@ -202,7 +204,7 @@ fn storm(alloc: Global, own: &ArgMatches<'_>) -> Result<Request, AllocError>
     if clients == 0 || clients > MAX_CLIENTS || transmitters > MAX_TRANSMITTERS {
         return wrong(alloc, "a number is out of range");
     }
-    let Some((resources, acquires)) = shape(own) else {
+    let Some((resources, acquires, transactions)) = shape(own) else {
         return wrong(alloc, "a number is missing or out of range");
     };
     Ok(Request::Storm {
@@ -212,34 +214,39 @@ fn storm(alloc: Global, own: &ArgMatches<'_>) -> Result<Request, AllocError>
             transmitters,
             resources,
             acquires,
+            transactions,
         },
         report: report(alloc, own)?,
         verbose: own.get_flag("verbose"),
     })
 }
 
-/// How many resources a storm has, and how many words give a client one, where both are in their ranges.
-fn shape(own: &ArgMatches<'_>) -> Option<(u32, u32)>
+/// How many resources a storm has, how many words give a transaction one, and how many transactions a client makes, where all are in their
+/// ranges.
+fn shape(own: &ArgMatches<'_>) -> Option<(u32, u32, u32)>
     ensures some { HasShape (rows_of (found_of own.now)) → IsSome result }
-    ensures in_range { IfSome result (λ shape. AreShape shape.0 shape.1) }
+    ensures in_range { IfSome result (λ shape. AreShape shape.0 shape.1 shape.2) }
 {
-    let (Some(resources), Some(acquires)) = (
+    let (Some(resources), Some(acquires), Some(transactions)) = (
         own.get_one::<u32>("resources"),
         own.get_one::<u32>("acquires"),
+        own.get_one::<u32>("transactions"),
     ) else {
         return None;
     };
-    if !are_shape(resources, acquires) {
+    if !are_shape(resources, acquires, transactions) {
         return None;
     }
-    Some((resources, acquires))
+    Some((resources, acquires, transactions))
 }
 
-/// Whether a storm can have so many resources, and so many words that give a client one.
-fn are_shape(resources: u32, acquires: u32) -> bool
-    ensures { IsTrue result ↔ AreShape resources acquires }
+/// Whether a storm can have so many resources, so many words that give a transaction one, and so many transactions of each client.
+fn are_shape(resources: u32, acquires: u32, transactions: u32) -> bool
+    ensures { IsTrue result ↔ AreShape resources acquires transactions }
 {
-    (1..=MAX_RESOURCES).contains(&resources) && (1..=MAX_ACQUIRES).contains(&acquires)
+    (1..=MAX_RESOURCES).contains(&resources)
+        && (1..=MAX_ACQUIRES).contains(&acquires)
+        && (1..=MAX_TRANSACTIONS).contains(&transactions)
 }
 
 fn locks(alloc: Global, own: &ArgMatches<'_>) -> Result<Request, AllocError>

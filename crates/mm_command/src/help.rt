@@ -112,8 +112,9 @@ A refused call changes nothing and has the reply 'refused N Name':
   15 CountsExhausted  the accepted events or the verdicts are 2 to the 62
   The number 12 is of a call that scripts do not have.
 
-A workload is run by threads, each client one transaction. When all have
-ended, two lines are printed:
+A workload is run by threads, each client one transaction, or as many as
+'storm --transactions' asks for. When all have ended, two lines are printed,
+the first of which counts all transactions:
   clients finished F aborted A spent S refused X
   table verdicts V aborts B
 

@@ -213,6 +213,7 @@ fn source_of(options: StormOptions) -> Source<'static> {
         seed: options.seed,
         resources: options.resources,
         acquires: options.acquires,
+        transactions: options.transactions,
     }
 }
 

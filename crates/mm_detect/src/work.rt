@@ -50,11 +50,12 @@ pub fn storm_on<R: Threads + Wait + Sync, W: Write>(
 
 /// The workload that is generated from these numbers.
 pub fn generated(alloc: Global, options: StormOptions) -> Result<Workload, WorkFault>
-    ensures { MatchResult result (λ work. work ≡ storm_with (record { resources = options.resources; acquires = options.acquires }) options.seed options.clients options.transmitters) (λ fault. fault ≡ Memory) }
+    ensures { MatchResult result (λ work. work ≡ storm_with (record { resources = options.resources; acquires = options.acquires; transactions = options.transactions }) options.seed options.clients options.transmitters) (λ fault. fault ≡ Memory) }
 {
     let shape = StormShape {
         resources: options.resources,
         acquires: options.acquires,
+        transactions: options.transactions,
     };
     shaped_storm(
         alloc,

@@ -1,5 +1,6 @@
 -- What a report holds of the outcome of a run.
-use Rattle.std.specs.Prelude.{◌≡◌, List, length, count_by}
+use Rattle.std.specs.Prelude.{◌≡◌, ◌+◌, List, length, count_by}
+use Rattle.mm_clients.specs.declared.earlier.Earlier.{Earlier}
 use Rattle.mm_clients.specs.declared.end.End.{End}
 use Rattle.mm_clients.specs.End.{is_finished, is_aborted, is_spent, is_refused}
 use Rattle.mm_shared.specs.declared.close.Report.{Report}
@@ -8,12 +9,12 @@ use Rattle.mm_report.specs.declared.report.Ends.{Ends}
 use Rattle.mm_report.specs.declared.report.Numbers.{Numbers}
 use Rattle.mm_report.specs.declared.report.Totals.{Totals}
 
--- how many of the ends are of each kind
-pub record AreEnds (all : List End) (ends : Ends) : Type 0 where
-  pub finished : ends.finished ≡ count_by is_finished all
-  pub aborted : ends.aborted ≡ count_by is_aborted all
-  pub spent : ends.spent ≡ count_by is_spent all
-  pub refused : ends.refused ≡ count_by is_refused all
+-- how many of the last ends of clients, and of those before them, are of each kind
+pub record AreEnds (last : List End) (earlier : Earlier) (ends : Ends) : Type 0 where
+  pub finished : ends.finished ≡ count_by is_finished last + earlier.finished
+  pub aborted : ends.aborted ≡ count_by is_aborted last + earlier.aborted
+  pub spent : ends.spent ≡ count_by is_spent last
+  pub refused : ends.refused ≡ count_by is_refused last
 
 -- what the table counted
 pub record AreTotals (report : Report) (totals : Totals) : Type 0 where

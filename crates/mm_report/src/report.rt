@@ -16,7 +16,7 @@ pub struct RunReport<'a> {
     pub source: Source<'a>,
     /// The workload's numbers.
     pub workload: Numbers,
-    /// How many clients ended in each way.
+    /// How many transactions of clients ended in each way.
     pub ends: Ends,
     /// What the table counted.
     pub totals: Totals,
@@ -40,7 +40,7 @@ pub struct Numbers {
     pub generation_limit: u32,
 }
 
-/// How many clients ended in each way.
+/// How many transactions of clients ended in each way.
 #[derive(Clone, Copy, Drop, Serialize)]
 pub struct Ends {
     pub finished: usize,
@@ -66,7 +66,7 @@ pub fn report_of<'a>(
 ) -> RunReport<'a>
     ensures source { result.source ≡ source.entry }
     ensures workload { AreNumbers work.now result.workload }
-    ensures ends { AreEnds ran.now.outcome.ends.items result.ends }
+    ensures ends { AreEnds ran.now.outcome.ends.items ran.now.outcome.earlier result.ends }
     ensures totals { AreTotals ran.now.outcome.report result.totals }
     ensures waits { result.waits ≡ ran.now.tally.waits }
     ensures raises { result.raises ≡ ran.now.tally.raises }
@@ -109,7 +109,7 @@ fn totals_of(outcome: &Outcome) -> Totals
 }
 
 fn ends_of(outcome: &Outcome) -> Ends
-    ensures { AreEnds outcome.now.ends.items result }
+    ensures { AreEnds outcome.now.ends.items outcome.now.earlier result }
 {
     let counted = outcome.counted();
     Ends {

@@ -15,6 +15,7 @@ pub enum Source<'a> {
         seed: u64,
         resources: u32,
         acquires: u32,
+        transactions: u32,
     },
 }
 

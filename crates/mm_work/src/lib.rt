@@ -4,9 +4,11 @@
 
 pub use mm_script::{ScriptFault, run_script};
 pub use mm_workers::{
-    Client, Counts, Desk, End, EndCounts, Gate, Hint, HintKind, Outcome, Report, SharedGate, Steps,
-    TalliedOutcome, Tally, Transmitter, run_tallied, run_threads, shared_gates,
+    Client, ClientEnds, Counts, Desk, Earlier, End, EndCounts, Gate, Hint, HintKind, Outcome,
+    Report, SharedGate, Steps, TalliedOutcome, Tally, Transmitter, run_tallied, run_threads,
+    shared_gates,
 };
 pub use mm_workload::{
-    Config, Place, StepFault, StormShape, WorkFault, WorkStep, Workload, shaped_storm, storm,
+    Coming, Config, Place, StepFault, StormShape, WorkFault, WorkStep, Workload, shaped_storm,
+    storm,
 };

@@ -1,13 +1,13 @@
 //! What a worker's thread takes along, and what it gives back. Of a thread's result a proof knows what its type says, so each of these
 //! keeps its facts by its type.
-ghost use Rattle.std.specs.Prelude.{◌≡◌, ◌<◌};
+ghost use Rattle.std.specs.Prelude.{◌≡◌, ◌+◌, ◌<◌};
 ghost use Rattle.mm_shared.specs.Shares.{less_parts};
 ghost use Rattle.mm_clients.specs.End.{aborts_of};
 
 use crate::desk::Desk;
-use mm_clients::{Client, End, Gate, Tally, Transmitter};
+use mm_clients::{Client, ClientEnds, Gate, Tally, Transmitter};
 use mm_shared::{Name, Pass, SharedTable};
-use mm_workload::WorkStep;
+use mm_workload::{Coming, WorkStep};
 use std::sync::Wait;
 use std::sync::ledger::Ledger;
 
@@ -19,10 +19,11 @@ pub trait Job: Drop {
     fn run(self) -> Self::Gives;
 }
 
-/// A client whose pass has one part, and has counted no abort.
+/// A client whose pass has one part, and has counted no abort, with the transactions that follow its first one.
 #[derive(Drop)]
 pub struct ClientJob<'a, N: Name, A: Ledger, V: Ledger, B: Ledger, R: Wait, G: Gate + Drop> {
     client: Client<Desk<'a, N, A, V, B, R>, G>,
+    coming: Coming,
     ghost one_part: { client.parts ≡ 1 },
     ghost no_abort: { client.aborts ≡ 0 },
 }
@@ -43,6 +44,7 @@ impl<'a, N: Name, A: Ledger, V: Ledger, B: Ledger, R: Wait, G: Gate + Drop> Clie
         pass: &mut Pass<N, A, V, B>,
         gate: G,
         work: Vec<WorkStep>,
+        coming: Coming,
         turns: u64,
     ) -> ClientJob<'a, N, A, V, B, R, G>
         requires { 1 < pass.old.parts }
@@ -51,6 +53,7 @@ impl<'a, N: Name, A: Ledger, V: Ledger, B: Ledger, R: Wait, G: Gate + Drop> Clie
         let part = pass.split(table, 1);
         ClientJob {
             client: Client::new(Desk::new(rt, table, part), gate, work, turns),
+            coming,
         }
     }
 }
@@ -61,12 +64,15 @@ impl<'a, N: Name, A: Ledger, V: Ledger, B: Ledger, R: Wait, G: Gate + Drop> Job
     type Gives = Ended<N, A, V, B>;
 
     fn run(self) -> Ended<N, A, V, B> {
-        let ClientJob { mut client } = self;
-        let end = client.run();
+        let ClientJob {
+            mut client,
+            mut coming,
+        } = self;
+        let ends = client.run_all(&mut coming);
         let desk = client.into_steps();
         let tally = desk.tally();
         Ended {
-            end,
+            ends,
             pass: desk.into_pass(),
             tally,
         }
@@ -130,24 +136,26 @@ impl<'a, N: Name, A: Ledger, V: Ledger, B: Ledger, R: Wait, G: Gate + Drop> Job
     }
 }
 
-/// A client's end, what it counted, and its pass, which counts the client's abort.
+/// How a client's transactions ended, what it counted, and its pass, which counts the client's aborts.
 #[derive(Drop)]
 pub struct Ended<N: Name, A: Ledger, V: Ledger, B: Ledger> {
-    end: End,
+    ends: ClientEnds,
     pass: Pass<N, A, V, B>,
     tally: Tally,
     ghost one_part: { pass.parts ≡ 1 },
-    ghost counted: { pass.aborts ≡ aborts_of end },
+    ghost counted: { pass.aborts ≡ ends.earlier.aborted + aborts_of ends.last },
+    ghost few: { ends.earlier.finished + ends.earlier.aborted < 1000000 },
 }
 
 impl<N: Name, A: Ledger, V: Ledger, B: Ledger> Ended<N, A, V, B> {
-    /// The end, the pass, and what was counted.
-    pub fn into_parts(self) -> (End, Pass<N, A, V, B>, Tally)
+    /// The ends, the pass, and what was counted.
+    pub fn into_parts(self) -> (ClientEnds, Pass<N, A, V, B>, Tally)
         ensures one_part { result.1.parts ≡ 1 }
-        ensures counted { result.1.aborts ≡ aborts_of result.0 }
+        ensures counted { result.1.aborts ≡ result.0.earlier.aborted + aborts_of result.0.last }
+        ensures few { result.0.earlier.finished + result.0.earlier.aborted < 1000000 }
     {
-        let Ended { end, pass, tally } = self;
-        (end, pass, tally)
+        let Ended { ends, pass, tally } = self;
+        (ends, pass, tally)
     }
 }
 

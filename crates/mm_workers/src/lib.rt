@@ -15,8 +15,8 @@ mod start;
 
 pub use desk::Desk;
 pub use mm_clients::{
-    Client, End, EndCounts, Gate, Hint, HintKind, Outcome, Steps, TalliedOutcome, Tally,
-    Transmitter,
+    Client, ClientEnds, Earlier, End, EndCounts, Gate, Hint, HintKind, Outcome, Steps,
+    TalliedOutcome, Tally, Transmitter,
 };
 pub use mm_shared::Report;
 pub use run::{run_tallied, run_threads};

@@ -8,7 +8,7 @@ ghost use Rattle.mm_clients.specs.End.{is_aborted};
 use crate::gather::{gather_clients, gather_transmitters};
 use crate::job::{Ended, Stopped};
 use crate::start::{client_jobs, run_jobs, transmitter_jobs};
-use mm_clients::{End, Gate, Outcome, TalliedOutcome, Tally};
+use mm_clients::{Earlier, End, Gate, Outcome, TalliedOutcome, Tally};
 use mm_shared::{Name, Pass, Prepared, Refusal, SharedTable};
 use mm_workload::Workload;
 use std::alloc::{AllocError, Global};
@@ -18,7 +18,7 @@ use std::sync::ledger::Ledger;
 use std::thread::Threads;
 
 /// Runs all clients and transmitters of a workload at once, each on a thread of its own, on a table that is opened for them, and waits
-/// until all have ended. There is one gate for each worker: those of the clients, in their order, and then those of the transmitters.
+/// until all have ended. A client makes its transactions one after another. There is one gate for each worker: those of the clients, in their order, and then those of the transmitters.
 ///
 /// Refused as `BadConfig` or `Memory`, as `Table::open` is; then no worker starts. Also refused as `Memory` where other memory is refused
 /// or a thread cannot be started; those that run have ended then. Takes memory: `O(processes + resources + steps + workers)`.
@@ -30,7 +30,7 @@ pub fn run_threads<R: Threads + Wait + Sync, G: Gate + Send + Drop>(
 ) -> Result<Outcome, Refusal>
     requires gates { vec_len gates ≡ length workload.now.clients + workload.now.transmitters }
     ensures each { IfOk result (λ outcome. vec_len outcome.ends ≡ length workload.now.clients) }
-    ensures aborts { IfOk result (λ outcome. count_by is_aborted outcome.ends.items ≡ outcome.report.aborts) }
+    ensures aborts { IfOk result (λ outcome. count_by is_aborted outcome.ends.items + outcome.earlier.aborted ≡ outcome.report.aborts) }
     ensures in_range { OnOk result (IsInRange workload.now.config) }
     ensures refused { IfErr result (λ refusal. Opens workload.now.config (Err refusal)) }
 {
@@ -49,7 +49,7 @@ pub fn run_tallied<R: Threads + Wait + Sync, G: Gate + Send + Drop>(
 ) -> Result<TalliedOutcome, Refusal>
     requires gates { vec_len gates ≡ length workload.now.clients + workload.now.transmitters }
     ensures each { IfOk result (λ ran. vec_len ran.outcome.ends ≡ length workload.now.clients) }
-    ensures aborts { IfOk result (λ ran. count_by is_aborted ran.outcome.ends.items ≡ ran.outcome.report.aborts) }
+    ensures aborts { IfOk result (λ ran. count_by is_aborted ran.outcome.ends.items + ran.outcome.earlier.aborted ≡ ran.outcome.report.aborts) }
     ensures in_range { OnOk result (IsInRange workload.now.config) }
     ensures refused { IfErr result (λ refusal. Opens workload.now.config (Err refusal)) }
 {
@@ -81,23 +81,28 @@ fn run_on<
     requires aborts { (prepared.aborts.name ≡ B.name) × (prepared.aborts.parts ≡ B.parts) }
     requires gates { vec_len gates ≡ length workload.now.clients + workload.now.transmitters }
     ensures each { IfOk result (λ ran. vec_len ran.outcome.ends ≡ length workload.now.clients) }
-    ensures aborts { IfOk result (λ ran. count_by is_aborted ran.outcome.ends.items ≡ ran.outcome.report.aborts) }
+    ensures aborts { IfOk result (λ ran. count_by is_aborted ran.outcome.ends.items + ran.outcome.earlier.aborted ≡ ran.outcome.report.aborts) }
 {
     let (table, mut pass) = prepared.open::<N, A, V, B>();
     let mut tally = Tally::NONE;
-    let ends = ends_of(rt, alloc, &table, &mut pass, &mut tally, workload, gates);
+    let ended = ends_of(rt, alloc, &table, &mut pass, &mut tally, workload, gates);
     let report = table.into_report(pass);
-    let ends = ends?;
+    let (ends, earlier) = ended?;
     match report {
         Some(report) => Ok(TalliedOutcome {
-            outcome: Outcome { ends, report },
+            outcome: Outcome {
+                ends,
+                earlier,
+                report,
+            },
             tally,
         }),
         None => unreachable!(),
     }
 }
 
-/// Runs them on this table, adds what they counted, and lists how each client ended. All parts are back in the pass then.
+/// Runs them on this table, adds what they counted, and lists how each client ended, with the ends of its transactions before. All parts
+/// are back in the pass then.
 fn ends_of<
     N: Name + Send + Sync,
     A: Ledger + Send + Sync,
@@ -113,18 +118,18 @@ fn ends_of<
     tally: &mut Tally,
     workload: &Workload,
     gates: Vec<G>,
-) -> Result<Vec<End>, AllocError>
+) -> Result<(Vec<End>, Earlier), AllocError>
     requires gates { vec_len gates ≡ length workload.now.clients + workload.now.transmitters }
     requires pass { (pass.old.parts ≡ all_parts) × (pass.old.aborts ≡ 0) }
-    ensures each { IfOk result (λ ends. vec_len ends ≡ length workload.now.clients) }
+    ensures each { IfOk result (λ ended. vec_len ended.0 ≡ length workload.now.clients) }
     ensures parts { OnOk result (pass.new.parts ≡ all_parts) }
-    ensures aborts { IfOk result (λ ends. count_by is_aborted ends.items ≡ pass.new.aborts) }
+    ensures aborts { IfOk result (λ ended. count_by is_aborted ended.0.items + ended.1.aborted ≡ pass.new.aborts) }
 {
     let mut ends = Vec::with_capacity(alloc, workload.clients().len())?;
     let (ended, stopped) = at_work(rt, alloc, table, pass, workload, gates)?;
-    gather_clients(table, pass, ended, &mut ends, tally);
+    let earlier = gather_clients(table, pass, ended, &mut ends, tally);
     gather_transmitters(table, pass, stopped, tally);
-    Ok(ends)
+    Ok((ends, earlier))
 }
 
 /// Gives each worker a part of the pass, runs them all, and waits for them.
@@ -149,10 +154,8 @@ fn at_work<
     ensures parts { IfOk result (λ done. pass.new.parts + vec_len done.0 + vec_len done.1 ≡ all_parts) }
     ensures aborts { pass.new.aborts ≡ 0 }
 {
-    let clients = workload.clients();
-    let turns = workload.turns();
-    let transmitter_gates = gates.split_off(clients.len())?;
-    let clients = client_jobs(rt, alloc, table, pass, clients, turns, gates)?;
+    let transmitter_gates = gates.split_off(workload.clients().len())?;
+    let clients = client_jobs(rt, alloc, table, pass, workload, gates)?;
     let transmitters = transmitter_jobs(rt, alloc, table, pass, workload, transmitter_gates)?;
     run_jobs(rt, alloc, clients, transmitters)
 }

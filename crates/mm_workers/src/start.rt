@@ -4,35 +4,38 @@ ghost use Rattle.std.specs.Prelude.{◌≡◌, ◌+◌, ◌<◌, IfOk, length, v
 use crate::job::{ClientJob, Job, TransmitterJob};
 use mm_clients::Gate;
 use mm_shared::{Name, Pass, SharedTable};
-use mm_workload::{WorkStep, Workload};
+use mm_workload::Workload;
 use std::alloc::{AllocError, Global};
 use std::sync::Wait;
 use std::sync::ledger::Ledger;
 use std::thread;
 use std::thread::{JoinHandle, Scope, Threads};
 
-/// A job for each client, in order, each with a part of the pass.
+/// A job for each client of the workload, in order, each with a part of the pass.
 pub fn client_jobs<'a, N: Name, A: Ledger, V: Ledger, B: Ledger, R: Wait, G: Gate + Drop>(
     rt: &'a R,
     alloc: Global,
     table: &'a SharedTable<N, A, V, B>,
     pass: &mut Pass<N, A, V, B>,
-    clients: &[Vec<WorkStep>],
-    turns: u64,
+    workload: &Workload,
     gates: Vec<G>,
 ) -> Result<Vec<ClientJob<'a, N, A, V, B, R, G>>, AllocError>
-    requires gates { vec_len gates ≡ length clients.now }
+    requires gates { vec_len gates ≡ length workload.now.clients }
     requires parts { vec_len gates < pass.old.parts }
-    ensures each { IfOk result (λ jobs. vec_len jobs ≡ length clients.now) }
+    ensures each { IfOk result (λ jobs. vec_len jobs ≡ length workload.now.clients) }
     ensures parts { IfOk result (λ jobs. pass.new.parts + vec_len jobs ≡ pass.old.parts) }
     ensures aborts { pass.new.aborts ≡ pass.old.aborts }
 {
+    let clients = workload.clients();
+    let turns = workload.turns();
     let mut jobs = Vec::with_capacity(alloc, gates.len())?;
     let mut place = 0usize;
     for gate in gates {
-        let work = clients[place].clone()?;
-        jobs.push_reserved(ClientJob::new(rt, table, pass, gate, work, turns));
+        let mut work = clients[place].clone()?;
         place += 1;
+        let coming = workload.coming(place as u64);
+        coming.make_room(&mut work)?;
+        jobs.push_reserved(ClientJob::new(rt, table, pass, gate, work, coming, turns));
     }
     Ok(jobs)
 }

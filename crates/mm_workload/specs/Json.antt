@@ -9,7 +9,7 @@ use Rattle.mm_workload.specs.declared.limits.TheConstants.{MAX_BYTES, MAX_TURNS}
 use Rattle.mm_rules.specs.declared.config.Config.{Config}
 use Rattle.mm_workload.specs.declared.step.WorkStep.{WorkStep}
 use Rattle.mm_workload.specs.declared.step.WorkStep.TheVariants.{Acquire, Release, Meet}
-use Rattle.mm_workload.specs.Work.{Work}
+use Rattle.mm_workload.specs.Work.{Work, no_further}
 
 -- the number, if it is in this range
 abbrev pub in_range : ℕ → ℕ → ℕ → Option ℕ
@@ -69,12 +69,13 @@ pub record SaysConfig (d : Data) (c : Config) : Type 0 where
   pub label_limit : whole_at 0 18446744073709551615 (codes "label_limit") d ≡ Some c.label_limit
   pub generation_limit : whole_at 0 4294967295 (codes "generation_limit") d ≡ Some c.generation_limit
 
--- an object says this workload, by seven keys
+-- an object says this workload, by seven keys; no client makes a further transaction
 pub record SaysWork (d : Data) (w : Work) : Type 0 where
   pub config : SaysConfig d w.config
   pub transmitters : whole_at 0 MAX_TRANSMITTERS (codes "transmitters") d ≡ Some w.transmitters
   pub turns : whole_at 1 MAX_TURNS (codes "turns") d ≡ Some w.turns
   pub clients : clients_in d ≡ Some w.clients
+  pub further : w.further ≡ no_further
 
 -- so many bytes at most say this workload: they are UTF-8, and the text of a JSON value that says it
 pub record Says (bytes : List ℕ) (w : Work) : Type 0 where

@@ -5,10 +5,12 @@
 //! - `limits`: the greatest numbers of a workload.
 //! - `fault`: why there is no workload, and where it is malformed.
 //! - `reading`: a workload from the bytes of a JSON file.
-//! - `storms`: a workload from a seed. `shape`: how many resources it has, and how many of them a client acquires.
+//! - `storms`: a workload from a seed. `shape`: how many resources it has, how many of them a client acquires, and how many transactions it
+//!   makes. `further`: the transactions that follow its first one.
 #![tactic(auto)]
 
 mod fault;
+mod further;
 mod limits;
 mod reading;
 mod shape;
@@ -17,6 +19,7 @@ mod storms;
 mod workload;
 
 pub use fault::{Place, StepFault, WorkFault};
+pub use further::Coming;
 pub use limits::MAX_BYTES;
 pub use mm_table::Config;
 pub use shape::StormShape;

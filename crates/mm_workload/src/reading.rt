@@ -11,6 +11,7 @@ ghost use Rattle.mm_workload.specs.declared.fault.WorkFault.TheVariants.{Memory}
 mod clients;
 
 use crate::fault::{Place, WorkFault};
+use crate::further::Further;
 use crate::limits::{MAX_BYTES, MAX_TRANSMITTERS, MAX_TURNS};
 use crate::workload::Workload;
 use clients::clients;
@@ -53,7 +54,7 @@ fn work(alloc: Global, value: &Value) -> Result<Workload, WorkFault>
     let transmitters = number(value, "transmitters", 0, MAX_TRANSMITTERS)?;
     let turns = number(value, "turns", 1, MAX_TURNS)?;
     let clients = clients(alloc, value)?;
-    Ok(Workload::of(config, transmitters as u32, turns, clients))
+    Ok(Workload::of(config, transmitters as u32, turns, clients, Further::none()))
 }
 
 /// The table's numbers.

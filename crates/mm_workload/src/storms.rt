@@ -1,11 +1,12 @@
 //! A workload from a seed.
-ghost use Rattle.std.specs.Prelude.{◌≡◌, ◌≤◌, ◌+◌, MatchResult, IfOk, OnOk, map};
+ghost use Rattle.std.specs.Prelude.{◌≡◌, ◌≤◌, ◌+◌, [], MatchResult, IfOk, OnOk, map};
 ghost use Rattle.std.specs.List.{list_any};
 ghost use Rattle.mm_workload.specs.Shapes.{shape_of};
-ghost use Rattle.mm_workload.specs.Storm.{acquires, after, client_of, clients_from, draws, generator, storm_of, storm_with, with_resource};
+ghost use Rattle.mm_workload.specs.Storm.{acquires, after, client_of, clients_from, draws, generator, storm_config, storm_of, storm_with, with_resource};
 ghost use Rattle.mm_workload.specs.declared.fault.WorkFault.TheVariants.{Memory};
 
 use crate::fault::WorkFault;
+use crate::further::Further;
 use crate::shape::StormShape;
 use crate::step::WorkStep;
 use crate::workload::Workload;
@@ -16,7 +17,7 @@ use std::alloc::{AllocError, Global};
 
 /// Returns the workload that is made from this seed: the same one for the same arguments. Takes memory; `O(clients)`.
 ///
-/// It is the storm of the usual shape (`shaped_storm`): 8 resources, of which a client acquires at most 4.
+/// It is the storm of the usual shape (`shaped_storm`): 8 resources, of which a client acquires at most 4 in its one transaction.
 ///
 /// Refused as `Memory` only where a request for memory was refused.
 pub fn storm(
@@ -40,6 +41,9 @@ pub fn storm(
 /// resources, which the client acquires in that order. A resource that the client has already is passed over. There are as many
 /// processes as clients.
 ///
+/// These are the first transactions. A further transaction of a client is drawn in the same way, by words of the stream of the client's
+/// number, where the first client has the number 1 (`Workload::coming`).
+///
 /// Refused as `Memory` only where a request for memory was refused.
 pub fn shaped_storm(
     alloc: Global,
@@ -52,14 +56,27 @@ pub fn shaped_storm(
     requires transmitters { transmitters ≤ 64 }
     ensures { MatchResult result (λ w. w ≡ storm_with (shape_of shape.now) seed clients transmitters) (λ e. e ≡ Memory) }
 {
-    let config = Config {
+    let config = config_of(shape, clients);
+    let further = Further::new(seed, *shape);
+    let clients = acquiring_clients(alloc, shape, seed, clients)?;
+    Ok(Workload::of(config, transmitters, 10_000_000, clients, further))
+}
+
+/// The numbers of the table. Where a client makes several transactions, no limit of keys or labels is in their way.
+fn config_of(shape: &StormShape, clients: u32) -> Config
+    ensures { result ≡ storm_config (shape_of shape.now) clients }
+{
+    let (label_limit, generation_limit) = if shape.transactions == 1 {
+        (1_000_000_000, 9)
+    } else {
+        (17_592_186_044_415, u32::MAX)
+    };
+    Config {
         processes: clients,
         resources: shape.resources,
-        label_limit: 1_000_000_000,
-        generation_limit: 9,
-    };
-    let clients = acquiring_clients(alloc, shape, seed, clients)?;
-    Ok(Workload::of(config, transmitters, 10_000_000, clients))
+        label_limit,
+        generation_limit,
+    }
 }
 
 /// The steps of each of `count` clients.
@@ -88,13 +105,27 @@ fn client(
     ensures steps { IfOk result (λ v. v.items ≡ client_of (shape_of shape.now) words.old) }
     ensures words { OnOk result (words.new ≡ after (1 + draws (shape_of shape.now) words.old) words.old) }
 {
-    let draws = 1 + words.next_word() % shape.acquires;
     let mut steps = Vec::new(alloc);
+    draw(shape, words, &mut steps)?;
+    Ok(steps)
+}
+
+/// Draws the steps of a transaction, by the next words.
+pub(crate) fn draw(
+    shape: &StormShape,
+    words: &mut Lcg64Xsh32,
+    steps: &mut Vec<WorkStep>,
+) -> Result<(), AllocError>
+    requires empty { steps.old.items ≡ [] }
+    ensures steps { OnOk result (steps.new.items ≡ client_of (shape_of shape.now) words.old) }
+    ensures words { OnOk result (words.new ≡ after (1 + draws (shape_of shape.now) words.old) words.old) }
+{
+    let draws = 1 + words.next_word() % shape.acquires;
     'draws: for _ in 0..draws {
         let resource = words.next_word() % shape.resources;
-        acquire(&mut steps, resource)?;
+        acquire(steps, resource)?;
     }
-    Ok(steps)
+    Ok(())
 }
 
 /// The client acquires the resource, unless it has it already.

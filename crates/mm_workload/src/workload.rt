@@ -1,4 +1,5 @@
 use crate::fault::WorkFault;
+use crate::further::{Coming, Further};
 use crate::reading;
 use crate::step::WorkStep;
 use mm_table::Config;
@@ -14,6 +15,7 @@ pub struct Workload {
     transmitters: u32,
     turns: u64,
     clients: Vec<Vec<WorkStep>>,
+    further: Further,
 }
 
 impl Model for Workload {
@@ -27,6 +29,7 @@ impl Model for Workload {
       transmitters = w.transmitters;
       turns = w.turns;
       clients = map (λ c. c.items) w.clients.items;
+      further = w.further;
     } };
 
     ghost invariant = { λ w. IsWithinLimits (record {
@@ -34,6 +37,7 @@ impl Model for Workload {
       transmitters = w.transmitters;
       turns = w.turns;
       clients = map (λ c. c.items) w.clients.items;
+      further = w.further;
     }) };
 }
 
@@ -41,6 +45,7 @@ impl Workload {
     ghost use Rattle.std.specs.Prelude.{◌≡◌, ◌≤◌, ◌<◌, Err, IfOk, IfErr, length, map};
     ghost use Rattle.std.specs.List.{All};
     ghost use Rattle.mm_workload.specs.Work.{Work, IsShort, IsWithinLimits};
+    ghost use Rattle.mm_workload.specs.Storm.{stream_of};
     ghost use Rattle.mm_workload.specs.Json.{Says, SaysNone};
     ghost use Rattle.mm_workload.specs.declared.fault.WorkFault.TheVariants.{Memory};
 
@@ -50,18 +55,21 @@ impl Workload {
         transmitters: u32,
         turns: u64,
         clients: Vec<Vec<WorkStep>>,
+        further: Further,
     ) -> Workload
         requires { IsWithinLimits (record {
           config = config;
           transmitters = transmitters;
           turns = turns;
           clients = map (λ c. c.items) clients.items;
+          further = further;
         }) }
         ensures { result ≡ record {
           config = config;
           transmitters = transmitters;
           turns = turns;
           clients = map (λ c. c.items) clients.items;
+          further = further;
         } }
     {
         Workload {
@@ -69,6 +77,7 @@ impl Workload {
             transmitters,
             turns,
             clients,
+            further,
         }
     }
 
@@ -109,7 +118,15 @@ impl Workload {
         self.turns
     }
 
-    /// Returns the steps of each client, in order: 1 to 64 clients, with 0 to 256 steps each. Constant time.
+    /// Returns the transactions that the client of this number makes after its first one; clients count from 1. Of a workload that was read
+    /// there are none. Constant time.
+    pub fn coming(&self, client: u64) -> Coming
+        ensures { result ≡ stream_of self.now.further client }
+    {
+        self.further.of_client(client)
+    }
+
+    /// Returns the steps of each client's first transaction, in order: 1 to 64 clients, with 0 to 256 steps each. Constant time.
     pub fn clients(&self) -> &[Vec<WorkStep>]
         ensures value { map (λ c. c.items) result.now ≡ self.now.clients }
         ensures range { (1 ≤ length result.now) × (length result.now ≤ 64) }

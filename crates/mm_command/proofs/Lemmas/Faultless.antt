@@ -103,7 +103,8 @@ reads_seed a (inr (inr (inr (inr (inl is))))) named = absurd (other _ a _ is ref
 reads_seed a (inr (inr (inr (inr (inr (inl is)))))) named = absurd (other _ a _ is refl named)
 reads_seed a (inr (inr (inr (inr (inr (inr (inl is))))))) named = absurd (other _ a _ is refl named)
 reads_seed a (inr (inr (inr (inr (inr (inr (inr (inl is)))))))) named = absurd (other _ a _ is refl named)
-reads_seed a (inr (inr (inr (inr (inr (inr (inr (inr x)))))))) named = absurd x
+reads_seed a (inr (inr (inr (inr (inr (inr (inr (inr (inl is))))))))) named = absurd (other _ a _ is refl named)
+reads_seed a (inr (inr (inr (inr (inr (inr (inr (inr (inr x))))))))) named = absurd x
 
 reads_clients : ReadNumbers (codes "clients") 1 64 storm_rules
 reads_clients a (inl is) named = absurd (other _ a _ is refl named)
@@ -114,7 +115,8 @@ reads_clients a (inr (inr (inr (inr (inl is))))) named = absurd (other _ a _ is 
 reads_clients a (inr (inr (inr (inr (inr (inl is)))))) named = absurd (other _ a _ is refl named)
 reads_clients a (inr (inr (inr (inr (inr (inr (inl is))))))) named = absurd (other _ a _ is refl named)
 reads_clients a (inr (inr (inr (inr (inr (inr (inr (inl is)))))))) named = absurd (other _ a _ is refl named)
-reads_clients a (inr (inr (inr (inr (inr (inr (inr (inr x)))))))) named = absurd x
+reads_clients a (inr (inr (inr (inr (inr (inr (inr (inr (inl is))))))))) named = absurd (other _ a _ is refl named)
+reads_clients a (inr (inr (inr (inr (inr (inr (inr (inr (inr x))))))))) named = absurd x
 
 reads_transmitters : ReadNumbers (codes "transmitters") 0 64 storm_rules
 reads_transmitters a (inl is) named = absurd (other _ a _ is refl named)
@@ -125,7 +127,8 @@ reads_transmitters a (inr (inr (inr (inr (inl is))))) named = absurd (other _ a 
 reads_transmitters a (inr (inr (inr (inr (inr (inl is)))))) named = absurd (other _ a _ is refl named)
 reads_transmitters a (inr (inr (inr (inr (inr (inr (inl is))))))) named = absurd (other _ a _ is refl named)
 reads_transmitters a (inr (inr (inr (inr (inr (inr (inr (inl is)))))))) named = absurd (other _ a _ is refl named)
-reads_transmitters a (inr (inr (inr (inr (inr (inr (inr (inr x)))))))) named = absurd x
+reads_transmitters a (inr (inr (inr (inr (inr (inr (inr (inr (inl is))))))))) named = absurd (other _ a _ is refl named)
+reads_transmitters a (inr (inr (inr (inr (inr (inr (inr (inr (inr x))))))))) named = absurd x
 
 reads_resources : ReadNumbers (codes "resources") 1 65536 storm_rules
 reads_resources a (inl is) named = absurd (other _ a _ is refl named)
@@ -136,7 +139,8 @@ reads_resources a (inr (inr (inr (inr (inl is))))) named = absurd (other _ a _ i
 reads_resources a (inr (inr (inr (inr (inr (inl is)))))) named = absurd (other _ a _ is refl named)
 reads_resources a (inr (inr (inr (inr (inr (inr (inl is))))))) named = absurd (other _ a _ is refl named)
 reads_resources a (inr (inr (inr (inr (inr (inr (inr (inl is)))))))) named = absurd (other _ a _ is refl named)
-reads_resources a (inr (inr (inr (inr (inr (inr (inr (inr x)))))))) named = absurd x
+reads_resources a (inr (inr (inr (inr (inr (inr (inr (inr (inl is))))))))) named = absurd (other _ a _ is refl named)
+reads_resources a (inr (inr (inr (inr (inr (inr (inr (inr (inr x))))))))) named = absurd x
 
 reads_acquires : ReadNumbers (codes "acquires") 1 256 storm_rules
 reads_acquires a (inl is) named = absurd (other _ a _ is refl named)
@@ -147,7 +151,20 @@ reads_acquires a (inr (inr (inr (inr (inl is))))) named = ap (λ (r : Rule). r.p
 reads_acquires a (inr (inr (inr (inr (inr (inl is)))))) named = absurd (other _ a _ is refl named)
 reads_acquires a (inr (inr (inr (inr (inr (inr (inl is))))))) named = absurd (other _ a _ is refl named)
 reads_acquires a (inr (inr (inr (inr (inr (inr (inr (inl is)))))))) named = absurd (other _ a _ is refl named)
-reads_acquires a (inr (inr (inr (inr (inr (inr (inr (inr x)))))))) named = absurd x
+reads_acquires a (inr (inr (inr (inr (inr (inr (inr (inr (inl is))))))))) named = absurd (other _ a _ is refl named)
+reads_acquires a (inr (inr (inr (inr (inr (inr (inr (inr (inr x))))))))) named = absurd x
+
+reads_each : ReadNumbers (codes "transactions") 1 1000000 storm_rules
+reads_each a (inl is) named = absurd (other _ a _ is refl named)
+reads_each a (inr (inl is)) named = absurd (other _ a _ is refl named)
+reads_each a (inr (inr (inl is))) named = absurd (other _ a _ is refl named)
+reads_each a (inr (inr (inr (inl is)))) named = absurd (other _ a _ is refl named)
+reads_each a (inr (inr (inr (inr (inl is))))) named = absurd (other _ a _ is refl named)
+reads_each a (inr (inr (inr (inr (inr (inl is)))))) named = ap (λ (r : Rule). r.parser) (sym is)
+reads_each a (inr (inr (inr (inr (inr (inr (inl is))))))) named = absurd (other _ a _ is refl named)
+reads_each a (inr (inr (inr (inr (inr (inr (inr (inl is)))))))) named = absurd (other _ a _ is refl named)
+reads_each a (inr (inr (inr (inr (inr (inr (inr (inr (inl is))))))))) named = absurd (other _ a _ is refl named)
+reads_each a (inr (inr (inr (inr (inr (inr (inr (inr (inr x))))))))) named = absurd x
 
 abbrev rule_at : ℕ → Rule
 rule_at i = slice_index_or storm_rules i (new_rule [])
@@ -164,6 +181,7 @@ numbers_there words none =
     let shape : HasShape rows = (
       number_there storm_rules (codes "resources") 1 65536 rows reads_resources (default_has (sub_at 2) words (rule_at 3) (inr (inr (inr (inl refl)))) tt) fits.0,
       number_there storm_rules (codes "acquires") 1 256 rows reads_acquires (default_has (sub_at 2) words (rule_at 4) (inr (inr (inr (inr (inl refl))))) tt) fits.0,
+      number_there storm_rules (codes "transactions") 1 1000000 rows reads_each (default_has (sub_at 2) words (rule_at 5) (inr (inr (inr (inr (inr (inl refl)))))) tt) fits.0,
     ) in
     (workers, shape)
 

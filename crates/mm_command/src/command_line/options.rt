@@ -2,8 +2,8 @@
 ghost use Rattle.std.specs.Prelude.{◌≤◌};
 ghost use Rattle.mm_command.specs.Limits.{AreLimits, AreShape};
 
-/// From what a workload is generated: any seed, 1 to 64 clients, 0 to 64 transmitters, 1 to 65,536 resources, and 1 to 256 words that give
-/// a client a resource.
+/// From what a workload is generated: any seed, 1 to 64 clients, 0 to 64 transmitters, 1 to 65,536 resources, 1 to 256 words that give a
+/// transaction a resource, and 1 to 1,000,000 transactions of each client.
 #[derive(Clone, Copy)]
 pub struct StormOptions {
     pub seed: u64,
@@ -11,8 +11,9 @@ pub struct StormOptions {
     pub transmitters: u32,
     pub resources: u32,
     pub acquires: u32,
+    pub transactions: u32,
     ghost workers: { (1 ≤ clients) × (clients ≤ 64) × (transmitters ≤ 64) },
-    ghost shape: { AreShape resources acquires },
+    ghost shape: { AreShape resources acquires transactions },
 }
 
 /// With what a lock service is opened: 1 to 65,536 transactions and names, names of 1 to 1,024 bytes, and a seed where one is given.

@@ -21,8 +21,11 @@ pub const MAX_TRANSMITTERS: u32 = mm_limits::MAX_TRANSMITTERS;
 /// How many resources a storm may have.
 pub const MAX_RESOURCES: u32 = mm_limits::MAX_RESOURCES;
 
-/// How many words may give a client of a storm a resource.
+/// How many words may give a transaction of a storm a resource.
 pub const MAX_ACQUIRES: u32 = 256;
+
+/// How many transactions each client of a storm may make.
+pub const MAX_TRANSACTIONS: u32 = 1_000_000;
 
 /// The whole program. The help on `locks` ends with this text.
 pub fn command<'a>(alloc: Global, locks_after: &'a str) -> Result<Command<'a>, AllocError>
@@ -90,7 +93,8 @@ fn storm_numbers_command<'a>(alloc: Global) -> Result<Command<'a>, AllocError>
         .arg(number(alloc, "clients", 1, MAX_CLIENTS as u64, "8"))?
         .arg(number(alloc, "transmitters", 0, MAX_TRANSMITTERS as u64, "2"))?
         .arg(number(alloc, "resources", 1, MAX_RESOURCES as u64, "8"))?
-        .arg(number(alloc, "acquires", 1, MAX_ACQUIRES as u64, "4"))
+        .arg(number(alloc, "acquires", 1, MAX_ACQUIRES as u64, "4"))?
+        .arg(number(alloc, "transactions", 1, MAX_TRANSACTIONS as u64, "1"))
 }
 
 fn locks_command<'a>(alloc: Global, locks_after: &'a str) -> Result<Command<'a>, AllocError>

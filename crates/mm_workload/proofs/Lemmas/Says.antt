@@ -41,12 +41,13 @@ same_config b c processes resources label_limit generation_limit = λ i. record 
   generation_limit = generation_limit i;
 }
 
-same_work : (v w : Work) → v.config ≡ w.config → v.transmitters ≡ w.transmitters → v.turns ≡ w.turns → v.clients ≡ w.clients → v ≡ w
-same_work v w config transmitters turns clients = λ i. record {
+same_work : (v w : Work) → v.config ≡ w.config → v.transmitters ≡ w.transmitters → v.turns ≡ w.turns → v.clients ≡ w.clients → v.further ≡ w.further → v ≡ w
+same_work v w config transmitters turns clients further = λ i. record {
   config = config i;
   transmitters = transmitters i;
   turns = turns i;
   clients = clients i;
+  further = further i;
 }
 
 one_config : (d : Data) (b c : Config) → SaysConfig d b → SaysConfig d c → b ≡ c
@@ -62,6 +63,7 @@ one_work d v w x y = same_work v w
     (one _ _ _ x.transmitters y.transmitters)
     (one _ _ _ x.turns y.turns)
     (one _ _ _ x.clients y.clients)
+    (x.further ∙ sym y.further)
 
 says_one : (bytes : List ℕ) (v w : Work) → Says bytes v → Says bytes w → v ≡ w
 says_one bytes v w x y =

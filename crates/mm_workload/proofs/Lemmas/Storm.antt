@@ -11,7 +11,8 @@ use Rattle.rand_pcg.specs.Pcg.{pcg32}
 use Rattle.mm_workload.specs.declared.step.WorkStep.{WorkStep}
 use Rattle.mm_workload.specs.declared.step.WorkStep.TheVariants.{Acquire}
 use Rattle.mm_workload.specs.Work.{IsShort}
-use Rattle.mm_workload.specs.Storm.{Shape, acquires, after, client_of, clients_from, draws, drawn, with_resource, words}
+use Rattle.mm_workload.specs.Shapes.{Shape}
+use Rattle.mm_workload.specs.Storm.{acquires, after, client_of, clients_from, draws, drawn, with_resource, words}
 
 after-suc : (n : ℕ) (g : Lcg) → after (suc n) g ≡ (pcg32 (after n g)).1
 unfolding after

@@ -2,6 +2,7 @@
 //! that takes, and how it ends. Expected calls are those of the rules of docs/WORKLOADS.md, by hand.
 
 mod refused;
+mod several;
 mod waits;
 
 use crate::tests::same::same;

@@ -1,8 +1,9 @@
 //! Workloads from seeds by threads. Who is aborted depends on the threads, but who is not finishes, and each verdict leads to one abort.
 
+use crate::tests::same::same;
 use crate::tests::watch::{count, ended, watched};
-use mm_workers::End;
-use mm_workload::{Workload, storm};
+use mm_workers::{End, Outcome};
+use mm_workload::{StormShape, Workload, shaped_storm, storm};
 use std::alloc::Global;
 use std::process::Abort;
 use std::sync::Wait;
@@ -38,6 +39,51 @@ fn two_hundred_storms(rt: HostRuntime) -> Result<(), Fail> {
         let transmitters = (seed % 4) as u32;
         let storm = storm(rt.alloc(), seed, clients, transmitters)?;
         breaks_its_deadlocks(&rt, rt.alloc(), &storm);
+    }
+    Ok(())
+}
+
+/// Two resources, which most transactions want both, in either order.
+const FEW_RESOURCES: StormShape = StormShape {
+    resources: 2,
+    acquires: 3,
+    transactions: 50,
+};
+
+/// Ends the test unless so many transactions finished or were aborted, none ended otherwise, and the report counts one verdict and one abort
+/// for each that was aborted.
+fn books_agree(rt: &impl Abort, outcome: &Outcome, transactions: usize) {
+    let counted = outcome.counted();
+    same(
+        rt,
+        counted.finished.saturating_add(counted.aborted),
+        transactions,
+    );
+    same(rt, (counted.spent, counted.refused), (0, 0));
+    same(rt, outcome.report.verdicts, counted.aborted as u64);
+    same(rt, outcome.report.aborts, counted.aborted as u64);
+}
+
+/// Runs a storm of several transactions a client. Ends the test unless the books agree, and each client leaves once.
+fn runs_to_the_end<R: Threads + Wait + Abort + Sync>(rt: &R, alloc: Global, storm: &Workload) {
+    let clients = storm.clients().len();
+    match watched(rt, alloc, storm) {
+        Ok((Ok(outcome), counts)) => {
+            same(rt, outcome.ends.len(), clients);
+            same(rt, counts.left as usize, clients);
+            books_agree(rt, &outcome, clients.saturating_mul(50));
+        }
+        _ => assert!(rt; false),
+    }
+}
+
+#[test]
+fn storms_of_several_transactions(rt: HostRuntime) -> Result<(), Fail> {
+    for seed in 1..21u64 {
+        let clients = 1 + (seed % 8) as u32;
+        let transmitters = (seed % 3) as u32;
+        let storm = shaped_storm(rt.alloc(), &FEW_RESOURCES, seed, clients, transmitters)?;
+        runs_to_the_end(&rt, rt.alloc(), &storm);
     }
     Ok(())
 }

@@ -1,8 +1,8 @@
 //! Workloads from a seed.
 
 use crate::tests::same::same;
-use mm_workload::{Config, WorkFault, WorkStep, Workload, storm};
-use std::alloc::Global;
+use mm_workload::{Coming, Config, StormShape, WorkFault, WorkStep, Workload, shaped_storm, storm};
+use std::alloc::{AllocError, Global};
 use std::process::Abort;
 use std::test::Fail;
 
@@ -79,5 +79,64 @@ fn the_same_storm_made_twice(rt: HostRuntime) -> Result<(), Fail> {
     let one = storm(rt.alloc(), 1, 8, 2)?;
     let other = storm(rt.alloc(), 1, 8, 2)?;
     are_equal(&rt, &one, &other);
+    Ok(())
+}
+
+/// What clients acquire in the transactions after their first ones, by seed and by the number of the client: as tests/storm_table computes
+/// it.
+static FURTHER: [(u64, u64, [&[u32]; 3]); 4] = [
+    (1, 1, [&[4, 7], &[6, 1, 3], &[3, 1]]),
+    (1, 64, [&[5, 2, 1], &[0], &[6, 0, 5, 2]]),
+    (3, 64, [&[7], &[7, 2, 1, 0], &[5, 4, 6]]),
+    (u64::MAX, 1, [&[6, 5], &[5, 1, 7], &[2, 6, 0, 1]]),
+];
+
+/// The usual shape, but of four transactions.
+const FOUR: StormShape = StormShape {
+    resources: 8,
+    acquires: 4,
+    transactions: 4,
+};
+
+/// Ends the test unless these transactions acquire these resources, and are as many.
+fn are_drawn(
+    rt: &impl Abort,
+    alloc: Global,
+    coming: &mut Coming,
+    transactions: &[&[u32]],
+) -> Result<(), AllocError> {
+    same(rt, coming.count() as usize, transactions.len());
+    let mut steps = Vec::new(alloc);
+    coming.make_room(&mut steps)?;
+    for resources in transactions {
+        coming.draw(&mut steps)?;
+        acquire(rt, steps.as_slice(), resources);
+    }
+    Ok(())
+}
+
+#[test]
+fn further_transactions_are_those_of_the_client(rt: HostRuntime) -> Result<(), Fail> {
+    for (seed, client, transactions) in &FURTHER {
+        let work = shaped_storm(rt.alloc(), &FOUR, *seed, 64, 0)?;
+        let mut coming = work.coming(*client);
+        are_drawn(&rt, rt.alloc(), &mut coming, transactions.as_slice())?;
+    }
+    Ok(())
+}
+
+#[test]
+fn first_transactions_are_the_same_for_any_number(rt: HostRuntime) -> Result<(), Fail> {
+    let one = storm(rt.alloc(), 7, 64, 2)?;
+    let other = shaped_storm(rt.alloc(), &FOUR, 7, 64, 2)?;
+    assert!(&rt; one.clients() == other.clients());
+    same(&rt, one.coming(1).count(), 0);
+    let config = Config {
+        processes: 64,
+        resources: 8,
+        label_limit: 17_592_186_044_415,
+        generation_limit: 4_294_967_295,
+    };
+    same(&rt, other.config(), config);
     Ok(())
 }

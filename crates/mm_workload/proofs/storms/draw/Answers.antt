@@ -2,11 +2,11 @@ use Rattle.std.proofs.Common.{◌≡◌, refl, arith, ◌+◌, ◌%◌}
 use Rattle.mm_workload.specs.Shapes.{shape_of}
 use Rattle.mm_workload.specs.Storm.{after, words}
 use Rattle.mm_workload.proofs.Lemmas.Storm.{after-more, steps-more, client-is, after-client}
-use Rattle.mm_workload.proofs.storms.client.Goals as goal
+use Rattle.mm_workload.proofs.storms.draw.Goals as goal
 
 pub draws-init : goal.draws-init
 unfolding after words
-draws-init c = record { steps = c.new-steps.ensures.items; words = refl }
+draws-init c = record { steps = c.requires.empty; words = refl }
 
 pub draws-preserved : goal.draws-preserved
 draws-preserved c =
