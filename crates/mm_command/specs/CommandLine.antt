@@ -7,7 +7,7 @@ use Rattle.clap.specs.declared.builder.value_parser.ValueParser.TheVariants.{Uns
 use Rattle.clap.specs.declared.error.Error.{Error}
 use Rattle.clap.specs.declared.error.kind.ErrorKind.{ErrorKind}
 use Rattle.clap.specs.declared.error.kind.ErrorKind.TheVariants as kind
-use Rattle.mm_limits.specs.declared.TheConstants.{MAX_ACQUIRES, MAX_CLIENTS, MAX_NAMES, MAX_NAME_BYTES, MAX_PROCESSES, MAX_RESOURCES, MAX_TRANSMITTERS}
+use Rattle.mm_limits.specs.declared.TheConstants.{MAX_ACQUIRES, MAX_CLIENTS, MAX_NAMES, MAX_NAME_BYTES, MAX_PROCESSES, MAX_RESOURCES, MAX_TRANSACTIONS, MAX_TRANSMITTERS}
 use Rattle.mm_command.specs.Explain.{explain_app}
 use Rattle.mm_command.specs.declared.command_line.Request.{Request}
 use Rattle.mm_command.specs.declared.command_line.Request.TheVariants.{Script, Threads, Storm, Locks, Explain, Help, Wrong, Memory}
@@ -69,7 +69,7 @@ abbrev pub acquires_rule : Rule
 acquires_rule = number_rule (codes "acquires") 1 MAX_ACQUIRES (codes "4")
 
 abbrev pub storm_transactions_rule : Rule
-storm_transactions_rule = number_rule (codes "transactions") 1 1000000 (codes "1")
+storm_transactions_rule = number_rule (codes "transactions") 1 MAX_TRANSACTIONS (codes "1")
 
 -- the options that give a storm its numbers
 abbrev pub storm_numbers_app : App
@@ -179,7 +179,7 @@ HasWorkers rows = HasNumber (codes "seed") 0 18446744073709551615 rows × HasNum
 
 -- they have the numbers of what its clients do
 abbrev pub HasShape : List Row → Type 0
-HasShape rows = HasNumber (codes "resources") 1 65536 rows × HasNumber (codes "acquires") 1 256 rows × HasNumber (codes "transactions") 1 1000000 rows
+HasShape rows = HasNumber (codes "resources") 1 MAX_RESOURCES rows × HasNumber (codes "acquires") 1 MAX_ACQUIRES rows × HasNumber (codes "transactions") 1 MAX_TRANSACTIONS rows
 
 -- they have the numbers of a generated workload
 abbrev pub HasNumbers : List Row → Type 0

@@ -1,6 +1,6 @@
 -- The limits that a lock service can have, and those of what the clients of a storm do.
 use Rattle.std.specs.Prelude.{ℕ, ◌≤◌}
-use Rattle.mm_limits.specs.declared.TheConstants.{MAX_NAMES, MAX_NAME_BYTES, MAX_PROCESSES}
+use Rattle.mm_limits.specs.declared.TheConstants.{MAX_ACQUIRES, MAX_NAMES, MAX_NAME_BYTES, MAX_PROCESSES, MAX_RESOURCES, MAX_TRANSACTIONS}
 
 -- how many transactions and names there can be at once, and how many bytes a name may have
 pub record AreLimits (transactions names name_bytes : ℕ) : Type 0 where
@@ -10,6 +10,6 @@ pub record AreLimits (transactions names name_bytes : ℕ) : Type 0 where
 
 -- how many resources there are, how many words give a transaction a resource at most, and how many transactions each client makes
 pub record AreShape (resources acquires transactions : ℕ) : Type 0 where
-  pub some_resources : (1 ≤ resources) × (resources ≤ 65536)
-  pub some_acquires : (1 ≤ acquires) × (acquires ≤ 256)
-  pub some_transactions : (1 ≤ transactions) × (transactions ≤ 1000000)
+  pub some_resources : (1 ≤ resources) × (resources ≤ MAX_RESOURCES)
+  pub some_acquires : (1 ≤ acquires) × (acquires ≤ MAX_ACQUIRES)
+  pub some_transactions : (1 ≤ transactions) × (transactions ≤ MAX_TRANSACTIONS)

@@ -22,5 +22,8 @@ pub const MAX_TRANSMITTERS: u32 = 64;
 /// How many steps a client of a workload can have.
 pub const MAX_STEPS: u32 = 256;
 
+/// How many transactions each client of a generated workload can make.
+pub const MAX_TRANSACTIONS: u32 = 1_000_000;
+
 /// How many words can give a client of a generated workload a resource. Each gives one step at most.
 pub const MAX_ACQUIRES: u32 = MAX_STEPS;

@@ -23,13 +23,6 @@ const FIRST_YIELDS: u32 = 2;
 /// How often a thread asks again before it sleeps until the lock is free. Before each further time it yields twice as often.
 const TURNS: u32 = 8;
 
-/// Yields the processor so often, which takes the time of several calls each.
-fn stay_away(yields: u32) {
-    for _ in 0..yields {
-        thread::yield_now();
-    }
-}
-
 /// A lock table that threads share by reference: an `Inside` behind one lock, and beside it the board on which its labels and holders are
 /// read without the lock.
 ///
@@ -387,5 +380,12 @@ impl<N: Name, A: Ledger, V: Ledger, B: Ledger> Debug for SharedTable<N, A, V, B>
         f.debug_struct("SharedTable")
             .field("processes", &self.processes)
             .finish()
+    }
+}
+
+/// Yields the processor so often, which takes the time of several calls each.
+fn stay_away(yields: u32) {
+    for _ in 0..yields {
+        thread::yield_now();
     }
 }

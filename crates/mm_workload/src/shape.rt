@@ -1,5 +1,6 @@
 //! The shape of a workload that is made from a seed.
 ghost use Rattle.std.specs.Prelude.{◌≤◌};
+ghost use Rattle.mm_limits.specs.declared.TheConstants.{MAX_ACQUIRES, MAX_RESOURCES, MAX_TRANSACTIONS};
 
 /// How many resources there are, how many words give a transaction a resource at most, and how many transactions each client makes.
 #[derive(Clone, Copy)]
@@ -7,9 +8,9 @@ pub struct StormShape {
     pub resources: u32,
     pub acquires: u32,
     pub transactions: u32,
-    ghost some_resources: { (1 ≤ resources) × (resources ≤ 65536) },
-    ghost some_acquires: { (1 ≤ acquires) × (acquires ≤ 256) },
-    ghost some_transactions: { (1 ≤ transactions) × (transactions ≤ 1000000) },
+    ghost some_resources: { (1 ≤ resources) × (resources ≤ MAX_RESOURCES) },
+    ghost some_acquires: { (1 ≤ acquires) × (acquires ≤ MAX_ACQUIRES) },
+    ghost some_transactions: { (1 ≤ transactions) × (transactions ≤ MAX_TRANSACTIONS) },
 }
 
 impl StormShape {

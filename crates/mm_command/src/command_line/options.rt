@@ -1,6 +1,7 @@
 //! The numbers of a generated workload, and those of a lock service.
 ghost use Rattle.std.specs.Prelude.{◌≤◌};
 ghost use Rattle.mm_command.specs.Limits.{AreLimits, AreShape};
+ghost use Rattle.mm_limits.specs.declared.TheConstants.{MAX_CLIENTS, MAX_TRANSMITTERS};
 
 /// From what a workload is generated: any seed, 1 to 64 clients, 0 to 64 transmitters, 1 to 65,536 resources, 1 to 256 words that give a
 /// transaction a resource, and 1 to 1,000,000 transactions of each client.
@@ -12,7 +13,7 @@ pub struct StormOptions {
     pub resources: u32,
     pub acquires: u32,
     pub transactions: u32,
-    ghost workers: { (1 ≤ clients) × (clients ≤ 64) × (transmitters ≤ 64) },
+    ghost workers: { (1 ≤ clients) × (clients ≤ MAX_CLIENTS) × (transmitters ≤ MAX_TRANSMITTERS) },
     ghost shape: { AreShape resources acquires transactions },
 }
 

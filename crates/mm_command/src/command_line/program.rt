@@ -22,10 +22,10 @@ pub const MAX_TRANSMITTERS: u32 = mm_limits::MAX_TRANSMITTERS;
 pub const MAX_RESOURCES: u32 = mm_limits::MAX_RESOURCES;
 
 /// How many words may give a transaction of a storm a resource.
-pub const MAX_ACQUIRES: u32 = 256;
+pub const MAX_ACQUIRES: u32 = mm_limits::MAX_ACQUIRES;
 
 /// How many transactions each client of a storm may make.
-pub const MAX_TRANSACTIONS: u32 = 1_000_000;
+pub const MAX_TRANSACTIONS: u32 = mm_limits::MAX_TRANSACTIONS;
 
 /// The whole program. The help on `locks` ends with this text.
 pub fn command<'a>(alloc: Global, locks_after: &'a str) -> Result<Command<'a>, AllocError>
