@@ -1,11 +1,12 @@
 """Proves and builds the program, and keeps it in crates/mm_detect/out/ with what it was made from.
 
-The crates of the program are copied to a folder of their own, and `rt ci` proves them there, side by side along the graph of crates.
+The crates of the program are copied to a folder of their own, and `rt ci` proves them there, side by side along the graph of crates (`runs`).
 Some versions of the toolchain keep what they prove; ./run_tests finds it then, and the other way round."""
 import os
 import shutil
 import signal
 import subprocess
+import sys
 import tempfile
 import time
 
@@ -96,7 +97,8 @@ def lay_out(top, stage):
 def is_proved(top, stage, log):
     """Runs the toolchain there, says how far it is, and returns whether all is proved, built and run."""
     with open(log, "w", encoding="utf-8") as said:
-        child = subprocess.Popen(["rt", "ci"], cwd=stage, stdin=subprocess.DEVNULL, stdout=said, stderr=said, start_new_session=True)
+        runs = [sys.executable, f"{top}/wrapper/runs.py"]
+        child = subprocess.Popen(runs, cwd=stage, stdin=subprocess.DEVNULL, stdout=said, stderr=said, start_new_session=True)
     try:
         reckoning = progress.Reckoning(f"{top}/wrapper/seconds", f"{stage}/crates.txt", log, child.pid)
         while child.poll() is None:

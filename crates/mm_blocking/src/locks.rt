@@ -8,11 +8,11 @@ use crate::error::LockError;
 use crate::parkers::Parkers;
 use crate::transaction::Transaction;
 use crate::wakes::{Unwoken, Wakes};
+use crate::yields::stay_away;
 use crossbeam_utils::CachePadded;
 use mm_manager::{Key, LockManager, ManagerConfig, OpenError, Totals};
 use std::alloc::{AllocError, Global};
 use std::sync::{Mutex, MutexGuard, Wait};
-use std::thread;
 
 /// How often a thread that finds the lock taken yields its processor before it asks for the lock again.
 const FIRST_YIELDS: u32 = 2;
@@ -38,13 +38,6 @@ impl Drop for Locks {
             parkers: _,
             desk: _,
         } = self;
-    }
-}
-
-/// Yields the processor so often, which takes the time of several calls each.
-fn stay_away(yields: u32) {
-    for _ in 0..yields {
-        thread::yield_now();
     }
 }
 

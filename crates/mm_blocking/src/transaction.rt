@@ -6,10 +6,15 @@ use crate::desk::Asked;
 use crate::error::LockError;
 use crate::locks::Locks;
 use crate::patience::{Patience, Pause};
+use crate::yields::stay_away;
 use mm_manager::Key;
 use std::sync::Wait;
 use std::thread::Parker;
 use std::time::{Clock, Duration};
+
+/// How often a thread that is to wait for a name yields its processor before it sleeps. Often the name is granted in that time, and no thread
+/// has to be woken.
+const YIELDS: u32 = 8;
 
 /// A transaction. Where it is dropped it is rolled back: all that it owns is handed over, and whoever was granted something is woken.
 ///
@@ -79,6 +84,7 @@ impl<'m, R: Wait> Transaction<'m, R> {
     fn sleep(&self, name: &[u8]) -> Result<(), LockError>
         ensures refused { IfErr result (λ error. of_lock error ≡ true) }
     {
+        stay_away(YIELDS);
         for _ in self.rt.forever() {
             self.parker.park(self.rt);
             match self.locks.asked(self.rt, self.key, name)? {
@@ -119,6 +125,7 @@ impl<'m, R: Wait> Transaction<'m, R> {
     {
         let mut place = first;
         for _ in self.rt.forever() {
+            stay_away(YIELDS);
             self.parker.park(self.rt);
             place = self.locks.go_on(self.rt, self.key, names, place)?;
             if place >= names.len() {
