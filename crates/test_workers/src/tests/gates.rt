@@ -58,7 +58,7 @@ impl Gate for Asked {
 }
 
 /// Two clients that never wait for each other, and three transmitters of five turns each.
-static APART: &str =
+const APART: &str =
     r#"{"processes":2,"resources":2,"label_limit":9,"generation_limit":9,"transmitters":3,"turns":5,"clients":[[["acquire",0],["release",0]],[["acquire",1]]]}"#;
 
 /// So many gates that count how often they are asked.

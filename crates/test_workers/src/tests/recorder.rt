@@ -5,7 +5,6 @@ use crate::tests::same::same;
 use mm_shared::{Acquired, Detected, Key, Refusal, Released, Settled, Transmitted};
 use mm_workers::{Hint, Steps};
 use std::process::Abort;
-use test_support::label;
 
 /// A call and its answer, of those that a transmitter makes. `Other` is any of the rest.
 #[derive(Clone, Copy, PartialEq)]
@@ -17,39 +16,11 @@ pub enum Call {
     Other,
 }
 
-/// A call that is expected, with its answer. A label stands there by its counter and its process, so that a list of calls is a constant.
-#[derive(Clone, Copy)]
-pub enum Expected {
-    Scan(u32, Option<Hint>),
-    Tenant(u32, Option<Key>),
-    Raises(Key, u64, u32),
-    IsRefused(Key, Refusal),
-    Convicts(Key, u64, u32),
-    Clears(Key),
-}
-
-impl Expected {
-    fn call(self) -> Call {
-        match self {
-            Expected::Scan(from, hint) => Call::Scan(from, hint),
-            Expected::Tenant(process, key) => Call::Tenant(process, key),
-            Expected::Raises(key, counter, of) => {
-                Call::Transmit(key, Ok(Transmitted::Raised(label(counter, of))))
-            }
-            Expected::IsRefused(key, refusal) => Call::Transmit(key, Err(refusal)),
-            Expected::Convicts(key, counter, of) => {
-                Call::Detect(key, Ok(Detected::Deadlock(label(counter, of))))
-            }
-            Expected::Clears(key) => Call::Detect(key, Ok(Detected::Clear)),
-        }
-    }
-}
-
 /// The first place where two lists of calls differ.
-fn first_difference(came: &[Call], expected: &[Expected]) -> Option<usize> {
+fn first_difference(came: &[Call], expected: &[Call]) -> Option<usize> {
     let mut place = 0usize;
     for (call, wanted) in came.iter().zip(expected) {
-        if *call != wanted.call() {
+        if call != wanted {
             return Some(place);
         }
         place = place.saturating_add(1);
@@ -58,7 +29,7 @@ fn first_difference(came: &[Call], expected: &[Expected]) -> Option<usize> {
 }
 
 /// Ends the test unless just these calls were made.
-pub fn are_made(rt: &impl Abort, came: &[Call], expected: &[Expected]) {
+pub fn are_made(rt: &impl Abort, came: &[Call], expected: &[Call]) {
     same(rt, first_difference(came, expected), None);
 }
 

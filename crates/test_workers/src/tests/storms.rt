@@ -67,13 +67,17 @@ fn books_agree(rt: &impl Abort, outcome: &Outcome, transactions: usize) {
 /// Runs a storm of several transactions a client. Ends the test unless the books agree, and each client leaves once.
 fn runs_to_the_end<R: Threads + Wait + Abort + Sync>(rt: &R, alloc: Global, storm: &Workload) {
     let clients = storm.clients().len();
-    match watched(rt, alloc, storm) {
-        Ok((Ok(outcome), counts)) => {
+    let Ok((ran, counts)) = watched(rt, alloc, storm) else {
+        assert!(rt; false);
+        return;
+    };
+    match ran {
+        Ok(outcome) => {
             same(rt, outcome.ends.len(), clients);
             same(rt, counts.left as usize, clients);
             books_agree(rt, &outcome, clients.saturating_mul(50));
         }
-        _ => assert!(rt; false),
+        Err(_) => assert!(rt; false),
     }
 }
 

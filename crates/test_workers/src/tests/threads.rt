@@ -12,15 +12,15 @@ use std::test::Fail;
 use std::thread::Threads;
 
 /// Two clients that meet with a resource each, and ask for the other's.
-static CROSSWISE: &str =
+const CROSSWISE: &str =
     r#"{"processes":2,"resources":2,"label_limit":1000,"generation_limit":9,"transmitters":1,"turns":10000000,"clients":[[["acquire",0],["meet",2],["acquire",1]],[["acquire",1],["meet",2],["acquire",0]]]}"#;
 
 /// Eight clients that take three resources in the same order, so no cycle of waits comes about.
-static IN_ORDER: &str =
+const IN_ORDER: &str =
     r#"{"processes":8,"resources":3,"label_limit":1000000,"generation_limit":9,"transmitters":4,"turns":10000000,"clients":[[["acquire",0],["acquire",1],["acquire",2]],[["acquire",0],["acquire",1],["acquire",2]],[["acquire",0],["acquire",1],["acquire",2]],[["acquire",0],["acquire",1],["acquire",2]],[["acquire",0],["acquire",1],["acquire",2]],[["acquire",0],["acquire",1],["acquire",2]],[["acquire",0],["acquire",1],["acquire",2]],[["acquire",0],["acquire",1],["acquire",2]]]}"#;
 
 /// A client for a table that has no process.
-static NO_PROCESS: &str =
+const NO_PROCESS: &str =
     r#"{"processes":0,"resources":1,"label_limit":9,"generation_limit":9,"transmitters":1,"turns":9,"clients":[[["meet",1]]]}"#;
 
 /// Runs the workload. Ends the test unless so many clients finish and so many are aborted, each client leaves once, and so many arrive.

@@ -4,9 +4,9 @@ ghost use Rattle.std.specs.Prelude.{◌≡◌};
 
 use crate::tests::fake::Fake;
 use crate::tests::open_gate::OpenGate;
-use crate::tests::recorder::{Call, Expected, Recorder, are_made};
+use crate::tests::recorder::{Call, Recorder, are_made};
 use crate::tests::same::same;
-use mm_shared::{Config, Key, Name, Pass, Prepared, Refusal, SharedTable};
+use mm_shared::{Config, Detected, Key, Name, Pass, Prepared, Refusal, SharedTable, Transmitted};
 use mm_table::{Table, Totals};
 use mm_workers::{Desk, Hint, HintKind, Report, Steps, Transmitter};
 use std::alloc::{AllocError, Global};
@@ -16,6 +16,7 @@ use std::process::Abort;
 use std::sync::Wait;
 use std::sync::ledger::Ledger;
 use std::test::Fail;
+use test_support::label;
 
 /// The configuration of the tables: four processes and four resources.
 const FOUR: Config = Config {
@@ -33,25 +34,13 @@ fn first_key(process: u32) -> Key {
     }
 }
 
-const FIRST: Key = Key {
-    process: 0,
-    generation: 1,
-};
-
-const SECOND: Key = Key {
-    process: 1,
-    generation: 1,
-};
-
-const THIRD: Key = Key {
-    process: 2,
-    generation: 1,
-};
-
-const LAST: Key = Key {
-    process: 3,
-    generation: 1,
-};
+fn hint(process: u32, holder: u32, kind: HintKind) -> Option<Hint> {
+    Some(Hint {
+        process,
+        holder,
+        kind,
+    })
+}
 
 /// Room for the calls of a transmitter.
 fn room(alloc: Global) -> Result<Vec<Call>, AllocError> {
@@ -68,16 +57,14 @@ fn transmit<S: Steps + Drop>(steps: S, calls: Vec<Call>, turns: u64, over: bool)
     transmitter.into_steps()
 }
 
-static A_HUNDRED_LOOKS: [Expected; 100] = [Expected::Scan(0, None); 100];
-
 #[test]
 fn without_a_hint_it_looks_alone(rt: HostRuntime) -> Result<(), Fail> {
     let fake = Fake {
         hint: None,
-        tenant: Some(FIRST),
+        tenant: Some(first_key(0)),
     };
     let came = transmit(fake, room(rt.alloc())?, 100, false);
-    are_made(&rt, came.calls.as_slice(), &A_HUNDRED_LOOKS);
+    are_made(&rt, came.calls.as_slice(), &[Call::Scan(0, None); 100]);
     Ok(())
 }
 
@@ -92,51 +79,40 @@ fn once_all_clients_have_left_it_calls_nothing(rt: HostRuntime) -> Result<(), Fa
     Ok(())
 }
 
-const LAST_RAISES: Option<Hint> = Some(Hint {
-    process: 3,
-    holder: 1,
-    kind: HintKind::Raise,
-});
-
-static BEHIND_THE_LAST: [Expected; 4] = [
-    Expected::Scan(0, LAST_RAISES),
-    Expected::Tenant(3, Some(LAST)),
-    Expected::IsRefused(LAST, Refusal::Stale),
-    Expected::Scan(0, None),
-];
-
 #[test]
 fn behind_the_last_process_it_begins_anew(rt: HostRuntime) -> Result<(), Fail> {
+    let raise = hint(3, 1, HintKind::Raise);
+    let tenant = Some(first_key(3));
     let fake = Fake {
-        hint: LAST_RAISES,
-        tenant: Some(LAST),
+        hint: raise,
+        tenant,
     };
     let came = transmit(fake, room(rt.alloc())?, 2, false);
-    are_made(&rt, came.calls.as_slice(), &BEHIND_THE_LAST);
+    let calls = [
+        Call::Scan(0, raise),
+        Call::Tenant(3, tenant),
+        Call::Transmit(first_key(3), Err(Refusal::Stale)),
+        Call::Scan(0, None),
+    ];
+    are_made(&rt, came.calls.as_slice(), calls.as_slice());
     Ok(())
 }
 
-const SECOND_IS_EQUAL_TO_LAST: Option<Hint> = Some(Hint {
-    process: 1,
-    holder: 3,
-    kind: HintKind::Equal,
-});
-
-static PASSED_BY: [Expected; 4] = [
-    Expected::Scan(0, SECOND_IS_EQUAL_TO_LAST),
-    Expected::Tenant(1, None),
-    Expected::Scan(2, None),
-    Expected::Scan(0, None),
-];
-
 #[test]
 fn whoever_is_gone_is_passed_by(rt: HostRuntime) -> Result<(), Fail> {
+    let equal = hint(1, 3, HintKind::Equal);
     let fake = Fake {
-        hint: SECOND_IS_EQUAL_TO_LAST,
+        hint: equal,
         tenant: None,
     };
     let came = transmit(fake, room(rt.alloc())?, 3, false);
-    are_made(&rt, came.calls.as_slice(), &PASSED_BY);
+    let calls = [
+        Call::Scan(0, equal),
+        Call::Tenant(1, None),
+        Call::Scan(2, None),
+        Call::Scan(0, None),
+    ];
+    are_made(&rt, came.calls.as_slice(), calls.as_slice());
     Ok(())
 }
 
@@ -146,7 +122,7 @@ fn makes<S: Steps + Drop>(
     steps: S,
     room: Vec<Call>,
     turns: u64,
-    calls: &[Expected],
+    calls: &[Call],
 ) -> S {
     let Recorder { steps, calls: came } = transmit(steps, room, turns, false);
     are_made(rt, came.as_slice(), calls);
@@ -167,128 +143,107 @@ fn wait_in_a_ring<S: Steps>(steps: &mut S, count: u32) -> Result<(), Refusal> {
     Ok(())
 }
 
-/// What a transmitter makes of a ring of so many in so many turns, and how many calls the table has accepted then, with one verdict.
-#[derive(Clone, Copy)]
-struct Ring {
+/// What a transmitter makes of a ring of so many in so many turns, and what the table has counted then.
+#[derive(Drop)]
+struct Ring<'a> {
     count: u32,
     turns: u64,
-    calls: &'static [Expected],
-    accepted: u64,
+    calls: &'a [Call],
+    totals: Totals,
 }
 
 /// Lets so many transactions wait for each other on this table. Ends the test unless a transmitter makes the calls of the ring.
-fn goes_round_on<R: Abort>(rt: &R, table: Table, room: Vec<Call>, ring: Ring) {
+fn goes_round_on<R: Abort>(rt: &R, table: Table, room: Vec<Call>, ring: &Ring) {
     let mut table = table;
     same(rt, wait_in_a_ring(&mut table, ring.count), Ok(()));
     let table = makes(rt, table, room, ring.turns, ring.calls);
-    let totals = Totals {
-        accepted: ring.accepted,
-        verdicts: 1,
-        aborts: 0,
-    };
-    same(rt, table.totals(), totals);
+    same(rt, table.totals(), ring.totals);
     drop(table);
 }
 
 /// Opens a table for the ring.
-fn goes_round<R: Abort>(rt: &R, alloc: Global, ring: Ring) -> Result<(), Fail> {
+fn goes_round<R: Abort>(rt: &R, alloc: Global, ring: &Ring) -> Result<(), Fail> {
     let room = room(alloc)?;
     let table = Table::open(alloc, FOUR)?;
     goes_round_on(rt, table, room, ring);
     Ok(())
 }
 
-const FIRST_RAISES: Option<Hint> = Some(Hint {
-    process: 0,
-    holder: 1,
-    kind: HintKind::Raise,
-});
-
-const FIRST_IS_EQUAL: Option<Hint> = Some(Hint {
-    process: 0,
-    holder: 1,
-    kind: HintKind::Equal,
-});
-
-const SECOND_IS_EQUAL: Option<Hint> = Some(Hint {
-    process: 1,
-    holder: 0,
-    kind: HintKind::Equal,
-});
-
 /// What four turns make of it: the first takes over the label of the second, which has its own back then and gets a verdict; the third
 /// turn comes to the end; and the fourth finds no verdict for the first.
-static FOUR_TURNS: [Expected; 10] = [
-    Expected::Scan(0, FIRST_RAISES),
-    Expected::Tenant(0, Some(FIRST)),
-    Expected::Raises(FIRST, 2, 1),
-    Expected::Scan(1, SECOND_IS_EQUAL),
-    Expected::Tenant(1, Some(SECOND)),
-    Expected::Convicts(SECOND, 2, 1),
-    Expected::Scan(2, None),
-    Expected::Scan(0, FIRST_IS_EQUAL),
-    Expected::Tenant(0, Some(FIRST)),
-    Expected::Clears(FIRST),
-];
+fn calls_of_four_turns() -> [Call; 10] {
+    let (first, second) = (first_key(0), first_key(1));
+    let greatest = label(2, 1);
+    [
+        Call::Scan(0, hint(0, 1, HintKind::Raise)),
+        Call::Tenant(0, Some(first)),
+        Call::Transmit(first, Ok(Transmitted::Raised(greatest))),
+        Call::Scan(1, hint(1, 0, HintKind::Equal)),
+        Call::Tenant(1, Some(second)),
+        Call::Detect(second, Ok(Detected::Deadlock(greatest))),
+        Call::Scan(2, None),
+        Call::Scan(0, hint(0, 1, HintKind::Equal)),
+        Call::Tenant(0, Some(first)),
+        Call::Detect(first, Ok(Detected::Clear)),
+    ]
+}
 
 #[test]
 fn a_deadlock_on_a_table_alone(rt: HostRuntime) -> Result<(), Fail> {
+    let totals = Totals {
+        accepted: 9,
+        verdicts: 1,
+        aborts: 0,
+    };
+    let calls = calls_of_four_turns();
     let ring = Ring {
         count: 2,
         turns: 4,
-        calls: &FOUR_TURNS,
-        accepted: 9,
+        calls: calls.as_slice(),
+        totals,
     };
-    goes_round(&rt, rt.alloc(), ring)
+    goes_round(&rt, rt.alloc(), &ring)
 }
 
-const SECOND_RAISES: Option<Hint> = Some(Hint {
-    process: 1,
-    holder: 2,
-    kind: HintKind::Raise,
-});
-
-const SECOND_IS_EQUAL_TO_THIRD: Option<Hint> = Some(Hint {
-    process: 1,
-    holder: 2,
-    kind: HintKind::Equal,
-});
-
-const THIRD_IS_EQUAL: Option<Hint> = Some(Hint {
-    process: 2,
-    holder: 0,
-    kind: HintKind::Equal,
-});
-
 /// What six turns make of a ring of three.
-static SIX_TURNS: [Expected; 16] = [
-    Expected::Scan(0, FIRST_RAISES),
-    Expected::Tenant(0, Some(FIRST)),
-    Expected::Raises(FIRST, 1, 1),
-    Expected::Scan(1, SECOND_RAISES),
-    Expected::Tenant(1, Some(SECOND)),
-    Expected::Raises(SECOND, 2, 2),
-    Expected::Scan(2, None),
-    Expected::Scan(0, FIRST_RAISES),
-    Expected::Tenant(0, Some(FIRST)),
-    Expected::Raises(FIRST, 2, 2),
-    Expected::Scan(1, SECOND_IS_EQUAL_TO_THIRD),
-    Expected::Tenant(1, Some(SECOND)),
-    Expected::Clears(SECOND),
-    Expected::Scan(2, THIRD_IS_EQUAL),
-    Expected::Tenant(2, Some(THIRD)),
-    Expected::Convicts(THIRD, 2, 2),
-];
+fn calls_of_six_turns() -> [Call; 16] {
+    let (first, second, third) = (first_key(0), first_key(1), first_key(2));
+    let greatest = label(2, 2);
+    [
+        Call::Scan(0, hint(0, 1, HintKind::Raise)),
+        Call::Tenant(0, Some(first)),
+        Call::Transmit(first, Ok(Transmitted::Raised(label(1, 1)))),
+        Call::Scan(1, hint(1, 2, HintKind::Raise)),
+        Call::Tenant(1, Some(second)),
+        Call::Transmit(second, Ok(Transmitted::Raised(greatest))),
+        Call::Scan(2, None),
+        Call::Scan(0, hint(0, 1, HintKind::Raise)),
+        Call::Tenant(0, Some(first)),
+        Call::Transmit(first, Ok(Transmitted::Raised(greatest))),
+        Call::Scan(1, hint(1, 2, HintKind::Equal)),
+        Call::Tenant(1, Some(second)),
+        Call::Detect(second, Ok(Detected::Clear)),
+        Call::Scan(2, hint(2, 0, HintKind::Equal)),
+        Call::Tenant(2, Some(third)),
+        Call::Detect(third, Ok(Detected::Deadlock(greatest))),
+    ]
+}
 
 #[test]
 fn a_ring_of_three_on_a_table_alone(rt: HostRuntime) -> Result<(), Fail> {
+    let totals = Totals {
+        accepted: 14,
+        verdicts: 1,
+        aborts: 0,
+    };
+    let calls = calls_of_six_turns();
     let ring = Ring {
         count: 3,
         turns: 6,
-        calls: &SIX_TURNS,
-        accepted: 14,
+        calls: calls.as_slice(),
+        totals,
     };
-    goes_round(&rt, rt.alloc(), ring)
+    goes_round(&rt, rt.alloc(), &ring)
 }
 
 /// Two wait for each other at a desk of a shared table, and a transmitter makes four turns there.
@@ -306,7 +261,8 @@ fn make_four_turns<
 ) -> Pass<N, A, V, B> {
     let mut desk = Desk::new(rt, table, pass);
     same(rt, wait_in_a_ring(&mut desk, 2), Ok(()));
-    let desk = makes(rt, desk, room, 4, &FOUR_TURNS);
+    let calls = calls_of_four_turns();
+    let desk = makes(rt, desk, room, 4, calls.as_slice());
     desk.into_pass()
 }
 
