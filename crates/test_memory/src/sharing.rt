@@ -2,7 +2,7 @@
 ghost use Rattle.std.specs.Prelude.{◌≡◌};
 
 use crate::alone::CONFIG;
-use mm_shared::{Key, Name, Pass, Prepared, Refusal, SharedTable};
+use mm_shared::{Name, Pass, Prepared, Refusal, SharedTable};
 use std::alloc::Global;
 use std::marker::Brand;
 use std::sync::Wait;
@@ -10,7 +10,7 @@ use std::sync::ledger::Ledger;
 
 /// `Prepared::new`.
 pub fn prepared(alloc: Global) -> Result<(), Refusal> {
-    drop(Prepared::new(alloc, CONFIG)?);
+    let _prepared = Prepared::new(alloc, CONFIG)?;
     Ok(())
 }
 
@@ -32,23 +32,14 @@ fn used<N: Name, A: Ledger, V: Ledger, B: Ledger, R: Wait>(
     let (table, mut pass) = prepared.open::<N, A, V, B>();
     let mut other = pass.split(&table, 1);
     let answer = deadlock(rt, &table, &mut pass, &mut other);
-    looks(&table, &mut pass, &mut other);
+    let _hint = table.scan(&mut pass, 0);
+    if table.processes() > 0 {
+        let _label = table.peek(&mut other, 0);
+    }
     pass.join(&table, other);
     match table.close(pass) {
         Ok(_report) => answer,
         Err(_) => Err(Refusal::Stale),
-    }
-}
-
-/// A scan by one pass, and a peek by the other.
-fn looks<N: Name, A: Ledger, V: Ledger, B: Ledger>(
-    table: &SharedTable<N, A, V, B>,
-    pass: &mut Pass<N, A, V, B>,
-    other: &mut Pass<N, A, V, B>,
-) {
-    let _hint = table.scan(pass, 0);
-    if table.processes() > 0 {
-        let _label = table.peek(other, 0);
     }
 }
 
@@ -59,47 +50,14 @@ fn deadlock<N: Name, A: Ledger, V: Ledger, B: Ledger, R: Wait>(
     pass: &mut Pass<N, A, V, B>,
     other: &mut Pass<N, A, V, B>,
 ) -> Result<(), Refusal> {
-    let keys = begin_two(rt, table, pass, other)?;
-    acquire_two(rt, table, pass, other, keys, (0, 1))?;
-    acquire_two(rt, table, pass, other, keys, (1, 0))?;
-    end_two(rt, table, pass, other, keys)
-}
-
-fn begin_two<N: Name, A: Ledger, V: Ledger, B: Ledger, R: Wait>(
-    rt: &R,
-    table: &SharedTable<N, A, V, B>,
-    pass: &mut Pass<N, A, V, B>,
-    other: &mut Pass<N, A, V, B>,
-) -> Result<(Key, Key), Refusal> {
     let first = table.begin(rt, pass)?;
     let second = table.begin(rt, other)?;
-    Ok((first, second))
-}
-
-/// An acquire for each of two transactions.
-fn acquire_two<N: Name, A: Ledger, V: Ledger, B: Ledger, R: Wait>(
-    rt: &R,
-    table: &SharedTable<N, A, V, B>,
-    pass: &mut Pass<N, A, V, B>,
-    other: &mut Pass<N, A, V, B>,
-    keys: (Key, Key),
-    resources: (u32, u32),
-) -> Result<(), Refusal> {
-    table.acquire(rt, pass, keys.0, resources.0)?;
-    table.acquire(rt, other, keys.1, resources.1)?;
-    Ok(())
-}
-
-/// The first passes its label on, and finishes once the second one is aborted.
-fn end_two<N: Name, A: Ledger, V: Ledger, B: Ledger, R: Wait>(
-    rt: &R,
-    table: &SharedTable<N, A, V, B>,
-    pass: &mut Pass<N, A, V, B>,
-    other: &mut Pass<N, A, V, B>,
-    keys: (Key, Key),
-) -> Result<(), Refusal> {
-    table.transmit(rt, pass, keys.0)?;
-    table.detect(rt, other, keys.1)?;
-    table.abort(rt, other, keys.1)?;
-    table.finish(rt, pass, keys.0)
+    table.acquire(rt, pass, first, 0)?;
+    table.acquire(rt, other, second, 1)?;
+    table.acquire(rt, pass, first, 1)?;
+    table.acquire(rt, other, second, 0)?;
+    table.transmit(rt, pass, first)?;
+    table.detect(rt, other, second)?;
+    table.abort(rt, other, second)?;
+    table.finish(rt, pass, first)
 }

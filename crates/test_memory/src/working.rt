@@ -9,7 +9,7 @@ use std::sync::Wait;
 use std::thread::Threads;
 
 /// Three clients that acquire two resources, two of them crosswise, and two transmitters, with 1,000 turns each.
-static TEXT: &str =
+const TEXT: &str =
     "{\"processes\":3,\"resources\":2,\"label_limit\":1000,\"generation_limit\":9,\"transmitters\":2,\"turns\":1000,\"clients\":[[[\"acquire\",0],[\"acquire\",1]],[[\"acquire\",1],[\"acquire\",0]],[[\"acquire\",0]]]}";
 
 fn text_read(alloc: Global) -> Result<Workload, Refusal> {
@@ -22,7 +22,7 @@ fn text_read(alloc: Global) -> Result<Workload, Refusal> {
 
 /// `Workload::read`.
 pub fn read(alloc: Global) -> Result<(), Refusal> {
-    drop(text_read(alloc)?);
+    let _workload = text_read(alloc)?;
     Ok(())
 }
 
@@ -45,20 +45,10 @@ pub fn gates<R: Wait>(rt: &R, alloc: Global) -> Result<(), Refusal> {
 /// `Workload::read`, `shared_gates` and `run_threads`.
 pub fn run<R: Threads + Wait + Sync>(rt: &R, alloc: Global) -> Result<(), Refusal> {
     let workload = text_read(alloc)?;
-    let ran = run_workload(rt, alloc, &workload);
-    drop(workload);
-    ran
-}
-
-fn run_workload<R: Threads + Wait + Sync>(
-    rt: &R,
-    alloc: Global,
-    workload: &Workload,
-) -> Result<(), Refusal> {
     let clients = workload.clients().len() as u32;
     let Ok(gates) = shared_gates(rt, alloc, clients, clients + workload.transmitters()) else {
         return Err(Refusal::Memory);
     };
-    drop(run_threads(rt, alloc, workload, gates)?);
+    let _outcome = run_threads(rt, alloc, &workload, gates)?;
     Ok(())
 }
