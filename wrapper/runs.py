@@ -14,10 +14,11 @@ import progress
 ENOUGH_PROCESSORS = 4
 ENOUGH_MEMORY = 16 << 30
 
-# Each run: those that it comes after, its crates, and whether it has one processor only. The first one is made alone on its path.
+# Each run: those that it comes after, its crates, and whether it has one processor only. Two runs at one time have no crate in common, since one would
+# wait for the other with its processor idle.
 RUNS = {
-    "table": ((), "mm_table mm_board", False),
-    "words": ((), "mm_requests mm_command mm_lines", True),
+    "table": ((), "mm_table mm_board mm_lines", False),
+    "words": ((), "mm_command", True),
     "shared": (("table",), "mm_shared", False),
     "clients": (("shared",), "mm_clients", False),
     "workers": (("clients",), "mm_workers", False),
