@@ -51,8 +51,7 @@ class Reckoning:
         self.seen, self.told_at = 0, self.started
 
     def tell(self):
-        # (a crate that a run proved is kept for those after it: the first line counts)
-        ended = dict(reversed(ENDED.findall(text_of(self.log))))
+        ended = dict(ENDED.findall(text_of(self.log)))
         now = time.monotonic()
         is_new = len(ended) != self.seen
         if is_new:

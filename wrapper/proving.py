@@ -1,12 +1,11 @@
 """Proves and builds the program, and keeps it in crates/mm_detect/out/ with what it was made from.
 
-The crates of the program are copied to a folder of their own, and `rt ci` proves them there, side by side along the graph of crates (`runs`).
+The crates of the program are copied to a folder of their own, and `rt ci` proves them there, side by side along the graph of crates.
 Some versions of the toolchain keep what they prove; ./run_tests finds it then, and the other way round."""
 import os
 import shutil
 import signal
 import subprocess
-import sys
 import tempfile
 import time
 
@@ -97,8 +96,7 @@ def lay_out(top, stage):
 def is_proved(top, stage, log):
     """Runs the toolchain there, says how far it is, and returns whether all is proved, built and run."""
     with open(log, "w", encoding="utf-8") as said:
-        runs = [sys.executable, f"{top}/wrapper/runs.py"]
-        child = subprocess.Popen(runs, cwd=stage, stdin=subprocess.DEVNULL, stdout=said, stderr=said, start_new_session=True)
+        child = subprocess.Popen(["rt", "ci"], cwd=stage, stdin=subprocess.DEVNULL, stdout=said, stderr=said, start_new_session=True)
     try:
         reckoning = progress.Reckoning(f"{top}/wrapper/seconds", f"{stage}/crates.txt", log, child.pid)
         while child.poll() is None:
