@@ -31,6 +31,7 @@ pub fn run_threads<R: Threads + Wait + Sync, G: Gate + Send + Drop>(
     requires gates { vec_len gates ≡ length workload.now.clients + workload.now.transmitters }
     ensures each { IfOk result (λ outcome. vec_len outcome.ends ≡ length workload.now.clients) }
     ensures aborts { IfOk result (λ outcome. count_by is_aborted outcome.ends.items + outcome.earlier.aborted ≡ outcome.report.aborts) }
+    ensures alone { IfOk result (λ outcome. workload.now.further.shape.transactions ≡ 1 → (outcome.earlier.finished ≡ 0) × (outcome.earlier.aborted ≡ 0)) }
     ensures in_range { OnOk result (IsInRange workload.now.config) }
     ensures refused { IfErr result (λ refusal. Opens workload.now.config (Err refusal)) }
 {
@@ -50,6 +51,7 @@ pub fn run_tallied<R: Threads + Wait + Sync, G: Gate + Send + Drop>(
     requires gates { vec_len gates ≡ length workload.now.clients + workload.now.transmitters }
     ensures each { IfOk result (λ ran. vec_len ran.outcome.ends ≡ length workload.now.clients) }
     ensures aborts { IfOk result (λ ran. count_by is_aborted ran.outcome.ends.items + ran.outcome.earlier.aborted ≡ ran.outcome.report.aborts) }
+    ensures alone { IfOk result (λ ran. workload.now.further.shape.transactions ≡ 1 → (ran.outcome.earlier.finished ≡ 0) × (ran.outcome.earlier.aborted ≡ 0)) }
     ensures in_range { OnOk result (IsInRange workload.now.config) }
     ensures refused { IfErr result (λ refusal. Opens workload.now.config (Err refusal)) }
 {
@@ -82,6 +84,7 @@ fn run_on<
     requires gates { vec_len gates ≡ length workload.now.clients + workload.now.transmitters }
     ensures each { IfOk result (λ ran. vec_len ran.outcome.ends ≡ length workload.now.clients) }
     ensures aborts { IfOk result (λ ran. count_by is_aborted ran.outcome.ends.items + ran.outcome.earlier.aborted ≡ ran.outcome.report.aborts) }
+    ensures alone { IfOk result (λ ran. workload.now.further.shape.transactions ≡ 1 → (ran.outcome.earlier.finished ≡ 0) × (ran.outcome.earlier.aborted ≡ 0)) }
 {
     let (table, mut pass) = prepared.open::<N, A, V, B>();
     let mut tally = Tally::NONE;
@@ -124,12 +127,26 @@ fn ends_of<
     ensures each { IfOk result (λ ended. vec_len ended.0 ≡ length workload.now.clients) }
     ensures parts { OnOk result (pass.new.parts ≡ all_parts) }
     ensures aborts { IfOk result (λ ended. count_by is_aborted ended.0.items + ended.1.aborted ≡ pass.new.aborts) }
+    ensures alone { IfOk result (λ ended. workload.now.further.shape.transactions ≡ 1 → (ended.1.finished ≡ 0) × (ended.1.aborted ≡ 0)) }
 {
     let mut ends = Vec::with_capacity(alloc, workload.clients().len())?;
     let (ended, stopped) = at_work(rt, alloc, table, pass, workload, gates)?;
     let earlier = gather_clients(table, pass, ended, &mut ends, tally);
     gather_transmitters(table, pass, stopped, tally);
+    let earlier = as_they_can_be(workload, earlier)?;
     Ok((ends, earlier))
+}
+
+/// These earlier ends, which are none where each client makes one transaction. A proof knows of what a thread returns its type alone, so it
+/// needs this look; it never refuses.
+fn as_they_can_be(workload: &Workload, earlier: Earlier) -> Result<Earlier, AllocError>
+    ensures same { IfOk result (λ own. own ≡ earlier) }
+    ensures alone { IfOk result (λ own. workload.now.further.shape.transactions ≡ 1 → (own.finished ≡ 0) × (own.aborted ≡ 0)) }
+{
+    if workload.coming(1).count() == 0 && earlier != Earlier::NONE {
+        return Err(AllocError);
+    }
+    Ok(earlier)
 }
 
 /// Gives each worker a part of the pass, runs them all, and waits for them.
