@@ -6,7 +6,7 @@ from memory.opened import own
 from memory.program import refused
 from memory.requests import all_in_turn
 
-# Threads that lock one to six of sixteen names, in each way that there is.
+# Threads that lock one to six of sixteen names, one after the other or by one call.
 CROWD = ["crowd", "4", "16"]
 # What the bank prints where memory for the locks is refused.
 NO_MEMORY = "a request for memory was refused\n"

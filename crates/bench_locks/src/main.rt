@@ -3,7 +3,7 @@
 //! found with two owners at a time. The ways:
 //!
 //! - `one`: four locks, one after the other. `all`: four locks by `lock_all`. `with`: by `begin_with`. `run`: by `run` with `lock_all`.
-//! - `crowd`: one to six locks, in each of these ways, and each looks whether it is the only owner of its names.
+//! - `crowd`: one to six locks, as by `one` or as by `all`, and each looks whether it is the only owner of its names.
 //! - `sleep`: one owns a name until the end, and all others wait for it.
 //!
 //! The modules:
