@@ -2,9 +2,11 @@
 ghost use Rattle.std.specs.Prelude.{◌≡◌, ◌≤◌, ◌<◌, ℕ, IfOk, IsTrue, length, map, slice_set};
 ghost use Rattle.std.specs.List.{range_with_len};
 ghost use Rattle.mm_label.specs.Label.{counter_range, process_range};
-ghost use Rattle.mm_table.specs.private.Labels.{opening_labels, private_in, public_in, label_under, both};
+ghost use Rattle.mm_table.specs.private.Labels.{opening_labels, private_in, public_in, both, labels_under, FitUnder, added_each};
 
+use mm_bit_set::BitSet;
 use mm_label::{Label, fresh_in_range};
+use mm_transactions::Waiters;
 use std::alloc::{AllocError, Global};
 use std::marker::Model;
 
@@ -64,7 +66,7 @@ impl Labels {
         requires { process < length self.now }
         ensures { result ≡ public_in self.now process }
     {
-        self.of(process).public
+        shown_by(&self.processes, process)
     }
 
     /// Whether each public label has a counter below this one. `false` is no proof of the contrary.
@@ -82,22 +84,27 @@ impl Labels {
         ensures { self.new ≡ slice_set self.old process (both label) }
     {
         raise_to(&mut self.greatest, label);
-        self.processes[process as usize] = ProcessLabels {
-            private: label,
-            public: label,
-        };
+        self.processes[process as usize] = ProcessLabels::both(label);
     }
 
-    /// Gives `process` both its new labels, by which it waits for one that shows this label. The new counter is in range.
+    /// Gives each of these processes in turn both its new labels, by which it waits for one that shows this label, and adds it to `touched`.
+    /// The new counters are in range. `O(waiters)`.
     #[inline]
-    pub fn block_under(&mut self, process: u32, shown: Label)
-        requires process { process < length self.old }
-        requires process_in_range { process < process_range }
-        requires counter_in_range { (label_under self.old process shown).counter < counter_range }
-        ensures { self.new ≡ slice_set self.old process (both (label_under self.old process shown)) }
+    pub fn block_each(&mut self, waiters: Waiters<'_>, shown: Label, touched: &mut BitSet)
+        requires fit { FitUnder self.old shown waiters }
+        requires sized { length touched.old ≡ length self.old }
+        ensures labels { self.new ≡ labels_under self.old shown waiters.entry }
+        ensures touched { touched.new ≡ added_each touched.old waiters.entry }
     {
-        let label = fresh_in_range(self.public(process), shown, process);
-        self.relabel(process, label);
+        // The greatest label stays in a register, and is written once.
+        let mut greatest = self.greatest;
+        for process in waiters {
+            let label = fresh_in_range(shown_by(&self.processes, process), shown, process);
+            raise_to(&mut greatest, label);
+            self.processes[process as usize] = ProcessLabels::both(label);
+            touched.add(process);
+        }
+        self.greatest = greatest;
     }
 
     /// Makes this label, which some process shows, the public label of `process`.
@@ -114,21 +121,37 @@ impl Labels {
 }
 
 impl ProcessLabels {
-    /// The labels of a process that was never used.
-    fn at_opening(process: u32) -> ProcessLabels
-        requires { process < process_range }
-        ensures { result ≡ opening_labels process }
+    /// This label twice.
+    #[inline]
+    fn both(label: Label) -> ProcessLabels
+        ensures { result ≡ both label }
     {
-        let label = Label::new(0, process).unwrap();
         ProcessLabels {
             private: label,
             public: label,
         }
     }
+
+    /// The labels of a process that was never used.
+    fn at_opening(process: u32) -> ProcessLabels
+        requires { process < process_range }
+        ensures { result ≡ opening_labels process }
+    {
+        // The word of a label with the counter 0 is its process.
+        ProcessLabels::both(Label::of_word(u64::from(process)))
+    }
 }
 
-/// Makes `greatest` this label where that is greater. It writes nothing where it is not: a write at each label of a queue would make the
-/// next one wait for it.
+/// The public label that is kept for a process.
+#[inline]
+fn shown_by(processes: &[ProcessLabels], process: u32) -> Label
+    requires { process < length processes.now }
+    ensures { result ≡ public_in processes.now process }
+{
+    processes[process as usize].public
+}
+
+/// Makes `greatest` this label where that is greater.
 #[inline]
 fn raise_to(greatest: &mut Label, label: Label)
     ensures kept { greatest.old.counter ≤ greatest.new.counter }
@@ -144,7 +167,9 @@ fn labels_at_opening(alloc: Global, count: u32) -> Result<Vec<ProcessLabels>, Al
     requires { count ≤ process_range }
     ensures { IfOk result (λ v. v.items ≡ map opening_labels (range_with_len 0 count)) }
 {
-    (0..count)
-        .map(|process| ProcessLabels::at_opening(process))
-        .collect(alloc)
+    let mut labels = Vec::with_capacity(alloc, count as usize)?;
+    for process in 0..count {
+        labels.push_reserved(ProcessLabels::at_opening(process));
+    }
+    Ok(labels)
 }

@@ -7,6 +7,7 @@ use Rattle.mm_list_lemmas.proofs.Lemmas.Among.{among_append, among_left, among_r
 use Rattle.mm_rules.specs.TableState.{Wait}
 use Rattle.mm_settle.specs.Steps.Added.{AddsAll}
 use Rattle.mm_settle.proofs.Lemmas.Added.{adds_set}
+use Rattle.mm_table.specs.private.Labels.{added_each}
 
 -- these were added, and nobody else
 pub record AddsEach (ns : List ℕ) (old new : List Bool) : Type 0 where
@@ -37,6 +38,30 @@ adds_one ns n a b c each within is =
         | inr apart ↦ elim (each.only k (sym (one.others k apart) ∙ here)) [ inl was ↦ inl was | inr found ↦ inr (among_left ns (n ∷ []) k found) ]
       ];
       sized = one.sized ∙ each.sized;
+    }
+
+-- those that were added one after the other
+pub adds_each : (ns : List ℕ) (set : List Bool) → ((n : ℕ) → Among n ns → n < length set) → AddsEach ns set (added_each set ns)
+adds_each [] set within = adds_none set
+adds_each (n ∷ ns) set within =
+    let new = slice_set set n true in
+    let one = adds_set set new n (within n (inl refl)) refl in
+    let rest = adds_each ns new (λ k among. subst (λ (m : ℕ). k < m) (sym one.sized) (within k (inr among))) in
+    let still : (k : ℕ) → has set k ≡ true → has new k ≡ true = λ k was. elim (cases_eq k n) [
+      | inl e ↦ ap (has new) e ∙ one.here
+      | inr apart ↦ one.others k apart ∙ was
+    ] in
+    record {
+      kept = λ k was. rest.kept k (still k was);
+      added = λ k among. elim among [
+        | inl e ↦ rest.kept k (ap (has new) e ∙ one.here)
+        | inr later ↦ rest.added k later
+      ];
+      only = λ k here. elim (rest.only k here) [
+        | inl was ↦ elim (cases_eq k n) [ inl e ↦ inr (inl e) | inr apart ↦ inl (sym (one.others k apart) ∙ was) ]
+        | inr later ↦ inr (inr later)
+      ];
+      sized = rest.sized ∙ one.sized;
     }
 
 -- so all of a queue were, once its processes were

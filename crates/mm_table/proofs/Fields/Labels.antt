@@ -40,6 +40,11 @@ at_most_set g [] n l new all = tt
 at_most_set g (k ∷ ls) zero l new all = (new, all.1)
 at_most_set g (k ∷ ls) (suc n) l new all = (all.0, at_most_set g ls n l new all.1)
 
+-- a greater one is as good
+pub at_most_more : (g h : ℕ) (ls : List ProcessLabels) → g ≤ h → AreAtMost g ls → AreAtMost h ls
+at_most_more g h [] more all = tt
+at_most_more g h (l ∷ ls) more all = (omega (arith, more, all.0), at_most_more g h ls more all.1)
+
 at_most_read : (g : ℕ) (ls : List ProcessLabels) (n : ℕ) (d : Label) → d.counter ≤ g → AreAtMost g ls → (slice_index_or (map (λ q. q.public) ls) n d).counter ≤ g
 at_most_read g [] n d default all = default
 at_most_read g (l ∷ ls) zero d default all = all.0

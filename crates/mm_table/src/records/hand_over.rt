@@ -84,10 +84,8 @@ impl Records {
     {
         self.transactions.keeps_laws();
         let shown = self.labels.public(holder);
-        for process in self.transactions.waiters(resource) {
-            self.labels.block_under(process, shown);
-            touched.add(process);
-        }
+        self.labels
+            .block_each(self.transactions.waiters(resource), shown, touched);
     }
 
     /// Takes a resource from its owner, if it has one.
