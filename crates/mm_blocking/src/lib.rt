@@ -7,7 +7,7 @@
 //! - `desk`: the manager behind the lock, with whom it is to wake.
 //! - `wakes`: whom a call is to wake once the lock is free.
 //! - `parkers`: where the thread of each transaction sleeps.
-//! - `patience`: how long a thread is to wait. `yields`: yields of the processor.
+//! - `patience`: how long a thread is to wait.
 #![tactic(auto)]
 
 mod backoff;
@@ -19,7 +19,6 @@ mod patience;
 mod run;
 mod transaction;
 mod wakes;
-mod yields;
 
 pub use error::LockError;
 pub use locks::Locks;

@@ -8,17 +8,10 @@ use crate::error::LockError;
 use crate::parkers::Parkers;
 use crate::transaction::Transaction;
 use crate::wakes::{Unwoken, Wakes};
-use crate::yields::stay_away;
-use crossbeam_utils::CachePadded;
+use mm_lock::Lock;
 use mm_manager::{Key, LockManager, ManagerConfig, OpenError, Totals};
 use std::alloc::{AllocError, Global};
-use std::sync::{Mutex, MutexGuard, Wait};
-
-/// How often a thread that finds the lock taken yields its processor before it asks for the lock again.
-const FIRST_YIELDS: u32 = 2;
-
-/// How often a thread asks again before it sleeps until the lock is free. Before each further time it yields twice as often.
-const TURNS: u32 = 8;
+use std::sync::Wait;
 
 /// A lock manager that threads share by reference: a `LockManager` behind one lock, and beside it a place to sleep for each transaction.
 ///
@@ -27,8 +20,7 @@ const TURNS: u32 = 8;
 /// manager promises holds of whatever stands behind the lock at any time (`LockManager::keeps_laws`). No call but `open` takes memory.
 pub struct Locks {
     parkers: Parkers,
-    /// The word of the lock has a cache line of its own: a thread that waits for it does not slow down the one that has the lock.
-    desk: CachePadded<Mutex<CachePadded<Desk>>>,
+    desk: Lock<Desk>,
 }
 
 // By hand, so that a crate that drops locks proves nothing of how their parts are dropped.
@@ -78,32 +70,8 @@ impl Locks {
         let desk = Desk::new(manager, unwoken);
         Locks {
             parkers,
-            desk: CachePadded::new(Mutex::new(CachePadded::new(desk))),
+            desk: Lock::new(desk),
         }
-    }
-
-    /// Takes the lock: in place where it is free, since `lock` itself is too long for that.
-    #[inline(always)]
-    fn locked<R: Wait>(&self, rt: &R) -> MutexGuard<'_, CachePadded<Desk>> {
-        match self.desk.try_lock() {
-            Some(guard) => guard,
-            None => self.contended(rt),
-        }
-    }
-
-    /// Waits for the lock, and takes it. Asking again at once would slow down the one that has it, who is done soon: so the thread stays away
-    /// for longer and longer, and the other one makes several calls in the meantime.
-    #[inline(never)]
-    fn contended<R: Wait>(&self, rt: &R) -> MutexGuard<'_, CachePadded<Desk>> {
-        let mut yields = FIRST_YIELDS;
-        for _ in 0..TURNS {
-            stay_away(yields);
-            if let Some(guard) = self.desk.try_lock() {
-                return guard;
-            }
-            yields = yields.saturating_mul(2);
-        }
-        self.desk.lock(rt)
     }
 
     /// Begins a transaction. It ends by `commit`; where it is dropped it is rolled back.
@@ -155,20 +123,20 @@ impl Locks {
         ensures begun { IfErr result (λ error. of_begin error ≡ true) }
         ensures asked { IfOk result (λ started. IfErr started.1 (λ error. of_lock error ≡ true)) }
     {
-        self.locked(rt).begin_with(names)
+        self.desk.take(rt).inside().begin_with(names)
     }
 
     fn begin_key<R: Wait>(&self, rt: &R) -> Result<Key, LockError>
         ensures refused { IfErr result (λ error. of_begin error ≡ true) }
     {
-        self.locked(rt).begin()
+        self.desk.take(rt).inside().begin()
     }
 
     /// `Desk::lock`.
     pub(crate) fn lock<R: Wait>(&self, rt: &R, key: Key, name: &[u8]) -> Result<Asked, LockError>
         ensures refused { IfErr result (λ error. of_lock error ≡ true) }
     {
-        self.locked(rt).lock(key, name)
+        self.desk.take(rt).inside().lock(key, name)
     }
 
     /// `Desk::lock_each`.
@@ -181,7 +149,7 @@ impl Locks {
     ) -> Result<usize, LockError>
         ensures refused { IfErr result (λ error. of_lock error ≡ true) }
     {
-        self.locked(rt).lock_each(key, names, start)
+        self.desk.take(rt).inside().lock_each(key, names, start)
     }
 
     /// `Desk::go_on`.
@@ -194,26 +162,26 @@ impl Locks {
     ) -> Result<usize, LockError>
         ensures refused { IfErr result (λ error. of_lock error ≡ true) }
     {
-        self.locked(rt).go_on(key, names, place)
+        self.desk.take(rt).inside().go_on(key, names, place)
     }
 
     /// `Desk::try_lock`.
     pub(crate) fn try_lock<R: Wait>(&self, rt: &R, key: Key, name: &[u8]) -> Result<bool, LockError>
         ensures refused { IfErr result (λ error. of_try error ≡ true) }
     {
-        self.locked(rt).try_lock(key, name)
+        self.desk.take(rt).inside().try_lock(key, name)
     }
 
     /// `Desk::asked`.
     pub(crate) fn asked<R: Wait>(&self, rt: &R, key: Key, name: &[u8]) -> Result<Asked, LockError>
         ensures refused { IfErr result (λ error. of_lock error ≡ true) }
     {
-        self.locked(rt).asked(key, name)
+        self.desk.take(rt).inside().asked(key, name)
     }
 
     /// `Desk::is_in_deadlock`.
     pub(crate) fn is_in_deadlock<R: Wait>(&self, rt: &R, key: Key) -> bool {
-        self.locked(rt).is_in_deadlock(key)
+        self.desk.take(rt).inside().is_in_deadlock(key)
     }
 
     /// `Desk::take_back`.
@@ -226,7 +194,7 @@ impl Locks {
         ensures refused { IfErr result (λ error. (error ≡ LockError.TimedOut) ⊎ (of_lock error ≡ true)) }
     {
         let mut wakes = Wakes::new();
-        let answer = self.locked(rt).take_back(key, name, &mut wakes);
+        let answer = self.desk.take(rt).inside().take_back(key, name, &mut wakes);
         self.wake(rt, &wakes);
         answer
     }
@@ -236,7 +204,7 @@ impl Locks {
         ensures refused { IfErr result (λ error. of_unlock error ≡ true) }
     {
         let mut wakes = Wakes::new();
-        let answer = self.locked(rt).unlock(key, name, &mut wakes);
+        let answer = self.desk.take(rt).inside().unlock(key, name, &mut wakes);
         self.wake(rt, &wakes);
         answer
     }
@@ -246,7 +214,7 @@ impl Locks {
         ensures refused { IfErr result (λ error. of_commit error ≡ true) }
     {
         let mut wakes = Wakes::new();
-        let answer = self.locked(rt).commit(key, &mut wakes);
+        let answer = self.desk.take(rt).inside().commit(key, &mut wakes);
         self.wake(rt, &wakes);
         answer
     }
@@ -254,18 +222,18 @@ impl Locks {
     /// `Desk::roll_back`, and wakes whom it told something.
     pub(crate) fn roll_back<R: Wait>(&self, rt: &R, key: Key) {
         let mut wakes = Wakes::new();
-        let _ = self.locked(rt).roll_back(key, &mut wakes);
+        let _ = self.desk.take(rt).inside().roll_back(key, &mut wakes);
         self.wake(rt, &wakes);
     }
 
     /// What was counted since the opening, as `LockManager::totals`. Constant time.
     pub fn totals<R: Wait>(&self, rt: &R) -> Totals {
-        self.locked(rt).totals()
+        self.desk.take(rt).inside().totals()
     }
 
     /// How many events of the table were counted since the opening, as `LockManager::events`. Constant time.
     pub fn events<R: Wait>(&self, rt: &R) -> u64 {
-        self.locked(rt).events()
+        self.desk.take(rt).inside().events()
     }
 
     /// Wakes these, and then those for whom there was no room among them. The lock is free.
@@ -290,6 +258,6 @@ impl Locks {
     }
 
     fn take_unwoken<R: Wait>(&self, rt: &R) -> Wakes {
-        self.locked(rt).take_unwoken()
+        self.desk.take(rt).inside().take_unwoken()
     }
 }

@@ -6,7 +6,7 @@ use crate::desk::Asked;
 use crate::error::LockError;
 use crate::locks::Locks;
 use crate::patience::{Patience, Pause};
-use crate::yields::stay_away;
+use mm_lock::stay_away;
 use mm_manager::Key;
 use std::sync::Wait;
 use std::thread::Parker;

@@ -8,20 +8,14 @@ ghost use Rattle.mm_shared.specs.Shares.{all_parts, CountsEvent};
 
 use crate::inside::Inside;
 use crate::pass::Pass;
-use crossbeam_utils::CachePadded;
 use mm_board::{Board, Name};
+use mm_lock::Lock;
 use mm_table::{Acquired, Detected, Key, Refusal, Released, Settled, State, Transmitted};
+use std::fmt;
 use std::fmt::{Debug, Formatter};
 use std::marker::Model;
+use std::sync::Wait;
 use std::sync::ledger::Ledger;
-use std::sync::{Mutex, MutexGuard, Wait};
-use std::{fmt, thread};
-
-/// How often a thread that finds the lock taken yields its processor before it asks for the lock again.
-const FIRST_YIELDS: u32 = 2;
-
-/// How often a thread asks again before it sleeps until the lock is free. Before each further time it yields twice as often.
-const TURNS: u32 = 8;
 
 /// A lock table that threads share by reference: an `Inside` behind one lock, and beside it the board on which its labels and holders are
 /// read without the lock.
@@ -32,9 +26,7 @@ const TURNS: u32 = 8;
 pub struct SharedTable<N: Name, A: Ledger, V: Ledger, B: Ledger> {
     pub(crate) board: Board<N>,
     processes: u32,
-    /// The word of the lock has a cache line of its own: a thread that waits for it slows down neither the one that has the lock nor
-    /// those who read what stands beside it.
-    lock: CachePadded<Mutex<CachePadded<Inside<N, A, V, B>>>>,
+    lock: Lock<Inside<N, A, V, B>>,
 }
 
 // By hand, so that a crate that drops a shared table proves nothing of how its parts are dropped.
@@ -68,7 +60,7 @@ impl<N: Name, A: Ledger, V: Ledger, B: Ledger> SharedTable<N, A, V, B> {
         SharedTable {
             board,
             processes,
-            lock: CachePadded::new(Mutex::new(CachePadded::new(inside))),
+            lock: Lock::new(inside),
         }
     }
 
@@ -86,31 +78,7 @@ impl<N: Name, A: Ledger, V: Ledger, B: Ledger> SharedTable<N, A, V, B> {
             processes: _,
             lock,
         } = self;
-        lock.into_inner().into_inner().into_inner()
-    }
-
-    /// Takes the lock: in place where it is free, since `lock` itself is too long for that.
-    #[inline(always)]
-    fn locked<R: Wait>(&self, rt: &R) -> MutexGuard<'_, CachePadded<Inside<N, A, V, B>>> {
-        match self.lock.try_lock() {
-            Some(guard) => guard,
-            None => self.contended(rt),
-        }
-    }
-
-    /// Waits for the lock, and takes it. Asking again at once would slow down the one that has it, who is done soon: so the thread stays away
-    /// for longer and longer, and the other one makes several calls in the meantime.
-    #[inline(never)]
-    fn contended<R: Wait>(&self, rt: &R) -> MutexGuard<'_, CachePadded<Inside<N, A, V, B>>> {
-        let mut yields = FIRST_YIELDS;
-        for _ in 0..TURNS {
-            stay_away(yields);
-            if let Some(guard) = self.lock.try_lock() {
-                return guard;
-            }
-            yields = yields.saturating_mul(2);
-        }
-        self.lock.lock(rt)
+        lock.into_inner()
     }
 
     /// How many processes the table has. Constant time, and takes no lock.
@@ -126,7 +94,7 @@ impl<N: Name, A: Ledger, V: Ledger, B: Ledger> SharedTable<N, A, V, B> {
     pub fn begin<R: Wait>(&self, rt: &R, pass: &mut Pass<N, A, V, B>) -> Result<Key, Refusal>
         ensures counts { CountsEvent Begin result pass.old pass.new }
     {
-        self.locked(rt).begin(&self.board, pass)
+        self.lock.take(rt).inside().begin(&self.board, pass)
     }
 
     /// `Table::acquire`: grants a free resource; for an owned one the transaction waits, last in its queue, with a fresh label.
@@ -146,7 +114,10 @@ impl<N: Name, A: Ledger, V: Ledger, B: Ledger> SharedTable<N, A, V, B> {
         ensures seen { (holder : Key) (label : Label) → result ≡ Ok (Acquired.Waits holder label) → label_at pass.new.seen.labels key.process ≡ label }
         ensures rises { NoneFalls pass.old.seen.labels pass.new.seen.labels }
     {
-        self.locked(rt).acquire(&self.board, pass, key, resource)
+        self.lock
+            .take(rt)
+            .inside()
+            .acquire(&self.board, pass, key, resource)
     }
 
     /// `Table::release`: hands the resource over to its longest waiter, or frees it.
@@ -161,7 +132,10 @@ impl<N: Name, A: Ledger, V: Ledger, B: Ledger> SharedTable<N, A, V, B> {
     ) -> Result<Released, Refusal>
         ensures counts { CountsEvent (Release key resource) result pass.old pass.new }
     {
-        self.locked(rt).release(&self.board, pass, key, resource)
+        self.lock
+            .take(rt)
+            .inside()
+            .release(&self.board, pass, key, resource)
     }
 
     /// `release`, which also lists whom to wake: `wake` then has, in place of what it had, all processes whose labels, wait, holder or
@@ -181,7 +155,8 @@ impl<N: Name, A: Ledger, V: Ledger, B: Ledger> SharedTable<N, A, V, B> {
         ensures counts { CountsEvent (Release key resource) result pass.old pass.new }
         ensures room { self.now ≤ vec_capacity wake.new }
     {
-        let mut inside = self.locked(rt);
+        let mut guard = self.lock.take(rt);
+        let inside = guard.inside();
         let answer = inside.release(&self.board, pass, key, resource);
         inside.swap_changed(&self.board, wake);
         answer
@@ -198,7 +173,7 @@ impl<N: Name, A: Ledger, V: Ledger, B: Ledger> SharedTable<N, A, V, B> {
     ) -> Result<(), Refusal>
         ensures counts { CountsEvent (Finish key) result pass.old pass.new }
     {
-        self.locked(rt).finish(&self.board, pass, key)
+        self.lock.take(rt).inside().finish(&self.board, pass, key)
     }
 
     /// `finish`, which also lists whom to wake: `wake` then has, in place of what it had, all processes whose labels, wait, holder or
@@ -217,7 +192,8 @@ impl<N: Name, A: Ledger, V: Ledger, B: Ledger> SharedTable<N, A, V, B> {
         ensures counts { CountsEvent (Finish key) result pass.old pass.new }
         ensures room { self.now ≤ vec_capacity wake.new }
     {
-        let mut inside = self.locked(rt);
+        let mut guard = self.lock.take(rt);
+        let inside = guard.inside();
         let answer = inside.finish(&self.board, pass, key);
         inside.swap_changed(&self.board, wake);
         answer
@@ -237,7 +213,7 @@ impl<N: Name, A: Ledger, V: Ledger, B: Ledger> SharedTable<N, A, V, B> {
         ensures seen { (label : Label) → result ≡ Ok (Transmitted.Raised label) → label_at pass.new.seen.labels key.process ≡ label }
         ensures rises { NoneFalls pass.old.seen.labels pass.new.seen.labels }
     {
-        self.locked(rt).transmit(&self.board, pass, key)
+        self.lock.take(rt).inside().transmit(&self.board, pass, key)
     }
 
     /// `Table::detect`: gives the waiting transaction a verdict where its two labels and its holder's public one are one label. The pass
@@ -252,7 +228,7 @@ impl<N: Name, A: Ledger, V: Ledger, B: Ledger> SharedTable<N, A, V, B> {
     ) -> Result<Detected, Refusal>
         ensures counts { CountsEvent (Detect key) result pass.old pass.new }
     {
-        self.locked(rt).detect(&self.board, pass, key)
+        self.lock.take(rt).inside().detect(&self.board, pass, key)
     }
 
     /// `Table::abort`: ends a transaction with a verdict, as `finish` ends an active one. The pass counts the abort.
@@ -266,7 +242,7 @@ impl<N: Name, A: Ledger, V: Ledger, B: Ledger> SharedTable<N, A, V, B> {
     ) -> Result<(), Refusal>
         ensures counts { CountsEvent (Abort key) result pass.old pass.new }
     {
-        self.locked(rt).abort(&self.board, pass, key)
+        self.lock.take(rt).inside().abort(&self.board, pass, key)
     }
 
     /// `abort`, which also lists whom to wake: `wake` then has, in place of what it had, all processes whose labels, wait, holder or
@@ -285,7 +261,8 @@ impl<N: Name, A: Ledger, V: Ledger, B: Ledger> SharedTable<N, A, V, B> {
         ensures counts { CountsEvent (Abort key) result pass.old pass.new }
         ensures room { self.now ≤ vec_capacity wake.new }
     {
-        let mut inside = self.locked(rt);
+        let mut guard = self.lock.take(rt);
+        let inside = guard.inside();
         let answer = inside.abort(&self.board, pass, key);
         inside.swap_changed(&self.board, wake);
         answer
@@ -303,7 +280,7 @@ impl<N: Name, A: Ledger, V: Ledger, B: Ledger> SharedTable<N, A, V, B> {
     ) -> Result<(), Refusal>
         ensures counts { CountsEvent (GiveUp key) result pass.old pass.new }
     {
-        self.locked(rt).give_up(&self.board, pass, key)
+        self.lock.take(rt).inside().give_up(&self.board, pass, key)
     }
 
     /// `Table::settle`: transmits and detects for all that wait, until neither has anything left to do. The pass counts the new
@@ -313,7 +290,7 @@ impl<N: Name, A: Ledger, V: Ledger, B: Ledger> SharedTable<N, A, V, B> {
     pub fn settle<R: Wait>(&self, rt: &R, pass: &mut Pass<N, A, V, B>) -> Result<Settled, Refusal>
         ensures counts { CountsEvent Settle result pass.old pass.new }
     {
-        self.locked(rt).settle(&self.board, pass)
+        self.lock.take(rt).inside().settle(&self.board, pass)
     }
 
     /// `settle`, which also lists whom to wake: `wake` then has, in place of what it had, all processes whose labels, wait, holder or
@@ -331,7 +308,8 @@ impl<N: Name, A: Ledger, V: Ledger, B: Ledger> SharedTable<N, A, V, B> {
         ensures counts { CountsEvent Settle result pass.old pass.new }
         ensures room { self.now ≤ vec_capacity wake.new }
     {
-        let mut inside = self.locked(rt);
+        let mut guard = self.lock.take(rt);
+        let inside = guard.inside();
         let answer = inside.settle(&self.board, pass);
         inside.swap_changed(&self.board, wake);
         answer
@@ -348,7 +326,7 @@ impl<N: Name, A: Ledger, V: Ledger, B: Ledger> SharedTable<N, A, V, B> {
     ) -> Result<State, Refusal>
         ensures { pass.new ≡ pass.old }
     {
-        self.locked(rt).state(&self.board, pass, key)
+        self.lock.take(rt).inside().state(&self.board, pass, key)
     }
 
     /// `Table::owner`: the key that owns the resource; `None` where it is free.
@@ -362,7 +340,10 @@ impl<N: Name, A: Ledger, V: Ledger, B: Ledger> SharedTable<N, A, V, B> {
     ) -> Result<Option<Key>, Refusal>
         ensures { pass.new ≡ pass.old }
     {
-        self.locked(rt).owner(&self.board, pass, resource)
+        self.lock
+            .take(rt)
+            .inside()
+            .owner(&self.board, pass, resource)
     }
 
     /// `Table::tenant`: the live key of the process; `None` where it has none, or is not one of the table's.
@@ -371,7 +352,10 @@ impl<N: Name, A: Ledger, V: Ledger, B: Ledger> SharedTable<N, A, V, B> {
     pub fn tenant<R: Wait>(&self, rt: &R, pass: &mut Pass<N, A, V, B>, process: u32) -> Option<Key>
         ensures { pass.new ≡ pass.old }
     {
-        self.locked(rt).tenant(&self.board, pass, process)
+        self.lock
+            .take(rt)
+            .inside()
+            .tenant(&self.board, pass, process)
     }
 }
 
@@ -380,12 +364,5 @@ impl<N: Name, A: Ledger, V: Ledger, B: Ledger> Debug for SharedTable<N, A, V, B>
         f.debug_struct("SharedTable")
             .field("processes", &self.processes)
             .finish()
-    }
-}
-
-/// Yields the processor so often, which takes the time of several calls each.
-fn stay_away(yields: u32) {
-    for _ in 0..yields {
-        thread::yield_now();
     }
 }
