@@ -8,11 +8,11 @@ use std::test::Fail;
 // The example of README.md.
 #[test]
 fn takes_the_first_from_a_place(rt: HostRuntime) -> Result<(), Fail> {
-    let mut set = BitSet::new(rt.alloc(), 200)?;
-    set.add(130);
+    let mut set = BitSet::new(rt.alloc(), 10_000)?;
+    set.add(5_000);
     set.add(3);
     same(&rt, set.next(0), Some(3));
-    same(&rt, set.take_next(4), Some(130));
+    same(&rt, set.take_next(4), Some(5_000));
     same(&rt, set.take_next(4), None);
     same(&rt, set.take_next(0), Some(3));
     same(&rt, set.next(0), None);

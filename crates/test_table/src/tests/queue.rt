@@ -54,6 +54,8 @@ fn keep_two_lists(rt: &impl Abort, lists: &mut Lists)
     same(rt, lists.occupied(3), false);
     same(rt, lists.pop_front(0), Some(key(1, 1)));
     same(rt, lists.len(0), 1);
+    same(rt, lists.pop_front(0), Some(key(2, 1)));
+    same(rt, lists.front(0), None);
     same(rt, lists.pop_front(1), Some(key(0, 2)));
     same(rt, lists.front(1), None);
 }
