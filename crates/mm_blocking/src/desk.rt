@@ -4,6 +4,7 @@ ghost use Rattle.mm_manager.specs.LockState.{Owns};
 ghost use Rattle.mm_manager.specs.Calls.{Aborts, Cancels};
 ghost use Rattle.mm_manager.specs.Reads.{HasStatus};
 ghost use Rattle.mm_manager.specs.declared.refusal.Refusal.{Refusal as RefusalValue};
+ghost use Rattle.mm_manager.specs.declared.reply.Abort.{Abort as AbortValue};
 ghost use Rattle.mm_manager.specs.declared.reply.Status.{Status as StatusValue};
 ghost use Rattle.mm_blocking.specs.Calls.{Starts, StartsWith, Asks, AsksEach, GoesOn, Tries, Finds, TimesOut, GivesBack, Ends, bytes_of, left, with_left, is_deadlock};
 ghost use Rattle.mm_blocking.specs.Errors.{of_begin, of_lock, of_try, of_unlock, of_commit};
@@ -196,20 +197,31 @@ impl Desk {
                 Ok(())
             }
             Err(refusal) => {
-                let _ = self.roll_back(key, wakes);
+                let _ = self.abort(key, wakes);
                 Err(LockError::of_refusal(refusal))
             }
         }
     }
 
-    /// Ends a transaction, be it in a deadlock or not.
-    pub fn roll_back(&mut self, key: Key, wakes: &mut Wakes) -> Result<Abort, Refusal>
+    /// `LockManager::abort`.
+    fn abort(&mut self, key: Key, wakes: &mut Wakes) -> Result<Abort, Refusal>
         ensures aborts { Aborts self.old.manager key result self.new.manager }
         ensures noted { Notes (told self.new.manager) wakes.old.processes.items self.old.unwoken.set wakes.new.processes.items self.new.unwoken.set }
     {
         let answer = self.manager.abort(key);
         self.note(wakes);
         answer
+    }
+
+    /// Ends a transaction, be it in a deadlock or not. Returns whether it was in one.
+    pub fn roll_back(&mut self, key: Key, wakes: &mut Wakes) -> bool
+        ensures was { (does : Result StatusValue RefusalValue) × HasStatus self.old.manager key does × (result ≡ is_deadlock does) }
+        ensures aborts { (answer : Result AbortValue RefusalValue) × Aborts self.old.manager key answer self.new.manager }
+        ensures noted { Notes (told self.new.manager) wakes.old.processes.items self.old.unwoken.set wakes.new.processes.items self.new.unwoken.set }
+    {
+        let was_in_deadlock = self.is_in_deadlock(key);
+        let _ = self.abort(key, wakes);
+        was_in_deadlock
     }
 
     pub fn totals(&self) -> Totals

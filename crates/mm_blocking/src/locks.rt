@@ -219,11 +219,12 @@ impl Locks {
         answer
     }
 
-    /// `Desk::roll_back`, and wakes whom it told something.
-    pub(crate) fn roll_back<R: Wait>(&self, rt: &R, key: Key) {
+    /// `Desk::roll_back`, and wakes whom it told something. Returns whether the transaction was in a deadlock.
+    pub(crate) fn roll_back<R: Wait>(&self, rt: &R, key: Key) -> bool {
         let mut wakes = Wakes::new();
-        let _ = self.desk.take(rt).inside().roll_back(key, &mut wakes);
+        let was_in_deadlock = self.desk.take(rt).inside().roll_back(key, &mut wakes);
         self.wake(rt, &wakes);
+        was_in_deadlock
     }
 
     /// What was counted since the opening, as `LockManager::totals`. Constant time.

@@ -16,7 +16,12 @@ use std::time::{Clock, Duration};
 /// has to be woken.
 const YIELDS: u32 = 8;
 
-/// A transaction. Where it is dropped it is rolled back: all that it owns is handed over, and whoever was granted something is woken.
+/// How often the thread of a victim yields its processor when the victim was rolled back. One that began again at once would often close the
+/// same cycle once more, before the others are done.
+const VICTIM_YIELDS: u32 = 256;
+
+/// A transaction. Where it is dropped it is rolled back: all that it owns is handed over, and whoever was granted something is woken. After a
+/// deadlock the drop then yields the processor for a while, so that the others come to their ends before the caller begins again.
 ///
 /// Between its calls it does not wait: it is active, or in a deadlock. One thread at a time has it, and may hand it to another one.
 pub struct Transaction<'m, R: Wait> {
@@ -34,7 +39,9 @@ impl<'m, R: Wait> Drop for Transaction<'m, R> {
             parker: _,
             key,
         } = self;
-        locks.roll_back(rt, key);
+        if locks.roll_back(rt, key) {
+            stay_away(VICTIM_YIELDS);
+        }
     }
 }
 
