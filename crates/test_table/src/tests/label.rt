@@ -48,6 +48,15 @@ fn words_of_labels(rt: HostRuntime) -> Result<(), Fail> {
 }
 
 #[test]
+fn labels_of_one_counter_differ(rt: HostRuntime) -> Result<(), Fail> {
+    let (zero, one) = (Label::new(7, 0), Label::new(7, 1));
+    let (zero, one) = (zero.ok_or("in range")?, one.ok_or("in range")?);
+    same(&rt, (zero == one, zero < one), (false, true));
+    same(&rt, (zero == zero, zero < zero), (true, false));
+    Ok(())
+}
+
+#[test]
 fn words_of_the_former_packing(rt: HostRuntime) -> Result<(), Fail> {
     let table = [
         (0, 0, 0),
