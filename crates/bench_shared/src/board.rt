@@ -1,9 +1,9 @@
 //! Calls of a shared table that store on its board, and reads of the board.
-ghost use Rattle.std.specs.Prelude.{◌≡◌};
 
 use crate::calls::{Round, block, crowd, hand_overs, rounds};
 use crate::clock::{nanoseconds_since, now};
-use mm_shared::{Name, Pass, Prepared, SharedTable};
+use crate::seat::{Calls, Seat};
+use mm_shared::{Name, Pass, SharedTable};
 use std::sync::Wait;
 use std::sync::atomic::AtomicBool;
 use std::sync::atomic::Ordering::SeqCst;
@@ -12,7 +12,7 @@ use std::thread::{Threads, join};
 use std::time::Clock;
 
 /// What is timed.
-#[derive(Clone, Copy, Debug, PartialEq, Eq)]
+#[derive(Clone, Copy)]
 pub enum Work {
     /// One round after another.
     Rounds(Round),
@@ -26,151 +26,139 @@ pub enum Work {
     Scans,
 }
 
+static NAMES: [(&str, Work); 8] = [
+    ("grants", Work::Rounds(Round::Grant)),
+    ("blocks", Work::Rounds(Round::Block)),
+    ("deadlocks", Work::Rounds(Round::Deadlock)),
+    ("settles", Work::Rounds(Round::Settle)),
+    ("hand-overs", Work::HandOvers),
+    ("peeks", Work::Peeks),
+    ("peeks-beside", Work::PeeksBeside),
+    ("scans", Work::Scans),
+];
+
 impl Work {
     /// The work of this name.
     pub fn named(name: &str) -> Option<Work> {
-        match name {
-            "grants" => Some(Work::Rounds(Round::Grant)),
-            "blocks" => Some(Work::Rounds(Round::Block)),
-            "deadlocks" => Some(Work::Rounds(Round::Deadlock)),
-            "settles" => Some(Work::Rounds(Round::Settle)),
-            "hand-overs" => Some(Work::HandOvers),
-            "peeks" => Some(Work::Peeks),
-            "peeks-beside" => Some(Work::PeeksBeside),
-            "scans" => Some(Work::Scans),
-            _ => None,
+        for (word, work) in &NAMES {
+            if *word == name {
+                return Some(*work);
+            }
         }
+        None
     }
 }
 
 /// Reads the labels of all processes in turn. Returns the sum of their counters, so that no read is left out.
-fn peeks<N: Name, A: Ledger, V: Ledger, B: Ledger>(
-    table: &SharedTable<N, A, V, B>,
-    pass: &mut Pass<N, A, V, B>,
-    count: u32,
-) -> u64 {
+fn peeks<C: Calls>(seat: &mut C, count: u32) -> u64 {
     let mut sum = 0u64;
     let mut process = 0u32;
     for _ in 0..count {
-        if process >= table.processes() {
+        if process >= seat.processes() {
             process = 0;
         }
-        if process < table.processes() {
-            sum = sum.wrapping_add(table.peek(pass, process).counter());
-        }
+        sum = sum.wrapping_add(seat.peek(process));
         process = process.wrapping_add(1);
     }
     sum
 }
 
 /// Looks for a hint among all processes, so many times. Returns how many were found.
-fn scans<N: Name, A: Ledger, V: Ledger, B: Ledger>(
-    table: &SharedTable<N, A, V, B>,
-    pass: &mut Pass<N, A, V, B>,
-    count: u32,
-) -> u64 {
+fn scans<C: Calls>(seat: &mut C, count: u32) -> u64 {
     let mut found = 0u64;
     for _ in 0..count {
-        if table.scan(pass, 0).is_some() {
+        if seat.scan() {
             found = found.wrapping_add(1);
         }
     }
     found
 }
 
-/// How long so many peeks take, beside a thread that blocks until they are done.
-fn peeks_beside<
-    N: Name + Send + Sync,
-    A: Ledger + Send + Sync,
-    V: Ledger + Send + Sync,
-    B: Ledger + Send + Sync,
-    R: Threads + Wait + Clock + Sync,
->(rt: &R, table: &SharedTable<N, A, V, B>, pass: &mut Pass<N, A, V, B>, count: u32) -> u64 {
-    if pass.parts() < 2 {
-        return 0;
+/// Does the work so many times, but for `PeeksBeside`, which takes two threads.
+fn work_alone<C: Calls>(seat: &mut C, work: Work, count: u32) {
+    match work {
+        Work::Rounds(round) => rounds(seat, round, count),
+        Work::HandOvers => {
+            if let Ok(owner) = crowd(seat) {
+                hand_overs(seat, owner, count);
+            }
+        }
+        Work::Peeks | Work::PeeksBeside => {
+            let _ = peeks(seat, count);
+        }
+        Work::Scans => {
+            let _ = scans(seat, count);
+        }
     }
-    let mut other = pass.split(table, 1);
+}
+
+/// How many nanoseconds the work took.
+fn time_of<C: Calls, R: Clock>(rt: &R, seat: &mut C, work: Work, count: u32) -> u64 {
+    let start = now(rt);
+    work_alone(seat, work, count);
+    nanoseconds_since(rt, start)
+}
+
+fn blocks_until<C: Calls>(seat: &mut C, done: &AtomicBool) {
+    for _ in 0..u64::MAX {
+        if done.load(SeqCst) {
+            return;
+        }
+        let _ = block(seat);
+    }
+}
+
+/// How long so many peeks take, beside a thread that blocks until they are done.
+fn time_beside<C: Calls + Send, R: Threads + Clock + Sync>(
+    rt: &R,
+    seat: &mut C,
+    other: &mut C,
+    count: u32,
+) -> u64 {
     let is_done = AtomicBool::new(false);
     let done = &is_done;
     let (nanoseconds, _) = join(
         rt,
         || {
-            let start = now(rt);
-            let _ = peeks(table, pass, count);
-            let taken = nanoseconds_since(rt, start);
+            let taken = time_of(rt, seat, Work::Peeks, count);
             done.store(true, SeqCst);
             taken
         },
-        || blocks_until(rt, table, &mut other, done),
+        || blocks_until(other, done),
     );
     nanoseconds
 }
 
-fn blocks_until<N: Name, A: Ledger, V: Ledger, B: Ledger, R: Wait>(
-    rt: &R,
-    table: &SharedTable<N, A, V, B>,
-    pass: &mut Pass<N, A, V, B>,
-    done: &AtomicBool,
-) {
-    for _ in 0..u64::MAX {
-        if done.load(SeqCst) {
-            return;
-        }
-        let _ = block(rt, table, pass);
-    }
-}
-
-/// Does the work so many times, on a table that was prepared for it. Returns how many nanoseconds it took.
-pub fn timed_work<
+/// The same with a part of the pass for the other thread.
+fn time_of_two<
     N: Name + Send + Sync,
     A: Ledger + Send + Sync,
     V: Ledger + Send + Sync,
     B: Ledger + Send + Sync,
     R: Threads + Wait + Clock + Sync,
->(rt: &R, prepared: Prepared, work: Work, count: u32) -> u64
-    requires board { prepared.board ≡ N.board }
-    requires accepted { (prepared.accepted.name ≡ A.name) × (prepared.accepted.parts ≡ A.parts) }
-    requires verdicts { (prepared.verdicts.name ≡ V.name) × (prepared.verdicts.parts ≡ V.parts) }
-    requires aborts { (prepared.aborts.name ≡ B.name) × (prepared.aborts.parts ≡ B.parts) }
-{
-    let (table, mut pass) = prepared.open::<N, A, V, B>();
-    let taken = time_of(rt, &table, &mut pass, work, count);
-    drop(pass);
-    drop(table);
+>(rt: &R, table: &SharedTable<N, A, V, B>, pass: Pass<N, A, V, B>, count: u32) -> u64 {
+    let mut pass = pass;
+    if pass.parts() < 2 {
+        return 0;
+    }
+    let mut other = Seat::new(rt, table, pass.split(table, 1));
+    let mut seat = Seat::new(rt, table, pass);
+    time_beside(rt, &mut seat, &mut other, count)
+}
+
+/// Does the work so many times. Returns how many nanoseconds it took.
+pub fn time_of_work<
+    N: Name + Send + Sync,
+    A: Ledger + Send + Sync,
+    V: Ledger + Send + Sync,
+    B: Ledger + Send + Sync,
+    R: Threads + Wait + Clock + Sync,
+>(rt: &R, table: &SharedTable<N, A, V, B>, pass: Pass<N, A, V, B>, work: Work, count: u32) -> u64 {
+    if let Work::PeeksBeside = work {
+        return time_of_two(rt, table, pass, count);
+    }
+    let mut seat = Seat::new(rt, table, pass);
+    let taken = time_of(rt, &mut seat, work, count);
+    drop(seat);
     taken
-}
-
-fn time_of<
-    N: Name + Send + Sync,
-    A: Ledger + Send + Sync,
-    V: Ledger + Send + Sync,
-    B: Ledger + Send + Sync,
-    R: Threads + Wait + Clock + Sync,
->(
-    rt: &R,
-    table: &SharedTable<N, A, V, B>,
-    pass: &mut Pass<N, A, V, B>,
-    work: Work,
-    count: u32,
-) -> u64 {
-    if work == Work::PeeksBeside {
-        return peeks_beside(rt, table, pass, count);
-    }
-    let start = now(rt);
-    match work {
-        Work::Rounds(round) => rounds(rt, table, pass, round, count),
-        Work::HandOvers => {
-            if let Ok(owner) = crowd(rt, table, pass) {
-                hand_overs(rt, table, pass, owner, count);
-            }
-        }
-        Work::Peeks => {
-            let _ = peeks(table, pass, count);
-        }
-        Work::Scans => {
-            let _ = scans(table, pass, count);
-        }
-        Work::PeeksBeside => {}
-    }
-    nanoseconds_since(rt, start)
 }

@@ -1,126 +1,84 @@
 //! Calls of a shared table by one thread, again and again.
 
-use mm_shared::{Key, Name, Pass, Refusal, Released, SharedTable};
-use std::sync::Wait;
-use std::sync::ledger::Ledger;
+use crate::seat::Calls;
+use mm_shared::{Key, Refusal, Released};
 
 /// How many wait where a resource is handed over.
 const WAITERS: u32 = 16;
 
 /// One transaction that waits for nobody.
-fn grant<N: Name, A: Ledger, V: Ledger, B: Ledger, R: Wait>(
-    rt: &R,
-    table: &SharedTable<N, A, V, B>,
-    pass: &mut Pass<N, A, V, B>,
-) -> Result<(), Refusal> {
-    let key = table.begin(rt, pass)?;
-    table.acquire(rt, pass, key, 0)?;
-    table.release(rt, pass, key, 0)?;
-    table.finish(rt, pass, key)
+fn grant<C: Calls>(seat: &mut C) -> Result<(), Refusal> {
+    let key = seat.begin()?;
+    seat.acquire(key, 0)?;
+    seat.release(key, 0)?;
+    seat.finish(key)
 }
 
 /// Begins two transactions.
-fn begin_two<N: Name, A: Ledger, V: Ledger, B: Ledger, R: Wait>(
-    rt: &R,
-    table: &SharedTable<N, A, V, B>,
-    pass: &mut Pass<N, A, V, B>,
-) -> Result<(Key, Key), Refusal> {
-    let first = table.begin(rt, pass)?;
-    let second = table.begin(rt, pass)?;
+fn begin_two<C: Calls>(seat: &mut C) -> Result<(Key, Key), Refusal> {
+    let first = seat.begin()?;
+    let second = seat.begin()?;
     Ok((first, second))
 }
 
 /// Acquires a resource for each of two transactions.
-fn acquire_two<N: Name, A: Ledger, V: Ledger, B: Ledger, R: Wait>(
-    rt: &R,
-    table: &SharedTable<N, A, V, B>,
-    pass: &mut Pass<N, A, V, B>,
+fn acquire_two<C: Calls>(
+    seat: &mut C,
     keys: (Key, Key),
     resources: (u32, u32),
 ) -> Result<(), Refusal> {
-    table.acquire(rt, pass, keys.0, resources.0)?;
-    table.acquire(rt, pass, keys.1, resources.1)?;
+    seat.acquire(keys.0, resources.0)?;
+    seat.acquire(keys.1, resources.1)?;
     Ok(())
 }
 
 /// Finishes two transactions, the second one first.
-fn finish_two<N: Name, A: Ledger, V: Ledger, B: Ledger, R: Wait>(
-    rt: &R,
-    table: &SharedTable<N, A, V, B>,
-    pass: &mut Pass<N, A, V, B>,
-    keys: (Key, Key),
-) -> Result<(), Refusal> {
-    table.finish(rt, pass, keys.1)?;
-    table.finish(rt, pass, keys.0)
+fn finish_two<C: Calls>(seat: &mut C, keys: (Key, Key)) -> Result<(), Refusal> {
+    seat.finish(keys.1)?;
+    seat.finish(keys.0)
 }
 
 /// Aborts the second of two transactions, and finishes the first.
-fn end_two<N: Name, A: Ledger, V: Ledger, B: Ledger, R: Wait>(
-    rt: &R,
-    table: &SharedTable<N, A, V, B>,
-    pass: &mut Pass<N, A, V, B>,
-    keys: (Key, Key),
-) -> Result<(), Refusal> {
-    table.abort(rt, pass, keys.1)?;
-    table.finish(rt, pass, keys.0)
+fn end_two<C: Calls>(seat: &mut C, keys: (Key, Key)) -> Result<(), Refusal> {
+    seat.abort(keys.1)?;
+    seat.finish(keys.0)
 }
 
 /// Two transactions, one of which waits for the other.
-pub fn block<N: Name, A: Ledger, V: Ledger, B: Ledger, R: Wait>(
-    rt: &R,
-    table: &SharedTable<N, A, V, B>,
-    pass: &mut Pass<N, A, V, B>,
-) -> Result<(), Refusal> {
-    let keys = begin_two(rt, table, pass)?;
-    acquire_two(rt, table, pass, keys, (0, 0))?;
-    table.release(rt, pass, keys.0, 0)?;
-    finish_two(rt, table, pass, keys)
+pub fn block<C: Calls>(seat: &mut C) -> Result<(), Refusal> {
+    let keys = begin_two(seat)?;
+    acquire_two(seat, keys, (0, 0))?;
+    seat.release(keys.0, 0)?;
+    finish_two(seat, keys)
 }
 
 /// Two transactions that wait for each other.
-fn cross<N: Name, A: Ledger, V: Ledger, B: Ledger, R: Wait>(
-    rt: &R,
-    table: &SharedTable<N, A, V, B>,
-    pass: &mut Pass<N, A, V, B>,
-) -> Result<(Key, Key), Refusal> {
-    let keys = begin_two(rt, table, pass)?;
-    acquire_two(rt, table, pass, keys, (0, 1))?;
-    acquire_two(rt, table, pass, keys, (1, 0))?;
+fn cross<C: Calls>(seat: &mut C) -> Result<(Key, Key), Refusal> {
+    let keys = begin_two(seat)?;
+    acquire_two(seat, keys, (0, 1))?;
+    acquire_two(seat, keys, (1, 0))?;
     Ok(keys)
 }
 
 /// Two transactions that wait for each other. The second one is aborted.
-fn deadlock<N: Name, A: Ledger, V: Ledger, B: Ledger, R: Wait>(
-    rt: &R,
-    table: &SharedTable<N, A, V, B>,
-    pass: &mut Pass<N, A, V, B>,
-) -> Result<(), Refusal> {
-    let keys = cross(rt, table, pass)?;
-    table.transmit(rt, pass, keys.0)?;
-    table.detect(rt, pass, keys.1)?;
-    end_two(rt, table, pass, keys)
+fn deadlock<C: Calls>(seat: &mut C) -> Result<(), Refusal> {
+    let keys = cross(seat)?;
+    seat.transmit(keys.0)?;
+    seat.detect(keys.1)?;
+    end_two(seat, keys)
 }
 
 /// Two transactions that wait for each other, and a settle that finds them. The second one is aborted.
-fn settle<N: Name, A: Ledger, V: Ledger, B: Ledger, R: Wait>(
-    rt: &R,
-    table: &SharedTable<N, A, V, B>,
-    pass: &mut Pass<N, A, V, B>,
-) -> Result<(), Refusal> {
-    let keys = cross(rt, table, pass)?;
-    table.settle(rt, pass)?;
-    end_two(rt, table, pass, keys)
+fn settle<C: Calls>(seat: &mut C) -> Result<(), Refusal> {
+    let keys = cross(seat)?;
+    seat.settle()?;
+    end_two(seat, keys)
 }
 
 /// Hands the resource over, and waits for it again. Returns who has it then.
-fn hand_over<N: Name, A: Ledger, V: Ledger, B: Ledger, R: Wait>(
-    rt: &R,
-    table: &SharedTable<N, A, V, B>,
-    pass: &mut Pass<N, A, V, B>,
-    owner: Key,
-) -> Result<Key, Refusal> {
-    let released = table.release(rt, pass, owner, 0)?;
-    table.acquire(rt, pass, owner, 0)?;
+fn hand_over<C: Calls>(seat: &mut C, owner: Key) -> Result<Key, Refusal> {
+    let released = seat.release(owner, 0)?;
+    seat.acquire(owner, 0)?;
     match released {
         Released::To(next) => Ok(next),
         Released::Free => Ok(owner),
@@ -128,38 +86,28 @@ fn hand_over<N: Name, A: Ledger, V: Ledger, B: Ledger, R: Wait>(
 }
 
 /// One who has the resource, and sixteen who wait for it. Returns the one who has it.
-pub fn crowd<N: Name, A: Ledger, V: Ledger, B: Ledger, R: Wait>(
-    rt: &R,
-    table: &SharedTable<N, A, V, B>,
-    pass: &mut Pass<N, A, V, B>,
-) -> Result<Key, Refusal> {
-    let owner = table.begin(rt, pass)?;
-    table.acquire(rt, pass, owner, 0)?;
+pub fn crowd<C: Calls>(seat: &mut C) -> Result<Key, Refusal> {
+    let owner = seat.begin()?;
+    seat.acquire(owner, 0)?;
     for _ in 0..WAITERS {
-        let waiter = table.begin(rt, pass)?;
-        table.acquire(rt, pass, waiter, 0)?;
+        let waiter = seat.begin()?;
+        seat.acquire(waiter, 0)?;
     }
     Ok(owner)
 }
 
 /// Hands the resource over so many times.
-pub fn hand_overs<N: Name, A: Ledger, V: Ledger, B: Ledger, R: Wait>(
-    rt: &R,
-    table: &SharedTable<N, A, V, B>,
-    pass: &mut Pass<N, A, V, B>,
-    first: Key,
-    count: u32,
-) {
+pub fn hand_overs<C: Calls>(seat: &mut C, first: Key, count: u32) {
     let mut owner = first;
     for _ in 0..count {
-        if let Ok(next) = hand_over(rt, table, pass, owner) {
+        if let Ok(next) = hand_over(seat, owner) {
             owner = next;
         }
     }
 }
 
 /// Calls by which one thread begins transactions and ends them all.
-#[derive(Clone, Copy, Debug, PartialEq, Eq)]
+#[derive(Clone, Copy)]
 pub enum Round {
     /// Begin, an acquire that is granted, release, finish.
     Grant,
@@ -173,30 +121,19 @@ pub enum Round {
 
 impl Round {
     /// Makes the calls.
-    fn make<N: Name, A: Ledger, V: Ledger, B: Ledger, R: Wait>(
-        self,
-        rt: &R,
-        table: &SharedTable<N, A, V, B>,
-        pass: &mut Pass<N, A, V, B>,
-    ) -> Result<(), Refusal> {
+    fn make<C: Calls>(self, seat: &mut C) -> Result<(), Refusal> {
         match self {
-            Round::Grant => grant(rt, table, pass),
-            Round::Block => block(rt, table, pass),
-            Round::Deadlock => deadlock(rt, table, pass),
-            Round::Settle => settle(rt, table, pass),
+            Round::Grant => grant(seat),
+            Round::Block => block(seat),
+            Round::Deadlock => deadlock(seat),
+            Round::Settle => settle(seat),
         }
     }
 }
 
 /// Makes a round so many times.
-pub fn rounds<N: Name, A: Ledger, V: Ledger, B: Ledger, R: Wait>(
-    rt: &R,
-    table: &SharedTable<N, A, V, B>,
-    pass: &mut Pass<N, A, V, B>,
-    round: Round,
-    count: u32,
-) {
+pub fn rounds<C: Calls>(seat: &mut C, round: Round, count: u32) {
     for _ in 0..count {
-        let _ = round.make(rt, table, pass);
+        let _ = round.make(seat);
     }
 }

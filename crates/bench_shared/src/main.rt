@@ -8,9 +8,10 @@
 //! nanoseconds that took.
 //!
 //! - `clock`: how long something took.
+//! - `seat`: the calls of a table, as one thread makes them.
+//! - `timed`: a table, and what is done with it.
 //! - `board`: works that store on the board, or read it. `calls`: the calls of which they are made.
-//! - `rounds`: what one thread does.
-//! - `threads`: threads that are at work at once.
+//! - `threads`: threads that are at work at once. `rounds`: what one of them does.
 //! - `storms`: storms, one after another.
 #![tactic(auto)]
 
@@ -18,10 +19,12 @@ mod board;
 mod calls;
 mod clock;
 mod rounds;
+mod seat;
 mod storms;
 mod threads;
+mod timed;
 
-use board::{Work, timed_work};
+use board::Work;
 use mm_shared::{Config, Prepared};
 use std::alloc::Global;
 use std::env::Args;
@@ -31,7 +34,7 @@ use std::thread::Threads;
 use std::time::Clock;
 use std::{env, io};
 use storms::run_storms;
-use threads::timed;
+use timed::{Task, timed};
 
 const MAX_THREADS: u32 = 64;
 
@@ -71,35 +74,22 @@ fn print_storms<R: Print + Clock + Threads + Wait + Sync>(
     println!(rt; "{} {} {}", done.nanoseconds, done.finished, done.aborted)
 }
 
-/// This work, so many times, on a table of so many processes.
-fn print_work<R: Print + Clock + Threads + Wait + Sync>(
+/// This work on a table, so many times: the transactions of threads, or a work of one thread.
+fn print_task<R: Print + Clock + Threads + Wait + Sync>(
     rt: &R,
     alloc: Global,
-    work: Work,
+    task: Task,
     processes: u32,
     count: u32,
 ) -> io::Result<()> {
     let Ok(prepared) = Prepared::new(alloc, config(processes)) else {
         return Ok(());
     };
-    let nanoseconds = timed_work::<Brand, Brand, Brand, Brand, _>(rt, prepared, work, count);
-    println!(rt; "{nanoseconds}")
-}
-
-/// So many threads, each of which makes so many transactions.
-fn print_threads<R: Print + Clock + Threads + Wait + Sync>(
-    rt: &R,
-    alloc: Global,
-    threads: u32,
-    count: u32,
-) -> io::Result<()> {
-    let Ok(prepared) = Prepared::new(alloc, config(MAX_THREADS)) else {
-        return Ok(());
-    };
-    let (nanoseconds, done) = timed::<Brand, Brand, Brand, Brand, _>(
-        rt, alloc, prepared, threads, count,
-    )?;
-    println!(rt; "{nanoseconds} {done}")
+    let taken = timed::<Brand, Brand, Brand, Brand, _>(rt, alloc, prepared, task, count)?;
+    match taken.done {
+        Some(done) => println!(rt; "{} {done}", taken.nanoseconds),
+        None => println!(rt; "{}", taken.nanoseconds),
+    }
 }
 
 /// What the words of the command line ask for; nothing where it is not known.
@@ -114,12 +104,18 @@ fn print_for<R: Print + Clock + Threads + Wait + Sync>(
     match first {
         "storm" => print_storms(rt, alloc, number(second), third),
         "board" => match Work::named(second) {
-            Some(work) => print_work(rt, alloc, work, third, fourth),
+            Some(work) => print_task(rt, alloc, Task::Work(work), third, fourth),
             None => Ok(()),
         },
         _ => match number(first).min(MAX_THREADS) {
             0 => Ok(()),
-            threads => print_threads(rt, alloc, threads, number(second)),
+            threads => print_task(
+                rt,
+                alloc,
+                Task::Threads(threads),
+                MAX_THREADS,
+                number(second),
+            ),
         },
     }
 }

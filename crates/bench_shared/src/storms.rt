@@ -59,11 +59,27 @@ fn run_storm<R: Threads + Wait + Clock + Sync>(
     let start = now(rt);
     let outcome = run_workload(rt, alloc, workload)?;
     storms.add(nanoseconds_since(rt, start), &outcome);
+    drop(outcome);
     Some(())
 }
 
-/// Runs the storms of seeds 1 to `count`, one after another, each with so many clients. To make a storm takes no part of the time.
-/// `None` where memory is refused.
+/// Makes the storm of this seed, which takes no part of the time, and runs it. `None` where memory is refused.
+fn run_seed<R: Threads + Wait + Clock + Sync>(
+    rt: &R,
+    alloc: Global,
+    seed: u64,
+    clients: u32,
+    storms: &mut Storms,
+) -> Option<()>
+    requires { (1 ≤ clients) × (clients ≤ 64) }
+{
+    let workload = storm(alloc, seed, clients, TRANSMITTERS).ok()?;
+    let ran = run_storm(rt, alloc, &workload, storms);
+    drop(workload);
+    ran
+}
+
+/// Runs the storms of seeds 1 to `count`, one after another, each with so many clients. `None` where memory is refused.
 pub fn run_storms<R: Threads + Wait + Clock + Sync>(
     rt: &R,
     alloc: Global,
@@ -78,9 +94,7 @@ pub fn run_storms<R: Threads + Wait + Clock + Sync>(
         aborted: 0,
     };
     for place in 0..count {
-        let seed = u64::from(place) + 1;
-        let workload = storm(alloc, seed, clients, TRANSMITTERS).ok()?;
-        run_storm(rt, alloc, &workload, &mut storms)?;
+        run_seed(rt, alloc, u64::from(place) + 1, clients, &mut storms)?;
     }
     Some(storms)
 }

@@ -1,9 +1,9 @@
 //! Threads that are at work at one shared table at once.
-ghost use Rattle.std.specs.Prelude.{◌≡◌};
 
 use crate::clock::{nanoseconds_since, now};
-use crate::rounds::{RESOURCES, rounds};
-use mm_shared::{Name, Pass, Prepared, SharedTable};
+use crate::rounds::{RESOURCES, rounds_by};
+use crate::timed::Taken;
+use mm_shared::{Name, Pass, SharedTable};
 use std::alloc::{AllocError, Global};
 use std::sync::Wait;
 use std::sync::ledger::Ledger;
@@ -12,7 +12,7 @@ use std::thread::{JoinHandle, Scope, Threads};
 use std::time::Clock;
 
 /// A pass for each thread.
-pub fn passes<N: Name, A: Ledger, V: Ledger, B: Ledger>(
+fn passes<N: Name, A: Ledger, V: Ledger, B: Ledger>(
     alloc: Global,
     table: &SharedTable<N, A, V, B>,
     pass: &mut Pass<N, A, V, B>,
@@ -46,7 +46,7 @@ fn start_all<
 ) -> Result<(), AllocError> {
     let mut first = 0u32;
     for pass in passes {
-        started.push(scope.spawn(move || rounds(rt, table, pass, first, count))?)?;
+        started.push(scope.spawn(move || rounds_by(rt, table, pass, first, count))?)?;
         first = first.wrapping_add(RESOURCES);
     }
     Ok(())
@@ -104,34 +104,8 @@ fn at_once<
     )
 }
 
-/// So many threads, each of which makes `count` transactions. Returns how many nanoseconds it took, and how many were done.
-pub fn timed<
-    N: Name + Send + Sync,
-    A: Ledger + Send + Sync,
-    V: Ledger + Send + Sync,
-    B: Ledger + Send + Sync,
-    R: Threads + Wait + Clock + Sync,
->(
-    rt: &R,
-    alloc: Global,
-    prepared: Prepared,
-    threads: u32,
-    count: u32,
-) -> Result<(u64, u64), AllocError>
-    requires board { prepared.board ≡ N.board }
-    requires accepted { (prepared.accepted.name ≡ A.name) × (prepared.accepted.parts ≡ A.parts) }
-    requires verdicts { (prepared.verdicts.name ≡ V.name) × (prepared.verdicts.parts ≡ V.parts) }
-    requires aborts { (prepared.aborts.name ≡ B.name) × (prepared.aborts.parts ≡ B.parts) }
-{
-    let (table, mut pass) = prepared.open::<N, A, V, B>();
-    let taken = timed_on(rt, alloc, &table, &mut pass, threads, count);
-    drop(pass);
-    drop(table);
-    taken
-}
-
-/// The same, on a table that is open.
-fn timed_on<
+/// Runs a thread for each pass, and says how long that took.
+fn time_at_once<
     N: Name + Send + Sync,
     A: Ledger + Send + Sync,
     V: Ledger + Send + Sync,
@@ -141,12 +115,34 @@ fn timed_on<
     rt: &R,
     alloc: Global,
     table: &SharedTable<N, A, V, B>,
-    pass: &mut Pass<N, A, V, B>,
-    threads: u32,
+    passes: Vec<Pass<N, A, V, B>>,
     count: u32,
-) -> Result<(u64, u64), AllocError> {
-    let passes = passes(alloc, table, pass, threads)?;
+) -> Result<Taken, AllocError> {
     let start = now(rt);
     let done = at_once(rt, alloc, table, passes, count)?;
-    Ok((nanoseconds_since(rt, start), done))
+    Ok(Taken {
+        nanoseconds: nanoseconds_since(rt, start),
+        done: Some(done),
+    })
+}
+
+/// So many threads, each of which makes `count` transactions. Returns how many nanoseconds it took, and how many were done.
+pub fn time_of_threads<
+    N: Name + Send + Sync,
+    A: Ledger + Send + Sync,
+    V: Ledger + Send + Sync,
+    B: Ledger + Send + Sync,
+    R: Threads + Wait + Clock + Sync,
+>(
+    rt: &R,
+    alloc: Global,
+    table: &SharedTable<N, A, V, B>,
+    pass: Pass<N, A, V, B>,
+    threads: u32,
+    count: u32,
+) -> Result<Taken, AllocError> {
+    let mut pass = pass;
+    let passes = passes(alloc, table, &mut pass, threads);
+    drop(pass);
+    time_at_once(rt, alloc, table, passes?, count)
 }

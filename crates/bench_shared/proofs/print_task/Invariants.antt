@@ -1,4 +1,4 @@
-use Rattle.bench_shared.proofs.print_threads.Given as goal
+use Rattle.bench_shared.proofs.print_task.Given as goal
 
 -- the board and the ledgers that were just made
 abbrev pub ghosts-timed-N-Name : goal.ghosts-timed-N-Name
