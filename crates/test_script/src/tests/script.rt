@@ -5,10 +5,10 @@ mod ring;
 
 use crate::tests::rows::is_answered;
 use crate::tests::same::same;
-use faults::{FailingReader, FailingWriter, Newlines, WhenFull, read_is_at_fault, write_ends};
+use faults::{FailingReader, FailingWriter, WhenFull, read_is_at_fault, write_ends};
 use mm_script::{ScriptFault, run_script, usages};
 use std::alloc::Global;
-use std::io::ErrorKind;
+use std::io::{ErrorKind, Read, repeat};
 use std::process::Abort;
 use std::test::Fail;
 use test_support::Row;
@@ -50,7 +50,7 @@ fn is_answered_until(
         kind,
     };
     read_is_at_fault(rt, alloc, &mut reader, written.as_bytes());
-    assert_eq!(rt; reader.bytes.len(), left, "{piece} bytes, {calls} calls");
+    same(rt, (piece, calls, reader.bytes.len()), (piece, calls, left));
 }
 
 fn are_answered_until(
@@ -193,12 +193,12 @@ fn write_fails(rt: HostRuntime) -> Result<(), Fail> {
 }
 
 /// Ends the test unless so many newlines end so, and all are read.
-fn newlines_end(rt: &impl Abort, alloc: Global, left: usize, outcome: Result<u64, ScriptFault>) {
-    let mut reader = Newlines { left };
+fn newlines_end(rt: &impl Abort, alloc: Global, count: u64, outcome: Result<u64, ScriptFault>) {
+    let mut reader = repeat(b'\n').take(count);
     let mut output = Vec::new(alloc);
     let ended = run_script(alloc, &mut reader, &mut output);
     same(rt, ended, outcome);
-    same(rt, (reader.left, output.len()), (0, 0));
+    same(rt, (reader.limit(), output.len()), (0, 0));
 }
 
 /// Newlines alone have no reply; one more than the limit is too long.

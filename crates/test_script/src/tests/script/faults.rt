@@ -1,4 +1,4 @@
-//! A reader and a writer that fail at a chosen call, what comes of a script of each, and a reader of newlines.
+//! A reader and a writer that fail at a chosen call, and what comes of a script of each.
 
 use crate::tests::same::same;
 use mm_script::{ScriptFault, run_script};
@@ -107,19 +107,4 @@ pub fn write_ends(
     let ended = run_script(alloc, &mut input, writer);
     same(rt, (piece, room, ended), (piece, room, outcome));
     same(rt, writer.taken.as_slice(), taken);
-}
-
-/// Gives newlines alone, so many.
-#[derive(Drop)]
-pub struct Newlines {
-    pub left: usize,
-}
-
-impl Read for Newlines {
-    fn read(&mut self, buf: &mut [u8]) -> io::Result<usize> {
-        let count = self.left.min(buf.len());
-        buf[..count].fill(b'\n');
-        self.left -= count;
-        Ok(count)
-    }
 }

@@ -1,9 +1,8 @@
 //! The files of examples/workloads, as they stand there.
 
-use crate::tests::same::same;
-use mm_workload::Workload;
-use std::alloc::Global;
-use std::process::Abort;
+use crate::tests::workload::cases::{Case, are_read_so};
+use crate::tests::workload::texts::Text;
+use mm_workload::{Config, WorkStep};
 use std::test::Fail;
 
 const CROSSWISE: &str = r#"{
@@ -74,39 +73,63 @@ const CHAIN: &str = r#"{
 }
 "#;
 
-/// A text, with its processes, clients and steps.
-type File = (&'static str, u32, usize, usize);
-
-static FILES: [File; 4] = [
-    (CROSSWISE, 2, 2, 6),
-    (PHILOSOPHERS, 5, 5, 15),
-    (HOT_RESOURCE, 8, 8, 20),
-    (CHAIN, 5, 5, 11),
+static FILES: [Case; 4] = [
+    Case {
+        text: Text::Whole(CROSSWISE),
+        config: Config {
+            processes: 2,
+            resources: 2,
+            label_limit: 1000,
+            generation_limit: 9,
+        },
+        transmitters: 1,
+        turns: 10_000_000,
+        lengths: &[3, 3],
+        first: Some(WorkStep::Acquire(0)),
+    },
+    Case {
+        text: Text::Whole(PHILOSOPHERS),
+        config: Config {
+            processes: 5,
+            resources: 5,
+            label_limit: 1_000_000,
+            generation_limit: 9,
+        },
+        transmitters: 1,
+        turns: 10_000_000,
+        lengths: &[3, 3, 3, 3, 3],
+        first: Some(WorkStep::Acquire(0)),
+    },
+    Case {
+        text: Text::Whole(HOT_RESOURCE),
+        config: Config {
+            processes: 8,
+            resources: 3,
+            label_limit: 1_000_000,
+            generation_limit: 9,
+        },
+        transmitters: 2,
+        turns: 10_000_000,
+        lengths: &[3, 3, 3, 3, 2, 2, 2, 2],
+        first: Some(WorkStep::Acquire(0)),
+    },
+    Case {
+        text: Text::Whole(CHAIN),
+        config: Config {
+            processes: 5,
+            resources: 4,
+            label_limit: 1_000_000,
+            generation_limit: 9,
+        },
+        transmitters: 2,
+        turns: 10_000_000,
+        lengths: &[2, 3, 3, 3, 0],
+        first: Some(WorkStep::Acquire(0)),
+    },
 ];
 
-/// How many steps the clients have together.
-fn steps_of(work: &Workload) -> usize {
-    let mut count = 0usize;
-    for client in work.clients() {
-        count = count.saturating_add(client.len());
-    }
-    count
-}
-
-fn is_read(rt: &impl Abort, alloc: Global, file: &File) -> Result<(), Fail> {
-    let (text, processes, clients, steps) = *file;
-    let work = Workload::read(alloc, text.as_bytes())?;
-    same(rt, work.config().processes, processes);
-    same(rt, work.clients().len(), clients);
-    same(rt, steps_of(&work), steps);
-    Ok(())
-}
-
-/// Each is read, with so many processes, clients and steps.
+/// Each is read.
 #[test]
 fn are_read(rt: HostRuntime) -> Result<(), Fail> {
-    for file in &FILES {
-        is_read(&rt, rt.alloc(), file)?;
-    }
-    Ok(())
+    are_read_so(&rt, rt.alloc(), &FILES)
 }

@@ -2,8 +2,9 @@
 //! says which place that is.
 
 use crate::tests::same::same;
-use crate::tests::workload::{CROSSWISE, changed, with_clients, with_nested_arrays};
-use mm_workload::Workload;
+use crate::tests::workload::cases::are_crosswise;
+use crate::tests::workload::texts::{CROSSWISE, Text, changed};
+use mm_workload::{WorkFault, Workload};
 use std::alloc::{AllocError, Global};
 use std::process::Abort;
 use std::test::Fail;
@@ -14,15 +15,25 @@ const SECOND_STEP: &str = r#"["meet",2]"#;
 /// The second client.
 const SECOND_CLIENT: &str = r#"[["acquire",1],["meet",2],["acquire",0]]"#;
 
-/// Ends the test unless the bytes are malformed, and a person is told this.
-fn is_told(rt: &impl Abort, alloc: Global, bytes: &[u8], told: &str) -> Result<(), Fail> {
-    let Err(fault) = Workload::read(alloc, bytes) else {
-        return Err(Fail::from("it is read"));
-    };
+/// Ends the test unless a person is told this.
+fn is_printed(
+    rt: &impl Abort,
+    alloc: Global,
+    fault: &WorkFault,
+    told: &str,
+) -> Result<(), AllocError> {
     let printed = format!(in alloc; "{fault}")?;
     let printed = printed.as_str();
     same(rt, printed.strip_prefix("malformed workload: "), Some(told));
     Ok(())
+}
+
+/// Ends the test unless the bytes are malformed, and a person is told this.
+fn is_told(rt: &impl Abort, alloc: Global, bytes: &[u8], told: &str) -> Result<(), Fail> {
+    match Workload::read(alloc, bytes).err() {
+        Some(fault) => Ok(is_printed(rt, alloc, &fault, told)?),
+        None => Err(Fail::from("it is read")),
+    }
 }
 
 /// The same of the workload with other text in place of its part.
@@ -45,6 +56,22 @@ fn changes_are_told(
 ) -> Result<(), Fail> {
     for (part, other, told) in changes {
         change_is_told(rt, alloc, part, other, told)?;
+    }
+    Ok(())
+}
+
+/// A text, and what is told.
+type Told = (Text, &'static str);
+
+fn text_is_told(rt: &impl Abort, alloc: Global, text: &Text, told: &str) -> Result<(), Fail> {
+    let text = text.made(alloc)?;
+    is_told(rt, alloc, text.as_bytes(), told)
+}
+
+/// The same of each of these texts.
+fn texts_are_told(rt: &impl Abort, alloc: Global, texts: &[Told]) -> Result<(), Fail> {
+    for (text, told) in texts {
+        text_is_told(rt, alloc, text, told)?;
     }
     Ok(())
 }
@@ -169,25 +196,15 @@ fn steps(rt: HostRuntime) -> Result<(), Fail> {
 
 const CLIENTS: &str = "the key clients is not an array of 1 to 64 clients";
 
-/// So many clients, each of so many steps, and what is told.
-static COUNTS: [(usize, usize, &str); 4] = [
-    (0, 0, CLIENTS),
-    (65, 0, CLIENTS),
-    (65, 257, CLIENTS),
-    (1, 257, "client 1 is not an array of at most 256 steps"),
+static COUNTS: [Told; 4] = [
+    (Text::Clients(0, 0), CLIENTS),
+    (Text::Clients(65, 0), CLIENTS),
+    (Text::Clients(65, 257), CLIENTS),
+    (
+        Text::Clients(1, 257),
+        "client 1 is not an array of at most 256 steps",
+    ),
 ];
-
-fn counts_are_told(
-    rt: &impl Abort,
-    alloc: Global,
-    counts: &[(usize, usize, &str)],
-) -> Result<(), Fail> {
-    for (count, steps, told) in counts {
-        let text = with_clients(alloc, *count, *steps)?;
-        is_told(rt, alloc, text.as_bytes(), told)?;
-    }
-    Ok(())
-}
 
 static NO_CLIENTS: [(&str, &str, &str); 2] = [
     ("\"clients\":[", "\"clients\":8,\"others\":[", CLIENTS),
@@ -201,7 +218,7 @@ static NO_CLIENTS: [(&str, &str, &str); 2] = [
 /// There are 1 to 64 clients, and each has at most 256 steps.
 #[test]
 fn clients(rt: HostRuntime) -> Result<(), Fail> {
-    counts_are_told(&rt, rt.alloc(), &COUNTS)?;
+    texts_are_told(&rt, rt.alloc(), &COUNTS)?;
     changes_are_told(&rt, rt.alloc(), &NO_CLIENTS)
 }
 
@@ -248,30 +265,23 @@ static NO_OBJECT: [(&str, &str, &str); 8] = [
     ),
 ];
 
-/// Whole files, and what is told.
-static FILES: [(&str, &str); 4] = [
-    ("[]", "the file is not a JSON object"),
-    ("7", "the file is not a JSON object"),
-    ("", "line 1, column 0: the JSON text ends too soon"),
+/// Whole files, and arrays in one another, one too many.
+static FILES: [Told; 5] = [
+    (Text::Whole("[]"), "the file is not a JSON object"),
+    (Text::Whole("7"), "the file is not a JSON object"),
     (
-        "{\"processes\":2,",
+        Text::Whole(""),
+        "line 1, column 0: the JSON text ends too soon",
+    ),
+    (
+        Text::Whole("{\"processes\":2,"),
         "line 1, column 15: the JSON text ends too soon",
     ),
+    (
+        Text::Nested(127),
+        "line 1, column 333: no JSON that can be read",
+    ),
 ];
-
-fn files_are_told(rt: &impl Abort, alloc: Global, files: &[(&str, &str)]) -> Result<(), Fail> {
-    for (text, told) in files {
-        is_told(rt, alloc, text.as_bytes(), told)?;
-    }
-    Ok(())
-}
-
-/// Arrays in one another, one too many.
-fn depth_is_told(rt: &impl Abort, alloc: Global) -> Result<(), Fail> {
-    let nested = with_nested_arrays(alloc, 127)?;
-    let told = "line 1, column 333: no JSON that can be read";
-    is_told(rt, alloc, nested.as_bytes(), told)
-}
 
 /// A byte that is no text, behind a whole workload.
 fn last_byte_is_told(rt: &impl Abort, alloc: Global) -> Result<(), Fail> {
@@ -286,35 +296,20 @@ fn last_byte_is_told(rt: &impl Abort, alloc: Global) -> Result<(), Fail> {
 #[test]
 fn texts(rt: HostRuntime) -> Result<(), Fail> {
     changes_are_told(&rt, rt.alloc(), &NO_OBJECT)?;
-    files_are_told(&rt, rt.alloc(), &FILES)?;
-    depth_is_told(&rt, rt.alloc())?;
+    texts_are_told(&rt, rt.alloc(), &FILES)?;
     last_byte_is_told(&rt, rt.alloc())
 }
 
-/// The workload, and spaces up to so many bytes.
-fn with_spaces(alloc: Global, len: usize) -> Result<Vec<u8>, AllocError> {
-    let mut bytes = Vec::new(alloc);
-    bytes.extend_from_slice(CROSSWISE.as_bytes())?;
-    bytes.resize(len, b' ')?;
-    Ok(bytes)
-}
+static LONGEST: [Text; 1] = [Text::Spaces(1_048_576)];
 
-fn longest_is_read(rt: &impl Abort, alloc: Global) -> Result<(), Fail> {
-    let bytes = with_spaces(alloc, 1_048_576)?;
-    let read = Workload::read(alloc, bytes.as_slice())?;
-    same(rt, read.clients().len(), 2);
-    Ok(())
-}
+static TOO_LONG: [Told; 1] = [(
+    Text::Spaces(1_048_577),
+    "the file is longer than 1048576 bytes",
+)];
 
 /// A file of 1,048,576 bytes is read, and one of a byte more is not.
 #[test]
 fn lengths(rt: HostRuntime) -> Result<(), Fail> {
-    longest_is_read(&rt, rt.alloc())?;
-    let bytes = with_spaces(rt.alloc(), 1_048_577)?;
-    is_told(
-        &rt,
-        rt.alloc(),
-        bytes.as_slice(),
-        "the file is longer than 1048576 bytes",
-    )
+    are_crosswise(&rt, rt.alloc(), &LONGEST)?;
+    texts_are_told(&rt, rt.alloc(), &TOO_LONG)
 }

@@ -40,6 +40,7 @@ fn is_storm(
 ) -> Result<(), WorkFault> {
     let work = storm(alloc, seed, 4, 2)?;
     all_acquire(rt, &work, clients.as_slice());
+    drop(work);
     Ok(())
 }
 
@@ -51,35 +52,54 @@ fn words_are_those_of_the_generator(rt: HostRuntime) -> Result<(), Fail> {
     Ok(())
 }
 
-#[test]
-fn numbers(rt: HostRuntime) -> Result<(), Fail> {
-    let work = storm(rt.alloc(), 7, 64, 0)?;
+/// Ends the test unless it is a storm of 64 clients without transmitters.
+fn is_of_sixty_four(rt: &impl Abort, work: &Workload) {
     let config = Config {
         processes: 64,
         resources: 8,
         label_limit: 1_000_000_000,
         generation_limit: 9,
     };
-    same(&rt, work.config(), config);
-    same(&rt, work.transmitters(), 0);
-    same(&rt, work.turns(), 10_000_000);
-    same(&rt, work.clients().len(), 64);
+    same(rt, work.config(), config);
+    same(rt, work.transmitters(), 0);
+    same(rt, work.turns(), 10_000_000);
+    same(rt, work.clients().len(), 64);
+}
+
+#[test]
+fn numbers(rt: HostRuntime) -> Result<(), Fail> {
+    let work = storm(rt.alloc(), 7, 64, 0)?;
+    is_of_sixty_four(&rt, &work);
+    drop(work);
     Ok(())
+}
+
+/// Ends the test where the clients of two workloads have other steps.
+fn have_the_same_clients(rt: &impl Abort, one: &Workload, other: &Workload) {
+    assert!(rt; one.clients() == other.clients());
 }
 
 fn are_equal(rt: &impl Abort, one: &Workload, other: &Workload) {
     same(rt, one.config(), other.config());
     same(rt, one.transmitters(), other.transmitters());
     same(rt, one.turns(), other.turns());
-    assert!(rt; one.clients() == other.clients());
+    have_the_same_clients(rt, one, other);
+}
+
+/// Ends the test unless the storm is this one.
+fn is_made_again(rt: &impl Abort, alloc: Global, one: &Workload) -> Result<(), WorkFault> {
+    let other = storm(alloc, 1, 8, 2)?;
+    are_equal(rt, one, &other);
+    drop(other);
+    Ok(())
 }
 
 #[test]
 fn the_same_storm_made_twice(rt: HostRuntime) -> Result<(), Fail> {
     let one = storm(rt.alloc(), 1, 8, 2)?;
-    let other = storm(rt.alloc(), 1, 8, 2)?;
-    are_equal(&rt, &one, &other);
-    Ok(())
+    let made = is_made_again(&rt, rt.alloc(), &one);
+    drop(one);
+    Ok(made?)
 }
 
 /// What clients acquire in the transactions after their first ones, by seed and by the number of the client: as tests/storm_table computes
@@ -108,35 +128,69 @@ fn are_drawn(
     same(rt, coming.count() as usize, transactions.len());
     let mut steps = Vec::new(alloc);
     coming.make_room(&mut steps)?;
+    all_are_drawn(rt, coming, &mut steps, transactions)
+}
+
+fn all_are_drawn(
+    rt: &impl Abort,
+    coming: &mut Coming,
+    steps: &mut Vec<WorkStep>,
+    transactions: &[&[u32]],
+) -> Result<(), AllocError> {
     for resources in transactions {
-        coming.draw(&mut steps)?;
+        coming.draw(steps)?;
         acquire(rt, steps.as_slice(), resources);
     }
     Ok(())
 }
 
+/// Draws the further transactions of one client of the storm of this seed.
+fn are_further(
+    rt: &impl Abort,
+    alloc: Global,
+    seed: u64,
+    client: u64,
+    transactions: &[&[u32]],
+) -> Result<(), Fail> {
+    let work = shaped_storm(alloc, &FOUR, seed, 64, 0)?;
+    let mut coming = work.coming(client);
+    let drawn = are_drawn(rt, alloc, &mut coming, transactions);
+    drop(work);
+    Ok(drawn?)
+}
+
 #[test]
 fn further_transactions_are_those_of_the_client(rt: HostRuntime) -> Result<(), Fail> {
     for (seed, client, transactions) in &FURTHER {
-        let work = shaped_storm(rt.alloc(), &FOUR, *seed, 64, 0)?;
-        let mut coming = work.coming(*client);
-        are_drawn(&rt, rt.alloc(), &mut coming, transactions.as_slice())?;
+        are_further(&rt, rt.alloc(), *seed, *client, transactions.as_slice())?;
     }
     Ok(())
 }
 
-#[test]
-fn first_transactions_are_the_same_for_any_number(rt: HostRuntime) -> Result<(), Fail> {
-    let one = storm(rt.alloc(), 7, 64, 2)?;
-    let other = shaped_storm(rt.alloc(), &FOUR, 7, 64, 2)?;
-    assert!(&rt; one.clients() == other.clients());
-    same(&rt, one.coming(1).count(), 0);
+/// Ends the test unless the second storm is the first one with numbers for more transactions.
+fn go_further(rt: &impl Abort, one: &Workload, other: &Workload) {
+    have_the_same_clients(rt, one, other);
+    same(rt, one.coming(1).count(), 0);
     let config = Config {
         processes: 64,
         resources: 8,
         label_limit: 17_592_186_044_415,
         generation_limit: 4_294_967_295,
     };
-    same(&rt, other.config(), config);
+    same(rt, other.config(), config);
+}
+
+fn is_made_of_four(rt: &impl Abort, alloc: Global, one: &Workload) -> Result<(), WorkFault> {
+    let other = shaped_storm(alloc, &FOUR, 7, 64, 2)?;
+    go_further(rt, one, &other);
+    drop(other);
     Ok(())
+}
+
+#[test]
+fn first_transactions_are_the_same_for_any_number(rt: HostRuntime) -> Result<(), Fail> {
+    let one = storm(rt.alloc(), 7, 64, 2)?;
+    let made = is_made_of_four(&rt, rt.alloc(), &one);
+    drop(one);
+    Ok(made?)
 }
