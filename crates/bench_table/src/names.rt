@@ -22,25 +22,18 @@ pub fn write_name(bytes: &mut [u8; 64], number: u32) {
     bytes[56..].copy_from_slice(&u64::from(number).wrapping_mul(SPREAD).to_le_bytes());
 }
 
-/// A table of so many names, in which each has its number.
-fn filled(alloc: Global, names: u32, length: usize) -> Option<Names>
+/// Interns so many names, each under its number. `false` where one was refused.
+fn fill(table: &mut Names, names: u32, length: usize) -> bool
     requires { length ≤ 64 }
 {
-    let mut table = Names::open(
-        alloc,
-        NamesConfig {
-            names,
-            name_bytes: length as u32,
-            seed: 0x0123_4567_89ab_cdef,
-        },
-    )
-    .ok()?;
     let mut bytes = [b'a'; 64];
     for number in 0..names {
         write_name(&mut bytes, number);
-        table.intern(&bytes[64 - length..]).ok()?;
+        if table.intern(&bytes[64 - length..]).is_err() {
+            return false;
+        }
     }
-    Some(table)
+    true
 }
 
 /// `count` finds of names by chance, which are those of the table where `first` is 0.
@@ -94,6 +87,52 @@ fn renew(table: &mut Names, mask: u32, length: usize, count: u64) -> u64
     renewed
 }
 
+/// What is done with names by chance.
+#[derive(Clone, Copy)]
+enum Work {
+    /// They are found.
+    FindKnown,
+    /// Others are looked for, and not found.
+    FindOthers,
+    /// They are interned once more.
+    Intern,
+    /// They are forgotten and interned again.
+    Renew,
+}
+
+/// Fills the table and does the work. Answers how many names there are and how often one was as expected.
+fn fill_and_work(table: &mut Names, work: Work, names: u32, length: usize, count: u64) -> u64
+    requires { length ≤ 64 }
+{
+    if !fill(table, names, length) {
+        return 0;
+    }
+    let mask = names.wrapping_sub(1);
+    let expected = match work {
+        Work::FindKnown => find(table, mask, length, 0, count),
+        Work::FindOthers => count.wrapping_sub(find(table, mask, length, names, count)),
+        Work::Intern => intern(table, mask, length, count),
+        Work::Renew => renew(table, mask, length, count),
+    };
+    u64::from(table.len()).wrapping_add(expected)
+}
+
+/// Opens a table of so many names, and does so. 0 where it cannot be opened.
+fn work_on_names(alloc: Global, work: Work, names: u32, length: u32, count: u64) -> u64 {
+    let length = (length as usize).min(MAX_BYTES);
+    let config = NamesConfig {
+        names,
+        name_bytes: length as u32,
+        seed: 0x0123_4567_89ab_cdef,
+    };
+    let Ok(mut table) = Names::open(alloc, config) else {
+        return 0;
+    };
+    let answer = fill_and_work(&mut table, work, names, length, count);
+    drop(table);
+    answer
+}
+
 /// A table of `names` names of `length` bytes, of which `count` are found by chance, or where `is_known` is false, others are not.
 /// `names` is a power of two. It answers how many names there are and how often one was as expected.
 #[unsafe(no_mangle)]
@@ -104,38 +143,22 @@ pub extern "C" fn mm_bench_find_names(
     is_known: bool,
     count: u64,
 ) -> u64 {
-    let length = (length as usize).min(MAX_BYTES);
-    let Some(table) = filled(alloc, names, length) else {
-        return 0;
-    };
-    let first = if is_known { 0 } else { names };
-    let found = find(&table, names.wrapping_sub(1), length, first, count);
-    let expected = if is_known {
-        found
+    let work = if is_known {
+        Work::FindKnown
     } else {
-        count.wrapping_sub(found)
+        Work::FindOthers
     };
-    u64::from(table.len()).wrapping_add(expected)
+    work_on_names(alloc, work, names, length, count)
 }
 
 /// The same, and `count` names of the table are interned once more.
 #[unsafe(no_mangle)]
 pub extern "C" fn mm_bench_intern_names(alloc: Global, names: u32, length: u32, count: u64) -> u64 {
-    let length = (length as usize).min(MAX_BYTES);
-    let Some(mut table) = filled(alloc, names, length) else {
-        return 0;
-    };
-    let interned = intern(&mut table, names.wrapping_sub(1), length, count);
-    u64::from(table.len()).wrapping_add(interned)
+    work_on_names(alloc, Work::Intern, names, length, count)
 }
 
 /// The same, and `count` names of the table are forgotten and interned again.
 #[unsafe(no_mangle)]
 pub extern "C" fn mm_bench_renew_names(alloc: Global, names: u32, length: u32, count: u64) -> u64 {
-    let length = (length as usize).min(MAX_BYTES);
-    let Some(mut table) = filled(alloc, names, length) else {
-        return 0;
-    };
-    let renewed = renew(&mut table, names.wrapping_sub(1), length, count);
-    u64::from(table.len()).wrapping_add(renewed)
+    work_on_names(alloc, Work::Renew, names, length, count)
 }

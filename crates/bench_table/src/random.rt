@@ -1,14 +1,8 @@
 //! Calls on resources of a large table, one here and one there.
+use crate::names::next_number;
 use crate::{PROCESSES, open};
 use mm_table::{Config, Key, Refusal, Table};
 use std::alloc::Global;
-
-/// The next number of a sequence that looks like chance; 0 has no next.
-fn next_number(number: u32) -> u32 {
-    let number = number ^ number << 13;
-    let number = number ^ number >> 17;
-    number ^ number << 5
-}
 
 /// The transaction that owns a resource.
 fn owner_of(resource: u32) -> Key {
@@ -20,9 +14,15 @@ fn owner_of(resource: u32) -> Key {
 
 fn random(alloc: Global, count: u64) -> Result<u64, Refusal> {
     let mut table = open(alloc, PROCESSES, Config::MAX_RESOURCES)?;
-    let accepted = own_all(&mut table).and_then(|()| change_hands(&mut table, count));
+    let accepted = own_and_change_hands(&mut table, count);
     drop(table);
     accepted
+}
+
+/// Has all resources owned, and then has them change hands. Answers how many events were accepted.
+fn own_and_change_hands(table: &mut Table, count: u64) -> Result<u64, Refusal> {
+    own_all(table)?;
+    change_hands(table, count)
 }
 
 /// Begins `PROCESSES` transactions, which acquire all resources.

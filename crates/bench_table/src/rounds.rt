@@ -27,11 +27,22 @@ fn rounds(
     count: u64,
 ) -> Result<u64, Refusal> {
     let mut table = open(alloc, processes, resources)?;
-    let accepted = crowd(&mut table, others, resources.wrapping_sub(1)).and_then(|()| take_turns(
-        &mut table, mask, count,
-    ));
+    let last = resources.wrapping_sub(1);
+    let accepted = crowd_and_take_turns(&mut table, others, last, mask, count);
     drop(table);
     accepted
+}
+
+/// So many transactions hold and await the last resource, while others take turns. Answers how many events were accepted.
+fn crowd_and_take_turns(
+    table: &mut Table,
+    others: u32,
+    last: u32,
+    mask: u32,
+    count: u64,
+) -> Result<u64, Refusal> {
+    crowd(table, others, last)?;
+    take_turns(table, mask, count)
 }
 
 /// So many transactions hold and await a resource.
