@@ -18,6 +18,7 @@ pub fn managed(alloc: Global) -> Result<(), Refusal> {
     match LockManager::open(alloc, config) {
         Ok(mut locks) => {
             use_all(&mut locks);
+            drop(locks);
             Ok(())
         }
         Err(OpenError::Memory) => Err(Refusal::Memory),

@@ -17,6 +17,7 @@ pub fn named(alloc: Global) -> Result<(), Refusal> {
     match Names::open(alloc, config) {
         Ok(mut names) => {
             use_all(&mut names);
+            drop(names);
             Ok(())
         }
         Err(OpenError::Memory) => Err(Refusal::Memory),

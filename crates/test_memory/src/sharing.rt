@@ -2,7 +2,7 @@
 ghost use Rattle.std.specs.Prelude.{◌≡◌};
 
 use crate::alone::CONFIG;
-use mm_shared::{Name, Pass, Prepared, Refusal, SharedTable};
+use mm_shared::{Key, Name, Pass, Prepared, Refusal, SharedTable};
 use std::alloc::Global;
 use std::marker::Brand;
 use std::sync::Wait;
@@ -10,7 +10,8 @@ use std::sync::ledger::Ledger;
 
 /// `Prepared::new`.
 pub fn prepared(alloc: Global) -> Result<(), Refusal> {
-    let _prepared = Prepared::new(alloc, CONFIG)?;
+    let prepared = Prepared::new(alloc, CONFIG)?;
+    drop(prepared);
     Ok(())
 }
 
@@ -43,6 +44,46 @@ fn used<N: Name, A: Ledger, V: Ledger, B: Ledger, R: Wait>(
     }
 }
 
+/// Begins two transactions, each by a pass of its own.
+fn begin_both<N: Name, A: Ledger, V: Ledger, B: Ledger, R: Wait>(
+    rt: &R,
+    table: &SharedTable<N, A, V, B>,
+    pass: &mut Pass<N, A, V, B>,
+    other: &mut Pass<N, A, V, B>,
+) -> Result<(Key, Key), Refusal> {
+    let first = table.begin(rt, pass)?;
+    let second = table.begin(rt, other)?;
+    Ok((first, second))
+}
+
+/// Acquires a resource for each of the two.
+fn acquire_both<N: Name, A: Ledger, V: Ledger, B: Ledger, R: Wait>(
+    rt: &R,
+    table: &SharedTable<N, A, V, B>,
+    pass: &mut Pass<N, A, V, B>,
+    other: &mut Pass<N, A, V, B>,
+    keys: (Key, Key),
+    resources: (u32, u32),
+) -> Result<(), Refusal> {
+    table.acquire(rt, pass, keys.0, resources.0)?;
+    table.acquire(rt, other, keys.1, resources.1)?;
+    Ok(())
+}
+
+/// The second of the two gets a verdict and is aborted, and the first one finishes.
+fn end_both<N: Name, A: Ledger, V: Ledger, B: Ledger, R: Wait>(
+    rt: &R,
+    table: &SharedTable<N, A, V, B>,
+    pass: &mut Pass<N, A, V, B>,
+    other: &mut Pass<N, A, V, B>,
+    keys: (Key, Key),
+) -> Result<(), Refusal> {
+    table.transmit(rt, pass, keys.0)?;
+    table.detect(rt, other, keys.1)?;
+    table.abort(rt, other, keys.1)?;
+    table.finish(rt, pass, keys.0)
+}
+
 /// Two transactions that wait for each other, each by a pass of its own; the second one is aborted.
 fn deadlock<N: Name, A: Ledger, V: Ledger, B: Ledger, R: Wait>(
     rt: &R,
@@ -50,14 +91,8 @@ fn deadlock<N: Name, A: Ledger, V: Ledger, B: Ledger, R: Wait>(
     pass: &mut Pass<N, A, V, B>,
     other: &mut Pass<N, A, V, B>,
 ) -> Result<(), Refusal> {
-    let first = table.begin(rt, pass)?;
-    let second = table.begin(rt, other)?;
-    table.acquire(rt, pass, first, 0)?;
-    table.acquire(rt, other, second, 1)?;
-    table.acquire(rt, pass, first, 1)?;
-    table.acquire(rt, other, second, 0)?;
-    table.transmit(rt, pass, first)?;
-    table.detect(rt, other, second)?;
-    table.abort(rt, other, second)?;
-    table.finish(rt, pass, first)
+    let keys = begin_both(rt, table, pass, other)?;
+    acquire_both(rt, table, pass, other, keys, (0, 1))?;
+    acquire_both(rt, table, pass, other, keys, (1, 0))?;
+    end_both(rt, table, pass, other, keys)
 }

@@ -22,33 +22,48 @@ fn text_read(alloc: Global) -> Result<Workload, Refusal> {
 
 /// `Workload::read`.
 pub fn read(alloc: Global) -> Result<(), Refusal> {
-    let _workload = text_read(alloc)?;
+    let workload = text_read(alloc)?;
+    drop(workload);
     Ok(())
 }
 
 /// `storm`.
 pub fn generated(alloc: Global) -> Result<(), Refusal> {
-    match storm(alloc, 7, 16, 2) {
-        Ok(_workload) => Ok(()),
-        Err(_) => Err(Refusal::Memory),
-    }
+    let Ok(workload) = storm(alloc, 7, 16, 2) else {
+        return Err(Refusal::Memory);
+    };
+    drop(workload);
+    Ok(())
 }
 
 /// `shared_gates`.
 pub fn gates<R: Wait>(rt: &R, alloc: Global) -> Result<(), Refusal> {
-    match shared_gates(rt, alloc, 3, 5) {
-        Ok(_gates) => Ok(()),
-        Err(_) => Err(Refusal::Memory),
-    }
+    let Ok(gates) = shared_gates(rt, alloc, 3, 5) else {
+        return Err(Refusal::Memory);
+    };
+    drop(gates);
+    Ok(())
+}
+
+/// `shared_gates` and `run_threads`.
+fn run_workload<R: Threads + Wait + Sync>(
+    rt: &R,
+    alloc: Global,
+    workload: &Workload,
+) -> Result<(), Refusal> {
+    let clients = workload.clients().len() as u32;
+    let Ok(gates) = shared_gates(rt, alloc, clients, clients + workload.transmitters()) else {
+        return Err(Refusal::Memory);
+    };
+    let outcome = run_threads(rt, alloc, workload, gates)?;
+    drop(outcome);
+    Ok(())
 }
 
 /// `Workload::read`, `shared_gates` and `run_threads`.
 pub fn run<R: Threads + Wait + Sync>(rt: &R, alloc: Global) -> Result<(), Refusal> {
     let workload = text_read(alloc)?;
-    let clients = workload.clients().len() as u32;
-    let Ok(gates) = shared_gates(rt, alloc, clients, clients + workload.transmitters()) else {
-        return Err(Refusal::Memory);
-    };
-    let _outcome = run_threads(rt, alloc, &workload, gates)?;
-    Ok(())
+    let ran = run_workload(rt, alloc, &workload);
+    drop(workload);
+    ran
 }
