@@ -2,7 +2,6 @@
 
 use crate::calls::{Round, block, crowd, hand_overs, rounds};
 use crate::clock::{nanoseconds_since, now};
-use crate::seat::{Calls, Seat};
 use mm_shared::{Name, Pass, SharedTable};
 use std::sync::Wait;
 use std::sync::atomic::AtomicBool;
@@ -10,6 +9,7 @@ use std::sync::atomic::Ordering::SeqCst;
 use std::sync::ledger::Ledger;
 use std::thread::{Threads, join};
 use std::time::Clock;
+use test_seats::{Calls, Seat};
 
 /// What is timed.
 #[derive(Clone, Copy)]

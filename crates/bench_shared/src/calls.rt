@@ -1,7 +1,7 @@
 //! Calls of a shared table by one thread, again and again.
 
-use crate::seat::Calls;
 use mm_shared::{Key, Refusal, Released};
+use test_seats::Calls;
 
 /// How many wait where a resource is handed over.
 const WAITERS: u32 = 16;

@@ -8,7 +8,6 @@
 //! nanoseconds that took.
 //!
 //! - `clock`: how long something took.
-//! - `seat`: the calls of a table, as one thread makes them.
 //! - `timed`: a table, and what is done with it.
 //! - `board`: works that store on the board, or read it. `calls`: the calls of which they are made.
 //! - `threads`: threads that are at work at once. `rounds`: what one of them does.
@@ -19,7 +18,6 @@ mod board;
 mod calls;
 mod clock;
 mod rounds;
-mod seat;
 mod storms;
 mod threads;
 mod timed;

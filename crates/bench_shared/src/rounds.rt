@@ -1,9 +1,9 @@
 //! What one thread does: transactions, each of which takes sixteen resources and finishes.
 
-use crate::seat::{Calls, Seat};
 use mm_shared::{Name, Pass, Refusal, SharedTable};
 use std::sync::Wait;
 use std::sync::ledger::Ledger;
+use test_seats::{Calls, Seat};
 
 /// How many resources each transaction takes.
 pub const RESOURCES: u32 = 16;

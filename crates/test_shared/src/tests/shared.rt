@@ -122,22 +122,3 @@ pub fn on_a_table<R: Wait + Abort>(
     on_named::<Brand, Brand, Brand, Brand, R>(rt, alloc, prepared, work)?;
     Ok(())
 }
-
-/// So many processes and resources, where labels and keys last for any test.
-fn config(processes: u32, resources: u32) -> Config {
-    Config {
-        processes,
-        resources,
-        label_limit: 1_000_000,
-        generation_limit: 4_294_967_295,
-    }
-}
-
-/// The report of a table that accepted so many calls, no verdict or abort among them.
-fn accepted(calls: u64) -> Report {
-    Report {
-        accepted: calls,
-        verdicts: 0,
-        aborts: 0,
-    }
-}

@@ -1,7 +1,7 @@
 //! A table that threads share. `on_a_table` opens one for each piece of work, under names of its own, lends it, and closes it: so the
 //! tests here own no table.
 //!
-//! - `seat`: the calls of a table, as the tests make them. `caller`: one thread that makes them.
+//! - `caller`: one thread that makes calls of a table.
 //! - `team`: threads that are at work at once, each with a part of a pass.
 //! - `lockers`: threads that acquire two resources in each transaction.
 //! - `threads`, `old_key`, `deadlocks`, `labels`, `exhausted`, `retired`: the tests, one each.
@@ -14,7 +14,6 @@ mod labels;
 mod lockers;
 mod old_key;
 mod retired;
-mod seat;
 mod team;
 mod threads;
 
@@ -30,6 +29,7 @@ use std::sync::ledger::Ledger;
 use std::test::Fail;
 use std::thread::Threads;
 use team::{work_all, work_both, work_in_turn};
+use test_seats::accepted;
 
 /// How many parts the pass has that is split off at the opening. Work that needs a pass of its own has as many.
 const PARTS: u64 = 1000;
@@ -162,23 +162,4 @@ pub fn on_a_table<R: Threads + Wait + Abort + Sync>(
     same(rt, came.refusal.number(), 12);
     same(rt, came.report, Some(work.judged(rt, came.made)));
     Ok(())
-}
-
-/// So many processes and resources, where labels and keys last for any test.
-fn config(processes: u32, resources: u32) -> Config {
-    Config {
-        processes,
-        resources,
-        label_limit: 1_000_000,
-        generation_limit: 4_294_967_295,
-    }
-}
-
-/// The report of a table that accepted so many calls, no verdict or abort among them.
-fn accepted(calls: u64) -> Report {
-    Report {
-        accepted: calls,
-        verdicts: 0,
-        aborts: 0,
-    }
 }

@@ -2,7 +2,7 @@
 ghost use Rattle.std.specs.Prelude.{◌≡◌, ◌<◌};
 
 use crate::tests::same::same;
-use crate::tests::shared::{accepted, closes_with, config, refused_close};
+use crate::tests::shared::{closes_with, refused_close};
 use mm_shared::{CloseRefused, Name, Pass, Prepared, Report, SharedTable};
 use std::alloc::{AllocError, Global};
 use std::error::Error;
@@ -11,6 +11,7 @@ use std::process::Abort;
 use std::sync::Wait;
 use std::sync::ledger::Ledger;
 use std::test::Fail;
+use test_seats::{accepted, config};
 
 /// Ends the test unless this text is printed.
 fn is_printed<E: Error>(

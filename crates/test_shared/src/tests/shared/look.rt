@@ -2,13 +2,14 @@
 
 use crate::tests::call::{call_of, is_told, on_shared};
 use crate::tests::same::same;
-use crate::tests::shared::{Work, config, on_a_table};
+use crate::tests::shared::{Work, on_a_table};
 use mm_label::Label;
 use mm_shared::{Hint, HintKind, Name, Pass, Report, SharedTable};
 use std::process::Abort;
 use std::sync::Wait;
 use std::sync::ledger::Ledger;
 use std::test::Fail;
+use test_seats::config;
 
 /// By which pass a step is made.
 #[derive(Clone, Copy)]

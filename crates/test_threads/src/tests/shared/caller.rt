@@ -1,11 +1,11 @@
 //! One thread at a table: what it does, and what came of its calls.
 
 use crate::tests::same::same;
-use crate::tests::shared::seat::Calls;
 use mm_shared::{Key, Refusal, Report, State};
 use std::process::Abort;
 use std::sync::Wait;
 use std::sync::atomic::AtomicBool;
+use test_seats::Calls;
 
 /// What came of the calls of a thread, or of several.
 #[derive(Clone, Copy)]

@@ -3,12 +3,12 @@
 use crate::tests::same::same;
 use crate::tests::shared::caller::{Caller, Made};
 use crate::tests::shared::lockers::Pair;
-use crate::tests::shared::seat::Calls;
-use crate::tests::shared::{Work, config, on_a_table};
+use crate::tests::shared::{Work, on_a_table};
 use std::process::Abort;
 use std::sync::Wait;
 use std::sync::atomic::AtomicBool;
 use std::test::Fail;
+use test_seats::{Calls, config};
 
 /// How many threads there are. Each two of them make deadlocks with each other.
 pub const THREADS: u32 = 8;

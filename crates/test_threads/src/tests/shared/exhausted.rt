@@ -3,13 +3,13 @@
 use crate::tests::same::same;
 use crate::tests::shared::caller::{Caller, Made};
 use crate::tests::shared::lockers::Pair;
-use crate::tests::shared::seat::Calls;
 use crate::tests::shared::{Work, on_a_table};
 use mm_shared::{Acquired, Config, Key, Mode, Refusal, Released, State};
 use std::process::Abort;
 use std::sync::Wait;
 use std::sync::atomic::AtomicBool;
 use std::test::Fail;
+use test_seats::Calls;
 
 /// How many threads there are.
 pub const THREADS: u32 = 8;

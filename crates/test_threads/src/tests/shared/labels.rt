@@ -5,7 +5,7 @@ use crate::tests::same::same;
 use crate::tests::shared::caller::{Job, Made};
 use crate::tests::shared::deadlocks::ROUNDS;
 use crate::tests::shared::team::work_all;
-use crate::tests::shared::{Work, config, on_a_table};
+use crate::tests::shared::{Work, on_a_table};
 use mm_label::Label;
 use mm_shared::{Name, Pass, SharedTable};
 use std::alloc::{AllocError, Global};
@@ -17,6 +17,7 @@ use std::sync::ledger::Ledger;
 use std::test::Fail;
 use std::thread;
 use std::thread::{Threads, join};
+use test_seats::config;
 
 /// How many threads there are beside the reader. Each two of them make deadlocks with each other.
 const THREADS: u32 = 6;

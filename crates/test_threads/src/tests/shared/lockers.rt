@@ -1,13 +1,13 @@
 //! Threads that acquire two resources in each transaction, wait for them, and are aborted where that closes a cycle of waits.
 
 use crate::tests::shared::caller::Caller;
-use crate::tests::shared::seat::Calls;
 use mm_shared::{Acquired, Detected, Key, Mode, Refusal};
 use std::process::Abort;
 use std::sync::Wait;
 use std::sync::atomic::AtomicBool;
 use std::sync::atomic::Ordering::SeqCst;
 use std::thread;
+use test_seats::Calls;
 
 /// What a thread acquires in each of its transactions.
 #[derive(Clone, Copy)]

@@ -2,13 +2,13 @@
 
 use crate::tests::same::same;
 use crate::tests::shared::caller::Caller;
-use crate::tests::shared::seat::Calls;
-use crate::tests::shared::{Work, config, on_a_table};
+use crate::tests::shared::{Work, on_a_table};
 use mm_shared::{Key, Refusal};
 use std::process::Abort;
 use std::sync::Wait;
 use std::test::Fail;
 use std::thread;
+use test_seats::{Calls, config};
 
 /// How many processes there are.
 const PROCESSES: u32 = 2;

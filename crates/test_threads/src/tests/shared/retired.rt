@@ -2,13 +2,13 @@
 
 use crate::tests::same::same;
 use crate::tests::shared::caller::{Caller, Made};
-use crate::tests::shared::seat::Calls;
-use crate::tests::shared::{Work, accepted, on_a_table};
+use crate::tests::shared::{Work, on_a_table};
 use mm_shared::{Config, Key, Refusal, Report};
 use std::process::Abort;
 use std::sync::Wait;
 use std::test::Fail;
 use std::thread;
+use test_seats::{Calls, accepted};
 
 /// How many threads there are: more than processes, so one may find no free slot while the others use them.
 pub const THREADS: u32 = 8;

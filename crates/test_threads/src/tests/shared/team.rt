@@ -2,7 +2,6 @@
 ghost use Rattle.std.specs.Prelude.{◌<◌};
 
 use crate::tests::shared::caller::{Caller, Job, Made};
-use crate::tests::shared::seat::Seat;
 use mm_shared::{Name, Pass, SharedTable};
 use std::alloc::{AllocError, Global};
 use std::process::Abort;
@@ -10,6 +9,7 @@ use std::sync::Wait;
 use std::sync::atomic::AtomicBool;
 use std::sync::ledger::Ledger;
 use std::thread::{Threads, join, map_vec};
+use test_seats::Seat;
 
 /// A thread's number and pass, and what came of its calls.
 #[derive(Drop)]

@@ -1,11 +1,11 @@
 //! Two threads, each with a pass.
 
 use crate::tests::shared::caller::Caller;
-use crate::tests::shared::seat::Calls;
 use crate::tests::shared::{Work, on_a_table};
 use mm_shared::Config;
 use std::process::Abort;
 use std::test::Fail;
+use test_seats::Calls;
 
 impl<C: Calls> Caller<C> {
     /// Begins and finishes a transaction a thousand times.

@@ -1,7 +1,8 @@
-//! The calls of a shared table by one thread. They have no clauses, so a function that makes many of them has a short proof.
+//! The calls, and who makes them.
 
 use mm_shared::{
-    Acquired, Detected, Key, Name, Pass, Refusal, Released, Settled, SharedTable, Transmitted,
+    Acquired, Detected, Key, Name, Pass, Refusal, Released, Settled, SharedTable, State,
+    Transmitted,
 };
 use std::sync::Wait;
 use std::sync::ledger::Ledger;
@@ -22,14 +23,22 @@ pub trait Calls {
 
     fn abort(&mut self, key: Key) -> Result<(), Refusal>;
 
+    fn give_up(&mut self, key: Key) -> Result<(), Refusal>;
+
     fn settle(&mut self) -> Result<Settled, Refusal>;
+
+    fn state(&mut self, key: Key) -> Result<State, Refusal>;
+
+    fn owner(&mut self, resource: u32) -> Result<Option<Key>, Refusal>;
+
+    fn tenant(&mut self, process: u32) -> Option<Key>;
 
     fn processes(&self) -> u32;
 
-    /// Reads the label of a process. Returns its counter; 0 where there is no such process.
+    /// Reads the label of a process on the board, and returns its counter; 0 where there is no such process.
     fn peek(&mut self, process: u32) -> u64;
 
-    /// Looks for a hint among all processes. Returns whether there is one.
+    /// Looks for a hint among all processes, and returns whether there is one.
     fn scan(&mut self) -> bool;
 }
 
@@ -48,6 +57,16 @@ impl<'a, N: Name, A: Ledger, V: Ledger, B: Ledger, R: Wait> Seat<'a, N, A, V, B,
         pass: Pass<N, A, V, B>,
     ) -> Seat<'a, N, A, V, B, R> {
         Seat { rt, table, pass }
+    }
+
+    /// Gives the pass back.
+    pub fn into_pass(self) -> Pass<N, A, V, B> {
+        let Seat {
+            rt: _,
+            table: _,
+            pass,
+        } = self;
+        pass
     }
 }
 
@@ -80,8 +99,24 @@ impl<'a, N: Name, A: Ledger, V: Ledger, B: Ledger, R: Wait> Calls for Seat<'a, N
         self.table.abort(self.rt, &mut self.pass, key)
     }
 
+    fn give_up(&mut self, key: Key) -> Result<(), Refusal> {
+        self.table.give_up(self.rt, &mut self.pass, key)
+    }
+
     fn settle(&mut self) -> Result<Settled, Refusal> {
         self.table.settle(self.rt, &mut self.pass)
+    }
+
+    fn state(&mut self, key: Key) -> Result<State, Refusal> {
+        self.table.state(self.rt, &mut self.pass, key)
+    }
+
+    fn owner(&mut self, resource: u32) -> Result<Option<Key>, Refusal> {
+        self.table.owner(self.rt, &mut self.pass, resource)
+    }
+
+    fn tenant(&mut self, process: u32) -> Option<Key> {
+        self.table.tenant(self.rt, &mut self.pass, process)
     }
 
     fn processes(&self) -> u32 {
