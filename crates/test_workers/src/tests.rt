@@ -7,11 +7,10 @@
 //! - `threads`: workloads by threads.
 //! - `storms`: workloads from seeds by threads.
 //! - `watch`: a run of a workload, with a look at its gate.
-//! - `open_gate`, `fake`, `recorder`: a gate and steps for workers that run one after another.
+//! - `open_gate`, `recorder`: a gate and steps for workers that run one after another.
 
 mod alone;
 mod client;
-mod fake;
 mod gates;
 mod lines;
 mod open_gate;

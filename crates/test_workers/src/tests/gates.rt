@@ -24,15 +24,23 @@ fn first_leaves<R: Wait>(gates: &mut Vec<SharedGate<'_, R>>) {
     }
 }
 
+/// What the last gate says, before anybody has left, and then after each look.
+static ARE_OVER: [bool; 4] = [false, false, true, true];
+
+/// Ends the test unless the last gate says so, where the client of the first one leaves after each look until it is over.
+fn are_over<R: Wait + Abort>(rt: &R, gates: &mut Vec<SharedGate<'_, R>>) {
+    for is_over in &ARE_OVER {
+        same(rt, last_is_over(gates), Some(*is_over));
+        if !*is_over {
+            first_leaves(gates);
+        }
+    }
+}
+
 #[test]
 fn gates_are_over_once_all_clients_have_left(rt: HostRuntime) -> Result<(), Fail> {
     let mut gates = shared_gates(&rt, rt.alloc(), 2, 3)?;
-    for is_over in [false, false, true, true] {
-        same(&rt, last_is_over(&mut gates), Some(is_over));
-        if !is_over {
-            first_leaves(&mut gates);
-        }
-    }
+    are_over(&rt, &mut gates);
     Ok(())
 }
 

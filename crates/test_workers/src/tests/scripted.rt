@@ -13,22 +13,27 @@ pub const KEY: Key = Key {
     generation: 1,
 };
 
-/// A table that answers by a script. It counts as a table does.
+/// A table that answers by a script. It counts as a table does. Each process has one tenant, and the first scan gives a hint.
 #[derive(Drop)]
 pub struct ScriptedSteps<'a> {
     pub script: &'a Script<'a>,
     pub accepted: u64,
     pub verdicts: u64,
     pub aborts: u64,
+    pub tenant: Option<Key>,
+    pub hint: Option<Hint>,
 }
 
 impl<'a> ScriptedSteps<'a> {
+    /// Steps without a tenant and without a hint, which clients need not.
     pub fn new(script: &'a Script<'a>) -> ScriptedSteps<'a> {
         ScriptedSteps {
             script,
             accepted: 0,
             verdicts: 0,
             aborts: 0,
+            tenant: None,
+            hint: None,
         }
     }
 
@@ -119,12 +124,12 @@ impl<'a> Steps for ScriptedSteps<'a> {
 
     fn tenant(&mut self, _process: u32) -> Option<Key> {
         let _ = self.script.answer(Call::Other);
-        None
+        self.tenant
     }
 
     fn scan(&mut self, _from: u32) -> Option<Hint> {
         let _ = self.script.answer(Call::Other);
-        None
+        self.hint.take()
     }
 }
 

@@ -3,7 +3,7 @@
 use crate::tests::same::same;
 use crate::tests::watch::{count, ended, watched};
 use mm_workers::{End, Outcome};
-use mm_workload::{StormShape, Workload, shaped_storm, storm};
+use mm_workload::{StormShape, WorkFault, Workload, shaped_storm, storm};
 use std::alloc::Global;
 use std::process::Abort;
 use std::sync::Wait;
@@ -22,14 +22,30 @@ fn breaks_its_deadlocks<R: Threads + Wait + Abort + Sync>(rt: &R, alloc: Global,
     }
 }
 
+fn have_the_same_clients(rt: &impl Abort, one: &Workload, other: &Workload) {
+    assert!(rt; one.clients() == other.clients());
+}
+
+/// Makes this storm again, and ends the test unless it is the same one. Both break their deadlocks.
+fn is_made_again<R: Threads + Wait + Abort + Sync>(
+    rt: &R,
+    alloc: Global,
+    one: &Workload,
+) -> Result<(), WorkFault> {
+    let other = storm(alloc, 1, 8, 2)?;
+    have_the_same_clients(rt, one, &other);
+    breaks_its_deadlocks(rt, alloc, one);
+    breaks_its_deadlocks(rt, alloc, &other);
+    drop(other);
+    Ok(())
+}
+
 #[test]
 fn the_same_storm_twice(rt: HostRuntime) -> Result<(), Fail> {
     let one = storm(rt.alloc(), 1, 8, 2)?;
-    let other = storm(rt.alloc(), 1, 8, 2)?;
-    assert!(&rt; one.clients() == other.clients());
-    breaks_its_deadlocks(&rt, rt.alloc(), &one);
-    breaks_its_deadlocks(&rt, rt.alloc(), &other);
-    Ok(())
+    let made = is_made_again(&rt, rt.alloc(), &one);
+    drop(one);
+    Ok(made?)
 }
 
 #[test]
@@ -39,6 +55,7 @@ fn two_hundred_storms(rt: HostRuntime) -> Result<(), Fail> {
         let transmitters = (seed % 4) as u32;
         let storm = storm(rt.alloc(), seed, clients, transmitters)?;
         breaks_its_deadlocks(&rt, rt.alloc(), &storm);
+        drop(storm);
     }
     Ok(())
 }
@@ -88,6 +105,7 @@ fn storms_of_several_transactions(rt: HostRuntime) -> Result<(), Fail> {
         let transmitters = (seed % 3) as u32;
         let storm = shaped_storm(rt.alloc(), &FEW_RESOURCES, seed, clients, transmitters)?;
         runs_to_the_end(&rt, rt.alloc(), &storm);
+        drop(storm);
     }
     Ok(())
 }

@@ -50,6 +50,7 @@ fn one_of_two_is_aborted(rt: HostRuntime) -> Result<(), Fail> {
         left: 2,
     };
     runs(&rt, rt.alloc(), &workload, (1, 1), counts);
+    drop(workload);
     Ok(())
 }
 
@@ -61,6 +62,7 @@ fn eight_in_order_finish(rt: HostRuntime) -> Result<(), Fail> {
         left: 8,
     };
     runs(&rt, rt.alloc(), &workload, (8, 0), counts);
+    drop(workload);
     Ok(())
 }
 

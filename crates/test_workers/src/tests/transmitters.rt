@@ -1,11 +1,12 @@
-//! One transmitter on steps that note its calls: on a fake, on a table that nobody shares, and on a shared one. Expected calls are those
+//! One transmitter on steps that note its calls: on a script, on a table that nobody shares, and on a shared one. Expected calls are those
 //! of the rules of docs/WORKLOADS.md, by hand.
 ghost use Rattle.std.specs.Prelude.{◌≡◌};
 
-use crate::tests::fake::Fake;
 use crate::tests::open_gate::OpenGate;
 use crate::tests::recorder::{Call, Recorder, are_made};
 use crate::tests::same::same;
+use crate::tests::script::{Answer, Call as Line, Script};
+use crate::tests::scripted::ScriptedSteps;
 use mm_shared::{Config, Detected, Key, Name, Pass, Prepared, Refusal, SharedTable, Transmitted};
 use mm_table::{Table, Totals};
 use mm_workers::{Desk, Hint, HintKind, Report, Steps, Transmitter};
@@ -57,63 +58,69 @@ fn transmit<S: Steps + Drop>(steps: S, calls: Vec<Call>, turns: u64, over: bool)
     transmitter.into_steps()
 }
 
-#[test]
-fn without_a_hint_it_looks_alone(rt: HostRuntime) -> Result<(), Fail> {
-    let fake = Fake {
-        hint: None,
-        tenant: Some(first_key(0)),
-    };
-    let came = transmit(fake, room(rt.alloc())?, 100, false);
-    are_made(&rt, came.calls.as_slice(), &[Call::Scan(0, None); 100]);
+/// A look and a tenant come first. A transmit behind them is refused.
+static REFUSED: [(Line, Answer); 3] = [
+    (Line::Other, Answer::Done),
+    (Line::Other, Answer::Done),
+    (Line::Transmit, Answer::Refused(Refusal::Stale)),
+];
+
+/// Runs a transmitter where the first scan gives this hint, and later ones none, each process has this tenant, and each event is refused.
+/// Ends the test unless it makes these calls.
+fn makes_without_a_table(
+    rt: &impl Abort,
+    alloc: Global,
+    hint: Option<Hint>,
+    tenant: Option<Key>,
+    turns: u64,
+    over: bool,
+    calls: &[Call],
+) -> Result<(), Fail> {
+    let room = room(alloc)?;
+    let script = Script::new(&REFUSED);
+    let mut steps = ScriptedSteps::new(&script);
+    steps.hint = hint;
+    steps.tenant = tenant;
+    let came = transmit(steps, room, turns, over);
+    are_made(rt, came.calls.as_slice(), calls);
     Ok(())
 }
 
 #[test]
+fn without_a_hint_it_looks_alone(rt: HostRuntime) -> Result<(), Fail> {
+    let calls = [Call::Scan(0, None); 100];
+    let tenant = Some(first_key(0));
+    makes_without_a_table(&rt, rt.alloc(), None, tenant, 100, false, &calls)
+}
+
+#[test]
 fn once_all_clients_have_left_it_calls_nothing(rt: HostRuntime) -> Result<(), Fail> {
-    let fake = Fake {
-        hint: None,
-        tenant: None,
-    };
-    let came = transmit(fake, room(rt.alloc())?, 100, true);
-    same(&rt, came.calls.len(), 0);
-    Ok(())
+    makes_without_a_table(&rt, rt.alloc(), None, None, 100, true, &[])
 }
 
 #[test]
 fn behind_the_last_process_it_begins_anew(rt: HostRuntime) -> Result<(), Fail> {
     let raise = hint(3, 1, HintKind::Raise);
     let tenant = Some(first_key(3));
-    let fake = Fake {
-        hint: raise,
-        tenant,
-    };
-    let came = transmit(fake, room(rt.alloc())?, 2, false);
     let calls = [
         Call::Scan(0, raise),
         Call::Tenant(3, tenant),
         Call::Transmit(first_key(3), Err(Refusal::Stale)),
         Call::Scan(0, None),
     ];
-    are_made(&rt, came.calls.as_slice(), calls.as_slice());
-    Ok(())
+    makes_without_a_table(&rt, rt.alloc(), raise, tenant, 2, false, &calls)
 }
 
 #[test]
 fn whoever_is_gone_is_passed_by(rt: HostRuntime) -> Result<(), Fail> {
     let equal = hint(1, 3, HintKind::Equal);
-    let fake = Fake {
-        hint: equal,
-        tenant: None,
-    };
-    let came = transmit(fake, room(rt.alloc())?, 3, false);
     let calls = [
         Call::Scan(0, equal),
         Call::Tenant(1, None),
         Call::Scan(2, None),
         Call::Scan(0, None),
     ];
-    are_made(&rt, came.calls.as_slice(), calls.as_slice());
-    Ok(())
+    makes_without_a_table(&rt, rt.alloc(), equal, None, 3, false, &calls)
 }
 
 /// Runs a transmitter for four processes, ends the test unless it makes these calls, and gives back the table.

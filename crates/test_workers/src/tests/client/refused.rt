@@ -132,14 +132,29 @@ fn calls_of(
     Ok(calls)
 }
 
-/// Ends the test unless each refusal of the call ends the client under its number.
+/// How a try at `finish` is answered.
+static FINISHES: [Answer; 2] = [Answer::Done, Answer::Refused(Refusal::Waiting)];
+
+/// Ends the test unless the refusal of the call ends the client under its number.
+fn ends_by<R: Abort>(
+    rt: &R,
+    alloc: Global,
+    refused: &Refused,
+    refusal: Refusal,
+    number: u8,
+) -> Result<(), AllocError> {
+    let end = End::Refused(number);
+    for finish in &FINISHES {
+        let calls = calls_of(alloc, refused, refusal, *finish)?;
+        runs(rt, alloc, refused.work, 9, calls.as_slice(), end)?;
+    }
+    Ok(())
+}
+
+/// The same of each refusal of the call.
 fn ends_by_each<R: Abort>(rt: &R, alloc: Global, refused: &Refused) -> Result<(), AllocError> {
     for (refusal, number) in refused.refusals {
-        for finish in [Answer::Done, Answer::Refused(Refusal::Waiting)] {
-            let calls = calls_of(alloc, refused, *refusal, finish)?;
-            let end = End::Refused(*number);
-            runs(rt, alloc, refused.work, 9, calls.as_slice(), end)?;
-        }
+        ends_by(rt, alloc, refused, *refusal, *number)?;
     }
     Ok(())
 }
