@@ -7,8 +7,8 @@ from memory.requests import with_turns
 
 STEP = 64 * 1024
 MOST = 1024 * 1024 * 1024
-# The stack of each thread that is started.
-STACK = 256 * 1024
+# The stack of each thread, the first one too. All of it is mapped when a thread starts, so none has to grow where no space is left.
+STACK = 128 * 1024
 
 
 def least(program):

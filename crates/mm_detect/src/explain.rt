@@ -12,6 +12,7 @@ use std::io::{Eprint, Print, Read, Write};
 use std::rt::Files;
 
 /// Explains the script of the file, or that of the reader where no file is named. Text has colors on a terminal, unless NO_COLOR is set.
+#[inline(never)]
 pub fn run_explain<R: Env + Eprint + Files + Print, I: Read, W: Write>(
     rt: &R,
     alloc: Global,

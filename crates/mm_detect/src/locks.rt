@@ -11,6 +11,7 @@ use std::random::RandomSource;
 
 /// Opens a lock service and answers the requests that the reader gives. Where no seed is given and the system has no random bytes to give,
 /// that is told, and nothing is read.
+#[inline(never)]
 pub fn run_locks<R: Print + Eprint + RandomSource, I: Read, W: Write>(
     rt: &R,
     alloc: Global,

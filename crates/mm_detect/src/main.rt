@@ -3,7 +3,7 @@
 //! - `explain`: explains a script.
 //! - `file`: the bytes of a file.
 //! - `locks`: a lock service.
-//! - `script`: runs a script, and tells what is wrong with its lines.
+//! - `script`: runs a script, and perhaps tells what is wrong with its lines.
 //! - `work`: runs of workloads. `work_end`: what came of one. `verbose`: what is printed meanwhile for a person. `reported`: a run whose
 //!   report is written to a file.
 //! - `ending`: how a run of the program ends, and the status that it exits with.
@@ -27,11 +27,11 @@ use file::{Taken, taken_from};
 use locks::run_locks;
 use mm_command::{Request, StormOptions, asked};
 use mm_report::Source;
-use mm_script::{ScriptFault, run_script};
+use mm_script::ScriptFault;
 use mm_table::Refusal;
 use mm_workload::Workload;
 use reported::{Reporting, run_reported};
-use script::run_verbose_script;
+use script::{run_plain_script, run_verbose_script};
 use std::alloc::Global;
 use std::fmt::Display;
 use std::io::{Eprint, IsTerminal, Print, Read, Write};
@@ -65,7 +65,9 @@ fn answer<R: Runtime + RandomSource + Threads + Wait + Sync, I: Read, W: Write +
     ensures { IsEndOf request.now result }
 {
     match request {
-        Request::Script { verbose: false } => Ending::Ran(run_script(alloc, input, output)),
+        Request::Script { verbose: false } => {
+            Ending::Ran(run_plain_script(alloc, input, output))
+        }
         Request::Script { verbose: true } => {
             Ending::Ran(run_verbose_script(rt, alloc, input, output))
         }

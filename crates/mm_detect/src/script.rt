@@ -1,5 +1,5 @@
-//! A script that is run for a person: standard error has the number of each malformed line, and what is wrong with it. Where that cannot be
-//! written, it is left out, and the run goes on.
+//! Runs of scripts. In a run for a person standard error has the number of each malformed line, and what is wrong with it. Where that cannot
+//! be written, it is left out, and the run goes on.
 
 use arrayvec::ArrayVec;
 use mm_script::{INPUT_LIMIT, MAX_LINE, ScriptFault, line_fault, run_script};
@@ -11,7 +11,18 @@ use std::io::{Eprint, Read, Write};
 /// How many bytes of a line are kept: one more than a line may have, so that a longer one is told from one of the greatest length.
 const KEPT: usize = MAX_LINE + 1;
 
+/// Runs a script. In a call of its own, since its input and replies take about 100 KiB of the stack, which other requests do not need.
+#[inline(never)]
+pub fn run_plain_script<I: Read, W: Write>(
+    alloc: Global,
+    reader: &mut I,
+    writer: &mut W,
+) -> Result<u64, ScriptFault> {
+    run_script(alloc, reader, writer)
+}
+
 /// Runs a script as `run_script` does, and tells of each malformed line before the replies to the piece of input that ends it are written.
+#[inline(never)]
 pub fn run_verbose_script<R: Eprint, I: Read, W: Write>(
     rt: &R,
     alloc: Global,
