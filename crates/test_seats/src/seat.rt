@@ -75,6 +75,8 @@ impl<'a, N: Name, A: Ledger, V: Ledger, B: Ledger, R: Wait> Calls for Seat<'a, N
         self.table.begin(self.rt, &mut self.pass)
     }
 
+    // In place, as the call of the table is: else a measurement would time one call more.
+    #[inline(always)]
     fn acquire(&mut self, key: Key, resource: u32) -> Result<Acquired, Refusal> {
         self.table.acquire(self.rt, &mut self.pass, key, resource)
     }
