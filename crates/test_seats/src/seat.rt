@@ -70,61 +70,74 @@ impl<'a, N: Name, A: Ledger, V: Ledger, B: Ledger, R: Wait> Seat<'a, N, A, V, B,
     }
 }
 
+// In place: else a measurement would time one call more.
 impl<'a, N: Name, A: Ledger, V: Ledger, B: Ledger, R: Wait> Calls for Seat<'a, N, A, V, B, R> {
+    #[inline(always)]
     fn begin(&mut self) -> Result<Key, Refusal> {
         self.table.begin(self.rt, &mut self.pass)
     }
 
-    // In place, as the call of the table is: else a measurement would time one call more.
     #[inline(always)]
     fn acquire(&mut self, key: Key, resource: u32) -> Result<Acquired, Refusal> {
         self.table.acquire(self.rt, &mut self.pass, key, resource)
     }
 
+    #[inline(always)]
     fn release(&mut self, key: Key, resource: u32) -> Result<Released, Refusal> {
         self.table.release(self.rt, &mut self.pass, key, resource)
     }
 
+    #[inline(always)]
     fn finish(&mut self, key: Key) -> Result<(), Refusal> {
         self.table.finish(self.rt, &mut self.pass, key)
     }
 
+    #[inline(always)]
     fn transmit(&mut self, key: Key) -> Result<Transmitted, Refusal> {
         self.table.transmit(self.rt, &mut self.pass, key)
     }
 
+    #[inline(always)]
     fn detect(&mut self, key: Key) -> Result<Detected, Refusal> {
         self.table.detect(self.rt, &mut self.pass, key)
     }
 
+    #[inline(always)]
     fn abort(&mut self, key: Key) -> Result<(), Refusal> {
         self.table.abort(self.rt, &mut self.pass, key)
     }
 
+    #[inline(always)]
     fn give_up(&mut self, key: Key) -> Result<(), Refusal> {
         self.table.give_up(self.rt, &mut self.pass, key)
     }
 
+    #[inline(always)]
     fn settle(&mut self) -> Result<Settled, Refusal> {
         self.table.settle(self.rt, &mut self.pass)
     }
 
+    #[inline(always)]
     fn state(&mut self, key: Key) -> Result<State, Refusal> {
         self.table.state(self.rt, &mut self.pass, key)
     }
 
+    #[inline(always)]
     fn owner(&mut self, resource: u32) -> Result<Option<Key>, Refusal> {
         self.table.owner(self.rt, &mut self.pass, resource)
     }
 
+    #[inline(always)]
     fn tenant(&mut self, process: u32) -> Option<Key> {
         self.table.tenant(self.rt, &mut self.pass, process)
     }
 
+    #[inline(always)]
     fn processes(&self) -> u32 {
         self.table.processes()
     }
 
+    #[inline(always)]
     fn peek(&mut self, process: u32) -> u64 {
         if process < self.table.processes() {
             self.table.peek(&mut self.pass, process).counter()
@@ -133,6 +146,7 @@ impl<'a, N: Name, A: Ledger, V: Ledger, B: Ledger, R: Wait> Calls for Seat<'a, N
         }
     }
 
+    #[inline(always)]
     fn scan(&mut self) -> bool {
         self.table.scan(&mut self.pass, 0).is_some()
     }
