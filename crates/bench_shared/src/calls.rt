@@ -1,4 +1,4 @@
-//! Calls of a shared table by one thread, again and again.
+//! Calls of a shared table by one thread, again and again. They are compiled in place, since the calls are what is timed.
 
 use mm_shared::{Key, Refusal, Released};
 use test_seats::Calls;
@@ -7,6 +7,7 @@ use test_seats::Calls;
 const WAITERS: u32 = 16;
 
 /// One transaction that waits for nobody.
+#[inline(always)]
 fn grant<C: Calls>(seat: &mut C) -> Result<(), Refusal> {
     let key = seat.begin()?;
     seat.acquire(key, 0)?;
@@ -15,6 +16,7 @@ fn grant<C: Calls>(seat: &mut C) -> Result<(), Refusal> {
 }
 
 /// Begins two transactions.
+#[inline(always)]
 fn begin_two<C: Calls>(seat: &mut C) -> Result<(Key, Key), Refusal> {
     let first = seat.begin()?;
     let second = seat.begin()?;
@@ -22,6 +24,7 @@ fn begin_two<C: Calls>(seat: &mut C) -> Result<(Key, Key), Refusal> {
 }
 
 /// Acquires a resource for each of two transactions.
+#[inline(always)]
 fn acquire_two<C: Calls>(
     seat: &mut C,
     keys: (Key, Key),
@@ -33,18 +36,21 @@ fn acquire_two<C: Calls>(
 }
 
 /// Finishes two transactions, the second one first.
+#[inline(always)]
 fn finish_two<C: Calls>(seat: &mut C, keys: (Key, Key)) -> Result<(), Refusal> {
     seat.finish(keys.1)?;
     seat.finish(keys.0)
 }
 
 /// Aborts the second of two transactions, and finishes the first.
+#[inline(always)]
 fn end_two<C: Calls>(seat: &mut C, keys: (Key, Key)) -> Result<(), Refusal> {
     seat.abort(keys.1)?;
     seat.finish(keys.0)
 }
 
 /// Two transactions, one of which waits for the other.
+#[inline(always)]
 pub fn block<C: Calls>(seat: &mut C) -> Result<(), Refusal> {
     let keys = begin_two(seat)?;
     acquire_two(seat, keys, (0, 0))?;
@@ -53,6 +59,7 @@ pub fn block<C: Calls>(seat: &mut C) -> Result<(), Refusal> {
 }
 
 /// Two transactions that wait for each other.
+#[inline(always)]
 fn cross<C: Calls>(seat: &mut C) -> Result<(Key, Key), Refusal> {
     let keys = begin_two(seat)?;
     acquire_two(seat, keys, (0, 1))?;
@@ -61,6 +68,7 @@ fn cross<C: Calls>(seat: &mut C) -> Result<(Key, Key), Refusal> {
 }
 
 /// Two transactions that wait for each other. The second one is aborted.
+#[inline(always)]
 fn deadlock<C: Calls>(seat: &mut C) -> Result<(), Refusal> {
     let keys = cross(seat)?;
     seat.transmit(keys.0)?;
@@ -69,6 +77,7 @@ fn deadlock<C: Calls>(seat: &mut C) -> Result<(), Refusal> {
 }
 
 /// Two transactions that wait for each other, and a settle that finds them. The second one is aborted.
+#[inline(always)]
 fn settle<C: Calls>(seat: &mut C) -> Result<(), Refusal> {
     let keys = cross(seat)?;
     seat.settle()?;
@@ -76,6 +85,7 @@ fn settle<C: Calls>(seat: &mut C) -> Result<(), Refusal> {
 }
 
 /// Hands the resource over, and waits for it again. Returns who has it then.
+#[inline(always)]
 fn hand_over<C: Calls>(seat: &mut C, owner: Key) -> Result<Key, Refusal> {
     let released = seat.release(owner, 0)?;
     seat.acquire(owner, 0)?;
@@ -86,6 +96,7 @@ fn hand_over<C: Calls>(seat: &mut C, owner: Key) -> Result<Key, Refusal> {
 }
 
 /// One who has the resource, and sixteen who wait for it. Returns the one who has it.
+#[inline(always)]
 pub fn crowd<C: Calls>(seat: &mut C) -> Result<Key, Refusal> {
     let owner = seat.begin()?;
     seat.acquire(owner, 0)?;
@@ -97,6 +108,7 @@ pub fn crowd<C: Calls>(seat: &mut C) -> Result<Key, Refusal> {
 }
 
 /// Hands the resource over so many times.
+#[inline(always)]
 pub fn hand_overs<C: Calls>(seat: &mut C, first: Key, count: u32) {
     let mut owner = first;
     for _ in 0..count {
@@ -132,6 +144,7 @@ impl Round {
 }
 
 /// Makes a round so many times.
+#[inline(always)]
 pub fn rounds<C: Calls>(seat: &mut C, round: Round, count: u32) {
     for _ in 0..count {
         let _ = round.make(seat);
