@@ -84,23 +84,23 @@ case_is "a run has its counts and its status as before, and leaves what it took"
 echo 1 > "$gate/takes"
 gated ./run_tests
 ends 0 "$(sed 's/^4 passed/rt ci: &/' "$gate/log")
+tests/try_program --built: 1 passed, 0 failed
+tests/try_service crates/mm_detect/out/mm_detect: 1 passed, 0 failed
+tests/try_explain crates/mm_detect/out/mm_detect: 1 passed, 0 failed
+tests/refuse_memory: 1 passed, 0 failed
+clients/c/test/run python3 -m pashkure serve --program ./mmdetect: 1 passed, 0 failed
+docs/commands: 1 passed, 0 failed
+docs/make_tour --check: 1 passed, 0 failed
 tests/no_lock: 1 passed, 0 failed
 tests/no_loops: 1 passed, 0 failed
 tests/no_loops --self-test: 1 passed, 0 failed
 docs/contracts: 1 passed, 0 failed
 docs/citations: 1 passed, 0 failed
-docs/commands: 1 passed, 0 failed
-docs/make_tour --check: 1 passed, 0 failed
-tests/try_program --built: 1 passed, 0 failed
-tests/refuse_memory: 1 passed, 0 failed
-tests/try_service crates/mm_detect/out/mm_detect: 1 passed, 0 failed
-tests/try_explain crates/mm_detect/out/mm_detect: 1 passed, 0 failed
-clients/c/test/run python3 -m pashkure serve --program ./mmdetect: 1 passed, 0 failed
 16 passed, 0 failed" "" $?
 gated ./run_tests --times
 same status 0 $?
 says "The last run: commit unknown, begun 20"
-says "It said: rt ci: 4 passed, 0 failed, tests/no_lock: 1 passed, 0 failed, tests/no_loops: 1 passed, 0 failed, tests/no_loops --self-test: 1 passed, 0 failed, "
+says "It said: rt ci: 4 passed, 0 failed, tests/try_program --built: 1 passed, 0 failed, "
 costs=$(sed -n 's/^ *\([0-9.]*\) *[0-9.]*  .*/\1/p' "$work/out" | head -n -1)
 same "the order" "$(sort -rn <<< "$costs")" "$costs"
 for what in proof tests 'edits (1 of 2 kept)'; do
