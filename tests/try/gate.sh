@@ -81,7 +81,7 @@ wait "$watch"
 same status 0 $?
 
 case_is "a run has its counts and its status as before, and leaves what it took"
-echo 1 > "$gate/takes"
+echo 2 > "$gate/takes"
 gated ./run_tests
 ends 0 "$(sed 's/^4 passed/rt ci: &/' "$gate/log")
 tests/try_program --built: 1 passed, 0 failed
