@@ -1,12 +1,14 @@
 //! The calls by which resources are handed over: a release, and the end of a transaction.
-ghost use Rattle.std.specs.Prelude.{◌≡◌, IfOk, ℕ};
+ghost use Rattle.std.specs.Prelude.{◌≡◌, ◌↔◌, ◌≤◌, Some, OnOk, IfOk, ℕ, vec_capacity};
+ghost use Rattle.mm_list_lemmas.specs.Members.{Among};
 ghost use Rattle.mm_rules.specs.Event.{Step, Release, Finish, Abort};
 ghost use Rattle.mm_rules.specs.Laws.{AtRest, Laws};
+ghost use Rattle.mm_rules.specs.TableState.{owner_of};
 ghost use Rattle.mm_settled.specs.private.Ends.{Ends};
 ghost use Rattle.mm_settled.specs.private.Lists.{Fits};
 ghost use Rattle.mm_settled.specs.private.Told.{TellsOf};
 
-use crate::lists::{Lists, list_given, list_owned};
+use crate::lists::{Lists, list_given, sort};
 use crate::settle::{come_to_rest, has_room};
 use crate::{Grant, Key, Refusal, Released, Table};
 
@@ -31,34 +33,50 @@ pub fn release(
     Ok(answer)
 }
 
-/// Ends an active transaction, and settles the table where that leaves somebody to be told.
-pub fn finish(table: &mut Table, lists: &mut Lists, key: Key) -> Result<(), Refusal>
+/// Ends an active transaction, and settles the table where that leaves somebody to be told. What it owned is listed.
+pub fn finish(
+    table: &mut Table,
+    lists: &mut Lists,
+    owned: &mut Vec<u32>,
+    key: Key,
+) -> Result<(), Refusal>
     requires rest { AtRest table.old }
     requires fits { Fits table.old.config lists.old }
-    ensures { Ends (Finish key) table.old result table.new key.process lists.new }
+    requires room { table.old.config.resources ≤ vec_capacity owned.old }
+    ensures ends { Ends (Finish key) table.old result table.new key.process lists.new }
+    ensures owned { OnOk result ((r : ℕ) → Among r owned.new.items ↔ (owner_of table.old r ≡ Some key)) }
+    ensures room { vec_capacity owned.new ≡ vec_capacity owned.old }
 {
     table.keeps_laws();
     if !has_room(table) {
         lists.clear();
         return Err(Refusal::CountsExhausted);
     }
-    finish_listing(table, lists, key)?;
+    finish_listing(table, lists, owned, key)?;
     come_to_rest(table, &mut lists.changed, &mut lists.processes);
     Ok(())
 }
 
-/// Ends a transaction with a verdict, and settles the table where that leaves somebody to be told.
-pub fn abort(table: &mut Table, lists: &mut Lists, key: Key) -> Result<(), Refusal>
+/// Ends a transaction with a verdict, and settles the table where that leaves somebody to be told. What it owned is listed.
+pub fn abort(
+    table: &mut Table,
+    lists: &mut Lists,
+    owned: &mut Vec<u32>,
+    key: Key,
+) -> Result<(), Refusal>
     requires rest { AtRest table.old }
     requires fits { Fits table.old.config lists.old }
-    ensures { Ends (Abort key) table.old result table.new key.process lists.new }
+    requires room { table.old.config.resources ≤ vec_capacity owned.old }
+    ensures ends { Ends (Abort key) table.old result table.new key.process lists.new }
+    ensures owned { OnOk result ((r : ℕ) → Among r owned.new.items ↔ (owner_of table.old r ≡ Some key)) }
+    ensures room { vec_capacity owned.new ≡ vec_capacity owned.old }
 {
     table.keeps_laws();
     if !has_room(table) {
         lists.clear();
         return Err(Refusal::CountsExhausted);
     }
-    abort_listing(table, lists, key)?;
+    abort_listing(table, lists, owned, key)?;
     come_to_rest(table, &mut lists.changed, &mut lists.processes);
     Ok(())
 }
@@ -84,32 +102,56 @@ fn release_listing(
     Ok(answer)
 }
 
-/// `Table::finish`, and whom it grants what and changes.
-fn finish_listing(table: &mut Table, lists: &mut Lists, key: Key) -> Result<(), Refusal>
+/// `Table::finish`, and whom it grants what and changes. Where it changes nobody it grants nothing. What the transaction owned is listed too.
+fn finish_listing(
+    table: &mut Table,
+    lists: &mut Lists,
+    owned: &mut Vec<u32>,
+    key: Key,
+) -> Result<(), Refusal>
     requires laws { Laws table.old }
     requires fits { Fits table.old.config lists.old }
+    requires room { table.old.config.resources ≤ vec_capacity owned.old }
     ensures step { Step (Finish key) table.old result table.new }
     ensures told { TellsOf table.old table.new lists.new }
     ensures fits { Fits table.old.config lists.new }
+    ensures owned { OnOk result ((r : ℕ) → Among r owned.new.items ↔ (owner_of table.old r ≡ Some key)) }
+    ensures room { vec_capacity owned.new ≡ vec_capacity owned.old }
 {
     lists.granted.clear();
-    list_owned(table, key, &mut lists.resources, &mut lists.owned);
+    table.owned_by(key, owned);
     table.finish_waking(key, &mut lists.changed)?;
-    list_given(table, &lists.owned, &mut lists.granted);
+    if lists.changed.is_empty() {
+        return Ok(());
+    }
+    sort(&mut lists.resources, owned);
+    list_given(table, owned, &mut lists.granted);
     Ok(())
 }
 
-/// `Table::abort`, and whom it grants what and changes.
-fn abort_listing(table: &mut Table, lists: &mut Lists, key: Key) -> Result<(), Refusal>
+/// `Table::abort`, and whom it grants what and changes, as `finish_listing` does.
+fn abort_listing(
+    table: &mut Table,
+    lists: &mut Lists,
+    owned: &mut Vec<u32>,
+    key: Key,
+) -> Result<(), Refusal>
     requires laws { Laws table.old }
     requires fits { Fits table.old.config lists.old }
+    requires room { table.old.config.resources ≤ vec_capacity owned.old }
     ensures step { Step (Abort key) table.old result table.new }
     ensures told { TellsOf table.old table.new lists.new }
     ensures fits { Fits table.old.config lists.new }
+    ensures owned { OnOk result ((r : ℕ) → Among r owned.new.items ↔ (owner_of table.old r ≡ Some key)) }
+    ensures room { vec_capacity owned.new ≡ vec_capacity owned.old }
 {
     lists.granted.clear();
-    list_owned(table, key, &mut lists.resources, &mut lists.owned);
+    table.owned_by(key, owned);
     table.abort_waking(key, &mut lists.changed)?;
-    list_given(table, &lists.owned, &mut lists.granted);
+    if lists.changed.is_empty() {
+        return Ok(());
+    }
+    sort(&mut lists.resources, owned);
+    list_given(table, owned, &mut lists.granted);
     Ok(())
 }

@@ -31,6 +31,7 @@ pub fn lock(
     ensures others { OthersKeepVerdicts table.old table.new key.process }
     ensures told { TellsIf (is_told told_at.new table.new) table.old table.new lists.new }
     ensures stamp { told_at.new ≤ table.new.totals.accepted }
+    ensures config { table.new.config ≡ table.old.config }
     ensures rest { AtRest table.new }
     ensures fits { Fits table.new.config lists.new }
 {

@@ -1,6 +1,7 @@
-ghost use Rattle.std.specs.Prelude.{◌≡◌, ◌↔◌, ℕ, List, [], IsTrue, OnOk};
+ghost use Rattle.std.specs.Prelude.{◌≡◌, ◌↔◌, ◌≤◌, ℕ, List, [], Some, IsTrue, OnOk, vec_capacity};
 ghost use Rattle.mm_rules.specs.Event.{Step, Begin, GiveUp, Release, Finish, Abort};
-ghost use Rattle.mm_rules.specs.TableState.{has_verdict};
+ghost use Rattle.mm_list_lemmas.specs.Members.{Among};
+ghost use Rattle.mm_rules.specs.TableState.{has_verdict, owner_of};
 ghost use Rattle.mm_rules.specs.Laws.{Laws, AtRest};
 ghost use Rattle.mm_rules.specs.Victims.{IsOnCycle};
 ghost use Rattle.mm_settled.specs.Calls.{OpensSettled, Locks, IsDeadlock, Makes, OthersKeepVerdicts};
@@ -8,7 +9,7 @@ ghost use Rattle.mm_settled.specs.Grants.{Tells, EndsWaits};
 
 use crate::ends::{abort, finish, release};
 use crate::give_up::give_up;
-use crate::lists::{Lists, is_told};
+use crate::lists::{Lists, is_told, list};
 use crate::lock::lock;
 use crate::{Config, Grant, Key, Locked, Refusal, Released, Table};
 use std::alloc::Global;
@@ -22,6 +23,8 @@ use std::marker::Model;
 pub struct SettledTable {
     table: Table,
     lists: Lists,
+    /// What a transaction owned that ended. What it has between calls means nothing.
+    owned: Vec<u32>,
     /// How many events the table had accepted right after the last call that filled the lists. Once it accepts one more, what they have
     /// means nothing: so an accepted call that tells of nobody need not touch them.
     told_at: u64,
@@ -33,6 +36,7 @@ impl Drop for SettledTable {
         let SettledTable {
             table: _,
             lists: _,
+            owned: _,
             told_at: _,
         } = self;
     }
@@ -60,9 +64,11 @@ impl SettledTable {
     {
         let table = Table::open(alloc, config)?;
         let lists = Lists::open(alloc, config)?;
+        let owned = list(alloc, config.resources)?;
         Ok(SettledTable {
             table,
             lists,
+            owned,
             told_at: 0,
         })
     }
@@ -142,7 +148,22 @@ impl SettledTable {
         ensures told { Tells self.old.table self.new }
         ensures ended { EndsWaits self.old.table self.new.table key.process self.new.granted }
     {
-        let answer = finish(&mut self.table, &mut self.lists, key);
+        let answer = finish(&mut self.table, &mut self.lists, &mut self.owned, key);
+        self.told_at = self.table.totals().accepted;
+        answer
+    }
+
+    /// `finish`, which also lists what the transaction owned, each resource once, in place of what `owned` held. `owned` has room for each resource, and no memory is taken. Where the call is refused, what it holds means nothing.
+    pub fn finish_listing(&mut self, key: Key, owned: &mut Vec<u32>) -> Result<(), Refusal>
+        requires room { self.old.table.config.resources ≤ vec_capacity owned.old }
+        ensures makes { Makes (Finish key) self.old.table result self.new.table }
+        ensures others { OthersKeepVerdicts self.old.table self.new.table key.process }
+        ensures told { Tells self.old.table self.new }
+        ensures ended { EndsWaits self.old.table self.new.table key.process self.new.granted }
+        ensures owned { OnOk result ((r : ℕ) → Among r owned.new.items ↔ (owner_of self.old.table r ≡ Some key)) }
+        ensures room { vec_capacity owned.new ≡ vec_capacity owned.old }
+    {
+        let answer = finish(&mut self.table, &mut self.lists, owned, key);
         self.told_at = self.table.totals().accepted;
         answer
     }
@@ -157,7 +178,22 @@ impl SettledTable {
         ensures told { Tells self.old.table self.new }
         ensures ended { EndsWaits self.old.table self.new.table key.process self.new.granted }
     {
-        let answer = abort(&mut self.table, &mut self.lists, key);
+        let answer = abort(&mut self.table, &mut self.lists, &mut self.owned, key);
+        self.told_at = self.table.totals().accepted;
+        answer
+    }
+
+    /// `abort`, which also lists what the transaction owned, each resource once, in place of what `owned` held. `owned` has room for each resource, and no memory is taken. Where the call is refused, what it holds means nothing.
+    pub fn abort_listing(&mut self, key: Key, owned: &mut Vec<u32>) -> Result<(), Refusal>
+        requires room { self.old.table.config.resources ≤ vec_capacity owned.old }
+        ensures makes { Makes (Abort key) self.old.table result self.new.table }
+        ensures others { OthersKeepVerdicts self.old.table self.new.table key.process }
+        ensures told { Tells self.old.table self.new }
+        ensures ended { EndsWaits self.old.table self.new.table key.process self.new.granted }
+        ensures owned { OnOk result ((r : ℕ) → Among r owned.new.items ↔ (owner_of self.old.table r ≡ Some key)) }
+        ensures room { vec_capacity owned.new ≡ vec_capacity owned.old }
+    {
+        let answer = abort(&mut self.table, &mut self.lists, owned, key);
         self.told_at = self.table.totals().accepted;
         answer
     }

@@ -44,6 +44,13 @@ changed_within_after s t ns config is = rw (is, config) (changed_within s t)
 pub listed_changed : (s t : TableState) (n : ℕ) → n < s.config.processes → is_changed s t n ≡ true → Among n (changed_processes s t)
 listed_changed s t n within changed = filter_keeps (is_changed s t) (range_with_len 0 s.config.processes) n (among_range 0 s.config.processes n (omega arith) (omega arith)) changed
 
+-- where nobody was changed, each process that waited is as it was
+pub nobody_is_changed : (s t : TableState) (n : ℕ) → n < s.config.processes → changed_processes s t ≡ [] → IsUnchanged s t n
+nobody_is_changed s t n within none = elim (cases_Bool (is_changed s t n)) [
+  | inr still ↦ unchanged_is s t n still
+  | inl changed ↦ absurd (subst (λ ns. Among n ns) none (listed_changed s t n within changed))
+]
+
 pub listed_is : (s t : TableState) (n : ℕ) → Among n (range_with_len 0 s.config.processes) → is_listed (changed_processes s t) n ≡ is_changed s t n
 listed_is s t n among = elim (cases_Bool (is_changed s t n)) [
   | inl changed ↦ among_is_listed (changed_processes s t) n (filter_keeps (is_changed s t) (range_with_len 0 s.config.processes) n among changed) ∙ sym changed

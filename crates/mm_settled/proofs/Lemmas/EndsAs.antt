@@ -26,6 +26,7 @@ ends_refused e s t refusal n lists laws rest same refuses told fits = record {
   others = λ v apart. (same_is_quiet s t laws same).verdicts v;
   told = told;
   ended = ends_none s t n lists.granted.items laws same told.granted;
+  config = ap (λ (u : TableState). u.config) same;
   rest = subst (λ (u : TableState). AtRest u) (sym same) rest;
   fits = subst (λ (f : Config). Fits f lists) (sym (ap (λ (u : TableState). u.config) same)) fits;
 }
@@ -43,6 +44,7 @@ ends_accepted e s t answer n lists ends fits = record {
   others = ends.others;
   told = record { granted = ends.are_granted; changed = ends.are_changed };
   ended = ends.ended;
+  config = ends.config;
   rest = ends.rest;
   fits = fits;
 }

@@ -1,5 +1,5 @@
 -- The room for the lists of a call, and what is listed.
-use Rattle.std.proofs.Common.{◌≡◌, ◌↔◌, ◌<◌, ◌||◌, ℕ, Bool, true, false, List, length, filter, replicate, nat_eq, Option, Some, None, slice_index_or, vec_capacity, IsTrue, inl, inr, refl, sym, ap, ◌∙◌, arith}
+use Rattle.std.proofs.Common.{◌≡◌, ◌↔◌, ◌<◌, ◌≤◌, ◌||◌, ℕ, Bool, true, false, List, length, filter, replicate, nat_eq, Option, Some, None, slice_index_or, vec_capacity, IsTrue, inl, inr, refl, sym, ap, ◌∙◌, arith}
 use Rattle.std.specs.Prelude.{slice_index}
 use Rattle.std.specs.Option.{option_map_or}
 use Rattle.std.specs.List.{range_with_len, AllByRecursion}
@@ -8,13 +8,15 @@ use Rattle.std.proofs.lemmas.List.{length-replicate, get_or-replicate, get_or_pa
 use Rattle.mm_arena.specs.declared.key.Key.{Key}
 use Rattle.mm_list_lemmas.specs.Members.{Among}
 use Rattle.mm_list_lemmas.proofs.Lemmas.Among.{all_from}
+use Rattle.mm_list_lemmas.proofs.Lemmas.Filter.{filter_gives, filter_keeps}
+use Rattle.mm_list_lemmas.proofs.Lemmas.Range.{among_range}
 use Rattle.mm_bit_set.specs.BitSet.{has, members}
 use Rattle.mm_rules.specs.declared.config.Config.{Config}
 use Rattle.mm_rules.specs.TableState.{TableState, is_live, owner_of, owns}
 use Rattle.mm_rules.specs.Laws.{Laws}
 use Rattle.mm_settle.specs.Touched.{is_changed, changed_processes}
 use Rattle.mm_settled.specs.declared.lists.Lists.{Lists}
-use Rattle.mm_settled.specs.private.Lists.{Fits, is_listed, is_key, owns_key, owned_by_key, joined}
+use Rattle.mm_settled.specs.private.Lists.{Fits, is_listed, is_key, owns_key, owned_by_key, joined, sorted}
 use Rattle.mm_settled.proofs.Lemmas.Changed.{listed_is}
 use Rattle.mm_settled.proofs.Lemmas.Ends.{owner_in_range}
 use Rattle.mm_settled.proofs.Lemmas.Numbers.{filter_agree_on, is_listed_among, among_is_listed}
@@ -24,7 +26,6 @@ use Rattle.mm_settled.proofs.Lemmas.Numbers.{filter_agree_on, is_listed_among, a
 pub record HasSameRoom (l m : Lists) : Type 0 where
   pub granted : vec_capacity m.granted ≡ vec_capacity l.granted
   pub changed : vec_capacity m.changed ≡ vec_capacity l.changed
-  pub owned : vec_capacity m.owned ≡ vec_capacity l.owned
   pub resources : m.resources ≡ l.resources
   pub processes : m.processes ≡ l.processes
 
@@ -35,10 +36,13 @@ fits_again c d l m same fits room =
     record {
       granted = omega (arith, fits.granted, room.granted, processes);
       changed = omega (arith, fits.changed, room.changed, processes);
-      owned = omega (arith, fits.owned, room.owned, resources);
       resources = room.resources ∙ fits.resources ∙ ap (λ n. replicate n false) (sym resources);
       processes = room.processes ∙ fits.processes ∙ ap (λ n. replicate n false) (sym processes);
     }
+
+-- room for each resource is room for each of them after a call
+pub room_again : (c d : Config) (room : ℕ) → d ≡ c → c.resources ≤ room → d.resources ≤ room
+room_again c d room same enough = omega (arith, enough, ap (λ (e : Config). e.resources) same)
 
 -- ---- what is listed
 
@@ -90,12 +94,26 @@ owned_test s k ns listed r = elim (cases_Bool (owns_key s k r)) [
   ]
 ]
 
-pub owned_members : (s : TableState) (k : Key) (ns : List ℕ) (none set : List Bool) → ((r : ℕ) → Among r ns ↔ (owner_of s r ≡ Some k)) → none ≡ replicate s.config.resources false
-    → ((r : ℕ) → has set r ≡ (has none r || is_listed ns r)) → length set ≡ length none → members set ≡ owned_by_key s k
-owned_members s k ns none set listed empty added sized =
-    let long : length set ≡ s.config.resources = sized ∙ ap length empty ∙ length-replicate s.config.resources false in
-    ap (λ m. filter (has set) (range_with_len 0 m)) long
-    ∙ filter_agree_on (has set) (owns_key s k) (range_with_len 0 s.config.resources) (λ r among. has_added s.config.resources none set ns empty added r ∙ owned_test s k ns listed r)
+-- a set that was empty gives what was added to it by rising number
+pub sorted_members : (ns : List ℕ) (none set : List Bool) → none ≡ replicate (length none) false → ((n : ℕ) → has set n ≡ (has none n || is_listed ns n)) → length set ≡ length none
+    → members set ≡ sorted ns (length none)
+sorted_members ns none set empty added sized =
+    ap (λ m. filter (has set) (range_with_len 0 m)) sized
+    ∙ filter_agree_on (has set) (is_listed ns) (range_with_len 0 (length none)) (λ n among. has_added (length none) none set ns empty added n)
+
+pub sorted_owned : (s : TableState) (k : Key) (ns : List ℕ) (none : List Bool) → none ≡ replicate s.config.resources false → ((r : ℕ) → Among r ns ↔ (owner_of s r ≡ Some k)) → sorted ns (length none) ≡ owned_by_key s k
+sorted_owned s k ns none empty listed =
+    ap (λ b. filter (is_listed ns) (range_with_len 0 b)) (ap length empty ∙ length-replicate s.config.resources false)
+    ∙ filter_agree_on (is_listed ns) (owns_key s k) (range_with_len 0 s.config.resources) (λ r among. owned_test s k ns listed r)
+
+pub owned_listed : (s : TableState) (k : Key) → Laws s → (r : ℕ) → Among r (owned_by_key s k) ↔ (owner_of s r ≡ Some k)
+owned_listed s k laws r = (
+  λ among. owns_key_gives s k r (filter_gives (owns_key s k) (range_with_len 0 s.config.resources) r among).1,
+  λ owner.
+      let within = owner_in_range s laws r k owner in
+      filter_keeps (owns_key s k) (range_with_len 0 s.config.resources) r (among_range 0 s.config.resources r (omega arith) (omega (arith, within)))
+      (ap (λ o. option_map_or (is_key k) o false) owner ∙ is_key_itself k),
+)
 
 pub owned_within : (s : TableState) (k : Key) (ns : List ℕ) (bound : ℕ) → Laws s → bound ≡ s.config.resources → ((r : ℕ) → Among r ns ↔ (owner_of s r ≡ Some k)) → AllByRecursion (λ r. r < bound) ns
 owned_within s k ns bound laws is listed = all_from (λ r. r < bound) ns (λ r among. omega (arith, owner_in_range s laws r k ((listed r).0 among), is))

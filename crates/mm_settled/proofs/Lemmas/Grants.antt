@@ -15,6 +15,8 @@ use Rattle.mm_rules.proofs.States.Lookups.{WaitsHere, waits_here, waiter_within,
 use Rattle.mm_settled.specs.declared.reply.Grant.{Grant}
 use Rattle.mm_settled.specs.Grants.{waits_for, to_waiter, grant_of, grants, EndsWaits}
 use Rattle.mm_settled.specs.private.Lists.{given_to, given}
+use Rattle.mm_settle.specs.Touched.{changed_processes}
+use Rattle.mm_settled.proofs.Lemmas.Changed.{nobody_is_changed}
 use Rattle.mm_settled.proofs.Lemmas.Ends.{HandsOn, owner_in_range}
 
 -- ---- one resource
@@ -119,6 +121,18 @@ pub owner_or_idle_grants_none : (old new : TableState) → Laws old → ((r : �
 owner_or_idle_grants_none old new laws was = no_grants old new (λ r k owned. elim (was r k owned) [
   | inl before ↦ owner_waits_not old laws r k before
   | inr idle ↦ ap (λ o. option_map_or (nat_eq r) o false) idle
+])
+
+-- where nobody was changed, nobody's wait ended
+pub nobody_changed_grants_none : (old new : TableState) → Laws old → Laws new → changed_processes old new ≡ [] → grants old new ≡ []
+nobody_changed_grants_none old new laws after none = no_grants old new (λ r k owned. elim (cases_Bool (waits_for old k.process r)) [
+  | inr fails ↦ fails
+  | inl holds ↦
+      let waited : wait_of old k.process ≡ Some r = waits_by r (wait_of old k.process) holds in
+      let here = waits_here old k.process r waited in
+      let within : k.process < old.config.processes = omega (arith, waiter_within old laws.lawful.well_formed here.wait here.among, here.process) in
+      let same = nobody_is_changed old new k.process within none in
+      absurd (holder_apart new after.lawful.well_formed k.process k.process (holder_is new k.process r k (same.wait ∙ waited) owned) refl)
 ])
 
 pub grants_alike : (old mid new : TableState) → new.owners ≡ mid.owners → grants old new ≡ grants old mid

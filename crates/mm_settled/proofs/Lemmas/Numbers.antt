@@ -1,5 +1,5 @@
 -- Numbers in lists, and lists of those that pass a test.
-use Rattle.std.proofs.Common.{◌≡◌, ◌≢◌, ◌||◌, ℕ, Bool, true, false, List, [], ◌∷◌, filter, nat_eq, inl, inr, refl, sym, ap, ◌∙◌}
+use Rattle.std.proofs.Common.{◌≡◌, ◌≢◌, ◌||◌, ℕ, Bool, true, false, List, [], ◌∷◌, length, filter, nat_eq, inl, inr, refl, sym, ap, ◌∙◌, arith}
 use Rattle.std.proofs.lemmas.Bool.{cases_Bool, eqb-true, eq-eqb}
 use Rattle.mm_list_lemmas.specs.Members.{Among, NoRepeat}
 use Rattle.mm_list_lemmas.proofs.Lemmas.Among.{all_from}
@@ -42,3 +42,7 @@ pub among_is_listed : (ns : List ℕ) (n : ℕ) → Among n ns → is_listed ns 
 among_is_listed [] n among = absurd among
 among_is_listed (m ∷ ms) n (inl same) = ap (λ b. b || is_listed ms n) (eq-eqb n m same)
 among_is_listed (m ∷ ms) n (inr later) = ap (λ b. nat_eq n m || b) (among_is_listed ms n later) ∙ or_true (nat_eq n m)
+
+pub no_length : (ns : List ℕ) → length ns ≡ 0 → ns ≡ []
+no_length [] none = refl
+no_length (n ∷ ns) none = absurd (omega (arith, none))

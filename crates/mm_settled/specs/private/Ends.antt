@@ -1,5 +1,5 @@
 -- What `release`, `finish` and `abort` do, by which resources are handed over.
-use Rattle.std.specs.Prelude.{ℕ, Result}
+use Rattle.std.specs.Prelude.{◌≡◌, ℕ, Result}
 use Rattle.mm_rules.specs.declared.refusal.Refusal.{Refusal}
 use Rattle.mm_rules.specs.TableState.{TableState}
 use Rattle.mm_rules.specs.Event.{Event, Answer}
@@ -16,5 +16,6 @@ pub record Ends (e : Event) (old : TableState) (reply : Result (Answer e) Refusa
   pub others : OthersKeepVerdicts old new n
   pub told : TellsOf old new lists
   pub ended : EndsWaits old new n lists.granted.items
+  pub config : new.config ≡ old.config
   pub rest : AtRest new
   pub fits : Fits new.config lists

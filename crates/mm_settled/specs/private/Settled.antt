@@ -1,5 +1,5 @@
 -- What holds of every settled table.
-use Rattle.std.specs.Prelude.{◌≤◌, [], if◌then◌else◌}
+use Rattle.std.specs.Prelude.{◌≤◌, [], if◌then◌else◌, vec_capacity}
 use Rattle.mm_rules.specs.Laws.{AtRest}
 use Rattle.mm_settled.specs.declared.settled.SettledTable.TheInside.{Inside}
 use Rattle.mm_settled.specs.private.Lists.{Fits}
@@ -14,8 +14,9 @@ state_of t = record {
   changed = if is_told t.told_at t.table then t.lists.changed.items else [];
 }
 
--- the table is at rest, there is room for its lists, and these were filled once as many events had been accepted as now, or fewer
+-- the table is at rest, there is room for its lists and for each resource, and the lists were filled once as many events had been accepted as now, or fewer
 pub record IsSettledTable (t : Inside) : Type 0 where
   pub rest : AtRest t.table
   pub fits : Fits t.table.config t.lists
+  pub owned : t.table.config.resources ≤ vec_capacity t.owned
   pub told_at : t.told_at ≤ t.table.totals.accepted

@@ -15,15 +15,15 @@ use Rattle.mm_settled.proofs.Lemmas.EndsAs.{refused_for_room, ends_refused, ends
 use Rattle.mm_settled.proofs.Lemmas.Rest.{EndsAtRest, ends_at_rest, room_left}
 use Rattle.mm_settled.proofs.ends.finish.Goals as goal
 
-pub returns-then-not-has_room : goal.returns-then-not-has_room
-returns-then-not-has_room c =
+pub returns-then-not-has_room-clause-ends : goal.returns-then-not-has_room-clause-ends
+returns-then-not-has_room-clause-ends c =
     let s = c.args.table.now in
     let cleared = c.clear.ensures in
     ends_refused (Finish c.args.key) s s CountsExhausted c.args.key.process c.clear.new.self c.keeps_laws.ensures c.requires.rest (λ i. s)
     (refused_for_room (Finish c.args.key) s (sym c.has_room.ensures ∙ c.if-not-has_room.true))
     record { granted = cleared.granted ∙ sym (same_is_quiet s s c.keeps_laws.ensures (λ i. s)).granted; changed = cleared.changed ∙ sym (same_changes_nobody s s (λ i. s)) }
     (fits_again s.config s.config c.args.lists.now c.clear.new.self (λ i. s.config) c.requires.fits
-    record { granted = cleared.room_to_grant; changed = cleared.room_to_change; owned = ap vec_capacity cleared.owned; resources = cleared.resources; processes = cleared.processes })
+    record { granted = cleared.room_to_grant; changed = cleared.room_to_change; resources = cleared.resources; processes = cleared.processes })
 
 -- ---- the table refuses
 
@@ -33,8 +33,8 @@ is_refused c = rw c.in_err-finish_listing.was at c.finish_listing.ensures.step
 same : (c : goal.After-from_residual) → c.finish_listing.new.table ≡ c.args.table.now
 same c = finish_refused c.args.table.now c.finish_listing.new.table c.args.key c.in_err-finish_listing.field-0.0 (is_refused c)
 
-pub returns-in_err-finish_listing : goal.returns-in_err-finish_listing
-returns-in_err-finish_listing c =
+pub returns-in_err-finish_listing-clause-ends : goal.returns-in_err-finish_listing-clause-ends
+returns-in_err-finish_listing-clause-ends c =
     let s = c.args.table.now in
     let t = c.finish_listing.new.table in
     let lists = c.finish_listing.new.lists in
@@ -75,8 +75,8 @@ ends c =
     c.finish_listing.new.lists.changed.items c.come_to_rest.new.changed.items c.finish_listing.ensures.told.changed c.come_to_rest.ensures.rests c.args.key.process (owns s c.args.key.process) (finish_hands_on s mid c.args.key c.keeps_laws.ensures step)
     (sym c.has_room.ensures ∙ c.if-not-has_room.false) c.finish_listing.new.lists.granted.items c.finish_listing.ensures.told.granted
 
-pub returns : goal.returns
-returns c =
+pub returns-clause-ends : goal.returns-clause-ends
+returns-clause-ends c =
     let was = c.finish_listing.new.lists in
     let lists = record was { changed = c.come_to_rest.new.changed; processes = c.come_to_rest.new.set } in
     ends_accepted (Finish c.args.key) c.args.table.now c.come_to_rest.new.table tt c.args.key.process lists (ends c)
@@ -84,7 +84,6 @@ returns c =
     record {
       granted = λ i. vec_capacity was.granted;
       changed = c.come_to_rest.ensures.room;
-      owned = λ i. vec_capacity was.owned;
       resources = λ i. was.resources;
       processes = c.come_to_rest.ensures.none;
     })

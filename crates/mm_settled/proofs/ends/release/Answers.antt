@@ -22,7 +22,7 @@ returns-then-not-has_room c =
     (refused_for_room (Release c.args.key c.args.resource) s (sym c.has_room.ensures ∙ c.if-not-has_room.true))
     record { granted = cleared.granted ∙ sym (same_is_quiet s s c.keeps_laws.ensures (λ i. s)).granted; changed = cleared.changed ∙ sym (same_changes_nobody s s (λ i. s)) }
     (fits_again s.config s.config c.args.lists.now c.clear.new.self (λ i. s.config) c.requires.fits
-    record { granted = cleared.room_to_grant; changed = cleared.room_to_change; owned = ap vec_capacity cleared.owned; resources = cleared.resources; processes = cleared.processes })
+    record { granted = cleared.room_to_grant; changed = cleared.room_to_change; resources = cleared.resources; processes = cleared.processes })
 
 -- ---- the table refuses
 
@@ -83,7 +83,6 @@ returns c =
     record {
       granted = λ i. vec_capacity was.granted;
       changed = c.come_to_rest.ensures.room;
-      owned = λ i. vec_capacity was.owned;
       resources = λ i. was.resources;
       processes = c.come_to_rest.ensures.none;
     })

@@ -1,4 +1,4 @@
-use Rattle.std.proofs.Common.{◌≡◌, ◌++◌, ◌∷◌, [], Ok, Err, sym, ap, subst, ◌∙◌, vec_capacity}
+use Rattle.std.proofs.Common.{◌≡◌, ◌++◌, ◌∷◌, [], Ok, Err, sym, ap, subst, ◌∙◌}
 use Rattle.mm_rules.specs.TableState.{TableState}
 use Rattle.mm_rules.specs.Change.{activate}
 use Rattle.mm_rules.specs.Event.{GiveUp, Step, give_up_tests}
@@ -36,7 +36,7 @@ pub returns-in_err-give_up-clause-fits : goal.returns-in_err-give_up-clause-fits
 returns-in_err-give_up-clause-fits c =
     let cleared = c.clear.ensures in
     fits_again c.args.table.now.config c.give_up.new.self.config c.args.lists.now c.clear.new.self (ap (λ (t : TableState). t.config) (same c)) c.requires.fits
-    record { granted = cleared.room_to_grant; changed = cleared.room_to_change; owned = ap vec_capacity cleared.owned; resources = cleared.resources; processes = cleared.processes }
+    record { granted = cleared.room_to_grant; changed = cleared.room_to_change; resources = cleared.resources; processes = cleared.processes }
 
 pub returns-clause-told : goal.returns-clause-told
 returns-clause-told c = record {

@@ -1,9 +1,9 @@
-use Rattle.std.proofs.Common.{◌≡◌, ◌≤◌, Ok, Err, true, vec_capacity, inl, inr, refl, sym, ap, subst, ◌∙◌}
+use Rattle.std.proofs.Common.{◌≡◌, ◌≤◌, Ok, Err, true, inl, inr, refl, sym, ap, subst, ◌∙◌}
 use Rattle.mm_rules.specs.declared.config.Config.{Config}
 use Rattle.mm_rules.specs.declared.reply.Acquired.TheVariants.{Granted, Waits}
 use Rattle.mm_rules.specs.declared.reply.Totals.{Totals}
 use Rattle.mm_rules.specs.TableState.{TableState}
-use Rattle.mm_rules.specs.Event.{Acquire, Step}
+use Rattle.mm_rules.specs.Event.{Acquire, Settle, Step}
 use Rattle.mm_rules.specs.Laws.{AtRest}
 use Rattle.mm_rules.proofs.States.Config.{event_config}
 use Rattle.mm_settled.specs.Calls.{has_room, Locks}
@@ -58,7 +58,10 @@ pub returns-in-Err-clause-fits : goal.returns-in-Err-clause-fits
 returns-in-Err-clause-fits c =
     let cleared = c.clear-in-Err.ensures in
     fits_again c.args.table.now.config c.acquire.new.self.config c.args.lists.now c.clear-in-Err.new.self (ap (λ (t : TableState). t.config) (same c)) c.requires.fits
-    record { granted = cleared.room_to_grant; changed = cleared.room_to_change; owned = ap vec_capacity cleared.owned; resources = cleared.resources; processes = cleared.processes }
+    record { granted = cleared.room_to_grant; changed = cleared.room_to_change; resources = cleared.resources; processes = cleared.processes }
+
+pub returns-in-Err-clause-config : goal.returns-in-Err-clause-config
+returns-in-Err-clause-config c = ap (λ (t : TableState). t.config) (same c)
 
 -- ---- it is granted
 
@@ -78,6 +81,9 @@ returns-in-Ok-Granted-clause-told c =
 pub returns-in-Ok-Granted-clause-rest : goal.returns-in-Ok-Granted-clause-rest
 returns-in-Ok-Granted-clause-rest c =
     quiet_rests (Acquire c.args.key c.args.resource) c.args.table.now c.acquire.new.self c.acquire.result c.acquire.ensures c.keeps_laws.ensures c.requires.rest (grants c).quiet
+
+pub returns-in-Ok-Granted-clause-config : goal.returns-in-Ok-Granted-clause-config
+returns-in-Ok-Granted-clause-config c = event_config (Acquire c.args.key c.args.resource) c.args.table.now c.acquire.new.self c.acquire.result c.acquire.ensures
 
 -- ---- it waits
 
@@ -129,3 +135,9 @@ returns-in-Ok-Waits-clause-fits c =
     let now : new.config ≡ s.config = waiter_config s mid new c.args.key c.in-Ok-Waits.holder c.args.resource c.in-Ok-Waits.field-0-1 settled.0 c.keeps_laws.ensures c.requires.rest (asks c) settled.1 in
     let was : mid.config ≡ s.config = event_config (Acquire c.args.key c.args.resource) s mid (Ok (Waits c.in-Ok-Waits.holder c.in-Ok-Waits.field-0-1)) (asks c) in
     subst (λ (f : Config). Fits f c.settle_waiter-locked.new.lists) (was ∙ sym now) c.settle_waiter-locked.ensures.fits
+
+pub returns-in-Ok-Waits-clause-config : goal.returns-in-Ok-Waits-clause-config
+returns-in-Ok-Waits-clause-config c =
+    let settled = c.settle_waiter-locked.ensures.settled in
+    event_config Settle c.acquire.new.self c.settle_waiter-locked.new.table (Ok settled.0) settled.1
+    ∙ event_config (Acquire c.args.key c.args.resource) c.args.table.now c.acquire.new.self c.acquire.result c.acquire.ensures

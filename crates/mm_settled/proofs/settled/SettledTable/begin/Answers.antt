@@ -1,4 +1,4 @@
-use Rattle.std.proofs.Common.{◌≡◌, Ok, Err, [], if◌then◌else◌, sym, subst, arith}
+use Rattle.std.proofs.Common.{◌≡◌, Ok, Err, [], if◌then◌else◌, vec_capacity, sym, subst, arith}
 use Rattle.mm_rules.specs.declared.config.Config.{Config}
 use Rattle.mm_rules.specs.Event.{Begin, Step}
 use Rattle.mm_rules.proofs.States.Config.{event_config}
@@ -6,6 +6,7 @@ use Rattle.mm_settled.specs.Grants.{Tells}
 use Rattle.mm_settled.specs.SettledState.{SettledState}
 use Rattle.mm_settled.specs.private.Lists.{Fits}
 use Rattle.mm_settled.specs.private.Told.{TellsIf, is_told}
+use Rattle.mm_settled.proofs.Lemmas.Fits.{room_again}
 use Rattle.mm_settled.proofs.Lemmas.Quiet.{begin_quiet, quiet_rests, same_is_quiet, same_changes_nobody}
 use Rattle.mm_settled.proofs.Lemmas.Refused.{begin_refused}
 use Rattle.mm_settled.proofs.Lemmas.Told.{tells_if, tells_nothing, begin_counts, told_before}
@@ -23,6 +24,7 @@ invariant_of-self c =
     record {
       rest = quiet_rests Begin s c.begin.new.self c.begin.result c.begin.ensures c.keeps_laws.ensures c.self.invariant.rest quiet.0;
       fits = subst (λ (f : Config). Fits f c.self.inside.lists) (sym (event_config Begin s c.begin.new.self c.begin.result c.begin.ensures)) c.self.invariant.fits;
+      owned = room_again s.config c.begin.new.self.config (vec_capacity c.self.inside.owned) (event_config Begin s c.begin.new.self c.begin.result c.begin.ensures) c.self.invariant.owned;
       told_at = omega (arith, c.self.invariant.told_at, begin_counts s c.begin.new.self c.in-Ok.key (is_accepted c));
     }
 
