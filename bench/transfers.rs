@@ -191,7 +191,7 @@ fn four_below(words: &mut Words, bound: usize) -> [usize; 4] {
     let mut chosen = [0; 4];
     let mut count = 0;
     while count < 4 {
-        let number = words.next() as usize % bound;
+        let number = (u64::from(words.next()) * bound as u64 >> 32) as usize;
         if !chosen[..count].contains(&number) {
             chosen[count] = number;
             count += 1;

@@ -50,7 +50,7 @@ static uint64_t seeded(uint64_t seed) {
 /* Four numbers below the count of names by chance, no two the same. */
 static void four_names(uint64_t *state, uint32_t *chosen) {
     for (int count = 0; count < 4;) {
-        uint32_t number = next_word(state) % name_count;
+        uint32_t number = (uint32_t)((uint64_t)next_word(state) * name_count >> 32);
         int is_new = 1;
         for (int place = 0; place < count; place++)
             is_new &= chosen[place] != number;

@@ -58,7 +58,7 @@ class Words {
 // Four numbers below the count of names by chance, no two the same.
 static void four_names(Words& words, uint32_t* chosen) {
   for (int count = 0; count < 4;) {
-    uint32_t number = words.next() % names.size();
+    uint32_t number = static_cast<uint32_t>(uint64_t{words.next()} * names.size() >> 32);
     bool is_new = true;
     for (int place = 0; place < count; place++) is_new &= chosen[place] != number;
     if (is_new) chosen[count++] = number;

@@ -30,6 +30,14 @@ pub fn all_names(alloc: Global, count: u32) -> Result<Vec<Name>, AllocError> {
     Ok(names)
 }
 
+/// A number below a bound from a word by chance. It takes no division, which would take longer than a lock.
+#[inline]
+fn below(word: u32, bound: u32) -> u32
+    requires { 0 < bound }
+{
+    (u64::from(word) * u64::from(bound) >> 32) as u32
+}
+
 /// So many numbers below a bound by chance, no two the same, in the first places. The bound is above `MOST`.
 pub fn chosen(random: &mut Lcg64Xsh32, bound: u32, count: usize) -> [u32; MOST]
     requires { 0 < bound }
@@ -40,7 +48,7 @@ pub fn chosen(random: &mut Lcg64Xsh32, bound: u32, count: usize) -> [u32; MOST]
         if found >= count.min(MOST) {
             break;
         }
-        let number = random.next_word() % bound;
+        let number = below(random.next_word(), bound);
         if !chosen[..found].contains(&number) {
             chosen[found] = number;
             found += 1;

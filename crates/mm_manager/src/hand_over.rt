@@ -46,7 +46,7 @@ pub fn release(
     Some(answer)
 }
 
-/// `SettledTable::finish`: each name of the transaction keeps its number exactly where somebody owns it then.
+/// `SettledTable::finish_listing`: each name of the transaction keeps its number exactly where somebody owns it then.
 pub fn finish(table: &mut SettledTable, names: &mut Names, owned: &mut Vec<u32>, key: Key)
     requires numbered { AreNumbered table.old.table names.old }
     requires room { table.old.table.config.resources ≤ vec_capacity owned.old }
@@ -63,14 +63,13 @@ pub fn finish(table: &mut SettledTable, names: &mut Names, owned: &mut Vec<u32>,
     ensures left { HasReserve table.new.table }
 {
     table.is_at_rest();
-    list_owned(table, owned, key);
-    let Ok(()) = table.finish(key) else {
+    let Ok(()) = table.finish_listing(key, owned) else {
         unreachable!();
     };
     forget_listed(table, names, owned);
 }
 
-/// `SettledTable::abort`: each name of the transaction keeps its number exactly where somebody owns it then.
+/// `SettledTable::abort_listing`: each name of the transaction keeps its number exactly where somebody owns it then.
 pub fn abort(table: &mut SettledTable, names: &mut Names, owned: &mut Vec<u32>, key: Key)
     requires numbered { AreNumbered table.old.table names.old }
     requires room { table.old.table.config.resources ≤ vec_capacity owned.old }
@@ -87,20 +86,10 @@ pub fn abort(table: &mut SettledTable, names: &mut Names, owned: &mut Vec<u32>, 
     ensures left { HasReserve table.new.table }
 {
     table.is_at_rest();
-    list_owned(table, owned, key);
-    let Ok(()) = table.abort(key) else {
+    let Ok(()) = table.abort_listing(key, owned) else {
         unreachable!();
     };
     forget_listed(table, names, owned);
-}
-
-/// Lists what the transaction owns, in place of what `owned` held.
-fn list_owned(table: &SettledTable, owned: &mut Vec<u32>, key: Key)
-    requires { table.now.table.config.resources ≤ vec_capacity owned.old }
-    ensures listed { (n : ℕ) → Among n owned.new.items ↔ (owner_of table.now.table n ≡ Some key) }
-    ensures room { vec_capacity owned.new ≡ vec_capacity owned.old }
-{
-    table.table().owned_by(key, owned);
 }
 
 /// Takes their names from those of these numbers that nobody owns.

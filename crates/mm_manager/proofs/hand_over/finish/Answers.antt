@@ -1,5 +1,7 @@
-use Rattle.std.proofs.Common.{Ok, Err, fold, ap, ◌∙◌}
+use Rattle.std.proofs.Common.{◌≡◌, ◌↔◌, ℕ, Ok, Err, Some, fold, ap, ◌∙◌}
 use Rattle.mm_rules.specs.Event.{Finish}
+use Rattle.mm_list_lemmas.specs.Members.{Among}
+use Rattle.mm_rules.specs.TableState.{owner_of}
 use Rattle.mm_settled.specs.Calls.{Makes, Made}
 use Rattle.mm_manager.specs.private.Numbers.{forgotten}
 use Rattle.mm_manager.proofs.Lemmas.Owners.{finish_leaves}
@@ -12,20 +14,23 @@ pub unreachable-requires : goal.unreachable-requires
 unreachable-requires c =
     let s = c.args.table.now.table in
     let k = c.args.key in
-    let refuses : Makes (Finish k) s (Err c.in_default.field-0) c.finish.new.self.table = rw c.in_default.is at c.finish.ensures.makes in
-    finish_never s k c.is_at_rest.ensures.laws c.requires.left c.requires.live c.requires.active c.finish.new.self.table c.in_default.field-0 refuses
+    let refuses : Makes (Finish k) s (Err c.in_default.field-0) c.finish_listing.new.self.table = rw c.in_default.is at c.finish_listing.ensures.makes in
+    finish_never s k c.is_at_rest.ensures.laws c.requires.left c.requires.live c.requires.active c.finish_listing.new.self.table c.in_default.field-0 refuses
 
-made : (c : goal.After-forget_listed) → Made (Finish c.args.key) c.args.table.now.table tt c.finish.new.self.table
+made : (c : goal.After-forget_listed) → Made (Finish c.args.key) c.args.table.now.table tt c.finish_listing.new.self.table
 made c =
-    let makes : Makes (Finish c.args.key) c.args.table.now.table (Ok tt) c.finish.new.self.table = rw c.in-Ok.is at c.finish.ensures.makes in
+    let makes : Makes (Finish c.args.key) c.args.table.now.table (Ok tt) c.finish_listing.new.self.table = rw c.in-Ok.is at c.finish_listing.ensures.makes in
     makes
 
-follow : (c : goal.After-forget_listed) → NamesFollow c.args.names.now c.finish.new.self.table c.forget_listed.new.names
+listed : (c : goal.After-forget_listed) → (r : ℕ) → Among r c.finish_listing.new.owned.items ↔ (owner_of c.args.table.now.table r ≡ Some c.args.key)
+listed c = rw c.in-Ok.is at c.finish_listing.ensures.owned
+
+follow : (c : goal.After-forget_listed) → NamesFollow c.args.names.now c.finish_listing.new.self.table c.forget_listed.new.names
 follow c =
     let s = c.args.table.now.table in
-    let u = c.finish.new.self.table in
+    let u = c.finish_listing.new.self.table in
     let leaves = finish_leaves s u c.args.key c.is_at_rest.ensures.laws (made c) in
-    ended_names s u c.args.names.now c.forget_listed.new.names c.args.key c.list_owned.new.owned.items c.requires.numbered c.list_owned.ensures.listed leaves
+    ended_names s u c.args.names.now c.forget_listed.new.names c.args.key c.finish_listing.new.owned.items c.requires.numbered (listed c) leaves
     (c.forget_listed.ensures ∙ ap (fold (forgotten u) c.args.names.now) c.deref.ensures.value)
 
 pub returns-clause-names : goal.returns-clause-names
@@ -35,4 +40,4 @@ pub returns-clause-numbered : goal.returns-clause-numbered
 returns-clause-numbered c = (follow c).numbered
 
 pub returns-clause-left : goal.returns-clause-left
-returns-clause-left c = finish_room c.args.table.now.table c.finish.new.self.table c.args.key c.is_at_rest.ensures.laws c.requires.left (made c)
+returns-clause-left c = finish_room c.args.table.now.table c.finish_listing.new.self.table c.args.key c.is_at_rest.ensures.laws c.requires.left (made c)
