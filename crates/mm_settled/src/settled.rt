@@ -153,7 +153,11 @@ impl SettledTable {
         answer
     }
 
-    /// `finish`, which also lists what the transaction owned, each resource once, in place of what `owned` held. `owned` has room for each resource, and no memory is taken. Where the call is refused, what it holds means nothing.
+    /// `finish`, which also lists what the transaction owned, each resource once, in no order that is promised, in place of what `owned`
+    /// held.
+    ///
+    /// `owned` has room for each resource, and no memory is taken. Where the call is refused, what `owned` has means nothing. It is
+    /// refused as `finish` is, and costs what that costs.
     pub fn finish_listing(&mut self, key: Key, owned: &mut Vec<u32>) -> Result<(), Refusal>
         requires room { self.old.table.config.resources ≤ vec_capacity owned.old }
         ensures makes { Makes (Finish key) self.old.table result self.new.table }
@@ -183,7 +187,11 @@ impl SettledTable {
         answer
     }
 
-    /// `abort`, which also lists what the transaction owned, each resource once, in place of what `owned` held. `owned` has room for each resource, and no memory is taken. Where the call is refused, what it holds means nothing.
+    /// `abort`, which also lists what the transaction owned, each resource once, in no order that is promised, in place of what `owned`
+    /// held.
+    ///
+    /// `owned` has room for each resource, and no memory is taken. Where the call is refused, what `owned` has means nothing. It is
+    /// refused as `abort` is, and costs what that costs.
     pub fn abort_listing(&mut self, key: Key, owned: &mut Vec<u32>) -> Result<(), Refusal>
         requires room { self.old.table.config.resources ≤ vec_capacity owned.old }
         ensures makes { Makes (Abort key) self.old.table result self.new.table }
