@@ -27,20 +27,21 @@ impl<T: Drop> Drop for Lock<T> {
 }
 
 impl<T> Lock<T> {
-    /// A free lock with this value behind it.
+    /// A free lock with this value behind it. Constant time, and it takes no memory.
     pub fn new(value: T) -> Lock<T> {
         Lock {
             inside: CachePadded::new(Mutex::new(CachePadded::new(value))),
         }
     }
 
-    /// What stands behind the lock, which nobody else can take any more.
+    /// What stands behind the lock, which nobody else can take any more. Constant time.
     pub fn into_inner(self) -> T {
         let Lock { inside } = self;
         inside.into_inner().into_inner().into_inner()
     }
 
-    /// Takes the lock: in place where it is free, since `Mutex::lock` itself is too long for that.
+    /// Takes the lock. Constant time where it is free; else the thread waits until whoever has it lets go.
+    // In place where it is free, since `Mutex::lock` itself is too long for that.
     #[inline(always)]
     pub fn take<R: Wait>(&self, rt: &R) -> Guard<'_, T> {
         match self.inside.try_lock() {
@@ -72,7 +73,7 @@ pub struct Guard<'a, T> {
 }
 
 impl<T> Guard<'_, T> {
-    /// What stands behind the lock.
+    /// What stands behind the lock. Constant time.
     #[inline(always)]
     pub fn inside(&mut self) -> &mut T {
         &mut self.guard
