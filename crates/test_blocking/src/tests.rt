@@ -1,14 +1,15 @@
 //! Threads that lock names, and sleep until they own them.
+//!
+//! - `cases`: the cases by name, each with its locks and threads, and the tests that go through them.
+//! - `scripts`: threads whose calls have one answer each, and `steps`: how they are made.
+//! - `again`, `asleep`, `crosswise`, `crowd`, `many`: threads that do more than a script can say.
 
 mod again;
 mod asleep;
-mod carried;
+mod cases;
 mod crosswise;
 mod crowd;
-mod dropped;
-mod each;
-mod ends;
 mod helpers;
 mod many;
-mod refusals;
-mod work;
+mod scripts;
+mod steps;

@@ -1,14 +1,17 @@
 //! Work that is done again after a deadlock.
-use crate::tests::helpers::{await_events, begin, commits, same, takes};
-use crate::tests::work::{Work, on_locks};
-use mm_blocking::{LockError, Locks, Totals, Transaction};
+use crate::tests::helpers::{await_events, holds, same, totals_are};
+use crate::tests::many::{Visit, visit_all};
+use crate::tests::scripts::STANDS_IN_THE_WAY;
+use crate::tests::steps::take;
+use mm_blocking::{LockError, Locks, Transaction};
 use std::process::Abort;
+use std::sync::atomic::AtomicU64;
 use std::sync::{Barrier, Wait};
-use std::test::Fail;
+use std::time::Clock;
 
 /// What the work of a test fails with.
-#[derive(Clone, Copy, Debug, PartialEq, Eq)]
-enum WorkError {
+#[derive(Clone, Copy)]
+pub enum WorkError {
     Poor,
     Refused(LockError),
 }
@@ -19,161 +22,177 @@ impl From<LockError> for WorkError {
     }
 }
 
-/// What the work of a test comes to, once it has locked `a`.
+/// What the work of a test does with its transaction.
 #[derive(Clone, Copy)]
-enum Plan {
-    /// It fails by itself.
+pub enum Plan {
+    /// It locks `a`, and fails by itself.
     Poor,
-    /// It asks for a name that is refused.
+    /// It locks `a`, and asks for a name that is refused.
     Refused,
-    /// It returns a value.
+    /// It locks `a`, and returns a value.
     Rich,
+    /// It locks `a` and `b`, or `b` and `a`, and meets the other thread between them the first time.
+    Crosses { is_first: bool },
+    /// It closes a cycle.
+    Closes,
+    /// It locks the names of a visit.
+    Visits(Visit),
+}
+
+/// Locks the first name, meets the other thread the first time, and locks the second name.
+fn cross<R: Wait>(
+    rt: &R,
+    gate: &Barrier,
+    transaction: &mut Transaction<'_, R>,
+    is_first: bool,
+    attempt: u32,
+) -> Result<(), LockError> {
+    let names: [&[u8]; 2] = if is_first { [b"a", b"b"] } else { [b"b", b"a"] };
+    transaction.lock(names[0])?;
+    if attempt == 1 {
+        gate.wait(rt);
+    }
+    transaction.lock(names[1])
+}
+
+/// Locks `a`, and asks for a name that is refused.
+fn lock_none<R: Wait>(transaction: &mut Transaction<'_, R>) -> Result<(), LockError> {
+    transaction.lock(b"a")?;
+    transaction.lock(b"")
+}
+
+/// Locks `a`, waits until the other thread waits for it, and asks for what that one owns.
+fn close<R: Wait>(
+    rt: &R,
+    locks: &Locks,
+    gate: &Barrier,
+    transaction: &mut Transaction<'_, R>,
+) -> Result<(), LockError> {
+    transaction.lock(b"a")?;
+    gate.wait(rt);
+    let events = locks.events(rt);
+    gate.wait(rt);
+    await_events(rt, locks, events.saturating_add(2));
+    transaction.lock(b"b")
 }
 
 impl Plan {
-    fn made<R: Wait>(self, transaction: &mut Transaction<'_, R>) -> Result<u32, WorkError> {
-        transaction.lock(b"a")?;
+    /// Locks what the plan says.
+    fn locked<R: Wait + Abort>(
+        self,
+        rt: &R,
+        locks: &Locks,
+        gate: &Barrier,
+        owners: &[AtomicU64],
+        transaction: &mut Transaction<'_, R>,
+        attempt: u32,
+    ) -> Result<(), LockError> {
         match self {
-            Plan::Poor => return Err(WorkError::Poor),
-            Plan::Refused => transaction.lock(b"")?,
-            Plan::Rich => {}
+            Plan::Poor | Plan::Rich => transaction.lock(b"a"),
+            Plan::Refused => lock_none(transaction),
+            Plan::Crosses { is_first } => cross(rt, gate, transaction, is_first, attempt),
+            Plan::Closes => close(rt, locks, gate, transaction),
+            Plan::Visits(visit) => visit_all(rt, owners, transaction, visit),
         }
-        Ok(7)
     }
 
-    /// What comes of it by at most so many attempts.
-    fn outcome<R: Wait>(self, rt: &R, locks: &Locks, attempts: u32) -> Result<u32, WorkError> {
-        locks.run(rt, attempts, |transaction| self.made(transaction))
+    /// What comes of the work once its names are locked.
+    fn outcome(self, locked: Result<(), LockError>) -> Result<u32, WorkError> {
+        locked?;
+        match self {
+            Plan::Poor => Err(WorkError::Poor),
+            _ => Ok(7),
+        }
+    }
+
+    /// What comes of it by at most so many attempts, which are counted.
+    pub fn run<R: Wait + Abort>(
+        self,
+        rt: &R,
+        locks: &Locks,
+        gate: &Barrier,
+        owners: &[AtomicU64],
+        most: u32,
+        attempts: &mut u32,
+    ) -> Result<u32, WorkError> {
+        locks.run(rt, most, |transaction| {
+            *attempts = attempts.saturating_add(1);
+            let locked = self.locked(rt, locks, gate, owners, transaction, *attempts);
+            self.outcome(locked)
+        })
+    }
+
+    /// How often it was to be tried again until it was committed, as one of a thousand attempts is.
+    pub fn committed<R: Wait + Abort>(
+        self,
+        rt: &R,
+        locks: &Locks,
+        gate: &Barrier,
+        owners: &[AtomicU64],
+        most: u32,
+    ) -> u64 {
+        let mut attempts: u32 = 0;
+        let outcome = self.run(rt, locks, gate, owners, most, &mut attempts);
+        holds(rt, "one of the attempts commits", outcome.is_ok());
+        u64::from(attempts).saturating_sub(1)
     }
 }
 
 /// A value is returned once its transaction is committed; an error of the work is returned, and its transaction rolled back.
-pub fn outcomes<R: Wait + Abort>(rt: &R, locks: &Locks) {
-    same(rt, Plan::Poor.outcome(rt, locks, 3), Err(WorkError::Poor));
-    let refused = WorkError::Refused(LockError::NameEmpty);
-    same(rt, Plan::Refused.outcome(rt, locks, 3), Err(refused));
-    same(rt, Plan::Rich.outcome(rt, locks, 3), Ok(7));
-    same(rt, Plan::Rich.outcome(rt, locks, 0), Ok(7));
-    same(
-        rt,
-        locks.totals(rt),
-        Totals {
-            begun: 4,
-            committed: 2,
-            aborted: 2,
-            deadlocks: 0,
-        },
-    );
+pub fn outcomes<R: Wait + Abort>(rt: &R, locks: &Locks, gate: &Barrier, owners: &[AtomicU64]) {
+    let mut attempts: u32 = 0;
+    let poor = Plan::Poor.run(rt, locks, gate, owners, 3, &mut attempts);
+    holds(rt, "its own error", matches!(poor, Err(WorkError::Poor)));
+    let refused = Plan::Refused.run(rt, locks, gate, owners, 3, &mut attempts);
+    let is_empty = matches!(refused, Err(WorkError::Refused(LockError::NameEmpty)));
+    holds(rt, "the name has no bytes", is_empty);
+    let rich = Plan::Rich.run(rt, locks, gate, owners, 3, &mut attempts);
+    holds(rt, "a value", matches!(rich, Ok(7)));
+    let rich = Plan::Rich.run(rt, locks, gate, owners, 0, &mut attempts);
+    holds(rt, "a value", matches!(rich, Ok(7)));
+    totals_are(rt, locks, [4, 2, 2, 0]);
     // Four begins and locks, four ends.
     same(rt, locks.events(rt), 12);
 }
 
-#[test]
-fn returns_what_came(rt: HostRuntime) -> Result<(), Fail> {
-    on_locks(&rt, rt.alloc(), Work::Outcomes, 1, 1, 1)
-}
+pub const ROUNDS: u32 = 1_000;
 
-const ROUNDS: u32 = 1_000;
-
-/// Locks two names, and meets the other thread between them the first time.
-fn crosses<R: Wait + Abort>(
+/// Meets the other thread so many times, which locks the names in the opposite order. Returns how often this thread was to try again.
+pub fn cross_often<R: Wait + Abort>(
     rt: &R,
     locks: &Locks,
     gate: &Barrier,
-    names: [&[u8]; 2],
-) -> Result<u32, LockError> {
-    let mut attempts: u32 = 0;
-    locks.run(rt, 1_000, |transaction| {
-        transaction.lock(names[0])?;
-        if attempts == 0 {
-            gate.wait(rt);
-        }
-        attempts = attempts.saturating_add(1);
-        transaction.lock(names[1])?;
-        Ok(attempts)
-    })
-}
-
-/// Meets the other thread so many times, which locks the names in the opposite order. Returns how often this thread was to try again.
-pub fn cross_often<R: Wait + Abort>(rt: &R, locks: &Locks, gate: &Barrier, number: usize) -> u64 {
-    let names: [&[u8]; 2] = if number == 0 {
-        [b"a", b"b"]
-    } else {
-        [b"b", b"a"]
+    owners: &[AtomicU64],
+    number: usize,
+) -> u64 {
+    let plan = Plan::Crosses {
+        is_first: number == 0,
     };
     let mut again: u64 = 0;
     for _ in 0..ROUNDS {
-        let attempts = crosses(rt, locks, gate, names).expect(
-            rt,
-            "one of a thousand attempts commits",
-        );
-        again = again.saturating_add(u64::from(attempts).saturating_sub(1));
+        again = again.saturating_add(plan.committed(rt, locks, gate, owners, 1_000));
         gate.wait(rt);
     }
     again
 }
 
-/// Each of a thousand times both have committed in the end, and each deadlock was one more attempt.
-pub fn both_committed<R: Wait + Abort>(rt: &R, locks: &Locks, again: u64) {
-    let totals = locks.totals(rt);
-    same(rt, totals.committed, 2 * u64::from(ROUNDS));
-    same(rt, again, totals.deadlocks);
-    same(rt, totals.deadlocks >= u64::from(ROUNDS), true);
-    same(rt, totals.aborted, totals.deadlocks);
-}
-
-#[test]
-fn both_commit(rt: HostRuntime) -> Result<(), Fail> {
-    on_locks(&rt, rt.alloc(), Work::BothCommit, 2, 2, 2)
-}
-
 const ATTEMPTS: u32 = 3;
 
-/// Owns `b` and waits for `a` before each attempt of the other one closes the cycle.
-fn stands_in_the_way<R: Wait + Abort>(rt: &R, locks: &Locks, gate: &Barrier) {
-    for _ in 0..ATTEMPTS {
-        let mut transaction = begin(rt, locks);
-        takes(rt, &mut transaction, b"b");
-        gate.wait(rt);
-        gate.wait(rt);
-        takes(rt, &mut transaction, b"a");
-        commits(rt, transaction);
-    }
-}
-
-/// Closes a cycle in each attempt. Returns how many there were.
-fn gives_up<R: Wait + Abort>(rt: &R, locks: &Locks, gate: &Barrier) -> u64 {
-    let mut attempts: u64 = 0;
-    let outcome = locks.run(rt, ATTEMPTS, |transaction| {
-        attempts = attempts.saturating_add(1);
-        transaction.lock(b"a")?;
-        gate.wait(rt);
-        let events = locks.events(rt);
-        gate.wait(rt);
-        await_events(rt, locks, events.saturating_add(2));
-        transaction.lock(b"b")
-    });
-    same(rt, outcome, Err(LockError::Deadlock));
-    attempts
-}
-
-/// One of two stands in the way, and the other one gives up. Returns how many attempts that one made.
-pub fn meets<R: Wait + Abort>(rt: &R, locks: &Locks, gate: &Barrier, number: usize) -> u64 {
+/// One of two stands in the way, and the other one closes a cycle in each attempt. Returns how many attempts that one made.
+pub fn give_up<R: Wait + Clock + Abort>(
+    rt: &R,
+    locks: &Locks,
+    gate: &Barrier,
+    owners: &[AtomicU64],
+    number: usize,
+) -> u64 {
+    let mut attempts: u32 = 0;
     if number == 0 {
-        stands_in_the_way(rt, locks, gate);
-        return 0;
+        take(rt, locks, gate, &STANDS_IN_THE_WAY, 0);
+    } else {
+        let outcome = Plan::Closes.run(rt, locks, gate, owners, ATTEMPTS, &mut attempts);
+        let is_told = matches!(outcome, Err(WorkError::Refused(LockError::Deadlock)));
+        holds(rt, "the last error is a deadlock", is_told);
     }
-    gives_up(rt, locks, gate)
-}
-
-/// Each attempt was made, and rolled back.
-pub fn gave_up<R: Wait + Abort>(rt: &R, locks: &Locks, attempts: u64) {
-    same(rt, attempts, u64::from(ATTEMPTS));
-    same(rt, locks.totals(rt).aborted, u64::from(ATTEMPTS));
-}
-
-/// Where each attempt meets a deadlock, the last one's error is returned.
-#[test]
-fn ends_after_so_many_attempts(rt: HostRuntime) -> Result<(), Fail> {
-    on_locks(&rt, rt.alloc(), Work::GivesUp, 2, 2, 2)
+    u64::from(attempts)
 }

@@ -1,19 +1,15 @@
 //! A handful of threads over few names.
 ghost use Rattle.std.specs.Prelude.{◌<◌};
 
-use crate::tests::helpers::{begin, commits, same};
-use crate::tests::work::{Owners, Work, on_locks};
+use crate::tests::helpers::{Answer, begin, commits, enters, leaves, owns, same};
 use mm_blocking::{LockError, Locks, Transaction};
 use std::process::Abort;
 use std::sync::Wait;
-use std::sync::atomic::Ordering::SeqCst;
-use std::test::Fail;
+use std::sync::atomic::AtomicU64;
 use std::thread;
 use std::time::{Clock, Duration};
 
 static NAMES: [&[u8]; 4] = [b"a", b"b", b"c", b"d"];
-
-const THREADS: usize = 6;
 
 const COMMITS: u32 = 100;
 
@@ -35,21 +31,14 @@ impl Random {
 }
 
 /// Asks for a name in one of the three ways. Returns whether the transaction owns it now.
-fn ask<R: Wait + Clock>(
-    transaction: &mut Transaction<'_, R>,
-    name: &[u8],
-    way: u64,
-) -> Result<bool, LockError> {
-    if way == 0 {
-        return transaction.try_lock(name);
-    }
-    if way > 1 {
-        return transaction.lock(name).map(|_| true);
-    }
-    match transaction.lock_for(name, Duration::from_millis(1)) {
-        Ok(()) => Ok(true),
-        Err(LockError::TimedOut) => Ok(false),
-        Err(error) => Err(error),
+fn ask<R: Wait + Clock>(transaction: &mut Transaction<'_, R>, name: &[u8], way: u64) -> Answer {
+    match way {
+        0 => transaction.try_lock(name),
+        1 => match transaction.lock_for(name, Duration::from_millis(1)) {
+            Err(LockError::TimedOut) => Ok(false),
+            answer => owns(answer),
+        },
+        _ => owns(transaction.lock(name)),
     }
 }
 
@@ -57,7 +46,7 @@ fn ask<R: Wait + Clock>(
 fn lock_some<R: Wait + Clock + Abort>(
     rt: &R,
     transaction: &mut Transaction<'_, R>,
-    owners: &Owners,
+    owners: &[AtomicU64],
     mine: &mut [bool; 4],
     random: &mut Random,
 ) -> bool {
@@ -66,13 +55,13 @@ fn lock_some<R: Wait + Clock + Abort>(
         match ask(transaction, NAMES[name], random.below(4)) {
             Ok(true) => {
                 if !mine[name] {
-                    same(rt, owners[name].fetch_add(1, SeqCst), 0);
+                    enters(rt, owners, name);
                     mine[name] = true;
                 }
             }
-            Ok(false) => same(rt, mine[name], false),
-            Err(error) => {
-                same(rt, error, LockError::Deadlock);
+            Ok(false) => assert!(rt; !mine[name]),
+            refused => {
+                same(rt, refused, Err(LockError::Deadlock));
                 return false;
             }
         }
@@ -85,7 +74,7 @@ fn lock_some<R: Wait + Clock + Abort>(
 fn attempt<R: Wait + Clock + Abort>(
     rt: &R,
     locks: &Locks,
-    owners: &Owners,
+    owners: &[AtomicU64],
     random: &mut Random,
 ) -> bool {
     let mut transaction = begin(rt, locks);
@@ -93,7 +82,7 @@ fn attempt<R: Wait + Clock + Abort>(
     let is_done = lock_some(rt, &mut transaction, owners, &mut mine, random);
     for name in 0..4usize {
         if mine[name] {
-            same(rt, owners[name].fetch_sub(1, SeqCst), 1);
+            leaves(rt, owners, name);
         }
     }
     if is_done {
@@ -103,7 +92,12 @@ fn attempt<R: Wait + Clock + Abort>(
 }
 
 /// Transactions of one thread, until so many have committed. Returns how many did not.
-pub fn client<R: Wait + Clock + Abort>(rt: &R, locks: &Locks, owners: &Owners, seed: usize) -> u64 {
+pub fn client<R: Wait + Clock + Abort>(
+    rt: &R,
+    locks: &Locks,
+    owners: &[AtomicU64],
+    seed: usize,
+) -> u64 {
     let mut random = Random(seed as u64);
     let mut deadlocks: u64 = 0;
     let mut commits: u32 = 0;
@@ -118,20 +112,4 @@ pub fn client<R: Wait + Clock + Abort>(rt: &R, locks: &Locks, owners: &Owners, s
         }
     }
     unreachable!()
-}
-
-/// All threads have ended, and each deadlock was told to one.
-pub fn ended<R: Wait + Abort>(rt: &R, locks: &Locks, deadlocks: u64) {
-    let totals = locks.totals(rt);
-    let commits = THREADS as u64 * u64::from(COMMITS);
-    same(rt, totals.committed, commits);
-    same(rt, totals.begun, commits.wrapping_add(deadlocks));
-    same(rt, totals.deadlocks, deadlocks);
-    same(rt, totals.aborted, deadlocks);
-}
-
-/// No name has two owners at a time, all threads end, and each deadlock is told to one.
-#[test]
-fn a_crowd_ends(rt: HostRuntime) -> Result<(), Fail> {
-    on_locks(&rt, rt.alloc(), Work::Crowd, 6, 4, THREADS)
 }

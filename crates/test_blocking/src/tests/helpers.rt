@@ -1,22 +1,21 @@
 //! What the tests share.
-use mm_blocking::{Locks, ManagerConfig, OpenError, Transaction};
-use std::alloc::Global;
+use mm_blocking::{LockError, Locks, Transaction};
 use std::fmt::Debug;
 use std::process::Abort;
 use std::sync::Wait;
+use std::sync::atomic::AtomicU64;
+use std::sync::atomic::Ordering::SeqCst;
 use std::thread;
 
-/// Locks for so many transactions and names, of at most 8 bytes each.
-pub fn open(alloc: Global, transactions: u32, names: u32) -> Result<Locks, OpenError> {
-    Locks::open(
-        alloc,
-        ManagerConfig {
-            transactions,
-            names,
-            name_bytes: 8,
-            seed: 11,
-        },
-    )
+/// Whether the transaction owns the name now, or why not.
+pub type Answer = Result<bool, LockError>;
+
+/// The answer of a call that returns nothing.
+pub fn owns(answer: Result<(), LockError>) -> Answer {
+    match answer {
+        Ok(()) => Ok(true),
+        Err(error) => Err(error),
+    }
 }
 
 /// Begins a transaction, for which there is room.
@@ -26,22 +25,22 @@ pub fn begin<'m, R: Wait + Abort>(rt: &'m R, locks: &'m Locks) -> Transaction<'m
 
 /// Locks a name. Ends the test where that is refused.
 pub fn takes<R: Wait + Abort>(rt: &R, transaction: &mut Transaction<'_, R>, name: &[u8]) {
-    same(rt, transaction.lock(name), Ok(()));
-}
-
-/// Gives a name back. Ends the test where that is refused.
-pub fn gives<R: Wait + Abort>(rt: &R, transaction: &mut Transaction<'_, R>, name: &[u8]) {
-    same(rt, transaction.unlock(name), Ok(()));
+    same(rt, owns(transaction.lock(name)), Ok(true));
 }
 
 /// Commits a transaction. Ends the test where that is refused.
 pub fn commits<R: Wait + Abort>(rt: &R, transaction: Transaction<'_, R>) {
-    same(rt, transaction.commit(), Ok(()));
+    same(rt, owns(transaction.commit()), Ok(true));
 }
 
 /// Ends the test where another answer came than was expected.
 pub fn same<T: PartialEq + Debug + Drop>(rt: &impl Abort, came: T, expected: T) {
     assert_eq!(rt; came, expected);
+}
+
+/// Ends the test where this does not hold.
+pub fn holds(rt: &impl Abort, what: &str, is_so: bool) {
+    assert!(rt; is_so, "{what}");
 }
 
 /// Waits until the manager has counted so many events.
@@ -52,4 +51,25 @@ pub fn await_events<R: Wait>(rt: &R, locks: &Locks, events: u64) {
         }
         thread::yield_now();
     }
+}
+
+/// One more transaction believes that it owns the name of this number. Ends the test unless it is the only one.
+pub fn enters(rt: &impl Abort, owners: &[AtomicU64], name: usize) {
+    let count = owners.get(name).expect(rt, "a name");
+    same(rt, count.fetch_add(1, SeqCst), 0);
+}
+
+/// The only transaction that believes that it owns the name of this number does so no longer.
+pub fn leaves(rt: &impl Abort, owners: &[AtomicU64], name: usize) {
+    let count = owners.get(name).expect(rt, "a name");
+    same(rt, count.fetch_sub(1, SeqCst), 1);
+}
+
+/// Ends the test unless so many have begun, were committed, were aborted, and were told of a deadlock.
+pub fn totals_are<R: Wait + Abort>(rt: &R, locks: &Locks, expected: [u64; 4]) {
+    let totals = locks.totals(rt);
+    same(rt, totals.begun, expected[0]);
+    same(rt, totals.committed, expected[1]);
+    same(rt, totals.aborted, expected[2]);
+    same(rt, totals.deadlocks, expected[3]);
 }
