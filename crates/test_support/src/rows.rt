@@ -7,7 +7,7 @@ pub struct Row {
     pub malformed: u64,
 }
 
-pub static ROWS: [Row; 31] = [
+pub static ROWS: [Row; 34] = [
     Row {
         name: "empty",
         input: "",
@@ -180,6 +180,24 @@ pub static ROWS: [Row; 31] = [
         name: "give_up_under_verdict",
         input: "table 4 4 100 9\nbegin\nbegin\nacquire 0.1 0\nacquire 1.1 1\nacquire 0.1 1\nacquire 1.1 0\ndetect 0.1\ndetect 1.1\ntransmit 0.1\ndetect 1.1\ndetect 1.1\ngive_up 1.1\n",
         output: "ok\nkey 0.1\nkey 1.1\ngranted\ngranted\nwaits 1.1 1.0\nwaits 0.1 2.1\nclear\nclear\nraised 2.1\ndeadlock 2.1\nstanding\nrefused 14 UnderVerdict\n",
+        malformed: 0,
+    },
+    Row {
+        name: "the_second_that_asks_waits",
+        input: "table 4 4 100 9\nbegin\nbegin\nacquire 0.1 0\nacquire 1.1 1\nacquire 0.1 1\nstate 0.1\nacquire 0.1 2\n",
+        output: "ok\nkey 0.1\nkey 1.1\ngranted\ngranted\nwaits 1.1 1.0\nwaiting 1 1.0 1.0\nrefused 3 Waiting\n",
+        malformed: 0,
+    },
+    Row {
+        name: "the_convicted_one_gives_way",
+        input: "table 4 4 100 9\nbegin\nacquire 0.1 0\nbegin\nacquire 1.1 1\nacquire 0.1 1\nacquire 1.1 0\ndetect 1.1\nabort 1.1\ntransmit 0.1\ndetect 1.1\nfinish 1.1\nabort 1.1\nowner 1\nstate 0.1\nstate 1.1\n",
+        output: "ok\nkey 0.1\ngranted\nkey 1.1\ngranted\nwaits 1.1 1.0\nwaits 0.1 2.1\nclear\nrefused 9 NoVerdict\nraised 2.1\ndeadlock 2.1\nrefused 3 Waiting\naborted\nowner 0.1\nactive 1.0 2.1\nrefused 1 Stale\n",
+        malformed: 0,
+    },
+    Row {
+        name: "a_finish_hands_over",
+        input: "table 4 2 100 9\nbegin\nbegin\nbegin\nbegin\nacquire 0.1 0\nacquire 0.1 1\nacquire 1.1 1\nacquire 2.1 0\nacquire 3.1 0\nfinish 0.1\nowner 0\nowner 1\nstate 3.1\nfinish 0.1\n",
+        output: "ok\nkey 0.1\nkey 1.1\nkey 2.1\nkey 3.1\ngranted\ngranted\nwaits 0.1 1.1\nwaits 0.1 1.2\nwaits 0.1 1.3\nfinished\nowner 2.1\nowner 1.1\nwaiting 0 2.3 2.3\nrefused 1 Stale\n",
         malformed: 0,
     },
     Row {

@@ -1,14 +1,13 @@
-ghost use Rattle.std.specs.Prelude.{◌≡◌, ◌≢◌, ◌+◌, Some, IfOk, OnOk};
+ghost use Rattle.std.specs.Prelude.{◌≡◌, ◌≢◌, ◌≤◌, ◌+◌, Some, IfOk, OnOk};
 ghost use Rattle.mm_arena.specs.Slots.{lookup, live_count};
 
-use crate::tests::same::same;
+use crate::tests::same::{holds, same};
 use mm_arena::{Arena, Key, MAX_CAPACITY, Memory};
-use std::alloc::{AllocError, Global};
+use std::alloc::Global;
 use std::process::Abort;
-use std::test::Fail;
 
 // What a caller knows of two inserts.
-fn store_pair(arena: &mut Arena<u32>, a: u32, b: u32) -> Result<(Key, Key), u32>
+fn store_pair(arena: &mut Arena<u64>, a: u64, b: u64) -> Result<(Key, Key), u64>
     ensures differ { IfOk result (λ keys. keys.0 ≢ keys.1) }
     ensures first { IfOk result (λ keys. lookup arena.new keys.0 ≡ Some a) }
     ensures second { IfOk result (λ keys. lookup arena.new keys.1 ≡ Some b) }
@@ -19,147 +18,174 @@ fn store_pair(arena: &mut Arena<u32>, a: u32, b: u32) -> Result<(Key, Key), u32>
     Ok((first, second))
 }
 
-fn key(process: u32, generation: u32) -> Key {
-    Key {
-        process,
-        generation,
+/// A call on an arena, and its answer.
+#[derive(Clone, Copy)]
+enum Step {
+    /// An insert that gives this key.
+    Inserts(u64, Key),
+    /// Two inserts that give these keys.
+    InsertsTwo(u64, u64, Key, Key),
+    /// An insert into a full arena, which gives the value back.
+    IsFull(u64),
+    Removes(Key, Option<u64>),
+    Has(Key, Option<u64>),
+    HasNoKey(u32),
+}
+
+/// Ends the test unless two inserts give these keys.
+fn inserts_two(rt: &impl Abort, arena: &mut Arena<u64>, values: (u64, u64), keys: (Key, Key)) {
+    let (first, second) = store_pair(arena, values.0, values.1)
+        .ok()
+        .expect(rt, "room");
+    same(rt, Some(first), Some(keys.0));
+    same(rt, Some(second), Some(keys.1));
+}
+
+/// Makes the calls one after the other, and ends the test at the first with another answer.
+fn make(rt: &impl Abort, arena: &mut Arena<u64>, steps: &[Step]) {
+    for step in steps {
+        match *step {
+            Step::Inserts(value, key) => same(rt, arena.insert(value).ok(), Some(key)),
+            Step::InsertsTwo(a, b, first, second) => {
+                inserts_two(rt, arena, (a, b), (first, second));
+            }
+            Step::IsFull(value) => same(rt, arena.insert(value).err(), Some(value)),
+            Step::Removes(key, value) => same(rt, arena.remove(key), value),
+            Step::Has(key, value) => same(rt, arena.get(key).copied(), value),
+            Step::HasNoKey(process) => same(rt, arena.key_at(process), None),
+        }
     }
 }
 
-// The example of README.md.
+/// Opens an arena for so many processes and generations, and makes the calls on it.
+fn on_an_arena(rt: &impl Abort, alloc: Global, capacity: u32, generations: u32, steps: &[Step])
+    requires capacity { (1 ≤ capacity) × (capacity ≤ 1048576) }
+    requires generations { 1 ≤ generations }
+{
+    let mut arena = Arena::<u64>::new(alloc, capacity, generations).expect(rt, "memory");
+    make(rt, &mut arena, steps);
+}
+
+/// The example of README.md.
+static ONE_PROCESS: [Step; 8] = [
+    Step::Inserts(7, key!(0, 1)),
+    Step::IsFull(8),
+    Step::Removes(key!(0, 1), Some(7)),
+    Step::Inserts(8, key!(0, 2)),
+    Step::Has(key!(0, 1), None),
+    Step::Removes(key!(0, 2), Some(8)),
+    Step::IsFull(9),
+    Step::HasNoKey(0),
+];
+
 #[test]
-fn gives_each_generation_once(rt: HostRuntime) -> Result<(), Fail> {
-    let mut arena = Arena::<u64>::new(rt.alloc(), 1, 2)?;
-    same(&rt, arena.insert(7), Ok(key(0, 1)));
-    same(&rt, arena.insert(8), Err(8));
-    same(&rt, arena.remove(key(0, 1)), Some(7));
-    same(&rt, arena.insert(8), Ok(key(0, 2)));
-    same(&rt, arena.get(key(0, 1)), None);
-    same(&rt, arena.remove(key(0, 2)), Some(8));
-    same(&rt, arena.insert(9), Err(9));
-    same(&rt, arena.key_at(0), None);
-    Ok(())
+fn gives_each_generation_once(rt: HostRuntime) {
+    on_an_arena(&rt, rt.alloc(), 1, 2, &ONE_PROCESS);
+}
+
+static THREE_PROCESSES: [Step; 7] = [
+    Step::InsertsTwo(10, 11, key!(0, 1), key!(1, 1)),
+    Step::Removes(key!(0, 1), Some(10)),
+    Step::Removes(key!(0, 1), None),
+    Step::Removes(key!(1, 1), Some(11)),
+    Step::InsertsTwo(12, 13, key!(1, 2), key!(0, 2)),
+    Step::Inserts(14, key!(2, 1)),
+    Step::Removes(key!(3, 1), None),
+];
+
+#[test]
+fn gives_the_slot_freed_last_first(rt: HostRuntime) {
+    on_an_arena(&rt, rt.alloc(), 3, 9, &THREE_PROCESSES);
+}
+
+/// Each process inserts its number under a key of this generation: the slots are given by rising process at first, and then the slot freed
+/// last comes first. No other insert has room.
+fn fill(rt: &impl Abort, arena: &mut Arena<u64>, generation: u32) {
+    for place in 0..MAX_CAPACITY {
+        let process = if generation == 1 {
+            place
+        } else {
+            MAX_CAPACITY - 1 - place
+        };
+        let key = arena.insert(u64::from(process)).ok();
+        same(rt, key, Some(key!(process, generation)));
+    }
+    same(rt, arena.insert(0).err(), Some(0));
+}
+
+/// Removes what each process inserted first.
+fn clear(rt: &impl Abort, arena: &mut Arena<u64>) {
+    for process in 0..MAX_CAPACITY {
+        same(rt, arena.remove(key!(process, 1)), Some(u64::from(process)));
+    }
+}
+
+/// Fills the arena, clears it and fills it again.
+fn fill_twice(rt: &impl Abort, arena: &mut Arena<u64>) {
+    fill(rt, arena, 1);
+    holds(rt, "all are live", arena.live() == MAX_CAPACITY);
+    clear(rt, arena);
+    holds(rt, "none is live", arena.live() == 0);
+    fill(rt, arena, 2);
 }
 
 #[test]
-fn gives_the_slot_freed_last_first(rt: HostRuntime) -> Result<(), Fail> {
-    let mut arena = Arena::new(rt.alloc(), 3, 9)?;
-    same(
-        &rt,
-        store_pair(&mut arena, 10, 11),
-        Ok((key(0, 1), key(1, 1))),
-    );
-    same(&rt, arena.remove(key(0, 1)), Some(10));
-    same(&rt, arena.remove(key(0, 1)), None);
-    same(&rt, arena.remove(key(1, 1)), Some(11));
-    same(
-        &rt,
-        store_pair(&mut arena, 12, 13),
-        Ok((key(1, 2), key(0, 2))),
-    );
-    same(&rt, arena.insert(14), Ok(key(2, 1)));
-    same(&rt, arena.remove(key(3, 1)), None);
-    Ok(())
+fn fills_the_largest_capacity_twice(rt: HostRuntime) {
+    let mut arena = Arena::<u64>::new(rt.alloc(), MAX_CAPACITY, u32::MAX).expect(&rt, "memory");
+    fill_twice(&rt, &mut arena);
 }
 
 /// Writes at the end of a text.
-fn add_mark(arena: &mut Arena<String>, key: Key) -> Result<(), Fail> {
-    arena.get_mut(key).ok_or("not live")?.push('!')?;
-    Ok(())
+fn add_mark(rt: &impl Abort, arena: &mut Arena<String>, key: Key) {
+    let text = arena.get_mut(key).expect(rt, "a text");
+    text.push('!').expect(rt, "memory");
 }
 
-/// Inserts a text, writes at its end, and gives its key.
-fn insert_hello(rt: &impl Abort, alloc: Global, arena: &mut Arena<String>) -> Result<Key, Fail> {
-    let hello = format!(in alloc; "hello")?;
-    let first = arena.insert(hello).map_err(|_| "full")?;
-    add_mark(arena, first)?;
-    same(rt, arena.contains(first), true);
-    same(
+/// Ends the test unless the arena has this text under the key.
+fn has_text(rt: &impl Abort, arena: &Arena<String>, key: Key, text: &str) {
+    holds(rt, "it is live", arena.contains(key));
+    holds(
         rt,
-        arena.get(first).map(|text| text.as_str()),
-        Some("hello!"),
+        text,
+        arena.get(key).expect(rt, "a text").as_str() == text,
     );
-    Ok(first)
 }
 
-/// Inserts a second text, which is left in the arena.
-fn insert_kept(
-    rt: &impl Abort,
-    alloc: Global,
-    arena: &mut Arena<String>,
-) -> Result<(), AllocError> {
-    let kept = format!(in alloc; "kept")?;
-    assert!(rt; arena.insert(kept).is_ok());
-    same(rt, arena.live(), 2);
-    Ok(())
+/// Takes a text out. Ends the test unless it is this one.
+fn removes_text(rt: &impl Abort, arena: &mut Arena<String>, key: Key, text: &str) {
+    let removed = arena.remove(key).expect(rt, "a text");
+    holds(rt, text, removed.as_str() == text);
+    drop(removed);
+    holds(rt, "it is removed", arena.get_mut(key).is_none());
 }
 
-/// Takes the first text out.
-fn remove_hello(rt: &impl Abort, arena: &mut Arena<String>, key: Key) {
-    let removed = arena.remove(key);
-    same(
-        rt,
-        removed.as_ref().map(|text| text.as_str()),
-        Some("hello!"),
-    );
-    same(rt, arena.get_mut(key).is_none(), true);
+/// Inserts a text.
+fn insert_text(rt: &impl Abort, alloc: Global, arena: &mut Arena<String>, text: &str) -> Key {
+    let text = format!(in alloc; "{text}").expect(rt, "memory");
+    arena.insert(text).ok().expect(rt, "room")
 }
 
-fn keep_two_texts(rt: &impl Abort, alloc: Global, arena: &mut Arena<String>) -> Result<(), Fail> {
-    let first = insert_hello(rt, alloc, arena)?;
-    insert_kept(rt, alloc, arena)?;
-    remove_hello(rt, arena, first);
-    Ok(())
+/// Inserts a text, and writes at its end. A second text is left in the arena.
+fn keep_two_texts(rt: &impl Abort, alloc: Global, arena: &mut Arena<String>) {
+    let first = insert_text(rt, alloc, arena, "hello");
+    add_mark(rt, arena, first);
+    has_text(rt, arena, first, "hello!");
+    insert_text(rt, alloc, arena, "kept");
+    holds(rt, "two are live", arena.live() == 2);
+    removes_text(rt, arena, first, "hello!");
 }
 
 // The values are not `Copy`, and those left are dropped with the arena.
 #[test]
-fn keeps_texts(rt: HostRuntime) -> Result<(), Fail> {
-    let mut arena = Arena::<String>::new(rt.alloc(), 2, 1)?;
-    keep_two_texts(&rt, rt.alloc(), &mut arena)
+fn keeps_texts(rt: HostRuntime) {
+    let mut arena = Arena::<String>::new(rt.alloc(), 2, 1).expect(&rt, "memory");
+    keep_two_texts(&rt, rt.alloc(), &mut arena);
 }
 
-/// Inserts the number of each process under its first key.
-fn fill(rt: &impl Abort, arena: &mut Arena<u32>) {
-    for process in 0..MAX_CAPACITY {
-        same(rt, arena.insert(process), Ok(key(process, 1)));
-    }
-}
-
-/// Removes what `fill` inserted.
-fn clear(rt: &impl Abort, arena: &mut Arena<u32>) {
-    for process in 0..MAX_CAPACITY {
-        same(rt, arena.remove(key(process, 1)), Some(process));
-    }
-}
-
-/// Inserts the number of each process under its second key: the slot freed last comes first.
-fn fill_again(rt: &impl Abort, arena: &mut Arena<u32>) {
-    for process in (0..MAX_CAPACITY).rev() {
-        same(rt, arena.insert(process), Ok(key(process, 2)));
-    }
-}
-
+/// The error of memory, a key, and two keys with a space between them are printed so.
 #[test]
-fn fills_the_largest_capacity_twice(rt: HostRuntime) -> Result<(), Fail> {
-    let mut arena = Arena::new(rt.alloc(), MAX_CAPACITY, u32::MAX)?;
-    fill_twice(&rt, &mut arena);
-    Ok(())
-}
-
-fn fill_twice(rt: &impl Abort, arena: &mut Arena<u32>) {
-    fill(rt, arena);
-    same(rt, arena.insert(0), Err(0));
-    same(rt, arena.live(), MAX_CAPACITY);
-    clear(rt, arena);
-    same(rt, arena.live(), 0);
-    fill_again(rt, arena);
-    same(rt, arena.insert(0), Err(0));
-}
-
-#[test]
-fn prints_keys_and_errors(rt: HostRuntime) -> Result<(), Fail> {
-    let text = format!(in rt.alloc(); "{}: {}", key(3, 12), Memory)?;
-    assert_eq!(rt; text.as_str(), "3.12: a request for memory was refused");
-    Ok(())
+fn prints_keys_and_errors(rt: HostRuntime) {
+    let (three, zero, one) = (key!(3, 12), key!(0, 1), key!(1, 1));
+    let text = format!(in rt.alloc(); "{three}: {Memory}, {zero} {one}").expect(&rt, "memory");
+    assert!(rt; text.as_str() == "3.12: a request for memory was refused, 0.1 1.1");
 }

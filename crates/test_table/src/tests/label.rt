@@ -1,9 +1,8 @@
 ghost use Rattle.std.specs.Prelude.{IsTrue, IfSome, ◌<◌, ◌≡◌};
 ghost use Rattle.mm_label.specs.Label.{counter_range, process_range, label_le, label_lt};
 
-use crate::tests::same::same;
 use mm_label::{Label, fresh};
-use std::test::Fail;
+use std::process::Abort;
 
 // What a caller knows of a comparison: the caller of README.md.
 fn greater(a: Label, b: Label) -> Label
@@ -24,82 +23,84 @@ fn passed_on(own: Label, holder: Label, process: u32, limit: u64) -> Option<Labe
     fresh(own, holder, process, limit)
 }
 
-#[test]
-fn words_of_labels(rt: HostRuntime) -> Result<(), Fail> {
-    let table = [
-        (0, 0, 0),
-        (0, 3, 3),
-        (1, 0, 1048576),
-        (2, 1, 2097153),
-        (17592186044415, 65535, 18446744073708568575),
-        (17592186044415, 1048575, 18446744073709551615),
-    ];
-    for (counter, process, word) in table {
-        let label = Label::new(counter, process).ok_or("in range")?;
-        same(&rt, label.word(), word);
-        let kept = Label::of_word(word);
-        same(
-            &rt,
-            (word, kept.counter(), kept.process()),
-            (word, counter, process),
-        );
-    }
-    Ok(())
+/// The counters and processes of labels, with the words that they have.
+static WORDS: [(u64, u32, u64); 6] = [
+    (0, 0, 0),
+    (0, 3, 3),
+    (1, 0, 1048576),
+    (2, 1, 2097153),
+    (17592186044415, 65535, 18446744073708568575),
+    (17592186044415, 1048575, 18446744073709551615),
+];
+
+/// Ends the test unless the label has this counter and this process.
+fn is_of(rt: &impl Abort, label: Option<Label>, counter: u64, process: u32) {
+    let label = label.expect(rt, "in range");
+    assert!(rt;
+        label.counter() == counter,
+        "{label}: the counter is {counter}"
+    );
+    assert!(rt;
+        label.process() == process,
+        "{label}: the process is {process}"
+    );
 }
 
 #[test]
-fn labels_of_one_counter_differ(rt: HostRuntime) -> Result<(), Fail> {
-    let (zero, one) = (Label::new(7, 0), Label::new(7, 1));
-    let (zero, one) = (zero.ok_or("in range")?, one.ok_or("in range")?);
-    same(&rt, (zero == one, zero < one), (false, true));
-    same(&rt, (zero == zero, zero < zero), (true, false));
-    Ok(())
+fn words_of_labels(rt: HostRuntime) {
+    for (counter, process, word) in &WORDS {
+        let label = Label::new(*counter, *process).expect(&rt, "in range");
+        assert!(rt; label.word() == *word, "{label}: the word is {word}");
+        is_of(&rt, Some(Label::of_word(*word)), *counter, *process);
+    }
 }
 
 #[test]
-fn words_of_the_former_packing(rt: HostRuntime) -> Result<(), Fail> {
-    let table = [
-        (0, 0, 0),
-        (0, 3, 3),
-        (1, 0, 65536),
-        (2, 1, 131073),
-        (2, 3, 131075),
-        (17592186044415, 4095, 1152921504606785535),
-    ];
-    for (counter, process, word) in table {
-        let kept = Label::of_old_word(word).ok_or("in range")?;
-        same(
-            &rt,
-            (word, kept.counter(), kept.process()),
-            (word, counter, process),
-        );
+fn labels_of_one_counter_differ(rt: HostRuntime) {
+    let zero = Label::new(7, 0).expect(&rt, "in range");
+    let one = Label::new(7, 1).expect(&rt, "in range");
+    assert!(rt; zero != one && zero < one);
+    assert!(rt; zero == zero && !(zero < zero));
+}
+
+/// The same of the words of the former packing.
+static OLD_WORDS: [(u64, u32, u64); 6] = [
+    (0, 0, 0),
+    (0, 3, 3),
+    (1, 0, 65536),
+    (2, 1, 131073),
+    (2, 3, 131075),
+    (17592186044415, 4095, 1152921504606785535),
+];
+
+#[test]
+fn words_of_the_former_packing(rt: HostRuntime) {
+    for (counter, process, word) in &OLD_WORDS {
+        is_of(&rt, Label::of_old_word(*word), *counter, *process);
     }
-    same(&rt, Label::of_old_word(1152921504606846976), None);
-    same(&rt, Label::of_old_word(u64::MAX), None);
-    Ok(())
+    assert!(rt; Label::of_old_word(1152921504606846976).is_none());
+    assert!(rt; Label::of_old_word(u64::MAX).is_none());
 }
 
 #[test]
 fn new_refuses_what_is_out_of_range(rt: HostRuntime) {
     assert!(rt; Label::new((1 << 44) - 1, 1048575).is_some());
-    assert_eq!(rt; Label::new(1 << 44, 0), None);
-    assert_eq!(rt; Label::new(0, 1048576), None);
+    assert!(rt; Label::new(1 << 44, 0).is_none());
+    assert!(rt; Label::new(0, 1048576).is_none());
 }
 
 #[test]
-fn prints_counter_and_process(rt: HostRuntime) -> Result<(), Fail> {
+fn prints_counter_and_process(rt: HostRuntime) {
     let label = Label::of_word(2097155);
-    let text = format!(in rt.alloc(); "{label}")?;
-    assert_eq!(rt; text.as_str(), "2.3");
-    Ok(())
+    let text = format!(in rt.alloc(); "{label}").expect(&rt, "memory");
+    assert!(rt; text.as_str() == "2.3");
 }
 
 #[test]
 fn fresh_is_refused_above_the_limit(rt: HostRuntime) {
     let own = Label::of_word(2097155); // 2.3
     let holder = Label::of_word(1048576); // 1.0
-    let parts = |label: Label| (label.counter(), label.process());
-    assert_eq!(rt; passed_on(own, holder, 7, 3).map(parts), Some((3, 7)));
-    assert_eq!(rt; passed_on(holder, own, 7, 2), None);
-    assert_eq!(rt; greater(own, holder), own);
+    is_of(&rt, passed_on(own, holder, 7, 3), 3, 7);
+    assert!(rt; passed_on(holder, own, 7, 2).is_none());
+    assert!(rt; greater(own, holder) == own);
 }

@@ -1,71 +1,8 @@
-pub mod steps;
-
-use crate::tests::same::same;
-use mm_table::{Acquired, Config, Detected, Key, Mode, Refusal, Settled, Table, Totals};
-use std::test::Fail;
-use steps::{Named, Step, answers};
-
-/// The first transaction of each process.
-const FIRST: [Key; 4] = [P0, P1, P2, P3];
-
-const P0: Key = Key {
-    process: 0,
-    generation: 1,
-};
-
-const P1: Key = Key {
-    process: 1,
-    generation: 1,
-};
-
-const P2: Key = Key {
-    process: 2,
-    generation: 1,
-};
-
-const P3: Key = Key {
-    process: 3,
-    generation: 1,
-};
-
-fn config(processes: u32, resources: u32) -> Config {
-    Config {
-        processes,
-        resources,
-        label_limit: 100,
-        generation_limit: 9,
-    }
-}
-
-const PRINTS: [Step; 5] = [
-    Step::Begin(Ok(P0)),
-    Step::Begin(Ok(P1)),
-    Step::ArePrinted(P0, P1, "0.1 1.1"),
-    Step::Acquire(P0, 0, Ok(Acquired::Granted)),
-    Step::Acquire(P1, 1, Ok(Acquired::Granted)),
-];
-
-#[test]
-fn keys_are_printed_with_their_generations(rt: HostRuntime) -> Result<(), Fail> {
-    answers(&rt, rt.alloc(), config(4, 4), &PRINTS)?;
-    Ok(())
-}
-
-const ASKS: [Step; 7] = [
-    Step::Begin(Ok(P0)),
-    Step::Begin(Ok(P1)),
-    Step::Acquire(P0, 0, Ok(Acquired::Granted)),
-    Step::Acquire(P1, 1, Ok(Acquired::Granted)),
-    Step::Waits(P0, 1, P1, Named(1, 0)),
-    Step::Lives(P0, Mode::Waiting(1), Named(1, 0), Named(1, 0)),
-    Step::Acquire(P0, 2, Err(Refusal::Waiting)),
-];
-
-#[test]
-fn the_second_that_asks_waits(rt: HostRuntime) -> Result<(), Fail> {
-    answers(&rt, rt.alloc(), config(4, 4), &ASKS)?;
-    Ok(())
-}
+use crate::tests::same::{holds, same};
+use crate::tests::wake::wake_the_other;
+use mm_table::{Config, Key, Refusal, Table};
+use std::alloc::Global;
+use std::process::Abort;
 
 /// Begins as many transactions as the largest table has processes, each of which asks for its last resource.
 fn fill(table: &mut Table) -> Result<(), Refusal> {
@@ -76,6 +13,67 @@ fn fill(table: &mut Table) -> Result<(), Refusal> {
     Ok(())
 }
 
+/// Each of four processes has its transaction for a tenant, and the next one once that has ended.
+fn let_four_begin(rt: &impl Abort, table: &mut Table) {
+    for process in 0..4u32 {
+        same(rt, table.tenant(process), None);
+        same(rt, table.begin().ok(), Some(key!(process, 1)));
+        same(rt, table.tenant(process), Some(key!(process, 1)));
+    }
+    holds(rt, "it finishes", table.finish(key!(1, 1)).is_ok());
+    same(rt, table.tenant(1), None);
+    same(rt, table.begin().ok(), Some(key!(1, 2)));
+    same(rt, table.tenant(1), Some(key!(1, 2)));
+    same(rt, table.tenant(0), Some(key!(0, 1)));
+    same(rt, table.tenant(4), None);
+}
+
+/// What is done with a table.
+#[derive(Clone, Copy)]
+pub enum Work {
+    Nothing,
+    Fill,
+    LetFourBegin,
+    /// The example of `abort_and_wake`.
+    Wake,
+}
+
+impl Work {
+    fn done(self, rt: &impl Abort, alloc: Global, table: &mut Table) {
+        match self {
+            Work::Nothing => {}
+            Work::Fill => {
+                holds(rt, "there is room", fill(table).is_ok());
+                holds(rt, "it is full", table.begin() == Err(Refusal::Full));
+            }
+            Work::LetFourBegin => let_four_begin(rt, table),
+            Work::Wake => wake_the_other(rt, alloc, table),
+        }
+    }
+}
+
+/// Opens a table, and does the work with it. So no test owns a table.
+pub fn on_a_table(
+    rt: &impl Abort,
+    alloc: Global,
+    config: Config,
+    work: Work,
+) -> Result<(), Refusal> {
+    let mut table = Table::open(alloc, config)?;
+    work.done(rt, alloc, &mut table);
+    drop(table);
+    Ok(())
+}
+
+fn config(processes: u32, resources: u32) -> Config {
+    Config {
+        processes,
+        resources,
+        label_limit: 100,
+        generation_limit: 9,
+    }
+}
+
 const LARGEST: Config = Config {
     processes: Config::MAX_PROCESSES,
     resources: Config::MAX_RESOURCES,
@@ -83,134 +81,20 @@ const LARGEST: Config = Config {
     generation_limit: u32::MAX,
 };
 
-const FILLS: [Step; 2] = [Step::Fill, Step::Begin(Err(Refusal::Full))];
-
 #[test]
-fn the_largest_table_opens_and_fills(rt: HostRuntime) -> Result<(), Fail> {
-    answers(&rt, rt.alloc(), LARGEST, &FILLS)?;
-    Ok(())
+fn the_largest_table_opens_and_fills(rt: HostRuntime) {
+    assert!(rt; on_a_table(&rt, rt.alloc(), LARGEST, Work::Fill).is_ok());
 }
 
 #[test]
-fn each_refusal_has_its_number_and_name(rt: HostRuntime) -> Result<(), Fail> {
-    same(
-        &rt,
-        (Refusal::Stale.number(), Refusal::Stale.name()),
-        (1, "Stale"),
-    );
-    same(&rt, Refusal::CountsExhausted.number(), 15);
-    same(
-        &rt,
-        answers(&rt, rt.alloc(), config(0, 1), &[]),
-        Err(Refusal::BadConfig),
-    );
-    Ok(())
+fn each_process_has_its_tenant(rt: HostRuntime) {
+    assert!(rt; on_a_table(&rt, rt.alloc(), config(4, 4), Work::LetFourBegin).is_ok());
 }
-
-/// Begins so many transactions, each of which takes the resource of its own number and then waits for the next one's, in a ring.
-fn make_ring(table: &mut Table, count: u32) -> Result<(), Refusal> {
-    for resource in 0..count {
-        let key = table.begin()?;
-        table.acquire(key, resource)?;
-    }
-    for process in 0..count {
-        let key = table.tenant(process).ok_or(Refusal::Stale)?;
-        table.acquire(key, (process + 1) % count)?;
-    }
-    Ok(())
-}
-
-const RING_OF_THREE: [Step; 10] = [
-    Step::Ring(3),
-    Step::Settle(Ok(Settled {
-        raises: 3,
-        verdicts: 1,
-    })),
-    Step::Tenant(0, Some(P0)),
-    Step::Lives(P0, Mode::Waiting(1), Named(1, 0), Named(2, 2)),
-    Step::Tenant(1, Some(P1)),
-    Step::Lives(P1, Mode::Waiting(2), Named(1, 1), Named(2, 2)),
-    Step::Tenant(2, Some(P2)),
-    Step::Lives(P2, Mode::Convicted(0), Named(2, 2), Named(2, 2)),
-    Step::Totals(Totals {
-        accepted: 10,
-        verdicts: 1,
-        aborts: 0,
-    }),
-    Step::Settle(Ok(Settled {
-        raises: 0,
-        verdicts: 0,
-    })),
-];
 
 #[test]
-fn a_ring_of_three_settles(rt: HostRuntime) -> Result<(), Fail> {
-    answers(&rt, rt.alloc(), config(4, 4), &RING_OF_THREE)?;
-    Ok(())
-}
-
-const RING_OF_FOUR: [Step; 2] = [
-    Step::Ring(4),
-    Step::Settle(Ok(Settled {
-        raises: 6,
-        verdicts: 1,
-    })),
-];
-
-#[test]
-fn a_ring_of_four_settles(rt: HostRuntime) -> Result<(), Fail> {
-    answers(&rt, rt.alloc(), config(5, 4), &RING_OF_FOUR)?;
-    Ok(())
-}
-
-/// Two wait for each other; the one whose label comes round gives way to the other.
-const GIVES_WAY: [Step; 13] = [
-    Step::Ring(2),
-    Step::Tenant(0, Some(P0)),
-    Step::Tenant(1, Some(P1)),
-    Step::Detect(P1, Ok(Detected::Clear)),
-    Step::Abort(P1, Err(Refusal::NoVerdict)),
-    Step::Raises(P0, Named(2, 1)),
-    Step::Convicts(P1, Named(2, 1)),
-    Step::Finish(P1, Err(Refusal::Waiting)),
-    Step::Abort(P1, Ok(())),
-    Step::Owner(1, Ok(Some(P0))),
-    Step::Tenant(0, Some(P0)),
-    Step::Lives(P0, Mode::Active, Named(1, 0), Named(2, 1)),
-    Step::State(P1, Err(Refusal::Stale)),
-];
-
-#[test]
-fn the_convicted_one_gives_way(rt: HostRuntime) -> Result<(), Fail> {
-    answers(&rt, rt.alloc(), config(4, 4), &GIVES_WAY)?;
-    Ok(())
-}
-
-/// Begins four transactions: the first takes both resources, the second waits for resource 1, and the others wait for resource 0.
-fn make_three_wait(table: &mut Table) -> Result<(), Refusal> {
-    let [first, second, third, fourth] = FIRST;
-    for _ in FIRST {
-        table.begin()?;
-    }
-    for (key, resource) in [(first, 0), (first, 1), (second, 1), (third, 0), (fourth, 0)] {
-        table.acquire(key, resource)?;
-    }
-    Ok(())
-}
-
-/// One that finishes hands over each of its resources to the longest waiter.
-const HANDS_OVER: [Step; 7] = [
-    Step::ThreeWait,
-    Step::Finish(P0, Ok(())),
-    Step::Owner(0, Ok(Some(P2))),
-    Step::Owner(1, Ok(Some(P1))),
-    Step::Tenant(3, Some(P3)),
-    Step::Lives(P3, Mode::Waiting(0), Named(2, 3), Named(2, 3)),
-    Step::Finish(P0, Err(Refusal::Stale)),
-];
-
-#[test]
-fn a_finish_hands_over(rt: HostRuntime) -> Result<(), Fail> {
-    answers(&rt, rt.alloc(), config(4, 2), &HANDS_OVER)?;
-    Ok(())
+fn each_refusal_has_its_number_and_name(rt: HostRuntime) {
+    assert!(rt; Refusal::Stale.number() == 1 && Refusal::Stale.name() == "Stale");
+    assert!(rt; Refusal::CountsExhausted.number() == 15);
+    let refused = on_a_table(&rt, rt.alloc(), config(0, 1), Work::Nothing);
+    assert!(rt; matches!(refused, Err(Refusal::BadConfig)));
 }
