@@ -2,14 +2,11 @@
 
 use crate::calls::{Round, block, crowd, hand_overs, rounds};
 use crate::clock::{nanoseconds_since, now};
-use mm_shared::{Name, Pass, SharedTable};
-use std::sync::Wait;
 use std::sync::atomic::AtomicBool;
 use std::sync::atomic::Ordering::SeqCst;
-use std::sync::ledger::Ledger;
 use std::thread::{Threads, join};
 use std::time::Clock;
-use test_seats::{Calls, Seat};
+use test_seats::Calls;
 
 /// What is timed.
 #[derive(Clone, Copy)]
@@ -129,36 +126,18 @@ fn time_beside<C: Calls + Send, R: Threads + Clock + Sync>(
     nanoseconds
 }
 
-/// The same with a part of the pass for the other thread.
-fn time_of_two<
-    N: Name + Send + Sync,
-    A: Ledger + Send + Sync,
-    V: Ledger + Send + Sync,
-    B: Ledger + Send + Sync,
-    R: Threads + Wait + Clock + Sync,
->(rt: &R, table: &SharedTable<N, A, V, B>, pass: Pass<N, A, V, B>, count: u32) -> u64 {
-    let mut pass = pass;
-    if pass.parts() < 2 {
+/// Does the work so many times at the last of the seats. Returns how many nanoseconds it took; 0 where there is no seat.
+pub fn time_of_work<C: Calls + Send + Drop, R: Threads + Clock + Sync>(
+    rt: &R,
+    seats: &mut Vec<C>,
+    work: Work,
+    count: u32,
+) -> u64 {
+    let Some(mut seat) = seats.pop() else {
         return 0;
+    };
+    match seats.last_mut() {
+        Some(other) => time_beside(rt, &mut seat, other, count),
+        None => time_of(rt, &mut seat, work, count),
     }
-    let mut other = Seat::new(rt, table, pass.split(table, 1));
-    let mut seat = Seat::new(rt, table, pass);
-    time_beside(rt, &mut seat, &mut other, count)
-}
-
-/// Does the work so many times. Returns how many nanoseconds it took.
-pub fn time_of_work<
-    N: Name + Send + Sync,
-    A: Ledger + Send + Sync,
-    V: Ledger + Send + Sync,
-    B: Ledger + Send + Sync,
-    R: Threads + Wait + Clock + Sync,
->(rt: &R, table: &SharedTable<N, A, V, B>, pass: Pass<N, A, V, B>, work: Work, count: u32) -> u64 {
-    if let Work::PeeksBeside = work {
-        return time_of_two(rt, table, pass, count);
-    }
-    let mut seat = Seat::new(rt, table, pass);
-    let taken = time_of(rt, &mut seat, work, count);
-    drop(seat);
-    taken
 }

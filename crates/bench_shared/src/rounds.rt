@@ -1,9 +1,7 @@
 //! What one thread does: transactions, each of which takes sixteen resources and finishes.
 
-use mm_shared::{Name, Pass, Refusal, SharedTable};
-use std::sync::Wait;
-use std::sync::ledger::Ledger;
-use test_seats::{Calls, Seat};
+use mm_shared::Refusal;
+use test_seats::Calls;
 
 /// How many resources each transaction takes.
 pub const RESOURCES: u32 = 16;
@@ -28,16 +26,8 @@ fn rounds<C: Calls>(seat: &mut C, first: u32, count: u32) -> u64 {
     done
 }
 
-/// So many transactions by this pass, one after another. Returns how many were done.
-pub fn rounds_by<N: Name, A: Ledger, V: Ledger, B: Ledger, R: Wait>(
-    rt: &R,
-    table: &SharedTable<N, A, V, B>,
-    pass: Pass<N, A, V, B>,
-    first: u32,
-    count: u32,
-) -> u64 {
-    let mut seat = Seat::new(rt, table, pass);
-    let done = rounds(&mut seat, first, count);
-    drop(seat);
-    done
+/// So many transactions at this seat, one after another. Returns how many were done.
+pub fn rounds_by<C: Calls + Drop>(seat: C, first: u32, count: u32) -> u64 {
+    let mut seat = seat;
+    rounds(&mut seat, first, count)
 }
