@@ -2,11 +2,12 @@
 ghost use Rattle.std.specs.Prelude.{◌≡◌};
 
 use crate::alone::CONFIG;
-use mm_shared::{Key, Name, Pass, Prepared, Refusal, SharedTable};
+use mm_shared::{Key, Name, Prepared, Refusal};
 use std::alloc::Global;
 use std::marker::Brand;
 use std::sync::Wait;
 use std::sync::ledger::Ledger;
+use test_seats::{Calls, Seat};
 
 /// `Prepared::new`.
 pub fn prepared(alloc: Global) -> Result<(), Refusal> {
@@ -31,68 +32,57 @@ fn used<N: Name, A: Ledger, V: Ledger, B: Ledger, R: Wait>(
     requires aborts { (prepared.aborts.name ≡ B.name) × (prepared.aborts.parts ≡ B.parts) }
 {
     let (table, mut pass) = prepared.open::<N, A, V, B>();
-    let mut other = pass.split(&table, 1);
-    let answer = deadlock(rt, &table, &mut pass, &mut other);
-    let _hint = table.scan(&mut pass, 0);
-    if table.processes() > 0 {
-        let _label = table.peek(&mut other, 0);
-    }
-    pass.join(&table, other);
+    let other = pass.split(&table, 1);
+    let mut seat = Seat::new(rt, &table, pass);
+    let mut other = Seat::new(rt, &table, other);
+    let answer = deadlock(&mut seat, &mut other);
+    let mut pass = seat.into_pass();
+    pass.join(&table, other.into_pass());
     match table.close(pass) {
         Ok(_report) => answer,
         Err(_) => Err(Refusal::Stale),
     }
 }
 
-/// Begins two transactions, each by a pass of its own.
-fn begin_both<N: Name, A: Ledger, V: Ledger, B: Ledger, R: Wait>(
-    rt: &R,
-    table: &SharedTable<N, A, V, B>,
-    pass: &mut Pass<N, A, V, B>,
-    other: &mut Pass<N, A, V, B>,
-) -> Result<(Key, Key), Refusal> {
-    let first = table.begin(rt, pass)?;
-    let second = table.begin(rt, other)?;
+/// Begins two transactions, each at a seat of its own.
+fn begin_both<C: Calls>(seat: &mut C, other: &mut C) -> Result<(Key, Key), Refusal> {
+    let first = seat.begin()?;
+    let second = other.begin()?;
     Ok((first, second))
 }
 
 /// Acquires a resource for each of the two.
-fn acquire_both<N: Name, A: Ledger, V: Ledger, B: Ledger, R: Wait>(
-    rt: &R,
-    table: &SharedTable<N, A, V, B>,
-    pass: &mut Pass<N, A, V, B>,
-    other: &mut Pass<N, A, V, B>,
+fn acquire_both<C: Calls>(
+    seat: &mut C,
+    other: &mut C,
     keys: (Key, Key),
     resources: (u32, u32),
 ) -> Result<(), Refusal> {
-    table.acquire(rt, pass, keys.0, resources.0)?;
-    table.acquire(rt, other, keys.1, resources.1)?;
+    seat.acquire(keys.0, resources.0)?;
+    other.acquire(keys.1, resources.1)?;
     Ok(())
 }
 
 /// The second of the two gets a verdict and is aborted, and the first one finishes.
-fn end_both<N: Name, A: Ledger, V: Ledger, B: Ledger, R: Wait>(
-    rt: &R,
-    table: &SharedTable<N, A, V, B>,
-    pass: &mut Pass<N, A, V, B>,
-    other: &mut Pass<N, A, V, B>,
-    keys: (Key, Key),
-) -> Result<(), Refusal> {
-    table.transmit(rt, pass, keys.0)?;
-    table.detect(rt, other, keys.1)?;
-    table.abort(rt, other, keys.1)?;
-    table.finish(rt, pass, keys.0)
+fn end_both<C: Calls>(seat: &mut C, other: &mut C, keys: (Key, Key)) -> Result<(), Refusal> {
+    seat.transmit(keys.0)?;
+    other.detect(keys.1)?;
+    other.abort(keys.1)?;
+    seat.finish(keys.0)
 }
 
-/// Two transactions that wait for each other, each by a pass of its own; the second one is aborted.
-fn deadlock<N: Name, A: Ledger, V: Ledger, B: Ledger, R: Wait>(
-    rt: &R,
-    table: &SharedTable<N, A, V, B>,
-    pass: &mut Pass<N, A, V, B>,
-    other: &mut Pass<N, A, V, B>,
-) -> Result<(), Refusal> {
-    let keys = begin_both(rt, table, pass, other)?;
-    acquire_both(rt, table, pass, other, keys, (0, 1))?;
-    acquire_both(rt, table, pass, other, keys, (1, 0))?;
-    end_both(rt, table, pass, other, keys)
+/// Two transactions that wait for each other, each at a seat of its own; the second one is aborted.
+fn wait_crosswise<C: Calls>(seat: &mut C, other: &mut C) -> Result<(), Refusal> {
+    let keys = begin_both(seat, other)?;
+    acquire_both(seat, other, keys, (0, 1))?;
+    acquire_both(seat, other, keys, (1, 0))?;
+    end_both(seat, other, keys)
+}
+
+/// The same, and then a scan and a peek at the board.
+fn deadlock<C: Calls>(seat: &mut C, other: &mut C) -> Result<(), Refusal> {
+    let answer = wait_crosswise(seat, other);
+    let _hint = seat.scan();
+    let _label = other.peek(0);
+    answer
 }
