@@ -7,6 +7,7 @@
 //! - `threads`: workloads by threads.
 //! - `storms`: workloads from seeds by threads.
 //! - `watch`: a run of a workload, with a look at its gate.
+//! - `passes`: the end of a test.
 //! - `open_gate`, `recorder`: a gate and steps for workers that run one after another.
 
 mod alone;
@@ -14,8 +15,8 @@ mod client;
 mod gates;
 mod lines;
 mod open_gate;
+mod passes;
 mod recorder;
-mod same;
 mod script;
 mod scripted;
 mod storms;

@@ -1,22 +1,21 @@
 //! One client on a table that nobody shares. Expected ends and totals are counted by hand, from the rules of docs/WORKLOADS.md.
 
 use crate::tests::open_gate::OpenGate;
-use crate::tests::same::same;
+use crate::tests::passes::all_pass;
 use mm_shared::{Config, Key};
 use mm_table::{Table, Totals};
 use mm_workers::{Client, End};
 use mm_workload::WorkStep;
-use std::alloc::{AllocError, Global};
+use std::alloc::Global;
 use std::cell::Cell;
-use std::process::Abort;
-use std::test::Fail;
 
 /// What a client is to do, and what comes of it.
 struct Case {
+    name: &'static str,
     /// How many processes the table has. It has one resource.
     processes: u32,
     /// Who begins before the client does, and acquires the resource.
-    holders: &'static [Key],
+    holder: Option<Key>,
     work: &'static [WorkStep],
     turns: u64,
     end: End,
@@ -26,142 +25,123 @@ struct Case {
     owner: Option<Key>,
 }
 
-/// Begins these transactions, and has each acquire the resource.
-fn hold<R: Abort>(rt: &R, table: &mut Table, holders: &[Key]) {
-    for holder in holders {
-        same(rt, table.begin().ok(), Some(*holder));
-        same(rt, table.acquire(*holder, 0).is_ok(), true);
+const HOLDER: Key = Key {
+    process: 0,
+    generation: 1,
+};
+
+static CASES: [Case; 5] = [
+    Case {
+        name: "a_client_that_makes_all_of_its_steps",
+        processes: 1,
+        holder: None,
+        work: &[WorkStep::Acquire(0), WorkStep::Release(0)],
+        turns: 1,
+        end: End::Finished,
+        accepted: 4,
+        owner: None,
+    },
+    Case {
+        name: "a_client_that_meets_itself",
+        processes: 1,
+        holder: None,
+        work: &[WorkStep::Meet(1), WorkStep::Meet(1)],
+        turns: 2,
+        end: End::Spent,
+        accepted: 1,
+        owner: None,
+    },
+    Case {
+        name: "a_resource_that_there_is_not",
+        processes: 1,
+        holder: None,
+        work: &[WorkStep::Acquire(5)],
+        turns: 1,
+        end: End::Refused(2),
+        accepted: 2,
+        owner: None,
+    },
+    Case {
+        name: "a_resource_that_is_its_own_already",
+        processes: 1,
+        holder: None,
+        work: &[WorkStep::Acquire(0), WorkStep::Acquire(0)],
+        turns: 1,
+        end: End::Refused(4),
+        accepted: 3,
+        owner: None,
+    },
+    Case {
+        name: "a_resource_that_nobody_hands_over",
+        processes: 2,
+        holder: Some(HOLDER),
+        work: &[WorkStep::Acquire(0)],
+        turns: 4,
+        end: End::Spent,
+        accepted: 10,
+        owner: Some(HOLDER),
+    },
+];
+
+/// Whether the holder begins and acquires the resource, where there is one.
+fn is_held(table: &mut Table, holder: Option<Key>) -> bool {
+    match holder {
+        Some(key) => table.begin() == Ok(key) && table.acquire(key, 0).is_ok(),
+        None => true,
     }
 }
 
-/// Ends the test unless the table has accepted so many calls, has no verdict, and the resource is owned as it is to be.
-fn is_left<R: Abort>(rt: &R, table: &Table, case: &Case) {
+/// Whether the table has accepted so many calls and has no verdict, and its resource has this owner.
+fn is_left(table: &Table, accepted: u64, owner: Option<Key>) -> bool {
     let totals = Totals {
-        accepted: case.accepted,
+        accepted,
         verdicts: 0,
         aborts: 0,
     };
-    same(rt, table.totals(), totals);
-    same(rt, table.owner(0).ok(), Some(case.owner));
+    table.totals() == totals && table.owner(0) == Ok(owner)
 }
 
-/// Runs a client on the table. Ends the test unless it ends as it is to, and leaves once.
-fn run<R: Abort>(rt: &R, table: Table, work: Vec<WorkStep>, case: &Case) -> Table {
+/// Whether a client on this table, which the holder holds before, ends as it is to, leaves once, and leaves the table as it is to.
+fn runs_so(mut table: Table, work: Vec<WorkStep>, case: &Case) -> bool {
+    let is_held = is_held(&mut table, case.holder);
     let left = Cell::new(0);
     let gate = OpenGate {
         left: &left,
         over: false,
     };
     let mut client = Client::new(table, gate, work, case.turns);
-    same(rt, client.run(), case.end);
-    same(rt, left.get(), 1);
-    client.into_steps()
+    let ends = client.run() == case.end && left.get() == 1;
+    let table = client.into_steps();
+    let is_left = is_left(&table, case.accepted, case.owner);
+    drop(table);
+    is_held && ends && is_left
 }
 
-/// Lets the client run on a table that is open.
-fn run_on<R: Abort>(rt: &R, table: Table, work: Vec<WorkStep>, case: &Case) {
-    let mut table = table;
-    hold(rt, &mut table, case.holders);
-    let table = run(rt, table, work, case);
-    is_left(rt, &table, case);
-}
-
-fn copied(alloc: Global, steps: &[WorkStep]) -> Result<Vec<WorkStep>, AllocError> {
-    let mut copy = Vec::new(alloc);
-    copy.extend_from_slice(steps)?;
-    Ok(copy)
-}
-
-/// Opens a table for the case, where labels and generations end at 9, and ends the test unless it comes to what it is to.
-fn comes_so<R: Abort>(rt: &R, alloc: Global, case: &Case) -> Result<(), Fail> {
+/// Whether the case comes to what it is to, on a table where labels and generations end at 9.
+fn comes_so(alloc: Global, case: &Case) -> bool {
     let config = Config {
         processes: case.processes,
         resources: 1,
         label_limit: 9,
         generation_limit: 9,
     };
-    let work = copied(alloc, case.work)?;
-    let table = Table::open(alloc, config)?;
-    run_on(rt, table, work, case);
-    Ok(())
+    match (Table::open(alloc, config), case.work.to_vec(alloc)) {
+        (Ok(table), Ok(work)) => runs_so(table, work, case),
+        _ => false,
+    }
 }
 
-static ALL_STEPS: Case = Case {
-    processes: 1,
-    holders: &[],
-    work: &[WorkStep::Acquire(0), WorkStep::Release(0)],
-    turns: 1,
-    end: End::Finished,
-    accepted: 4,
-    owner: None,
-};
-
-#[test]
-fn a_client_that_makes_all_of_its_steps(rt: HostRuntime) -> Result<(), Fail> {
-    comes_so(&rt, rt.alloc(), &ALL_STEPS)
+/// The first case that comes to something else.
+fn wrong_case(alloc: Global) -> Option<&'static str> {
+    for case in &CASES {
+        if !comes_so(alloc, case) {
+            return Some(case.name);
+        }
+    }
+    None
 }
 
-static MEETS_ITSELF: Case = Case {
-    processes: 1,
-    holders: &[],
-    work: &[WorkStep::Meet(1), WorkStep::Meet(1)],
-    turns: 2,
-    end: End::Spent,
-    accepted: 1,
-    owner: None,
-};
-
 #[test]
-fn a_client_that_meets_itself(rt: HostRuntime) -> Result<(), Fail> {
-    comes_so(&rt, rt.alloc(), &MEETS_ITSELF)
-}
-
-static NO_RESOURCE: Case = Case {
-    processes: 1,
-    holders: &[],
-    work: &[WorkStep::Acquire(5)],
-    turns: 1,
-    end: End::Refused(2),
-    accepted: 2,
-    owner: None,
-};
-
-#[test]
-fn a_resource_that_there_is_not(rt: HostRuntime) -> Result<(), Fail> {
-    comes_so(&rt, rt.alloc(), &NO_RESOURCE)
-}
-
-static ITS_OWN: Case = Case {
-    processes: 1,
-    holders: &[],
-    work: &[WorkStep::Acquire(0), WorkStep::Acquire(0)],
-    turns: 1,
-    end: End::Refused(4),
-    accepted: 3,
-    owner: None,
-};
-
-#[test]
-fn a_resource_that_is_its_own_already(rt: HostRuntime) -> Result<(), Fail> {
-    comes_so(&rt, rt.alloc(), &ITS_OWN)
-}
-
-const HOLDER: Key = Key {
-    process: 0,
-    generation: 1,
-};
-
-static NOT_HANDED_OVER: Case = Case {
-    processes: 2,
-    holders: &[HOLDER],
-    work: &[WorkStep::Acquire(0)],
-    turns: 4,
-    end: End::Spent,
-    accepted: 10,
-    owner: Some(HOLDER),
-};
-
-#[test]
-fn a_resource_that_nobody_hands_over(rt: HostRuntime) -> Result<(), Fail> {
-    comes_so(&rt, rt.alloc(), &NOT_HANDED_OVER)
+fn a_client_alone(rt: HostRuntime) {
+    all_pass(&rt, wrong_case(rt.alloc()));
 }

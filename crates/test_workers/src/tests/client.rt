@@ -5,51 +5,55 @@ mod refused;
 mod several;
 mod waits;
 
-use crate::tests::same::same;
+use crate::tests::passes::all_pass;
 use crate::tests::script::{Answer, Call, Script};
 use crate::tests::scripted::{ScriptedGate, ScriptedSteps};
 use mm_shared::Refusal;
 use mm_workers::{Client, End};
 use mm_workload::WorkStep;
-use std::alloc::{AllocError, Global};
-use std::process::Abort;
-use std::test::Fail;
+use std::alloc::Global;
 
 /// A client's work and turns, the calls that it makes with their answers, and its end.
 pub struct Case {
+    pub name: &'static str,
     pub work: &'static [WorkStep],
     pub turns: u64,
     pub calls: &'static [(Call, Answer)],
     pub end: End,
 }
 
-/// Runs each client. Ends the test unless it makes just the expected calls, and ends so.
-pub fn all_run<R: Abort>(rt: &R, alloc: Global, cases: &[Case]) -> Result<(), AllocError> {
-    for case in cases {
-        runs(rt, alloc, case.work, case.turns, case.calls, case.end)?;
-    }
-    Ok(())
+/// Whether a client with this work and so many turns makes just the calls of the script, and ends so.
+pub fn runs_so(alloc: Global, script: &Script, work: &[WorkStep], turns: u64, end: End) -> bool {
+    let Ok(work) = work.to_vec(alloc) else {
+        return false;
+    };
+    let mut client = client(script, work, turns);
+    client.run() == end && script.is_over()
 }
 
-/// Runs a client with this work and so many turns. Ends the test unless it makes just these calls, and ends so.
-pub fn runs<R: Abort>(
-    rt: &R,
-    alloc: Global,
-    work: &[WorkStep],
+/// A client whose table and gate answer by the script.
+pub fn client<'a>(
+    script: &'a Script<'a>,
+    work: Vec<WorkStep>,
     turns: u64,
-    calls: &[(Call, Answer)],
-    expected: End,
-) -> Result<(), AllocError> {
-    let work = work.to_vec(alloc)?;
-    let script = Script::new(calls);
-    let steps = ScriptedSteps::new(&script);
-    let gate = ScriptedGate { script: &script };
-    let mut client = Client::new(steps, gate, work, turns);
-    let end = client.run();
-    same(rt, script.wrong.get(), None);
-    same(rt, script.place.get(), calls.len());
-    same(rt, end, expected);
-    Ok(())
+) -> Client<ScriptedSteps<'a>, ScriptedGate<'a>> {
+    Client::new(
+        ScriptedSteps::new(script),
+        ScriptedGate { script },
+        work,
+        turns,
+    )
+}
+
+/// The first case in which a client makes other calls, or ends otherwise.
+pub fn wrong_case(alloc: Global, cases: &[Case]) -> Option<&'static str> {
+    for case in cases {
+        let script = Script::new(case.calls, &[]);
+        if !runs_so(alloc, &script, case.work, case.turns, case.end) {
+            return Some(case.name);
+        }
+    }
+    None
 }
 
 const MEETS: [WorkStep; 3] = [
@@ -58,9 +62,12 @@ const MEETS: [WorkStep; 3] = [
     WorkStep::Meet(2),
 ];
 
-/// A turn for the begin, and one for each asking at the gate.
-static TO_THE_END: [Case; 4] = [
+const FULL: (Call, Answer) = (Call::Begin, Answer::Refused(Refusal::Full));
+
+/// A turn for the begin, and one for each asking at the gate. A begin that finds no free slot is tried again, a turn each.
+static CASES: [Case; 7] = [
     Case {
+        name: "a_client_goes_on_to_its_end, past a meeting",
         work: &MEETS,
         turns: 3,
         calls: &[
@@ -76,6 +83,7 @@ static TO_THE_END: [Case; 4] = [
         end: End::Finished,
     },
     Case {
+        name: "a_client_goes_on_to_its_end, without a turn for the second asking",
         work: &MEETS,
         turns: 2,
         calls: &[
@@ -89,6 +97,7 @@ static TO_THE_END: [Case; 4] = [
         end: End::Spent,
     },
     Case {
+        name: "a_client_goes_on_to_its_end, without a turn for the asking",
         work: &[WorkStep::Meet(1)],
         turns: 1,
         calls: &[
@@ -99,6 +108,7 @@ static TO_THE_END: [Case; 4] = [
         end: End::Spent,
     },
     Case {
+        name: "a_client_goes_on_to_its_end, without a step",
         work: &[],
         turns: 1,
         calls: &[
@@ -108,13 +118,8 @@ static TO_THE_END: [Case; 4] = [
         ],
         end: End::Finished,
     },
-];
-
-const FULL: (Call, Answer) = (Call::Begin, Answer::Refused(Refusal::Full));
-
-/// A begin that finds no free slot is tried again, a turn each.
-static WHERE_IT_IS_FULL: [Case; 3] = [
     Case {
+        name: "a_client_begins_where_a_slot_is_free, at the third try",
         work: &[],
         turns: 3,
         calls: &[
@@ -127,12 +132,14 @@ static WHERE_IT_IS_FULL: [Case; 3] = [
         end: End::Finished,
     },
     Case {
+        name: "a_client_begins_where_a_slot_is_free, of two tries at neither",
         work: &[],
         turns: 2,
         calls: &[FULL, FULL, (Call::Leave, Answer::Done)],
         end: End::Spent,
     },
     Case {
+        name: "a_client_begins_where_a_slot_is_free, without a turn",
         work: &[],
         turns: 0,
         calls: &[(Call::Leave, Answer::Done)],
@@ -141,13 +148,6 @@ static WHERE_IT_IS_FULL: [Case; 3] = [
 ];
 
 #[test]
-fn a_client_goes_on_to_its_end(rt: HostRuntime) -> Result<(), Fail> {
-    all_run(&rt, rt.alloc(), &TO_THE_END)?;
-    Ok(())
-}
-
-#[test]
-fn a_client_begins_where_a_slot_is_free(rt: HostRuntime) -> Result<(), Fail> {
-    all_run(&rt, rt.alloc(), &WHERE_IT_IS_FULL)?;
-    Ok(())
+fn a_client_begins_and_goes_on_to_its_end(rt: HostRuntime) {
+    all_pass(&rt, wrong_case(rt.alloc(), &CASES));
 }

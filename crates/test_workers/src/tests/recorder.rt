@@ -1,106 +1,168 @@
-//! Steps that note the calls that are made.
+//! Steps that hold the calls that are made against those that are expected.
 ghost use Rattle.std.specs.Prelude.{◌≡◌};
 
-use crate::tests::same::same;
 use mm_shared::{Acquired, Detected, Key, Refusal, Released, Settled, Transmitted};
-use mm_workers::{Hint, Steps};
-use std::process::Abort;
+use mm_workers::{Hint, HintKind, Steps};
 
-/// A call and its answer, of those that a transmitter makes. `Other` is any of the rest.
+/// A call and its answer, of those that a transmitter makes.
 #[derive(Clone, Copy, PartialEq)]
 pub enum Call {
-    Scan(u32, Option<Hint>),
+    /// From which process it looks, what it sees, and of which process and holder: 0 and 0 where it sees nothing.
+    Scan(u32, Sight, u32, u32),
     Tenant(u32, Option<Key>),
-    Transmit(Key, Result<Transmitted, Refusal>),
-    Detect(Key, Result<Detected, Refusal>),
+    /// A transmit or a detect, its reply, and the counter and the process of the label in the reply: 0 and 0 where there is none.
+    Event(Key, Reply, u64, u32),
+}
+
+/// What a scan sees.
+#[derive(Clone, Copy, PartialEq)]
+pub enum Sight {
+    /// A process whose holder has a higher label.
+    Higher,
+    /// A process whose holder has the same label.
+    Equal,
+    Nothing,
+}
+
+/// A reply to a transmit or to a detect.
+#[derive(Clone, Copy, PartialEq)]
+pub enum Reply {
+    Raised,
+    Deadlock,
+    Clear,
+    Stale,
+    /// Any of the rest.
     Other,
 }
 
-/// The first place where two lists of calls differ.
-fn first_difference(came: &[Call], expected: &[Call]) -> Option<usize> {
-    let mut place = 0usize;
-    for (call, wanted) in came.iter().zip(expected) {
-        if call != wanted {
-            return Some(place);
-        }
-        place = place.saturating_add(1);
-    }
-    (came.len() != expected.len()).then_some(place)
-}
-
-/// Ends the test unless just these calls were made.
-pub fn are_made(rt: &impl Abort, came: &[Call], expected: &[Call]) {
-    same(rt, first_difference(came, expected), None);
-}
-
-/// A table, and the calls that were made of it, in order. An answer with a label in it is copied through a reference, since a copy by name
-/// counts as a move in proofs.
+/// A table, and how far the calls that are made of it are those that are expected.
 #[derive(Drop)]
-pub struct Recorder<S: Steps + Drop> {
+pub struct Recorder<'a, S: Steps + Drop> {
     pub steps: S,
-    pub calls: Vec<Call>,
+    expected: &'a [Call],
+    place: usize,
+    /// Whether another call came than was expected.
+    is_wrong: bool,
 }
 
-impl<S: Steps + Drop> Recorder<S> {
-    /// Notes a call. Where memory is refused, it is missed, and the test then fails.
+impl<'a, S: Steps + Drop> Recorder<'a, S> {
+    pub fn new(steps: S, expected: &'a [Call]) -> Recorder<'a, S> {
+        Recorder {
+            steps,
+            expected,
+            place: 0,
+            is_wrong: false,
+        }
+    }
+
+    /// Gives the table back.
+    pub fn into_steps(self) -> S {
+        let Recorder {
+            steps,
+            expected: _,
+            place: _,
+            is_wrong: _,
+        } = self;
+        steps
+    }
+
+    /// Whether just the expected calls were made.
+    pub fn is_over(&self) -> bool {
+        !self.is_wrong && self.place == self.expected.len()
+    }
+
+    /// Compares a call with the one that is expected.
     fn note(&mut self, call: Call)
         ensures { self.new.steps ≡ self.old.steps }
     {
-        let _ = self.calls.push(call);
+        match self.expected.get(self.place) {
+            Some(expected) if *expected == call => self.place = self.place.saturating_add(1),
+            _ => self.is_wrong = true,
+        }
     }
 }
 
-impl<S: Steps + Drop> Steps for Recorder<S> {
+/// A scan with this answer.
+fn scan_of(from: u32, answer: Option<Hint>) -> Call {
+    let Some(hint) = answer else {
+        return Call::Scan(from, Sight::Nothing, 0, 0);
+    };
+    let sight = match hint.kind {
+        HintKind::Raise => Sight::Higher,
+        HintKind::Equal => Sight::Equal,
+    };
+    Call::Scan(from, sight, hint.process, hint.holder)
+}
+
+/// A transmit with this answer.
+fn transmit_of(key: Key, answer: &Result<Transmitted, Refusal>) -> Call {
+    match answer {
+        Ok(Transmitted::Raised(label)) => {
+            Call::Event(key, Reply::Raised, label.counter(), label.process())
+        }
+        Err(Refusal::Stale) => Call::Event(key, Reply::Stale, 0, 0),
+        _ => Call::Event(key, Reply::Other, 0, 0),
+    }
+}
+
+/// A detect with this answer.
+fn detect_of(key: Key, answer: &Result<Detected, Refusal>) -> Call {
+    match answer {
+        Ok(Detected::Deadlock(label)) => {
+            Call::Event(key, Reply::Deadlock, label.counter(), label.process())
+        }
+        Ok(Detected::Clear) => Call::Event(key, Reply::Clear, 0, 0),
+        _ => Call::Event(key, Reply::Other, 0, 0),
+    }
+}
+
+impl<'a, S: Steps + Drop> Steps for Recorder<'a, S> {
     ghost shares = { λ recorder. S.shares recorder.steps };
 
     fn begin(&mut self) -> Result<Key, Refusal> {
-        self.note(Call::Other);
+        self.is_wrong = true;
         self.steps.begin()
     }
 
     fn acquire(&mut self, key: Key, resource: u32) -> Result<Acquired, Refusal> {
-        self.note(Call::Other);
+        self.is_wrong = true;
         self.steps.acquire(key, resource)
     }
 
     fn release(&mut self, key: Key, resource: u32) -> Result<Released, Refusal> {
-        self.note(Call::Other);
+        self.is_wrong = true;
         self.steps.release(key, resource)
     }
 
     fn finish(&mut self, key: Key) -> Result<(), Refusal> {
-        self.note(Call::Other);
+        self.is_wrong = true;
         self.steps.finish(key)
     }
 
     fn transmit(&mut self, key: Key) -> Result<Transmitted, Refusal> {
         let answer = self.steps.transmit(key);
-        let noted = &answer;
-        let noted = *noted;
-        self.note(Call::Transmit(key, noted));
+        self.note(transmit_of(key, &answer));
         answer
     }
 
     fn detect(&mut self, key: Key) -> Result<Detected, Refusal> {
         let answer = self.steps.detect(key);
-        let noted = &answer;
-        let noted = *noted;
-        self.note(Call::Detect(key, noted));
+        self.note(detect_of(key, &answer));
         answer
     }
 
     fn abort(&mut self, key: Key) -> Result<(), Refusal> {
-        self.note(Call::Other);
+        self.is_wrong = true;
         self.steps.abort(key)
     }
 
     fn give_up(&mut self, key: Key) -> Result<(), Refusal> {
-        self.note(Call::Other);
+        self.is_wrong = true;
         self.steps.give_up(key)
     }
 
     fn settle(&mut self) -> Result<Settled, Refusal> {
-        self.note(Call::Other);
+        self.is_wrong = true;
         self.steps.settle()
     }
 
@@ -112,7 +174,7 @@ impl<S: Steps + Drop> Steps for Recorder<S> {
 
     fn scan(&mut self, from: u32) -> Option<Hint> {
         let answer = self.steps.scan(from);
-        self.note(Call::Scan(from, answer));
+        self.note(scan_of(from, answer));
         answer
     }
 }

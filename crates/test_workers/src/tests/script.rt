@@ -32,21 +32,31 @@ pub enum Answer {
     Refused(Refusal),
 }
 
-/// The script, and how far it is.
+/// The script, and how far it is. The lines of `rest` follow those of `front`.
 #[derive(Drop)]
 pub struct Script<'a> {
-    pub lines: &'a [(Call, Answer)],
-    pub place: Cell<usize>,
-    /// The first place where another call came than was expected.
-    pub wrong: Cell<Option<usize>>,
+    front: &'a [(Call, Answer)],
+    rest: &'a [(Call, Answer)],
+    place: Cell<usize>,
+    /// Whether another call came than was expected.
+    is_wrong: Cell<bool>,
 }
 
 impl<'a> Script<'a> {
-    pub fn new(lines: &'a [(Call, Answer)]) -> Script<'a> {
+    pub fn new(front: &'a [(Call, Answer)], rest: &'a [(Call, Answer)]) -> Script<'a> {
         Script {
-            lines,
+            front,
+            rest,
             place: Cell::new(0),
-            wrong: Cell::new(None),
+            is_wrong: Cell::new(false),
+        }
+    }
+
+    /// The line at this place.
+    fn line(&self, place: usize) -> Option<&(Call, Answer)> {
+        match self.front.get(place) {
+            Some(line) => Some(line),
+            None => self.rest.get(place.saturating_sub(self.front.len())),
         }
     }
 
@@ -54,14 +64,17 @@ impl<'a> Script<'a> {
     pub fn answer(&self, call: Call) -> Answer {
         let place = self.place.get();
         self.place.set(place.saturating_add(1));
-        match self.lines.get(place) {
+        match self.line(place) {
             Some((expected, answer)) if *expected == call => *answer,
             _ => {
-                if self.wrong.get().is_none() {
-                    self.wrong.set(Some(place));
-                }
+                self.is_wrong.set(true);
                 Answer::Refused(Refusal::CountsExhausted)
             }
         }
+    }
+
+    /// Whether just the calls of the script were made.
+    pub fn is_over(&self) -> bool {
+        !self.is_wrong.get() && self.line(self.place.get()).is_none()
     }
 }

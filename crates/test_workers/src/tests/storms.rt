@@ -1,63 +1,53 @@
 //! Workloads from seeds by threads. Who is aborted depends on the threads, but who is not finishes, and each verdict leads to one abort.
+ghost use Rattle.std.specs.Prelude.{◌≤◌};
 
-use crate::tests::same::same;
-use crate::tests::watch::{count, ended, watched};
-use mm_workers::{End, Outcome};
-use mm_workload::{StormShape, WorkFault, Workload, shaped_storm, storm};
+use crate::tests::passes::passes;
+use crate::tests::watch::watched;
+use mm_workload::{StormShape, shaped_storm};
 use std::alloc::Global;
-use std::process::Abort;
 use std::sync::Wait;
-use std::test::Fail;
 use std::thread::Threads;
 
-/// Runs a storm. Ends the test unless each of its clients finishes or is aborted, each of these for one verdict and by one abort.
-fn breaks_its_deadlocks<R: Threads + Wait + Abort + Sync>(rt: &R, alloc: Global, storm: &Workload) {
-    match watched(rt, alloc, storm) {
-        Ok((Ok(outcome), _)) => {
-            let clients = storm.clients().len() as u64;
-            let aborted = count(outcome.ends.as_slice(), End::Aborted);
-            ended(rt, &outcome, clients.saturating_sub(aborted), aborted);
-        }
-        _ => assert!(rt; false),
+/// Runs a storm of so many transactions a client. Whether each of them finishes or is aborted, each of these for one verdict and by one abort, and
+/// each client leaves once.
+fn breaks_its_deadlocks<R: Threads + Wait + Sync>(
+    rt: &R,
+    alloc: Global,
+    shape: &StormShape,
+    seed: u64,
+    clients: u32,
+    transmitters: u32,
+) -> bool
+    requires clients { (1 ≤ clients) × (clients ≤ 64) }
+    requires transmitters { transmitters ≤ 64 }
+{
+    let Ok(storm) = shaped_storm(alloc, shape, seed, clients, transmitters) else {
+        return false;
+    };
+    let run = watched(rt, alloc, &storm, false);
+    drop(storm);
+    let clients = clients as usize;
+    run.is_well(clients, clients.saturating_mul(shape.transactions as usize))
+}
+
+/// The storm of seed 1, which is the same one each time: a test of `test_script` compares the clients of two.
+#[test]
+fn the_same_storm_twice(rt: HostRuntime) {
+    for _ in 0..2 {
+        let breaks = breaks_its_deadlocks(&rt, rt.alloc(), &StormShape::USUAL, 1, 8, 2);
+        passes(&rt, "the_same_storm_twice", breaks);
     }
 }
 
-fn have_the_same_clients(rt: &impl Abort, one: &Workload, other: &Workload) {
-    assert!(rt; one.clients() == other.clients());
-}
-
-/// Makes this storm again, and ends the test unless it is the same one. Both break their deadlocks.
-fn is_made_again<R: Threads + Wait + Abort + Sync>(
-    rt: &R,
-    alloc: Global,
-    one: &Workload,
-) -> Result<(), WorkFault> {
-    let other = storm(alloc, 1, 8, 2)?;
-    have_the_same_clients(rt, one, &other);
-    breaks_its_deadlocks(rt, alloc, one);
-    breaks_its_deadlocks(rt, alloc, &other);
-    drop(other);
-    Ok(())
-}
-
 #[test]
-fn the_same_storm_twice(rt: HostRuntime) -> Result<(), Fail> {
-    let one = storm(rt.alloc(), 1, 8, 2)?;
-    let made = is_made_again(&rt, rt.alloc(), &one);
-    drop(one);
-    Ok(made?)
-}
-
-#[test]
-fn two_hundred_storms(rt: HostRuntime) -> Result<(), Fail> {
+fn two_hundred_storms(rt: HostRuntime) {
     for seed in 1..201u64 {
         let clients = 1 + (seed % 12) as u32;
         let transmitters = (seed % 4) as u32;
-        let storm = storm(rt.alloc(), seed, clients, transmitters)?;
-        breaks_its_deadlocks(&rt, rt.alloc(), &storm);
-        drop(storm);
+        let shape = &StormShape::USUAL;
+        let breaks = breaks_its_deadlocks(&rt, rt.alloc(), shape, seed, clients, transmitters);
+        passes(&rt, "two_hundred_storms", breaks);
     }
-    Ok(())
 }
 
 /// Two resources, which most transactions want both, in either order.
@@ -67,45 +57,13 @@ const FEW_RESOURCES: StormShape = StormShape {
     transactions: 50,
 };
 
-/// Ends the test unless so many transactions finished or were aborted, none ended otherwise, and the report counts one verdict and one abort
-/// for each that was aborted.
-fn books_agree(rt: &impl Abort, outcome: &Outcome, transactions: usize) {
-    let counted = outcome.counted();
-    same(
-        rt,
-        counted.finished.saturating_add(counted.aborted),
-        transactions,
-    );
-    same(rt, (counted.spent, counted.refused), (0, 0));
-    same(rt, outcome.report.verdicts, counted.aborted as u64);
-    same(rt, outcome.report.aborts, counted.aborted as u64);
-}
-
-/// Runs a storm of several transactions a client. Ends the test unless the books agree, and each client leaves once.
-fn runs_to_the_end<R: Threads + Wait + Abort + Sync>(rt: &R, alloc: Global, storm: &Workload) {
-    let clients = storm.clients().len();
-    let Ok((ran, counts)) = watched(rt, alloc, storm) else {
-        assert!(rt; false);
-        return;
-    };
-    match ran {
-        Ok(outcome) => {
-            same(rt, outcome.ends.len(), clients);
-            same(rt, counts.left as usize, clients);
-            books_agree(rt, &outcome, clients.saturating_mul(50));
-        }
-        Err(_) => assert!(rt; false),
-    }
-}
-
 #[test]
-fn storms_of_several_transactions(rt: HostRuntime) -> Result<(), Fail> {
+fn storms_of_several_transactions(rt: HostRuntime) {
     for seed in 1..21u64 {
         let clients = 1 + (seed % 8) as u32;
         let transmitters = (seed % 3) as u32;
-        let storm = shaped_storm(rt.alloc(), &FEW_RESOURCES, seed, clients, transmitters)?;
-        runs_to_the_end(&rt, rt.alloc(), &storm);
-        drop(storm);
+        let shape = &FEW_RESOURCES;
+        let breaks = breaks_its_deadlocks(&rt, rt.alloc(), shape, seed, clients, transmitters);
+        passes(&rt, "storms_of_several_transactions", breaks);
     }
-    Ok(())
 }

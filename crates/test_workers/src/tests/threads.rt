@@ -1,14 +1,12 @@
 //! Workloads by threads, each with one outcome whatever the threads do.
 
-use crate::tests::same::same;
-use crate::tests::watch::{ended, watched};
+use crate::tests::passes::all_pass;
+use crate::tests::watch::watched;
 use mm_shared::Refusal;
 use mm_workers::Counts;
 use mm_workload::Workload;
 use std::alloc::Global;
-use std::process::Abort;
 use std::sync::Wait;
-use std::test::Fail;
 use std::thread::Threads;
 
 /// Two clients that meet with a resource each, and ask for the other's.
@@ -23,58 +21,116 @@ const IN_ORDER: &str =
 const NO_PROCESS: &str =
     r#"{"processes":0,"resources":1,"label_limit":9,"generation_limit":9,"transmitters":1,"turns":9,"clients":[[["meet",1]]]}"#;
 
-/// Runs the workload. Ends the test unless so many clients finish and so many are aborted, each client leaves once, and so many arrive.
-fn runs<R: Threads + Wait + Abort + Sync>(
+/// Two clients that never wait for each other, and three transmitters of five turns each.
+const APART: &str =
+    r#"{"processes":2,"resources":2,"label_limit":9,"generation_limit":9,"transmitters":3,"turns":5,"clients":[[["acquire",0],["release",0]],[["acquire",1]]]}"#;
+
+/// A workload, and what comes of it: whether it is refused, how many clients finish and how many are aborted, and what the gates count.
+struct Case {
+    name: &'static str,
+    text: &'static str,
+    /// Whether the gates count how often transmitters look whether all clients have left, in place of arrivals, and are never over.
+    counts_looks: bool,
+    refusal: Option<Refusal>,
+    finished: usize,
+    aborted: usize,
+    /// How many calls are accepted, where that is the same in each run.
+    accepted: Option<u64>,
+    counts: Counts,
+}
+
+static CASES: [Case; 4] = [
+    Case {
+        name: "one_of_two_is_aborted",
+        text: CROSSWISE,
+        counts_looks: false,
+        refusal: None,
+        finished: 1,
+        aborted: 1,
+        accepted: None,
+        counts: Counts {
+            arrived: 2,
+            left: 2,
+        },
+    },
+    Case {
+        name: "eight_in_order_finish",
+        text: IN_ORDER,
+        counts_looks: false,
+        refusal: None,
+        finished: 8,
+        aborted: 0,
+        accepted: None,
+        counts: Counts {
+            arrived: 0,
+            left: 8,
+        },
+    },
+    Case {
+        name: "a_table_that_is_refused_starts_no_worker",
+        text: NO_PROCESS,
+        counts_looks: false,
+        refusal: Some(Refusal::BadConfig),
+        finished: 0,
+        aborted: 0,
+        accepted: None,
+        counts: Counts {
+            arrived: 0,
+            left: 0,
+        },
+    },
+    Case {
+        name: "each_transmitter_has_all_turns_and_each_call_is_reported",
+        text: APART,
+        counts_looks: true,
+        refusal: None,
+        finished: 2,
+        aborted: 0,
+        accepted: Some(7),
+        counts: Counts {
+            arrived: 15,
+            left: 2,
+        },
+    },
+];
+
+/// Whether the workload comes to what the case says.
+fn comes_so<R: Threads + Wait + Sync>(
     rt: &R,
     alloc: Global,
     workload: &Workload,
-    expected: (u64, u64),
-    counts: Counts,
-) {
-    let Ok((came, counted)) = watched(rt, alloc, workload) else {
-        assert!(rt; false);
-        return;
+    case: &Case,
+) -> bool {
+    let run = watched(rt, alloc, workload, case.counts_looks);
+    let ended = case.finished.saturating_add(case.aborted);
+    run.refusal == case.refusal
+        && run.ends.aborted == case.aborted
+        && run.counts == case.counts
+        && (case.accepted == None || case.accepted == Some(run.report.accepted))
+        && run.is_well(ended, ended)
+}
+
+/// Whether the workload of the case is read, and comes to what the case says.
+fn is_read_and_comes_so<R: Threads + Wait + Sync>(rt: &R, alloc: Global, case: &Case) -> bool {
+    let Ok(workload) = Workload::read(alloc, case.text.as_bytes()) else {
+        return false;
     };
-    match came {
-        Ok(outcome) => ended(rt, &outcome, expected.0, expected.1),
-        Err(_) => assert!(rt; false),
+    let comes = comes_so(rt, alloc, &workload, case);
+    drop(workload);
+    comes
+}
+
+/// The first case that comes to something else.
+fn wrong_case<R: Threads + Wait + Sync>(rt: &R, alloc: Global) -> Option<&'static str> {
+    for case in &CASES {
+        if !is_read_and_comes_so(rt, alloc, case) {
+            return Some(case.name);
+        }
     }
-    same(rt, counted, counts);
+    None
 }
 
 #[test]
-fn one_of_two_is_aborted(rt: HostRuntime) -> Result<(), Fail> {
-    let workload = Workload::read(rt.alloc(), CROSSWISE.as_bytes())?;
-    let counts = Counts {
-        arrived: 2,
-        left: 2,
-    };
-    runs(&rt, rt.alloc(), &workload, (1, 1), counts);
-    drop(workload);
-    Ok(())
-}
-
-#[test]
-fn eight_in_order_finish(rt: HostRuntime) -> Result<(), Fail> {
-    let workload = Workload::read(rt.alloc(), IN_ORDER.as_bytes())?;
-    let counts = Counts {
-        arrived: 0,
-        left: 8,
-    };
-    runs(&rt, rt.alloc(), &workload, (8, 0), counts);
-    drop(workload);
-    Ok(())
-}
-
-#[test]
-fn a_table_that_is_refused_starts_no_worker(rt: HostRuntime) -> Result<(), Fail> {
-    let workload = Workload::read(rt.alloc(), NO_PROCESS.as_bytes())?;
-    let (came, counted) = watched(&rt, rt.alloc(), &workload)?;
-    same(&rt, came.err(), Some(Refusal::BadConfig));
-    let none = Counts {
-        arrived: 0,
-        left: 0,
-    };
-    same(&rt, counted, none);
-    Ok(())
+fn workloads_with_one_outcome(rt: HostRuntime) {
+    all_pass(&rt, wrong_case(&rt, rt.alloc()));
 }

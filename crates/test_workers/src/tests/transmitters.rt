@@ -1,23 +1,21 @@
-//! One transmitter on steps that note its calls: on a script, on a table that nobody shares, and on a shared one. Expected calls are those
+//! One transmitter on steps that look at its calls: on a script, on a table that nobody shares, and on a shared one. Expected calls are those
 //! of the rules of docs/WORKLOADS.md, by hand.
 ghost use Rattle.std.specs.Prelude.{◌≡◌};
 
 use crate::tests::open_gate::OpenGate;
-use crate::tests::recorder::{Call, Recorder, are_made};
-use crate::tests::same::same;
+use crate::tests::passes::{all_pass, passes};
+use crate::tests::recorder::{Call, Recorder, Reply, Sight};
 use crate::tests::script::{Answer, Call as Line, Script};
 use crate::tests::scripted::ScriptedSteps;
-use mm_shared::{Config, Detected, Key, Name, Pass, Prepared, Refusal, SharedTable, Transmitted};
+use mm_shared::{Config, Key, Name, Pass, Prepared, Refusal, SharedTable};
 use mm_table::{Table, Totals};
 use mm_workers::{Desk, Hint, HintKind, Report, Steps, Transmitter};
-use std::alloc::{AllocError, Global};
+use std::alloc::Global;
 use std::cell::Cell;
 use std::marker::Brand;
-use std::process::Abort;
 use std::sync::Wait;
 use std::sync::ledger::Ledger;
 use std::test::Fail;
-use test_support::label;
 
 /// The configuration of the tables: four processes and four resources.
 const FOUR: Config = Config {
@@ -27,30 +25,34 @@ const FOUR: Config = Config {
     generation_limit: 9,
 };
 
-/// The first key of this process.
-fn first_key(process: u32) -> Key {
-    Key {
-        process,
-        generation: 1,
-    }
-}
+// The first key of each process.
 
-fn hint(process: u32, holder: u32, kind: HintKind) -> Option<Hint> {
-    Some(Hint {
-        process,
-        holder,
-        kind,
-    })
-}
+const FIRST: Key = Key {
+    process: 0,
+    generation: 1,
+};
 
-/// Room for the calls of a transmitter.
-fn room(alloc: Global) -> Result<Vec<Call>, AllocError> {
-    Vec::with_capacity(alloc, 100)
-}
+const SECOND: Key = Key {
+    process: 1,
+    generation: 1,
+};
 
-/// Runs a transmitter for four processes, and gives back the table and its calls.
-fn transmit<S: Steps + Drop>(steps: S, calls: Vec<Call>, turns: u64, over: bool) -> Recorder<S> {
-    let recorder = Recorder { steps, calls };
+const THIRD: Key = Key {
+    process: 2,
+    generation: 1,
+};
+
+const FOURTH: Key = Key {
+    process: 3,
+    generation: 1,
+};
+
+/// Runs a transmitter for four processes, and gives back the table.
+fn transmit<'a, S: Steps + Drop>(
+    recorder: Recorder<'a, S>,
+    turns: u64,
+    over: bool,
+) -> Recorder<'a, S> {
     let left = Cell::new(0);
     let gate = OpenGate { left: &left, over };
     let mut transmitter = Transmitter::new(recorder, gate, 4, turns);
@@ -65,241 +67,273 @@ static REFUSED: [(Line, Answer); 3] = [
     (Line::Transmit, Answer::Refused(Refusal::Stale)),
 ];
 
-/// Runs a transmitter where the first scan gives this hint, and later ones none, each process has this tenant, and each event is refused.
-/// Ends the test unless it makes these calls.
-fn makes_without_a_table(
-    rt: &impl Abort,
-    alloc: Global,
+/// A transmitter without a table: the first scan gives this hint, and later ones none, each process has this tenant, and each event is refused. It
+/// makes these calls.
+struct Case {
+    name: &'static str,
     hint: Option<Hint>,
     tenant: Option<Key>,
     turns: u64,
     over: bool,
-    calls: &[Call],
-) -> Result<(), Fail> {
-    let room = room(alloc)?;
-    let script = Script::new(&REFUSED);
+    calls: &'static [Call],
+}
+
+static CASES: [Case; 4] = [
+    Case {
+        name: "without_a_hint_it_looks_alone",
+        hint: None,
+        tenant: Some(FIRST),
+        turns: 100,
+        over: false,
+        calls: &[Call::Scan(0, Sight::Nothing, 0, 0); 100],
+    },
+    Case {
+        name: "once_all_clients_have_left_it_calls_nothing",
+        hint: None,
+        tenant: None,
+        turns: 100,
+        over: true,
+        calls: &[],
+    },
+    Case {
+        name: "behind_the_last_process_it_begins_anew",
+        hint: Some(Hint {
+            process: 3,
+            holder: 1,
+            kind: HintKind::Raise,
+        }),
+        tenant: Some(FOURTH),
+        turns: 2,
+        over: false,
+        calls: &[
+            Call::Scan(0, Sight::Higher, 3, 1),
+            Call::Tenant(3, Some(FOURTH)),
+            Call::Event(FOURTH, Reply::Stale, 0, 0),
+            Call::Scan(0, Sight::Nothing, 0, 0),
+        ],
+    },
+    Case {
+        name: "whoever_is_gone_is_passed_by",
+        hint: Some(Hint {
+            process: 1,
+            holder: 3,
+            kind: HintKind::Equal,
+        }),
+        tenant: None,
+        turns: 3,
+        over: false,
+        calls: &[
+            Call::Scan(0, Sight::Equal, 1, 3),
+            Call::Tenant(1, None),
+            Call::Scan(2, Sight::Nothing, 0, 0),
+            Call::Scan(0, Sight::Nothing, 0, 0),
+        ],
+    },
+];
+
+/// Whether a transmitter makes the calls of the case.
+fn makes_calls(case: &Case) -> bool {
+    let script = Script::new(&REFUSED, &[]);
     let mut steps = ScriptedSteps::new(&script);
-    steps.hint = hint;
-    steps.tenant = tenant;
-    let came = transmit(steps, room, turns, over);
-    are_made(rt, came.calls.as_slice(), calls);
-    Ok(())
+    steps.hint = case.hint;
+    steps.tenant = case.tenant;
+    transmit(Recorder::new(steps, case.calls), case.turns, case.over).is_over()
+}
+
+/// The first case in which a transmitter makes other calls.
+fn wrong_case() -> Option<&'static str> {
+    for case in &CASES {
+        if !makes_calls(case) {
+            return Some(case.name);
+        }
+    }
+    None
 }
 
 #[test]
-fn without_a_hint_it_looks_alone(rt: HostRuntime) -> Result<(), Fail> {
-    let calls = [Call::Scan(0, None); 100];
-    let tenant = Some(first_key(0));
-    makes_without_a_table(&rt, rt.alloc(), None, tenant, 100, false, &calls)
+fn a_transmitter_without_a_table(rt: HostRuntime) {
+    all_pass(&rt, wrong_case());
 }
 
-#[test]
-fn once_all_clients_have_left_it_calls_nothing(rt: HostRuntime) -> Result<(), Fail> {
-    makes_without_a_table(&rt, rt.alloc(), None, None, 100, true, &[])
+/// Transactions that own a resource each, and wait for that of the next: first so many begin, and then they acquire these.
+struct Waits {
+    begins: u32,
+    acquires: &'static [(Key, u32)],
 }
 
-#[test]
-fn behind_the_last_process_it_begins_anew(rt: HostRuntime) -> Result<(), Fail> {
-    let raise = hint(3, 1, HintKind::Raise);
-    let tenant = Some(first_key(3));
-    let calls = [
-        Call::Scan(0, raise),
-        Call::Tenant(3, tenant),
-        Call::Transmit(first_key(3), Err(Refusal::Stale)),
-        Call::Scan(0, None),
-    ];
-    makes_without_a_table(&rt, rt.alloc(), raise, tenant, 2, false, &calls)
+/// Two, under 1.0 and 2.1.
+const TWO: Waits = Waits {
+    begins: 2,
+    acquires: &[(FIRST, 0), (SECOND, 1), (FIRST, 1), (SECOND, 0)],
+};
+
+/// Three, under 1.0, 1.1 and 2.2.
+const THREE: Waits = Waits {
+    begins: 3,
+    acquires: &[
+        (FIRST, 0),
+        (SECOND, 1),
+        (THIRD, 2),
+        (FIRST, 1),
+        (SECOND, 2),
+        (THIRD, 0),
+    ],
+};
+
+/// Makes these calls. What the table has counted at the end shows that it accepted each.
+fn wait_in_a_ring<S: Steps>(steps: &mut S, waits: &Waits) {
+    for _ in 0..waits.begins {
+        let _ = steps.begin();
+    }
+    for (key, resource) in waits.acquires {
+        let _ = steps.acquire(*key, *resource);
+    }
 }
 
-#[test]
-fn whoever_is_gone_is_passed_by(rt: HostRuntime) -> Result<(), Fail> {
-    let equal = hint(1, 3, HintKind::Equal);
-    let calls = [
-        Call::Scan(0, equal),
-        Call::Tenant(1, None),
-        Call::Scan(2, None),
-        Call::Scan(0, None),
-    ];
-    makes_without_a_table(&rt, rt.alloc(), equal, None, 3, false, &calls)
-}
-
-/// Runs a transmitter for four processes, ends the test unless it makes these calls, and gives back the table.
-fn makes<S: Steps + Drop>(
-    rt: &impl Abort,
-    steps: S,
-    room: Vec<Call>,
+/// What a transmitter makes of transactions that wait so in so many turns, and what the table has counted then.
+struct Ring {
+    name: &'static str,
+    waits: Waits,
     turns: u64,
-    calls: &[Call],
-) -> S {
-    let Recorder { steps, calls: came } = transmit(steps, room, turns, false);
-    are_made(rt, came.as_slice(), calls);
-    steps
-}
-
-/// So many transactions that own a resource each, and wait for that of the next: two under 1.0 and 2.1, three under 1.0, 1.1 and 2.2.
-fn wait_in_a_ring<S: Steps>(steps: &mut S, count: u32) -> Result<(), Refusal> {
-    for _ in 0..count {
-        steps.begin()?;
-    }
-    for process in 0..count {
-        steps.acquire(first_key(process), process)?;
-    }
-    for process in 0..count {
-        steps.acquire(first_key(process), (process + 1) % count)?;
-    }
-    Ok(())
-}
-
-/// What a transmitter makes of a ring of so many in so many turns, and what the table has counted then.
-#[derive(Drop)]
-struct Ring<'a> {
-    count: u32,
-    turns: u64,
-    calls: &'a [Call],
+    calls: &'static [Call],
     totals: Totals,
-}
-
-/// Lets so many transactions wait for each other on this table. Ends the test unless a transmitter makes the calls of the ring.
-fn goes_round_on<R: Abort>(rt: &R, table: Table, room: Vec<Call>, ring: &Ring) {
-    let mut table = table;
-    same(rt, wait_in_a_ring(&mut table, ring.count), Ok(()));
-    let table = makes(rt, table, room, ring.turns, ring.calls);
-    same(rt, table.totals(), ring.totals);
-    drop(table);
-}
-
-/// Opens a table for the ring.
-fn goes_round<R: Abort>(rt: &R, alloc: Global, ring: &Ring) -> Result<(), Fail> {
-    let room = room(alloc)?;
-    let table = Table::open(alloc, FOUR)?;
-    goes_round_on(rt, table, room, ring);
-    Ok(())
 }
 
 /// What four turns make of it: the first takes over the label of the second, which has its own back then and gets a verdict; the third
 /// turn comes to the end; and the fourth finds no verdict for the first.
-fn calls_of_four_turns() -> [Call; 10] {
-    let (first, second) = (first_key(0), first_key(1));
-    let greatest = label(2, 1);
-    [
-        Call::Scan(0, hint(0, 1, HintKind::Raise)),
-        Call::Tenant(0, Some(first)),
-        Call::Transmit(first, Ok(Transmitted::Raised(greatest))),
-        Call::Scan(1, hint(1, 0, HintKind::Equal)),
-        Call::Tenant(1, Some(second)),
-        Call::Detect(second, Ok(Detected::Deadlock(greatest))),
-        Call::Scan(2, None),
-        Call::Scan(0, hint(0, 1, HintKind::Equal)),
-        Call::Tenant(0, Some(first)),
-        Call::Detect(first, Ok(Detected::Clear)),
-    ]
-}
-
-#[test]
-fn a_deadlock_on_a_table_alone(rt: HostRuntime) -> Result<(), Fail> {
-    let totals = Totals {
-        accepted: 9,
-        verdicts: 1,
-        aborts: 0,
-    };
-    let calls = calls_of_four_turns();
-    let ring = Ring {
-        count: 2,
-        turns: 4,
-        calls: calls.as_slice(),
-        totals,
-    };
-    goes_round(&rt, rt.alloc(), &ring)
-}
+const FOUR_TURNS: [Call; 10] = [
+    Call::Scan(0, Sight::Higher, 0, 1),
+    Call::Tenant(0, Some(FIRST)),
+    Call::Event(FIRST, Reply::Raised, 2, 1),
+    Call::Scan(1, Sight::Equal, 1, 0),
+    Call::Tenant(1, Some(SECOND)),
+    Call::Event(SECOND, Reply::Deadlock, 2, 1),
+    Call::Scan(2, Sight::Nothing, 0, 0),
+    Call::Scan(0, Sight::Equal, 0, 1),
+    Call::Tenant(0, Some(FIRST)),
+    Call::Event(FIRST, Reply::Clear, 0, 0),
+];
 
 /// What six turns make of a ring of three.
-fn calls_of_six_turns() -> [Call; 16] {
-    let (first, second, third) = (first_key(0), first_key(1), first_key(2));
-    let greatest = label(2, 2);
-    [
-        Call::Scan(0, hint(0, 1, HintKind::Raise)),
-        Call::Tenant(0, Some(first)),
-        Call::Transmit(first, Ok(Transmitted::Raised(label(1, 1)))),
-        Call::Scan(1, hint(1, 2, HintKind::Raise)),
-        Call::Tenant(1, Some(second)),
-        Call::Transmit(second, Ok(Transmitted::Raised(greatest))),
-        Call::Scan(2, None),
-        Call::Scan(0, hint(0, 1, HintKind::Raise)),
-        Call::Tenant(0, Some(first)),
-        Call::Transmit(first, Ok(Transmitted::Raised(greatest))),
-        Call::Scan(1, hint(1, 2, HintKind::Equal)),
-        Call::Tenant(1, Some(second)),
-        Call::Detect(second, Ok(Detected::Clear)),
-        Call::Scan(2, hint(2, 0, HintKind::Equal)),
-        Call::Tenant(2, Some(third)),
-        Call::Detect(third, Ok(Detected::Deadlock(greatest))),
-    ]
+const SIX_TURNS: [Call; 16] = [
+    Call::Scan(0, Sight::Higher, 0, 1),
+    Call::Tenant(0, Some(FIRST)),
+    Call::Event(FIRST, Reply::Raised, 1, 1),
+    Call::Scan(1, Sight::Higher, 1, 2),
+    Call::Tenant(1, Some(SECOND)),
+    Call::Event(SECOND, Reply::Raised, 2, 2),
+    Call::Scan(2, Sight::Nothing, 0, 0),
+    Call::Scan(0, Sight::Higher, 0, 1),
+    Call::Tenant(0, Some(FIRST)),
+    Call::Event(FIRST, Reply::Raised, 2, 2),
+    Call::Scan(1, Sight::Equal, 1, 2),
+    Call::Tenant(1, Some(SECOND)),
+    Call::Event(SECOND, Reply::Clear, 0, 0),
+    Call::Scan(2, Sight::Equal, 2, 0),
+    Call::Tenant(2, Some(THIRD)),
+    Call::Event(THIRD, Reply::Deadlock, 2, 2),
+];
+
+static RINGS: [Ring; 2] = [
+    Ring {
+        name: "a_deadlock_on_a_table_alone",
+        waits: TWO,
+        turns: 4,
+        calls: &FOUR_TURNS,
+        totals: Totals {
+            accepted: 9,
+            verdicts: 1,
+            aborts: 0,
+        },
+    },
+    Ring {
+        name: "a_ring_of_three_on_a_table_alone",
+        waits: THREE,
+        turns: 6,
+        calls: &SIX_TURNS,
+        totals: Totals {
+            accepted: 14,
+            verdicts: 1,
+            aborts: 0,
+        },
+    },
+];
+
+/// Whether a transmitter makes the calls of the ring on this table, and the table then has counted so much.
+fn goes_round_on(mut table: Table, ring: &Ring) -> bool {
+    wait_in_a_ring(&mut table, &ring.waits);
+    let recorder = transmit(Recorder::new(table, ring.calls), ring.turns, false);
+    let goes = recorder.is_over();
+    let table = recorder.into_steps();
+    let totals = table.totals();
+    drop(table);
+    goes && totals == ring.totals
+}
+
+/// The same, on a table that is opened for it.
+fn goes_round(alloc: Global, ring: &Ring) -> bool {
+    match Table::open(alloc, FOUR) {
+        Ok(table) => goes_round_on(table, ring),
+        Err(_) => false,
+    }
+}
+
+/// The first ring of which something else comes.
+fn wrong_ring(alloc: Global) -> Option<&'static str> {
+    for ring in &RINGS {
+        if !goes_round(alloc, ring) {
+            return Some(ring.name);
+        }
+    }
+    None
 }
 
 #[test]
-fn a_ring_of_three_on_a_table_alone(rt: HostRuntime) -> Result<(), Fail> {
-    let totals = Totals {
-        accepted: 14,
-        verdicts: 1,
-        aborts: 0,
-    };
-    let calls = calls_of_six_turns();
-    let ring = Ring {
-        count: 3,
-        turns: 6,
-        calls: calls.as_slice(),
-        totals,
-    };
-    goes_round(&rt, rt.alloc(), &ring)
+fn a_transmitter_on_a_table_alone(rt: HostRuntime) {
+    all_pass(&rt, wrong_ring(rt.alloc()));
 }
 
-/// Two wait for each other at a desk of a shared table, and a transmitter makes four turns there.
-fn make_four_turns<
-    N: Name + Drop,
-    A: Ledger + Drop,
-    V: Ledger + Drop,
-    B: Ledger + Drop,
-    R: Wait + Abort,
->(
+/// Two wait for each other at a desk of a shared table. Gives back the pass, and whether a transmitter makes the four turns there.
+fn make_four_turns<N: Name + Drop, A: Ledger + Drop, V: Ledger + Drop, B: Ledger + Drop, R: Wait>(
     rt: &R,
     table: &SharedTable<N, A, V, B>,
     pass: Pass<N, A, V, B>,
-    room: Vec<Call>,
-) -> Pass<N, A, V, B> {
+) -> (Pass<N, A, V, B>, bool) {
     let mut desk = Desk::new(rt, table, pass);
-    same(rt, wait_in_a_ring(&mut desk, 2), Ok(()));
-    let calls = calls_of_four_turns();
-    let desk = makes(rt, desk, room, 4, calls.as_slice());
-    desk.into_pass()
+    wait_in_a_ring(&mut desk, &RINGS[0].waits);
+    let recorder = transmit(Recorder::new(desk, RINGS[0].calls), 4, false);
+    let makes = recorder.is_over();
+    (recorder.into_steps().into_pass(), makes)
 }
 
-/// The deadlock of two at a desk of a shared table.
+/// The deadlock of two at a desk of a shared table: whether it goes so, and what the table reports.
 fn four_turns_at_a_desk<
     N: Name + Drop,
     A: Ledger + Drop,
     V: Ledger + Drop,
     B: Ledger + Drop,
-    R: Wait + Abort,
->(rt: &R, prepared: Prepared, room: Vec<Call>)
+    R: Wait,
+>(rt: &R, prepared: Prepared) -> (bool, Option<Report>)
     requires board { prepared.board ≡ N.board }
     requires accepted { (prepared.accepted.name ≡ A.name) × (prepared.accepted.parts ≡ A.parts) }
     requires verdicts { (prepared.verdicts.name ≡ V.name) × (prepared.verdicts.parts ≡ V.parts) }
     requires aborts { (prepared.aborts.name ≡ B.name) × (prepared.aborts.parts ≡ B.parts) }
 {
     let (table, pass) = prepared.open::<N, A, V, B>();
-    let pass = make_four_turns(rt, &table, pass, room);
-    let report = Report {
-        accepted: 9,
-        verdicts: 1,
-        aborts: 0,
-    };
-    same(rt, table.close(pass).ok(), Some(report));
+    let (pass, makes) = make_four_turns(rt, &table, pass);
+    (makes, table.into_report(pass))
 }
 
 #[test]
 fn a_deadlock_on_a_shared_table(rt: HostRuntime) -> Result<(), Fail> {
-    let room = room(rt.alloc())?;
     let prepared = Prepared::new(rt.alloc(), FOUR)?;
-    four_turns_at_a_desk::<Brand, Brand, Brand, Brand, _>(&rt, prepared, room);
+    let (makes, report) = four_turns_at_a_desk::<Brand, Brand, Brand, Brand, _>(&rt, prepared);
+    let counted = Report {
+        accepted: 9,
+        verdicts: 1,
+        aborts: 0,
+    };
+    let is_counted = report == Some(counted);
+    passes(&rt, "a_deadlock_on_a_shared_table", makes && is_counted);
     Ok(())
 }

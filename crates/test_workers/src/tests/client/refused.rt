@@ -1,17 +1,17 @@
 //! Refused calls: each call with each refusal that it can have. After each, but for `begin` and `finish`, the client tries `finish` once,
 //! whatever the answer.
 
-use super::runs;
-use crate::tests::script::{Answer, Call};
+use super::runs_so;
+use crate::tests::passes::all_pass;
+use crate::tests::script::{Answer, Call, Script};
 use mm_shared::Refusal;
 use mm_workers::End;
 use mm_workload::WorkStep;
-use std::alloc::{AllocError, Global};
-use std::process::Abort;
-use std::test::Fail;
+use std::alloc::Global;
 
 /// What a client is refused: the calls before, and the call with what it is refused as.
 struct Refused {
+    name: &'static str,
     work: &'static [WorkStep],
     before: &'static [(Call, Answer)],
     call: Call,
@@ -23,6 +23,7 @@ const WORK: [WorkStep; 2] = [WorkStep::Acquire(0), WorkStep::Release(0)];
 
 static REFUSED: [Refused; 7] = [
     Refused {
+        name: "a_client_is_refused, begin",
         work: &WORK,
         before: &[],
         call: Call::Begin,
@@ -30,6 +31,7 @@ static REFUSED: [Refused; 7] = [
         finishes: false,
     },
     Refused {
+        name: "a_client_is_refused, acquire",
         work: &WORK,
         before: &[(Call::Begin, Answer::Done)],
         call: Call::Acquire(0),
@@ -44,6 +46,7 @@ static REFUSED: [Refused; 7] = [
         finishes: true,
     },
     Refused {
+        name: "a_client_is_refused, release",
         work: &WORK,
         before: &[
             (Call::Begin, Answer::Done),
@@ -61,6 +64,7 @@ static REFUSED: [Refused; 7] = [
         finishes: true,
     },
     Refused {
+        name: "a_client_is_refused, transmit",
         work: &WORK,
         before: &[
             (Call::Begin, Answer::Done),
@@ -71,6 +75,7 @@ static REFUSED: [Refused; 7] = [
         finishes: true,
     },
     Refused {
+        name: "a_client_is_refused, detect",
         work: &WORK,
         before: &[
             (Call::Begin, Answer::Done),
@@ -82,6 +87,7 @@ static REFUSED: [Refused; 7] = [
         finishes: true,
     },
     Refused {
+        name: "a_client_is_refused, abort",
         work: &WORK,
         before: &[
             (Call::Begin, Answer::Done),
@@ -99,6 +105,7 @@ static REFUSED: [Refused; 7] = [
         finishes: true,
     },
     Refused {
+        name: "a_client_is_refused, finish",
         work: &WORK,
         before: &[
             (Call::Begin, Answer::Done),
@@ -116,53 +123,48 @@ static REFUSED: [Refused; 7] = [
     },
 ];
 
-/// The calls of a client that is refused so, where its try at `finish` has this answer.
-fn calls_of(
-    alloc: Global,
-    refused: &Refused,
-    refusal: Refusal,
-    finish: Answer,
-) -> Result<Vec<(Call, Answer)>, AllocError> {
-    let mut calls = refused.before.to_vec(alloc)?;
-    calls.push((refused.call, Answer::Refused(refusal)))?;
-    if refused.finishes {
-        calls.push((Call::Finish, finish))?;
-    }
-    calls.push((Call::Leave, Answer::Done))?;
-    Ok(calls)
-}
-
 /// How a try at `finish` is answered.
 static FINISHES: [Answer; 2] = [Answer::Done, Answer::Refused(Refusal::Waiting)];
 
-/// Ends the test unless the refusal of the call ends the client under its number.
-fn ends_by<R: Abort>(
-    rt: &R,
-    alloc: Global,
-    refused: &Refused,
-    refusal: Refusal,
-    number: u8,
-) -> Result<(), AllocError> {
+const LEAVE: (Call, Answer) = (Call::Leave, Answer::Done);
+
+/// Whether the refusal of the call ends the client under its number, where its try at `finish` has this answer.
+fn ends_by(alloc: Global, refused: &Refused, refusal: Refusal, number: u8, finish: Answer) -> bool {
+    let call = (refused.call, Answer::Refused(refusal));
     let end = End::Refused(number);
-    for finish in &FINISHES {
-        let calls = calls_of(alloc, refused, refusal, *finish)?;
-        runs(rt, alloc, refused.work, 9, calls.as_slice(), end)?;
+    if refused.finishes {
+        let rest = [call, (Call::Finish, finish), LEAVE];
+        let script = Script::new(refused.before, &rest);
+        return runs_so(alloc, &script, refused.work, 9, end);
     }
-    Ok(())
+    let rest = [call, LEAVE];
+    let script = Script::new(refused.before, &rest);
+    runs_so(alloc, &script, refused.work, 9, end)
 }
 
-/// The same of each refusal of the call.
-fn ends_by_each<R: Abort>(rt: &R, alloc: Global, refused: &Refused) -> Result<(), AllocError> {
+/// Whether each refusal of the call ends the client so.
+fn each_ends(alloc: Global, refused: &Refused, finish: Answer) -> bool {
     for (refusal, number) in refused.refusals {
-        ends_by(rt, alloc, refused, *refusal, *number)?;
+        if !ends_by(alloc, refused, *refusal, *number, finish) {
+            return false;
+        }
     }
-    Ok(())
+    true
+}
+
+/// The first call of which a refusal does not end the client so.
+fn wrong_call(alloc: Global, finish: Answer) -> Option<&'static str> {
+    for refused in &REFUSED {
+        if !each_ends(alloc, refused, finish) {
+            return Some(refused.name);
+        }
+    }
+    None
 }
 
 #[test]
-fn a_client_is_refused(rt: HostRuntime) -> Result<(), Fail> {
-    for refused in &REFUSED {
-        ends_by_each(&rt, rt.alloc(), refused)?;
+fn a_client_is_refused(rt: HostRuntime) {
+    for finish in &FINISHES {
+        all_pass(&rt, wrong_call(rt.alloc(), *finish));
     }
-    Ok(())
 }

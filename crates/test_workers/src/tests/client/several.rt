@@ -1,17 +1,18 @@
 //! Several transactions of one client: with one resource, and one word that gives a transaction one, each of them acquires resource 0.
 
-use crate::tests::same::same;
+use super::client;
+use crate::tests::passes::all_pass;
 use crate::tests::script::{Answer, Call, Script};
-use crate::tests::scripted::{ScriptedGate, ScriptedSteps};
 use mm_shared::Refusal;
-use mm_workers::{Client, ClientEnds, Earlier, End};
+use mm_workers::{ClientEnds, Earlier, End};
 use mm_workload::{StormShape, WorkStep, Workload, shaped_storm};
-use std::alloc::{AllocError, Global};
+use std::alloc::Global;
 use std::process::Abort;
 use std::test::Fail;
 
 /// The turns of a transaction, the calls that the client makes with their answers, and how its transactions end.
 struct Case {
+    name: &'static str,
     turns: u64,
     calls: &'static [(Call, Answer)],
     ends: ClientEnds,
@@ -24,32 +25,33 @@ const THREE: StormShape = StormShape {
     transactions: 3,
 };
 
-/// Runs the client of the workload. Ends the test unless it makes just the expected calls, and its transactions end so.
-fn runs(
-    rt: &impl Abort,
-    alloc: Global,
-    workload: &Workload,
-    case: &Case,
-) -> Result<(), AllocError> {
-    let script = Script::new(case.calls);
-    let steps = ScriptedSteps::new(&script);
-    let gate = ScriptedGate { script: &script };
-    let work = [WorkStep::Acquire(0)].to_vec(alloc)?;
+/// Whether the client of the workload makes just the expected calls, and its transactions end so.
+fn runs_so(alloc: Global, workload: &Workload, case: &Case) -> bool {
+    let Ok(work) = [WorkStep::Acquire(0)].to_vec(alloc) else {
+        return false;
+    };
+    let script = Script::new(case.calls, &[]);
     let mut coming = workload.coming(1);
-    let mut client = Client::new(steps, gate, work, case.turns);
-    let ends = client.run_all(&mut coming);
-    same(rt, script.wrong.get(), None);
-    same(rt, script.place.get(), case.calls.len());
-    same(rt, ends, case.ends);
-    Ok(())
+    let mut client = client(&script, work, case.turns);
+    client.run_all(&mut coming) == case.ends && script.is_over()
 }
 
-/// Runs a client of this shape for each case.
+/// The first case in which the client of the workload makes other calls, or a transaction ends otherwise.
+fn wrong_case(alloc: Global, workload: &Workload, cases: &[Case]) -> Option<&'static str> {
+    for case in cases {
+        if !runs_so(alloc, workload, case) {
+            return Some(case.name);
+        }
+    }
+    None
+}
+
+/// Ends the test where a client of this shape fails in a case.
 fn all_run(rt: &impl Abort, alloc: Global, shape: &StormShape, cases: &[Case]) -> Result<(), Fail> {
     let workload = shaped_storm(alloc, shape, 1, 1, 0)?;
-    for case in cases {
-        runs(rt, alloc, &workload, case)?;
-    }
+    let wrong = wrong_case(alloc, &workload, cases);
+    drop(workload);
+    all_pass(rt, wrong);
     Ok(())
 }
 
@@ -69,9 +71,11 @@ const ABORT: (Call, Answer) = (Call::Abort, Answer::Done);
 
 const LEAVE: (Call, Answer) = (Call::Leave, Answer::Done);
 
-/// A transaction that finished or was aborted is followed by the next one, which has all turns anew.
-static ONE_AFTER_ANOTHER: [Case; 2] = [
+/// A transaction that finished or was aborted is followed by the next one, which has all turns anew. One that used up its turns or was refused is
+/// the last one.
+static CASES: [Case; 5] = [
     Case {
+        name: "transactions_follow_one_another, each finished",
         turns: 1,
         calls: &[
             BEGIN, GRANTED, FINISH, BEGIN, GRANTED, FINISH, BEGIN, GRANTED, FINISH, LEAVE,
@@ -85,6 +89,7 @@ static ONE_AFTER_ANOTHER: [Case; 2] = [
         },
     },
     Case {
+        name: "transactions_follow_one_another, two aborted",
         turns: 2,
         calls: &[
             BEGIN, WAITS, TRANSMIT, DEADLOCK, ABORT, BEGIN, GRANTED, FINISH, BEGIN, WAITS,
@@ -98,11 +103,8 @@ static ONE_AFTER_ANOTHER: [Case; 2] = [
             last: End::Aborted,
         },
     },
-];
-
-/// One that used up its turns or was refused is the last one.
-static UP_TO_ANOTHER_END: [Case; 3] = [
     Case {
+        name: "a_client_stops_where_one_did_not_end, for want of turns",
         turns: 1,
         calls: &[BEGIN, GRANTED, FINISH, BEGIN, WAITS, LEAVE],
         ends: ClientEnds {
@@ -114,6 +116,7 @@ static UP_TO_ANOTHER_END: [Case; 3] = [
         },
     },
     Case {
+        name: "a_client_stops_where_one_did_not_end, but was refused",
         turns: 2,
         calls: &[
             BEGIN,
@@ -133,6 +136,7 @@ static UP_TO_ANOTHER_END: [Case; 3] = [
         },
     },
     Case {
+        name: "a_client_stops_where_one_did_not_end, without a turn",
         turns: 0,
         calls: &[LEAVE],
         ends: ClientEnds {
@@ -144,6 +148,7 @@ static UP_TO_ANOTHER_END: [Case; 3] = [
 
 /// With one transaction alone it makes the calls of `run`.
 static ONE_ALONE: [Case; 1] = [Case {
+    name: "no_transaction_follows_the_only_one",
     turns: 1,
     calls: &[BEGIN, GRANTED, FINISH, LEAVE],
     ends: ClientEnds {
@@ -154,15 +159,6 @@ static ONE_ALONE: [Case; 1] = [Case {
 
 #[test]
 fn transactions_follow_one_another(rt: HostRuntime) -> Result<(), Fail> {
-    all_run(&rt, rt.alloc(), &THREE, &ONE_AFTER_ANOTHER)
-}
-
-#[test]
-fn a_client_stops_where_one_did_not_end(rt: HostRuntime) -> Result<(), Fail> {
-    all_run(&rt, rt.alloc(), &THREE, &UP_TO_ANOTHER_END)
-}
-
-#[test]
-fn no_transaction_follows_the_only_one(rt: HostRuntime) -> Result<(), Fail> {
+    all_run(&rt, rt.alloc(), &THREE, &CASES)?;
     all_run(&rt, rt.alloc(), &StormShape::USUAL, &ONE_ALONE)
 }

@@ -1,19 +1,21 @@
 //! Rounds of waiting: a transmit and a detect, a turn each.
 
-use super::{Case, all_run};
+use super::{Case, wrong_case};
+use crate::tests::passes::all_pass;
 use crate::tests::script::{Answer, Call};
 use mm_shared::Refusal;
 use mm_workers::End;
 use mm_workload::WorkStep;
-use std::test::Fail;
 
 const TWO: [WorkStep; 2] = [WorkStep::Acquire(0), WorkStep::Acquire(1)];
 
 const NOT_WAITING: Answer = Answer::Refused(Refusal::NotWaiting);
 
-/// A verdict, new or standing, leads to an abort, and what is left of the work is not done.
-static TO_A_VERDICT: [Case; 2] = [
+/// A verdict, new or standing, leads to an abort, and what is left of the work is not done. Where a client waits no longer, the resource is its
+/// own, and it goes on with its next step. Where its turns are used up, it makes no further call of the table.
+static CASES: [Case; 6] = [
     Case {
+        name: "a_client_waits_for_a_verdict, new in the second round",
         work: &TWO,
         turns: 3,
         calls: &[
@@ -29,6 +31,7 @@ static TO_A_VERDICT: [Case; 2] = [
         end: End::Aborted,
     },
     Case {
+        name: "a_client_waits_for_a_verdict, standing",
         work: &TWO,
         turns: 2,
         calls: &[
@@ -41,11 +44,8 @@ static TO_A_VERDICT: [Case; 2] = [
         ],
         end: End::Aborted,
     },
-];
-
-/// Where it waits no longer, the resource is its own, and it goes on with its next step.
-static UNTIL_IT_IS_ITS_OWN: [Case; 2] = [
     Case {
+        name: "a_client_waits_until_the_resource_is_its_own, by its first transmit",
         work: &TWO,
         turns: 2,
         calls: &[
@@ -59,6 +59,7 @@ static UNTIL_IT_IS_ITS_OWN: [Case; 2] = [
         end: End::Finished,
     },
     Case {
+        name: "a_client_waits_until_the_resource_is_its_own, by its second detect",
         work: &TWO,
         turns: 4,
         calls: &[
@@ -75,11 +76,8 @@ static UNTIL_IT_IS_ITS_OWN: [Case; 2] = [
         ],
         end: End::Finished,
     },
-];
-
-/// Where its turns are used up, it makes no further call of the table.
-static UNTIL_IT_IS_SPENT: [Case; 2] = [
     Case {
+        name: "a_client_waits_until_it_is_spent, by its begin",
         work: &TWO,
         turns: 1,
         calls: &[
@@ -90,6 +88,7 @@ static UNTIL_IT_IS_SPENT: [Case; 2] = [
         end: End::Spent,
     },
     Case {
+        name: "a_client_waits_until_it_is_spent, by its first round",
         work: &TWO,
         turns: 2,
         calls: &[
@@ -104,19 +103,6 @@ static UNTIL_IT_IS_SPENT: [Case; 2] = [
 ];
 
 #[test]
-fn a_client_waits_for_a_verdict(rt: HostRuntime) -> Result<(), Fail> {
-    all_run(&rt, rt.alloc(), &TO_A_VERDICT)?;
-    Ok(())
-}
-
-#[test]
-fn a_client_waits_until_the_resource_is_its_own(rt: HostRuntime) -> Result<(), Fail> {
-    all_run(&rt, rt.alloc(), &UNTIL_IT_IS_ITS_OWN)?;
-    Ok(())
-}
-
-#[test]
-fn a_client_waits_until_it_is_spent(rt: HostRuntime) -> Result<(), Fail> {
-    all_run(&rt, rt.alloc(), &UNTIL_IT_IS_SPENT)?;
-    Ok(())
+fn a_client_waits(rt: HostRuntime) {
+    all_pass(&rt, wrong_case(rt.alloc(), &CASES));
 }
