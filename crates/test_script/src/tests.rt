@@ -1,6 +1,5 @@
-//! `rows` for the worked scripts, `script` for readers and writers that fail, `workload` for mm_workload.
+//! `script` for readers and writers that fail, `workload` for mm_workload. Each test goes through cases with names, and ends with `all_pass`.
 
-mod rows;
-mod same;
+mod passes;
 mod script;
 mod workload;

@@ -1,119 +1,146 @@
-//! What no clause says: which faults come, and that a flush is made.
+//! What no clause says: which faults come, that nothing is read or written after one, and that a flush is made.
 
 mod faults;
 mod ring;
 
-use crate::tests::rows::is_answered;
-use crate::tests::same::same;
-use faults::{FailingReader, FailingWriter, WhenFull, read_is_at_fault, write_ends};
-use mm_script::{ScriptFault, run_script, usages};
-use std::alloc::Global;
-use std::io::{ErrorKind, Read, repeat};
-use std::process::Abort;
+use crate::tests::passes::all_pass;
+use faults::{FailingReader, FailingWriter, WhenFull, ends_so, is_written_so, read_fails_so};
+use mm_script::{ScriptFault, usages};
+use std::alloc::{AllocError, Global};
+use std::io::ErrorKind;
 use std::test::Fail;
-use test_support::Row;
 
-/// A script whose one slot is retired, and its replies.
-static SCRIPT: &str = "table 1 1 9 2\nbegin\nfinish 0.1\nbegin\nfinish 0.2\nbegin\n";
-
-const REPLIES: &str = "ok\nkey 0.1\nfinished\nkey 0.2\nfinished\nrefused 6 Full\n";
-
-/// The example of mm_script's page: the last line needs no newline, and one line is malformed.
-static EXAMPLE: Row = Row {
-    name: "example",
-    input: "table 1 1 9 9\nbegin\nfly",
-    output: "ok\nkey 0.1\nmalformed\n",
-    malformed: 1,
-};
-
-#[test]
-fn malformed_line_is_counted(rt: HostRuntime) -> Result<(), Fail> {
-    is_answered(&rt, rt.alloc(), &EXAMPLE);
-    Ok(())
-}
-
-/// How many bytes a read gives, after how many reads one fails, what was written then, and how many bytes are left to be read.
-type FailingRead = (usize, u32, &'static str, usize);
-
-fn is_answered_until(
-    rt: &impl Abort,
-    alloc: Global,
-    script: &str,
-    kind: ErrorKind,
-    read: &FailingRead,
-) {
-    let (piece, calls, written, left) = *read;
-    let mut reader = FailingReader {
-        bytes: script.as_bytes(),
-        piece,
-        calls,
-        kind,
-    };
-    read_is_at_fault(rt, alloc, &mut reader, written.as_bytes());
-    same(rt, (piece, calls, reader.bytes.len()), (piece, calls, left));
-}
-
-fn are_answered_until(
-    rt: &impl Abort,
-    alloc: Global,
-    script: &str,
-    kind: ErrorKind,
-    reads: &[FailingRead],
-) {
-    for read in reads {
-        is_answered_until(rt, alloc, script, kind, read);
-    }
+/// A read that fails: of which script, how many bytes a read gives, after how many reads one fails, what was written then, and how many bytes
+/// are left to be read.
+struct FailingRead {
+    name: &'static str,
+    script: &'static str,
+    piece: usize,
+    calls: u32,
+    written: &'static str,
+    left: usize,
 }
 
 /// Two whole lines, and a half of the third.
-static THREE_LINES: &str = "begin\nfly\nbeg";
+const THREE_LINES: &str = "begin\nfly\nbeg";
 
 const ONE: &str = "no table\n";
 
 const TWO: &str = "no table\nmalformed\n";
 
-static READS: [FailingRead; 6] = [
-    (64, 0, "", 13),
-    (64, 1, TWO, 0),
-    (4, 1, "", 9),
-    (4, 2, ONE, 5),
-    (4, 3, TWO, 1),
-    (1, 13, TWO, 0),
-];
-
-/// After two whole lines and a half of the third a read fails: the two are answered, and nothing is read or written after it.
-#[test]
-fn read_fails(rt: HostRuntime) -> Result<(), Fail> {
-    are_answered_until(&rt, rt.alloc(), THREE_LINES, ErrorKind::Other, &READS);
-    are_answered_until(&rt, rt.alloc(), THREE_LINES, ErrorKind::Interrupted, &READS);
-    Ok(())
-}
-
-static TABLE_AND_LINES: &str = "table 1 1 9 9\nbegin\nbeg";
+const TABLE_AND_LINES: &str = "table 1 1 9 9\nbegin\nbeg";
 
 const BEGUN: &str = "ok\nkey 0.1\n";
 
-static READS_WITHIN_A_LINE: [FailingRead; 3] = [
-    (64, 1, BEGUN, 0),
-    (7, 4, BEGUN, 0),
-    (1, 23, BEGUN, 0),
+/// After two whole lines and a half of the third a read fails (`read_fails`), or in the middle of a line (`read_fails_within_a_line`): the whole
+/// lines are answered, and nothing is read or written after it.
+static READS: [FailingRead; 9] = [
+    FailingRead {
+        name: "read_fails, the first",
+        script: THREE_LINES,
+        piece: 64,
+        calls: 0,
+        written: "",
+        left: 13,
+    },
+    FailingRead {
+        name: "read_fails, behind all bytes",
+        script: THREE_LINES,
+        piece: 64,
+        calls: 1,
+        written: TWO,
+        left: 0,
+    },
+    FailingRead {
+        name: "read_fails, behind 4 bytes",
+        script: THREE_LINES,
+        piece: 4,
+        calls: 1,
+        written: "",
+        left: 9,
+    },
+    FailingRead {
+        name: "read_fails, behind 8 bytes",
+        script: THREE_LINES,
+        piece: 4,
+        calls: 2,
+        written: ONE,
+        left: 5,
+    },
+    FailingRead {
+        name: "read_fails, behind 12 bytes",
+        script: THREE_LINES,
+        piece: 4,
+        calls: 3,
+        written: TWO,
+        left: 1,
+    },
+    FailingRead {
+        name: "read_fails, behind 13 bytes one by one",
+        script: THREE_LINES,
+        piece: 1,
+        calls: 13,
+        written: TWO,
+        left: 0,
+    },
+    FailingRead {
+        name: "read_fails_within_a_line, behind all bytes",
+        script: TABLE_AND_LINES,
+        piece: 64,
+        calls: 1,
+        written: BEGUN,
+        left: 0,
+    },
+    FailingRead {
+        name: "read_fails_within_a_line, of pieces",
+        script: TABLE_AND_LINES,
+        piece: 7,
+        calls: 4,
+        written: BEGUN,
+        left: 0,
+    },
+    FailingRead {
+        name: "read_fails_within_a_line, of single bytes",
+        script: TABLE_AND_LINES,
+        piece: 1,
+        calls: 23,
+        written: BEGUN,
+        left: 0,
+    },
 ];
 
-/// A read fails in the middle of a line: the lines before it are answered, and it is not.
-#[test]
-fn read_fails_within_a_line(rt: HostRuntime) -> Result<(), Fail> {
-    are_answered_until(
-        &rt,
-        rt.alloc(),
-        TABLE_AND_LINES,
-        ErrorKind::Other,
-        &READS_WITHIN_A_LINE,
-    );
-    Ok(())
+/// Whether the read fails so, with a fault of this kind.
+fn fails_so(alloc: Global, read: &FailingRead, kind: ErrorKind) -> bool {
+    let mut reader = FailingReader {
+        bytes: read.script.as_bytes(),
+        piece: read.piece,
+        calls: read.calls,
+        kind,
+    };
+    read_fails_so(alloc, &mut reader, read.written.as_bytes(), read.left)
 }
 
-/// A writer takes so many bytes a call, until it is full or its flush fails: then it took this, the script ended so, and so many flushes came.
-struct FailingWrite {
+/// The first read that does not fail as it is to.
+fn wrong_read(alloc: Global) -> Option<&'static str> {
+    for read in &READS {
+        let fails = fails_so(alloc, read, ErrorKind::Other);
+        if !fails || !fails_so(alloc, read, ErrorKind::Interrupted) {
+            return Some(read.name);
+        }
+    }
+    None
+}
+
+#[test]
+fn read_fails(rt: HostRuntime) {
+    all_pass(&rt, wrong_read(rt.alloc()));
+}
+
+/// A writer takes so many bytes a call of the replies to a script, until it is full or its flush fails: then it took this, the script ended so, and
+/// so many flushes came.
+struct Writing {
+    name: &'static str,
+    script: &'static str,
     piece: usize,
     room: usize,
     when_full: WhenFull,
@@ -123,8 +150,18 @@ struct FailingWrite {
     flushes: u32,
 }
 
-static WRITES: [FailingWrite; 4] = [
-    FailingWrite {
+/// A script whose one slot is retired, and its replies.
+const SCRIPT: &str = "table 1 1 9 2\nbegin\nfinish 0.1\nbegin\nfinish 0.2\nbegin\n";
+
+const REPLIES: &str = "ok\nkey 0.1\nfinished\nkey 0.2\nfinished\nrefused 6 Full\n";
+
+/// A writer takes some bytes a call, and fails or takes none when it is full, or fails at the flush: no write and no flush comes after it. Where
+/// nothing fails there is one flush. The last script is the example of mm_script's page: its last line needs no newline, and one line is
+/// malformed.
+static WRITES: [Writing; 5] = [
+    Writing {
+        name: "write_fails, where it is full",
+        script: SCRIPT,
         piece: 4,
         room: 4,
         when_full: WhenFull::Fails,
@@ -133,7 +170,9 @@ static WRITES: [FailingWrite; 4] = [
         outcome: Err(ScriptFault::Write),
         flushes: 0,
     },
-    FailingWrite {
+    Writing {
+        name: "write_fails, where it takes none",
+        script: SCRIPT,
         piece: 3,
         room: 3,
         when_full: WhenFull::TakesNone,
@@ -142,7 +181,9 @@ static WRITES: [FailingWrite; 4] = [
         outcome: Err(ScriptFault::Write),
         flushes: 0,
     },
-    FailingWrite {
+    Writing {
+        name: "write_fails, at the flush",
+        script: SCRIPT,
         piece: 4096,
         room: 4096,
         when_full: WhenFull::Fails,
@@ -151,7 +192,9 @@ static WRITES: [FailingWrite; 4] = [
         outcome: Err(ScriptFault::Write),
         flushes: 1,
     },
-    FailingWrite {
+    Writing {
+        name: "write_fails, nowhere",
+        script: SCRIPT,
         piece: 1,
         room: 4096,
         when_full: WhenFull::Fails,
@@ -160,73 +203,69 @@ static WRITES: [FailingWrite; 4] = [
         outcome: Ok(0),
         flushes: 1,
     },
+    Writing {
+        name: "malformed_line_is_counted",
+        script: "table 1 1 9 9\nbegin\nfly",
+        piece: 4096,
+        room: 4096,
+        when_full: WhenFull::Fails,
+        flush_fails: false,
+        taken: "ok\nkey 0.1\nmalformed\n",
+        outcome: Ok(1),
+        flushes: 1,
+    },
 ];
 
-fn write_is_at_fault(rt: &impl Abort, alloc: Global, write: &FailingWrite) {
-    let mut writer = FailingWriter {
-        taken: Vec::new(alloc),
-        piece: write.piece,
-        room: write.room,
-        when_full: write.when_full,
-        flushes: 0,
-        flush_fails: write.flush_fails,
-    };
-    write_ends(
-        rt,
+/// Whether the replies are written so.
+fn writes_so(alloc: Global, write: &Writing) -> bool {
+    let mut writer = FailingWriter::new(alloc, write.piece, write.room);
+    writer.when_full = write.when_full;
+    writer.flush_fails = write.flush_fails;
+    let taken = write.taken.as_bytes();
+    is_written_so(
         alloc,
-        SCRIPT.as_bytes(),
+        write.script,
         &mut writer,
-        write.taken.as_bytes(),
         write.outcome,
-    );
-    same(rt, writer.flushes, write.flushes);
+        taken,
+        write.flushes,
+    )
 }
 
-/// A writer takes some bytes a call, and fails or takes none when it is full, or fails at the flush:
-/// no write and no flush comes after it. Where nothing fails there is one flush.
-#[test]
-fn write_fails(rt: HostRuntime) -> Result<(), Fail> {
+/// The first script whose replies are not written as they are to be.
+fn wrong_write(alloc: Global) -> Option<&'static str> {
     for write in &WRITES {
-        write_is_at_fault(&rt, rt.alloc(), write);
+        if !writes_so(alloc, write) {
+            return Some(write.name);
+        }
     }
-    Ok(())
+    None
 }
 
-/// Ends the test unless so many newlines end so, and all are read.
-fn newlines_end(rt: &impl Abort, alloc: Global, count: u64, outcome: Result<u64, ScriptFault>) {
-    let mut reader = repeat(b'\n').take(count);
-    let mut output = Vec::new(alloc);
-    let ended = run_script(alloc, &mut reader, &mut output);
-    same(rt, ended, outcome);
-    same(rt, (reader.limit(), output.len()), (0, 0));
+#[test]
+fn write_fails(rt: HostRuntime) {
+    all_pass(&rt, wrong_write(rt.alloc()));
+}
+
+/// Whether so many newlines end so, without a reply, and all are read.
+fn newlines_end(
+    alloc: Global,
+    count: usize,
+    outcome: Result<u64, ScriptFault>,
+) -> Result<bool, AllocError> {
+    let newlines = "\n".repeat(alloc, count)?;
+    let mut reader = FailingReader::sound(newlines.as_bytes());
+    let mut writer = FailingWriter::new(alloc, usize::MAX, usize::MAX);
+    let ends = ends_so(alloc, &mut reader, &mut writer, outcome, b"");
+    Ok(ends && reader.bytes.is_empty())
 }
 
 /// Newlines alone have no reply; one more than the limit is too long.
 #[test]
 fn newlines_alone(rt: HostRuntime) -> Result<(), Fail> {
-    newlines_end(&rt, rt.alloc(), 16_777_216, Ok(0));
-    newlines_end(&rt, rt.alloc(), 16_777_217, Err(ScriptFault::TooLong));
-    Ok(())
-}
-
-static FAULTS: [(ScriptFault, &str); 3] = [
-    (ScriptFault::Read, "read fault"),
-    (ScriptFault::Write, "write fault"),
-    (ScriptFault::TooLong, "input too long"),
-];
-
-fn is_printed(rt: &impl Abort, alloc: Global, fault: ScriptFault, text: &str) -> Result<(), Fail> {
-    let printed = format!(in alloc; "{fault}")?;
-    same(rt, printed.as_str(), text);
-    Ok(())
-}
-
-/// A fault is printed as these words.
-#[test]
-fn faults_are_printed(rt: HostRuntime) -> Result<(), Fail> {
-    for (fault, text) in &FAULTS {
-        is_printed(&rt, rt.alloc(), *fault, text)?;
-    }
+    let most = newlines_end(rt.alloc(), 16_777_216, Ok(0))?;
+    let more = newlines_end(rt.alloc(), 16_777_217, Err(ScriptFault::TooLong))?;
+    all_pass(&rt, (!most || !more).then_some("newlines"));
     Ok(())
 }
 
@@ -248,8 +287,17 @@ static CALLS: [(&str, &str); 14] = [
     ("totals", ""),
 ];
 
+/// The first word of the page with another usage.
+fn wrong_usage() -> Option<&'static str> {
+    for (usage, call) in usages().iter().zip(CALLS.iter()) {
+        if usage.0 != call.0 || usage.1 != call.1 {
+            return Some(call.0);
+        }
+    }
+    None
+}
+
 #[test]
-fn usages_are_those_of_the_page(rt: HostRuntime) -> Result<(), Fail> {
-    same(&rt, usages().as_slice(), CALLS.as_slice());
-    Ok(())
+fn usages_are_those_of_the_page(rt: HostRuntime) {
+    all_pass(&rt, wrong_usage());
 }

@@ -1,11 +1,9 @@
-//! A reader and a writer that fail at a chosen call, and what comes of a script of each.
+//! A reader and a writer that fail at a chosen call, and a script between them.
 
-use crate::tests::same::same;
 use mm_script::{ScriptFault, run_script};
 use std::alloc::Global;
 use std::io;
 use std::io::{ErrorKind, Read, Write};
-use std::process::Abort;
 
 /// Gives its bytes in pieces, and fails once, after some calls.
 #[derive(Drop)]
@@ -16,6 +14,18 @@ pub struct FailingReader<'a> {
     /// How many calls come before the one that fails.
     pub calls: u32,
     pub kind: ErrorKind,
+}
+
+impl<'a> FailingReader<'a> {
+    /// Gives all bytes, as many at a call as are asked for.
+    pub fn sound(bytes: &'a [u8]) -> FailingReader<'a> {
+        FailingReader {
+            bytes,
+            piece: usize::MAX,
+            calls: u32::MAX,
+            kind: ErrorKind::Other,
+        }
+    }
 }
 
 impl Read for FailingReader<'_> {
@@ -31,21 +41,6 @@ impl Read for FailingReader<'_> {
         self.bytes = rest;
         Ok(count)
     }
-}
-
-/// Answers the script of a reader, and ends the test unless the fault is that of a read and the replies are these.
-pub fn read_is_at_fault(
-    rt: &impl Abort,
-    alloc: Global,
-    reader: &mut FailingReader,
-    replies: &[u8],
-) {
-    let FailingReader { piece, calls, .. } = *reader;
-    let mut output = Vec::new(alloc);
-    let outcome = run_script(alloc, reader, &mut output);
-    let expected = (piece, calls, Err(ScriptFault::Read));
-    same(rt, (piece, calls, outcome), expected);
-    same(rt, output.as_slice(), replies);
 }
 
 /// What a writer does that has no room left.
@@ -67,6 +62,20 @@ pub struct FailingWriter {
     /// How many flushes came. Each fails where `flush_fails`.
     pub flushes: u32,
     pub flush_fails: bool,
+}
+
+impl FailingWriter {
+    /// Takes so many bytes, a piece at each call, and each flush.
+    pub fn new(alloc: Global, piece: usize, room: usize) -> FailingWriter {
+        FailingWriter {
+            taken: Vec::new(alloc),
+            piece,
+            room,
+            when_full: WhenFull::Fails,
+            flushes: 0,
+            flush_fails: false,
+        }
+    }
 }
 
 impl Write for FailingWriter {
@@ -93,18 +102,38 @@ impl Write for FailingWriter {
     }
 }
 
-/// Answers a script to a writer, and ends the test unless it ends so and the writer took just these bytes.
-pub fn write_ends(
-    rt: &impl Abort,
+/// Whether the script of the reader ends so, and the writer then took just these bytes.
+pub fn ends_so(
     alloc: Global,
-    script: &[u8],
+    reader: &mut FailingReader,
     writer: &mut FailingWriter,
-    taken: &[u8],
     outcome: Result<u64, ScriptFault>,
-) {
-    let FailingWriter { piece, room, .. } = *writer;
-    let mut input = script;
-    let ended = run_script(alloc, &mut input, writer);
-    same(rt, (piece, room, ended), (piece, room, outcome));
-    same(rt, writer.taken.as_slice(), taken);
+    taken: &[u8],
+) -> bool {
+    run_script(alloc, reader, writer) == outcome && writer.taken.as_slice() == taken
+}
+
+/// Whether a script is at fault where a read of it fails: these replies were written then, and so many bytes are left to be read.
+pub fn read_fails_so(
+    alloc: Global,
+    reader: &mut FailingReader,
+    written: &[u8],
+    left: usize,
+) -> bool {
+    let mut writer = FailingWriter::new(alloc, usize::MAX, usize::MAX);
+    let outcome = Err(ScriptFault::Read);
+    ends_so(alloc, reader, &mut writer, outcome, written) && reader.bytes.len() == left
+}
+
+/// Whether a script ends so whose replies this writer takes: it took just these bytes then, and so many flushes came.
+pub fn is_written_so(
+    alloc: Global,
+    script: &str,
+    writer: &mut FailingWriter,
+    outcome: Result<u64, ScriptFault>,
+    taken: &[u8],
+    flushes: u32,
+) -> bool {
+    let mut reader = FailingReader::sound(script.as_bytes());
+    ends_so(alloc, &mut reader, writer, outcome, taken) && writer.flushes == flushes
 }

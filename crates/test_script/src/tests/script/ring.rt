@@ -1,161 +1,149 @@
 //! A script each read and each write of which fails in turn: three transactions that wait in a ring.
 
-use super::faults::{FailingReader, FailingWriter, WhenFull, read_is_at_fault, write_ends};
-use crate::tests::same::same;
+use super::faults::{FailingReader, FailingWriter, WhenFull, is_written_so, read_fails_so};
+use crate::tests::passes::all_pass;
 use mm_script::ScriptFault;
-use std::alloc::{AllocError, Global};
+use std::alloc::Global;
 use std::io::ErrorKind;
-use std::process::Abort;
-use std::test::Fail;
 
-/// Each line, with its reply.
-static RING: [(&str, &str); 16] = [
-    ("table 4 4 100 9\n", "ok\n"),
-    ("begin\n", "key 0.1\n"),
-    ("begin\n", "key 1.1\n"),
-    ("begin\n", "key 2.1\n"),
-    ("acquire 0.1 0\n", "granted\n"),
-    ("acquire 1.1 1\n", "granted\n"),
-    ("acquire 2.1 2\n", "granted\n"),
-    ("acquire 0.1 1\n", "waits 1.1 1.0\n"),
-    ("acquire 1.1 2\n", "waits 2.1 1.1\n"),
-    ("acquire 2.1 0\n", "waits 0.1 2.2\n"),
-    ("settle\n", "settled 3 1\n"),
-    ("state 0.1\n", "waiting 1 1.0 2.2\n"),
-    ("state 1.1\n", "waiting 2 1.1 2.2\n"),
-    ("state 2.1\n", "convicted 0 2.2 2.2\n"),
-    ("totals\n", "totals 10 1 0\n"),
-    ("settle\n", "settled 0 0\n"),
-];
+/// The lines of the script.
+const SCRIPT: &str =
+    "table 4 4 100 9\nbegin\nbegin\nbegin\nacquire 0.1 0\nacquire 1.1 1\nacquire 2.1 2\nacquire 0.1 1\nacquire 1.1 2\nacquire 2.1 0\nsettle\nstate 0.1\nstate 1.1\nstate 2.1\ntotals\nsettle\n";
 
-fn whole_script(alloc: Global) -> Result<Vec<u8>, AllocError> {
-    let mut script = Vec::new(alloc);
-    for (line, _) in &RING {
-        script.extend_from_slice(line.as_bytes())?;
-    }
-    Ok(script)
-}
+/// The reply to each line.
+const REPLIES: &str =
+    "ok\nkey 0.1\nkey 1.1\nkey 2.1\ngranted\ngranted\ngranted\nwaits 1.1 1.0\nwaits 2.1 1.1\nwaits 0.1 2.2\nsettled 3 1\nwaiting 1 1.0 2.2\nwaiting 2 1.1 2.2\nconvicted 0 2.2 2.2\ntotals 10 1 0\nsettled 0 0\n";
 
-/// The replies to the lines that end among so many bytes of the script.
-fn replies_within(alloc: Global, bytes: usize) -> Result<Vec<u8>, AllocError> {
-    let mut replies = Vec::new(alloc);
-    let mut end = 0_usize;
-    for (line, reply) in &RING {
-        end = end.saturating_add(line.len());
-        if end <= bytes {
-            replies.extend_from_slice(reply.as_bytes())?;
+/// How many lines end among these bytes.
+fn whole_lines(bytes: &[u8]) -> usize {
+    let mut lines = 0_usize;
+    for byte in bytes {
+        if *byte == b'\n' {
+            lines = lines.saturating_add(1);
         }
     }
-    Ok(replies)
+    lines
 }
 
-/// How many bytes each read gives.
-static READ_PIECES: [usize; 4] = [1, 7, 64, 4096];
+/// The replies to so many lines.
+fn replies_to(lines: usize) -> &'static [u8] {
+    let replies = REPLIES.as_bytes();
+    let mut left = lines;
+    for place in 0..replies.len() {
+        if left == 0 {
+            return replies.split_at(place).0;
+        }
+        if replies[place] == b'\n' {
+            left = left.saturating_sub(1);
+        }
+    }
+    replies
+}
 
-/// The read behind so many calls fails.
-fn read_fails(
-    rt: &impl Abort,
-    alloc: Global,
-    script: &[u8],
-    piece: usize,
-    calls: u32,
-) -> Result<(), AllocError> {
+/// Whether the script is at fault where the read behind so many calls fails, each of which gives so many bytes: the lines whose newline was read
+/// are answered, and nothing is read after it.
+fn read_fails(alloc: Global, piece: usize, calls: u32) -> bool {
+    let script = SCRIPT.as_bytes();
+    let read = piece.saturating_mul(calls as usize).min(script.len());
+    let (front, rest) = script.split_at(read);
     let mut reader = FailingReader {
         bytes: script,
         piece,
         calls,
         kind: ErrorKind::Other,
     };
-    let replies = replies_within(alloc, piece.saturating_mul(calls as usize))?;
-    read_is_at_fault(rt, alloc, &mut reader, replies.as_slice());
-    Ok(())
+    let written = replies_to(whole_lines(front));
+    read_fails_so(alloc, &mut reader, written, rest.len())
 }
 
-/// Each read fails in turn, up to the one behind the last byte.
-fn reads_fail(
-    rt: &impl Abort,
-    alloc: Global,
-    script: &[u8],
-    piece: usize,
-) -> Result<(), AllocError> {
+/// The same of each read in turn, up to the one behind the last byte.
+fn reads_fail(alloc: Global, piece: usize) -> bool {
     for calls in 0..1000_u32 {
-        read_fails(rt, alloc, script, piece, calls)?;
-        if piece.saturating_mul(calls as usize) >= script.len() {
-            break;
+        if !read_fails(alloc, piece, calls) {
+            return false;
+        }
+        if piece.saturating_mul(calls as usize) >= SCRIPT.len() {
+            return true;
         }
     }
-    Ok(())
+    false
 }
 
-fn all_reads_fail(rt: &impl Abort, alloc: Global, script: &[u8]) -> Result<(), AllocError> {
-    for piece in &READ_PIECES {
-        reads_fail(rt, alloc, script, *piece)?;
+/// How many bytes each read gives, and the name of these reads.
+static READ_PIECES: [(usize, &str); 4] = [
+    (1, "reads of 1 byte"),
+    (7, "reads of 7 bytes"),
+    (64, "reads of 64 bytes"),
+    (4096, "reads of 4096 bytes"),
+];
+
+/// The first reads of which one does not fail as it is to.
+fn wrong_reads(alloc: Global) -> Option<&'static str> {
+    for (piece, name) in &READ_PIECES {
+        if !reads_fail(alloc, *piece) {
+            return Some(*name);
+        }
     }
-    Ok(())
+    None
 }
 
-/// The lines whose newline was read are answered, and nothing is read after the read that fails.
 #[test]
-fn each_read_fails(rt: HostRuntime) -> Result<(), Fail> {
-    let script = whole_script(rt.alloc())?;
-    let failed = all_reads_fail(&rt, rt.alloc(), script.as_slice());
-    drop(script);
-    failed?;
-    Ok(())
+fn each_read_fails(rt: HostRuntime) {
+    all_pass(&rt, wrong_reads(rt.alloc()));
 }
 
-/// How many bytes each write takes at the most.
-static WRITE_PIECES: [usize; 3] = [1, 5, 100];
-
-/// The write fails that finds no room behind so many bytes.
-fn write_fails(
-    rt: &impl Abort,
-    alloc: Global,
-    script: &[u8],
-    replies: &[u8],
-    piece: usize,
-    when_full: WhenFull,
-) {
-    let mut writer = FailingWriter {
-        taken: Vec::new(alloc),
-        piece,
-        room: replies.len(),
-        when_full,
-        flushes: 0,
-        flush_fails: false,
-    };
-    let outcome = Err(ScriptFault::Write);
-    write_ends(rt, alloc, script, &mut writer, replies, outcome);
-    same(rt, writer.flushes, 0);
+/// Whether the script ends where the write finds no room behind so many bytes: these are the front of the replies, and nothing is written after
+/// it.
+fn write_fails(alloc: Global, piece: usize, room: usize, when_full: WhenFull) -> bool {
+    let mut writer = FailingWriter::new(alloc, piece, room);
+    writer.when_full = when_full;
+    let replies = REPLIES.as_bytes();
+    let taken = replies.split_at(room.min(replies.len())).0;
+    is_written_so(
+        alloc,
+        SCRIPT,
+        &mut writer,
+        Err(ScriptFault::Write),
+        taken,
+        0,
+    )
 }
 
-/// Each write fails in turn.
-fn writes_fail(
-    rt: &impl Abort,
-    alloc: Global,
-    script: &[u8],
-    replies: &[u8],
-    piece: usize,
-    when_full: WhenFull,
-) {
-    for room in 0..replies.len() {
-        let taken = replies.split_at(room).0;
-        write_fails(rt, alloc, script, taken, piece, when_full);
+/// The same of each write in turn.
+fn writes_fail(alloc: Global, piece: usize, when_full: WhenFull) -> bool {
+    for room in 0..REPLIES.len() {
+        if !write_fails(alloc, piece, room, when_full) {
+            return false;
+        }
     }
+    true
 }
 
-fn all_writes_fail(rt: &impl Abort, alloc: Global, script: &[u8], replies: &[u8]) {
-    for piece in &WRITE_PIECES {
-        writes_fail(rt, alloc, script, replies, *piece, WhenFull::Fails);
-        writes_fail(rt, alloc, script, replies, *piece, WhenFull::TakesNone);
+/// How many bytes each write takes at the most, what comes of one without room, and the name of these writes.
+static WRITE_PIECES: [(usize, WhenFull, &str); 6] = [
+    (1, WhenFull::Fails, "writes of 1 byte that fail"),
+    (1, WhenFull::TakesNone, "writes of 1 byte that take none"),
+    (5, WhenFull::Fails, "writes of 5 bytes that fail"),
+    (5, WhenFull::TakesNone, "writes of 5 bytes that take none"),
+    (100, WhenFull::Fails, "writes of 100 bytes that fail"),
+    (
+        100,
+        WhenFull::TakesNone,
+        "writes of 100 bytes that take none",
+    ),
+];
+
+/// The first writes of which one does not fail as it is to.
+fn wrong_writes(alloc: Global) -> Option<&'static str> {
+    for (piece, when_full, name) in &WRITE_PIECES {
+        if !writes_fail(alloc, *piece, *when_full) {
+            return Some(*name);
+        }
     }
+    None
 }
 
-/// What was taken before the write that fails is the front of the replies, and nothing is written after it.
 #[test]
-fn each_write_fails(rt: HostRuntime) -> Result<(), Fail> {
-    let script = whole_script(rt.alloc())?;
-    let replies = replies_within(rt.alloc(), script.len())?;
-    all_writes_fail(&rt, rt.alloc(), script.as_slice(), replies.as_slice());
-    Ok(())
+fn each_write_fails(rt: HostRuntime) {
+    all_pass(&rt, wrong_writes(rt.alloc()));
 }

@@ -1,9 +1,8 @@
 //! The files of examples/workloads, as they stand there.
 
-use crate::tests::workload::cases::{Case, are_read_so};
-use crate::tests::workload::texts::Text;
+use super::{Case, wrong_case};
+use crate::tests::passes::all_pass;
 use mm_workload::{Config, WorkStep};
-use std::test::Fail;
 
 const CROSSWISE: &str = r#"{
   "processes": 2,
@@ -75,7 +74,8 @@ const CHAIN: &str = r#"{
 
 static FILES: [Case; 4] = [
     Case {
-        text: Text::Whole(CROSSWISE),
+        name: "are_read, crosswise",
+        text: CROSSWISE,
         config: Config {
             processes: 2,
             resources: 2,
@@ -84,11 +84,22 @@ static FILES: [Case; 4] = [
         },
         transmitters: 1,
         turns: 10_000_000,
-        lengths: &[3, 3],
-        first: Some(WorkStep::Acquire(0)),
+        clients: &[
+            &[
+                WorkStep::Acquire(0),
+                WorkStep::Meet(2),
+                WorkStep::Acquire(1),
+            ],
+            &[
+                WorkStep::Acquire(1),
+                WorkStep::Meet(2),
+                WorkStep::Acquire(0),
+            ],
+        ],
     },
     Case {
-        text: Text::Whole(PHILOSOPHERS),
+        name: "are_read, philosophers",
+        text: PHILOSOPHERS,
         config: Config {
             processes: 5,
             resources: 5,
@@ -97,11 +108,37 @@ static FILES: [Case; 4] = [
         },
         transmitters: 1,
         turns: 10_000_000,
-        lengths: &[3, 3, 3, 3, 3],
-        first: Some(WorkStep::Acquire(0)),
+        clients: &[
+            &[
+                WorkStep::Acquire(0),
+                WorkStep::Meet(5),
+                WorkStep::Acquire(1),
+            ],
+            &[
+                WorkStep::Acquire(1),
+                WorkStep::Meet(5),
+                WorkStep::Acquire(2),
+            ],
+            &[
+                WorkStep::Acquire(2),
+                WorkStep::Meet(5),
+                WorkStep::Acquire(3),
+            ],
+            &[
+                WorkStep::Acquire(3),
+                WorkStep::Meet(5),
+                WorkStep::Acquire(4),
+            ],
+            &[
+                WorkStep::Acquire(4),
+                WorkStep::Meet(5),
+                WorkStep::Acquire(0),
+            ],
+        ],
     },
     Case {
-        text: Text::Whole(HOT_RESOURCE),
+        name: "are_read, hot_resource",
+        text: HOT_RESOURCE,
         config: Config {
             processes: 8,
             resources: 3,
@@ -110,11 +147,36 @@ static FILES: [Case; 4] = [
         },
         transmitters: 2,
         turns: 10_000_000,
-        lengths: &[3, 3, 3, 3, 2, 2, 2, 2],
-        first: Some(WorkStep::Acquire(0)),
+        clients: &[
+            &[
+                WorkStep::Acquire(0),
+                WorkStep::Release(0),
+                WorkStep::Acquire(0),
+            ],
+            &[
+                WorkStep::Acquire(0),
+                WorkStep::Release(0),
+                WorkStep::Acquire(0),
+            ],
+            &[
+                WorkStep::Acquire(0),
+                WorkStep::Release(0),
+                WorkStep::Acquire(0),
+            ],
+            &[
+                WorkStep::Acquire(0),
+                WorkStep::Release(0),
+                WorkStep::Acquire(0),
+            ],
+            &[WorkStep::Acquire(0), WorkStep::Acquire(1)],
+            &[WorkStep::Acquire(0), WorkStep::Acquire(1)],
+            &[WorkStep::Acquire(0), WorkStep::Acquire(2)],
+            &[WorkStep::Acquire(0), WorkStep::Acquire(2)],
+        ],
     },
     Case {
-        text: Text::Whole(CHAIN),
+        name: "are_read, chain",
+        text: CHAIN,
         config: Config {
             processes: 5,
             resources: 4,
@@ -123,13 +185,30 @@ static FILES: [Case; 4] = [
         },
         transmitters: 2,
         turns: 10_000_000,
-        lengths: &[2, 3, 3, 3, 0],
-        first: Some(WorkStep::Acquire(0)),
+        clients: &[
+            &[WorkStep::Acquire(0), WorkStep::Meet(4)],
+            &[
+                WorkStep::Acquire(1),
+                WorkStep::Meet(4),
+                WorkStep::Acquire(0),
+            ],
+            &[
+                WorkStep::Acquire(2),
+                WorkStep::Meet(4),
+                WorkStep::Acquire(1),
+            ],
+            &[
+                WorkStep::Acquire(3),
+                WorkStep::Meet(4),
+                WorkStep::Acquire(2),
+            ],
+            &[],
+        ],
     },
 ];
 
 /// Each is read.
 #[test]
-fn are_read(rt: HostRuntime) -> Result<(), Fail> {
-    are_read_so(&rt, rt.alloc(), &FILES)
+fn are_read(rt: HostRuntime) {
+    all_pass(&rt, wrong_case(rt.alloc(), &FILES));
 }
