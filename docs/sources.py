@@ -5,7 +5,7 @@ import re
 TOP = pathlib.Path(__file__).resolve().parents[1]
 PAGES = sorted([*TOP.glob("*.md"), *TOP.glob("docs/*.md"), *TOP.glob("*/README.md"), *TOP.glob("clients/*/README.md"), *TOP.glob("crates/*/*.md")])
 HEAD = re.compile(r"^(?:pub )?(impl|trait)\b", re.M)
-FUNCTION = re.compile(r"^ *(pub )?(?:extern \"C\" )?fn (\w+)", re.M)
+FUNCTION = re.compile(r"^ *(?:(pub )|pub\(\w+\) )?(?:extern \"C\" )?fn (\w+)", re.M)
 CLAUSE = re.compile(r"\s*(requires|ensures\*?)\s*(\w+)?\s*\{")
 
 

@@ -1,48 +1,63 @@
 -- What comes of names that are asked for in their order, by what comes of the first one.
-use Rattle.std.proofs.Common.{◌<◌, ℕ, zero, suc, List, [], ◌∷◌, length, drop, get_or, Result, Ok, Err, Bor, inl, inr, refl, arith}
+use Rattle.std.proofs.Common.{◌≡◌, ◌+◌, ℕ, zero, suc, List, [], ◌∷◌, drop, slice_get, Some, None, Result, Ok, Err, Bor, inl, inr, refl, sym, subst, ap, arith}
 use Rattle.mm_arena.specs.declared.key.Key.{Key}
 use Rattle.mm_manager.specs.LockState.{LockState, Owns}
-use Rattle.mm_blocking.specs.Calls.{Asks, AsksEach, GoesOn, Finds, bytes_of}
+use Rattle.mm_blocking.specs.Calls.{Receives, Asks, AsksEach, GoesOn, Finds, bytes_of, rest}
 use Rattle.mm_blocking.specs.declared.desk.Asked.TheVariants as asked
+use Rattle.mm_blocking.specs.declared.desk.tokens.GrantedUpTo.{GrantedUpTo}
 use Rattle.mm_blocking.specs.declared.error.LockError.{LockError}
 
-module _ (m new : LockState) (k : Key) (d : Bor (List ℕ)) where
-  pub owns_first : (mid : LockState) (names : List (Bor (List ℕ))) (i : ℕ) (answer : Result (List (List ℕ)) LockError) → i < length names
-      → Asks m k (get_or names i d).now (Ok asked.Owns) mid → AsksEach mid k (drop (suc i) (bytes_of names)) answer new → AsksEach m k (drop i (bytes_of names)) answer new
-  owns_first mid [] i answer within asks each = absurd (omega arith)
-  owns_first mid (name ∷ names) zero answer within asks each = inl (mid, asks, each)
-  owns_first mid (name ∷ names) (suc i) answer within asks each = owns_first mid names i answer (omega arith) asks each
+-- ---- the names that are left
 
-  pub waits_for_first : (names : List (Bor (List ℕ))) (i : ℕ) → i < length names → Asks m k (get_or names i d).now (Ok asked.Waits) new
-      → AsksEach m k (drop i (bytes_of names)) (Ok (drop i (bytes_of names))) new
-  waits_for_first [] i within asks = absurd (omega arith)
-  waits_for_first (name ∷ names) zero within asks = inr (inl (refl, asks))
-  waits_for_first (name ∷ names) (suc i) within asks = waits_for_first names i (omega arith) asks
+-- the first one of them, and those behind it
+first_left : (names : List (Bor (List ℕ))) (i : ℕ) (one : Bor (List ℕ)) → Some one ≡ slice_get names i → drop i (bytes_of names) ≡ one.now ∷ drop (suc i) (bytes_of names)
+first_left [] i one is = absurd (cc is)
+first_left (name ∷ names) zero one is = let same : one ≡ name = cc is in ap (λ (n : Bor (List ℕ)). n.now ∷ bytes_of names) (sym same)
+first_left (name ∷ names) (suc i) one is = first_left names i one is
 
-  pub first_is_refused : (names : List (Bor (List ℕ))) (i : ℕ) (error : LockError) → i < length names → Asks m k (get_or names i d).now (Err error) new
-      → AsksEach m k (drop i (bytes_of names)) (Err error) new
-  first_is_refused [] i error within asks = absurd (omega arith)
-  first_is_refused (name ∷ names) zero error within asks = inr (inr (error, refl, asks))
-  first_is_refused (name ∷ names) (suc i) error within asks = first_is_refused names i error (omega arith) asks
+none_left : (names : List (Bor (List ℕ))) (i : ℕ) → None ≡ slice_get names i → drop i (bytes_of names) ≡ []
+none_left [] zero is = refl
+none_left [] (suc i) is = refl
+none_left (name ∷ names) zero is = absurd (cc is)
+none_left (name ∷ names) (suc i) is = none_left names i is
 
--- ---- the same by one who waited for the first name
+-- ---- they are asked for
 
-module _ (m new : LockState) (k : Key) (d : Bor (List ℕ)) where
-  pub goes_on_behind : (names : List (Bor (List ℕ))) (i : ℕ) (answer : Result (List (List ℕ)) LockError) → i < length names → Owns m k (get_or names i d).now
-      → AsksEach m k (drop (suc i) (bytes_of names)) answer new → GoesOn m k (drop i (bytes_of names)) answer new
-  goes_on_behind [] i answer within owns each = absurd (omega arith)
-  goes_on_behind (name ∷ names) zero answer within owns each = inl (owns, each)
-  goes_on_behind (name ∷ names) (suc i) answer within owns each = goes_on_behind names i answer (omega arith) owns each
+module _ (m new : LockState) (j k : Key) (same : j ≡ k) (so_far : GrantedUpTo) (one : Bor (List ℕ)) (is : Some one ≡ slice_get so_far.names.now so_far.place) where
+  pub owns_first : (mid : LockState) (next : GrantedUpTo) (answer : Result (List (List ℕ)) LockError) → next.names.now ≡ so_far.names.now → next.place ≡ so_far.place + 1
+      → Receives m j one.now mid → AsksEach mid k (rest next) answer new → AsksEach m k (rest so_far) answer new
+  owns_first mid next answer names place asks each =
+      let behind : next.place ≡ suc so_far.place = omega arith in
+      let left : rest next ≡ drop (suc so_far.place) (bytes_of so_far.names.now) = cc in
+      rw (first_left so_far.names.now so_far.place one is) (inl (mid, subst (λ h. Receives m h one.now mid) same asks, subst (λ ns. AsksEach mid k ns answer new) left each))
 
-module _ (m : LockState) (k : Key) (d : Bor (List ℕ)) where
-  pub waits_on : (names : List (Bor (List ℕ))) (i : ℕ) → i < length names → Finds m k (get_or names i d).now (Ok asked.Waits)
-      → GoesOn m k (drop i (bytes_of names)) (Ok (drop i (bytes_of names))) m
-  waits_on [] i within finds = absurd (omega arith)
-  waits_on (name ∷ names) zero within finds = inr (inl (refl, finds, refl))
-  waits_on (name ∷ names) (suc i) within finds = waits_on names i (omega arith) finds
+  pub waits_for_first : Asks m j one.now (Ok asked.Waits) new → AsksEach m k (rest so_far) (Ok (rest so_far)) new
+  waits_for_first asks = rw (first_left so_far.names.now so_far.place one is) (inr (inl (refl, subst (λ h. Asks m h one.now (Ok asked.Waits) new) same asks)))
 
-  pub wait_has_ended : (names : List (Bor (List ℕ))) (i : ℕ) (error : LockError) → i < length names → Finds m k (get_or names i d).now (Err error)
-      → GoesOn m k (drop i (bytes_of names)) (Err error) m
-  wait_has_ended [] i error within finds = absurd (omega arith)
-  wait_has_ended (name ∷ names) zero error within finds = inr (inr (error, refl, finds, refl))
-  wait_has_ended (name ∷ names) (suc i) error within finds = wait_has_ended names i error (omega arith) finds
+  pub first_is_refused : (error : LockError) → Asks m j one.now (Err error) new → AsksEach m k (rest so_far) (Err error) new
+  first_is_refused error asks = rw (first_left so_far.names.now so_far.place one is) (inr (inr (error, refl, subst (λ h. Asks m h one.now (Err error) new) same asks)))
+
+  -- ---- the same by one who waited for the first name
+
+  pub goes_on_behind : (next : GrantedUpTo) (answer : Result (List (List ℕ)) LockError) → next.names.now ≡ so_far.names.now → next.place ≡ so_far.place + 1
+      → Owns m j one.now → AsksEach m k (rest next) answer new → GoesOn m k (rest so_far) answer new
+  goes_on_behind next answer names place owns each =
+      let behind : next.place ≡ suc so_far.place = omega arith in
+      let left : rest next ≡ drop (suc so_far.place) (bytes_of so_far.names.now) = cc in
+      rw (first_left so_far.names.now so_far.place one is) (inl (subst (λ h. Owns m h one.now) same owns, subst (λ ns. AsksEach m k ns answer new) left each))
+
+module _ (m : LockState) (j k : Key) (same : j ≡ k) (so_far : GrantedUpTo) (one : Bor (List ℕ)) (is : Some one ≡ slice_get so_far.names.now so_far.place) where
+  pub waits_on : Finds m j one.now (Ok asked.Waits) → GoesOn m k (rest so_far) (Ok (rest so_far)) m
+  waits_on finds = rw (first_left so_far.names.now so_far.place one is) (inr (inl (refl, subst (λ h. Finds m h one.now (Ok asked.Waits)) same finds, refl)))
+
+  pub wait_has_ended : (error : LockError) → Finds m j one.now (Err error) → GoesOn m k (rest so_far) (Err error) m
+  wait_has_ended error finds = rw (first_left so_far.names.now so_far.place one is) (inr (inr (error, refl, subst (λ h. Finds m h one.now (Err error)) same finds, refl)))
+
+-- ---- none is left
+
+module _ (m : LockState) (k : Key) (so_far : GrantedUpTo) (is : None ≡ slice_get so_far.names.now so_far.place) where
+  pub has_asked_for_all : AsksEach m k (rest so_far) (Ok (rest so_far)) m
+  has_asked_for_all = rw (none_left so_far.names.now so_far.place is) (refl, refl)
+
+  pub waits_for_none : GoesOn m k (rest so_far) (Ok (rest so_far)) m
+  waits_for_none = rw (none_left so_far.names.now so_far.place is) (refl, refl)

@@ -1,5 +1,5 @@
 -- What the calls do to the manager behind the lock, by their answers.
-use Rattle.std.specs.Prelude.{◌≡◌, ◌≢◌, ◌⊎◌, ℕ, Bool, true, false, List, [], ◌∷◌, Result, Ok, Err, map, drop}
+use Rattle.std.specs.Prelude.{◌≡◌, ◌≢◌, ◌⊎◌, ℕ, Bool, true, false, List, [], ◌∷◌, Option, Some, None, Result, Ok, Err, map, drop}
 use Rattle.std.specs.Borrow.{Bor}
 use Rattle.mm_arena.specs.declared.key.Key.{Key}
 use Rattle.mm_rules.specs.Victims.{IsOnCycle}
@@ -17,6 +17,8 @@ use Rattle.mm_manager.specs.declared.reply.Status.TheVariants as status
 use Rattle.mm_blocking.specs.Errors.{Because}
 use Rattle.mm_blocking.specs.declared.desk.Asked.{Asked}
 use Rattle.mm_blocking.specs.declared.desk.Asked.TheVariants as asked
+use Rattle.mm_blocking.specs.declared.desk.tokens.Granted.{Granted}
+use Rattle.mm_blocking.specs.declared.desk.tokens.GrantedUpTo.{GrantedUpTo}
 use Rattle.mm_blocking.specs.declared.error.LockError.{LockError}
 use Rattle.mm_blocking.specs.declared.error.LockError.TheVariants.{Deadlock, TimedOut, NotActive}
 
@@ -29,9 +31,13 @@ Starts old (Err error) new = Because (λ refusal. Begins old (Err refusal) new) 
 abbrev pub IsRefused : LockState → Key → List ℕ → LockError → LockState → Type 0
 IsRefused old k name error new = (new ≡ untold old) × Because (LockRefused old k name) error
 
+-- a request by which k owns the name: it gets it, or owned it already
+abbrev pub Receives : LockState → Key → List ℕ → LockState → Type 0
+Receives old k name new = Gets old k name new ⊎ (Owns old k name × (new ≡ untold old))
+
 -- a request: k owns the name; or it waits, on no cycle of waits; or it closed a cycle, or is refused
 abbrev pub Asks : LockState → Key → List ℕ → Result Asked LockError → LockState → Type 0
-Asks old k name (Ok asked.Owns) new = Gets old k name new ⊎ (Owns old k name × (new ≡ untold old))
+Asks old k name (Ok (asked.Owns granted)) new = Receives old k name new
 Asks old k name (Ok asked.Waits) new = (h : Key) × Queues old k name h new × ¬ IsOnCycle new.table k.process
 Asks old k name (Err error) new = ((error ≡ Deadlock) × ((h : Key) × Queues old k name h new × IsOnCycle new.table k.process)) ⊎ IsRefused old k name error new
 
@@ -44,7 +50,7 @@ found_by (Err refusal) = Err NotActive
 
 -- a look at what a request has come to: k owns the name; or it does not, and waits, or does not wait any more
 abbrev pub Finds : LockState → Key → List ℕ → Result Asked LockError → Type 0
-Finds m k name (Ok asked.Owns) = Owns m k name
+Finds m k name (Ok (asked.Owns granted)) = Owns m k name
 Finds m k name found = ¬ Owns m k name × ((does : Result Status Refusal) × HasStatus m k does × (found ≡ found_by does))
 
 -- whether what a transaction does is to be in a deadlock
@@ -56,7 +62,7 @@ is_deadlock does = false
 abbrev pub AsksEach : LockState → Key → List (List ℕ) → Result (List (List ℕ)) LockError → LockState → Type 0
 AsksEach old k [] answer new = (answer ≡ Ok []) × (new ≡ old)
 AsksEach old k (name ∷ names) answer new =
-    ((mid : LockState) × Asks old k name (Ok asked.Owns) mid × AsksEach mid k names answer new)
+    ((mid : LockState) × Receives old k name mid × AsksEach mid k names answer new)
     ⊎ ((answer ≡ Ok (name ∷ names)) × Asks old k name (Ok asked.Waits) new)
     ⊎ ((error : LockError) × (answer ≡ Err error) × Asks old k name (Err error) new)
 
@@ -72,10 +78,14 @@ GoesOn old k (name ∷ names) answer new =
 abbrev pub bytes_of : List (Bor (List ℕ)) → List (List ℕ)
 bytes_of names = map (λ name. name.now) names
 
--- which names are left, by the place of the first one of them
-abbrev pub left : List (List ℕ) → Result ℕ LockError → Result (List (List ℕ)) LockError
-left names (Ok place) = Ok (drop place names)
-left names (Err error) = Err error
+-- which names are left
+abbrev pub rest : GrantedUpTo → List (List ℕ)
+rest granted = drop granted.place (bytes_of granted.names.now)
+
+-- which names an answer leaves
+abbrev pub left : Result GrantedUpTo LockError → Result (List (List ℕ)) LockError
+left (Ok granted) = Ok (rest granted)
+left (Err error) = Err error
 
 -- a transaction starts and then asks for these names; or it does not start
 abbrev pub StartsWith : LockState → List (List ℕ) → Result (Key × Result (List (List ℕ)) LockError) LockError → LockState → Type 0
@@ -83,14 +93,14 @@ StartsWith old names (Ok (k, answer)) new = (mid : LockState) × Starts old (Ok 
 StartsWith old names (Err error) new = Starts old (Err error) new
 
 -- the key of who started, and which names are left
-abbrev pub with_left : List (List ℕ) → Result (Key × Result ℕ LockError) LockError → Result (Key × Result (List (List ℕ)) LockError) LockError
-with_left names (Ok (k, answer)) = Ok (k, left names answer)
-with_left names (Err error) = Err error
+abbrev pub with_left : Result (Key × Result GrantedUpTo LockError) LockError → Result (Key × Result (List (List ℕ)) LockError) LockError
+with_left (Ok (k, answer)) = Ok (k, left answer)
+with_left (Err error) = Err error
 
 -- a try: k owns the name, or another one does, or it is refused
-abbrev pub Tries : LockState → Key → List ℕ → Result Bool LockError → LockState → Type 0
-Tries old k name (Ok true) new = Gets old k name new ⊎ (Owns old k name × (new ≡ untold old))
-Tries old k name (Ok false) new = ((h : Key) × Owns old h name × (h ≢ k)) × (new ≡ untold old)
+abbrev pub Tries : LockState → Key → List ℕ → Result (Option Granted) LockError → LockState → Type 0
+Tries old k name (Ok (Some granted)) new = Receives old k name new
+Tries old k name (Ok None) new = ((h : Key) × Owns old h name × (h ≢ k)) × (new ≡ untold old)
 Tries old k name (Err error) new = (new ≡ untold old) × Because (TryRefused old k name) error
 
 -- the request of k is taken back; or it is not, since k carries another's label or does not wait any more, and this is what it has come to

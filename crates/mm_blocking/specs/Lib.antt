@@ -2,5 +2,7 @@
 pub mod Errors
 -- whom a call is to wake
 pub mod Wakes
+-- what is given out where a name is owned
+pub mod Granted
 -- what the calls do behind the lock
 pub mod Calls

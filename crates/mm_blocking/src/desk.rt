@@ -1,18 +1,22 @@
 //! The manager behind the lock.
-ghost use Rattle.std.specs.Prelude.{◌≡◌, ◌⊎◌, ◌↔◌, [], ℕ, IfErr, IfOk, IsTrue, true, drop, Result};
+ghost use Rattle.std.specs.Prelude.{◌≡◌, ◌⊎◌, ◌↔◌, [], ℕ, IfErr, IfOk, IfSome, IsTrue, true, Result};
 ghost use Rattle.mm_manager.specs.LockState.{Owns};
 ghost use Rattle.mm_manager.specs.Calls.{Aborts, Cancels};
 ghost use Rattle.mm_manager.specs.Reads.{HasStatus};
 ghost use Rattle.mm_manager.specs.declared.refusal.Refusal.{Refusal as RefusalValue};
 ghost use Rattle.mm_manager.specs.declared.reply.Abort.{Abort as AbortValue};
 ghost use Rattle.mm_manager.specs.declared.reply.Status.{Status as StatusValue};
-ghost use Rattle.mm_blocking.specs.Calls.{Starts, StartsWith, Asks, AsksEach, GoesOn, Tries, Finds, TimesOut, GivesBack, Ends, bytes_of, left, with_left, is_deadlock};
+ghost use Rattle.mm_blocking.specs.Calls.{Starts, StartsWith, Asks, AsksEach, GoesOn, Tries, Finds, TimesOut, GivesBack, Ends, bytes_of, rest, left, with_left, is_deadlock};
 ghost use Rattle.mm_blocking.specs.Errors.{of_begin, of_lock, of_try, of_unlock, of_commit};
+ghost use Rattle.mm_blocking.specs.Granted.{IsFor, OwnsFor, IsAmong};
 ghost use Rattle.mm_blocking.specs.Wakes.{IsToWake, Notes, told};
+
+mod tokens;
 
 use crate::error::LockError;
 use crate::wakes::{Unwoken, Wakes};
 use mm_manager::{Abort, Cancel, Key, Lock, LockManager, Refusal, Status, Totals, TryLock};
+pub use tokens::{Granted, GrantedUpTo};
 
 /// A manager, and those who are to be woken and whom nobody has taken to wake.
 #[derive(Drop)]
@@ -22,10 +26,10 @@ pub struct Desk {
 }
 
 /// What a request for a name has come to.
-#[derive(Clone, Copy)]
-pub enum Asked {
+#[derive(Drop)]
+pub enum Asked<'n> {
     /// The transaction owns the name.
-    Owns,
+    Owns(Granted<'n>),
     /// It waits for the name.
     Waits,
 }
@@ -43,70 +47,81 @@ impl Desk {
         self.manager.begin().map_err(LockError::of_refusal)
     }
 
-    /// Starts a transaction, and asks for these names as `lock_each` from the first one on. Returns its key, and what came of the names.
-    pub fn begin_with(
+    /// Starts a transaction, and asks for these names as `lock_each`. Returns its key, and what came of the names.
+    pub fn begin_with<'n>(
         &mut self,
-        names: &[&[u8]],
-    ) -> Result<(Key, Result<usize, LockError>), LockError>
-        ensures starts { StartsWith self.old.manager (bytes_of names.now) (with_left (bytes_of names.now) result) self.new.manager }
+        names: &'n [&'n [u8]],
+    ) -> Result<(Key, Result<GrantedUpTo<'n>, LockError>), LockError>
+        ensures starts { StartsWith self.old.manager (bytes_of names.now) (with_left result) self.new.manager }
+        ensures granted { IfOk result (λ started. IfOk started.1 (IsAmong started.0 names.now)) }
         ensures begun { IfErr result (λ error. of_begin error ≡ true) }
         ensures asked { IfOk result (λ started. IfErr started.1 (λ error. of_lock error ≡ true)) }
     {
         let key = self.begin()?;
-        let place = self.lock_each(key, names, 0);
-        Ok((key, place))
+        let granted = self.lock_each(GrantedUpTo::none(key, names));
+        Ok((key, granted))
     }
 
     /// Asks for a name.
-    pub fn lock(&mut self, key: Key, name: &[u8]) -> Result<Asked, LockError>
+    pub fn lock<'n>(&mut self, key: Key, name: &'n [u8]) -> Result<Asked<'n>, LockError>
         ensures asks { Asks self.old.manager key name.now result self.new.manager }
+        ensures granted { IfOk result (OwnsFor key name.now) }
         ensures refused { IfErr result (λ error. of_lock error ≡ true) }
     {
         match self.manager.lock(key, name) {
-            Ok(Lock::Granted | Lock::Held) => Ok(Asked::Owns),
+            Ok(Lock::Granted | Lock::Held) => Ok(Asked::Owns(self.granted(key, name))),
             Ok(Lock::Waits { .. }) => Ok(Asked::Waits),
             Ok(Lock::Deadlock { .. }) => Err(LockError::Deadlock),
             Err(refusal) => Err(LockError::of_refusal(refusal)),
         }
     }
 
-    /// Asks for the names from `start` on in their order, until one is to be waited for or is refused. Returns the place of the one that the
-    /// transaction waits for; or how many names there are, where it owns all.
-    pub fn lock_each(&mut self, key: Key, names: &[&[u8]], start: usize) -> Result<usize, LockError>
-        ensures asks { AsksEach self.old.manager key (drop start (bytes_of names.now)) (left (bytes_of names.now) result) self.new.manager }
+    /// Asks for the names that are left in their order, until one is to be waited for or is refused. Returns which ones were granted: all,
+    /// or those before the one that the transaction waits for.
+    pub fn lock_each<'n>(&mut self, so_far: GrantedUpTo<'n>) -> Result<GrantedUpTo<'n>, LockError>
+        ensures asks { AsksEach self.old.manager so_far.entry.key (rest so_far.entry) (left result) self.new.manager }
+        ensures granted { IfOk result (IsAmong so_far.entry.key so_far.entry.names.now) }
         ensures refused { IfErr result (λ error. of_lock error ≡ true) }
     {
-        for place in start..names.len() {
-            if let Asked::Waits = self.lock(key, names[place])? {
-                return Ok(place);
+        let mut granted = so_far;
+        while let Some(name) = granted.next() {
+            match self.lock(granted.key(), name)? {
+                Asked::Owns(one) => granted = granted.and(one),
+                Asked::Waits => return Ok(granted),
             }
         }
-        Ok(names.len())
+        Ok(granted)
     }
 
-    /// Looks what the request for the name at this place has come to. Where the transaction owns it, asks for those behind it, as
+    /// Looks what the request for the first name that is left has come to. Where the transaction owns it, asks for those behind it, as
     /// `lock_each`.
-    pub fn go_on(&mut self, key: Key, names: &[&[u8]], place: usize) -> Result<usize, LockError>
-        ensures goes_on { GoesOn self.old.manager key (drop place (bytes_of names.now)) (left (bytes_of names.now) result) self.new.manager }
+    pub fn go_on<'n>(&mut self, so_far: GrantedUpTo<'n>) -> Result<GrantedUpTo<'n>, LockError>
+        ensures goes_on { GoesOn self.old.manager so_far.entry.key (rest so_far.entry) (left result) self.new.manager }
+        ensures granted { IfOk result (IsAmong so_far.entry.key so_far.entry.names.now) }
         ensures refused { IfErr result (λ error. of_lock error ≡ true) }
     {
-        if place >= names.len() {
-            return Ok(names.len());
-        }
-        match self.asked(key, names[place])? {
-            Asked::Owns => self.lock_each(key, names, place + 1),
-            Asked::Waits => Ok(place),
+        let Some(name) = so_far.next() else {
+            return Ok(so_far);
+        };
+        match self.asked(so_far.key(), name)? {
+            Asked::Owns(one) => self.lock_each(so_far.and(one)),
+            Asked::Waits => Ok(so_far),
         }
     }
 
-    /// Asks for a name, and never waits. Returns whether the transaction owns it.
-    pub fn try_lock(&mut self, key: Key, name: &[u8]) -> Result<bool, LockError>
+    /// Asks for a name, and never waits. Returns `None` where another transaction owns it.
+    pub fn try_lock<'n>(
+        &mut self,
+        key: Key,
+        name: &'n [u8],
+    ) -> Result<Option<Granted<'n>>, LockError>
         ensures tries { Tries self.old.manager key name.now result self.new.manager }
+        ensures granted { IfOk result (λ tried. IfSome tried (IsFor key name.now)) }
         ensures refused { IfErr result (λ error. of_try error ≡ true) }
     {
         match self.manager.try_lock(key, name) {
-            Ok(TryLock::Granted | TryLock::Held) => Ok(true),
-            Ok(TryLock::Busy { .. }) => Ok(false),
+            Ok(TryLock::Granted | TryLock::Held) => Ok(Some(self.granted(key, name))),
+            Ok(TryLock::Busy { .. }) => Ok(None),
             Err(refusal) => Err(LockError::of_refusal(refusal)),
         }
     }
@@ -122,12 +137,13 @@ impl Desk {
     }
 
     /// What a request has come to that was told to wait. `Owns` only where the transaction owns the name at this moment.
-    pub fn asked(&self, key: Key, name: &[u8]) -> Result<Asked, LockError>
+    pub fn asked<'n>(&self, key: Key, name: &'n [u8]) -> Result<Asked<'n>, LockError>
         ensures finds { Finds self.now.manager key name.now result }
+        ensures granted { IfOk result (OwnsFor key name.now) }
         ensures refused { IfErr result (λ error. of_lock error ≡ true) }
     {
         if self.owns(key, name) {
-            return Ok(Asked::Owns);
+            return Ok(Asked::Owns(self.granted(key, name)));
         }
         match self.manager.status(key) {
             Ok(Status::Waiting { .. }) => Ok(Asked::Waits),
@@ -148,13 +164,14 @@ impl Desk {
 
     /// Takes back the request of one that waits: `TimedOut` where that is done. Else it owns the name, or waits on, since it carries
     /// another's label.
-    pub fn take_back(
+    pub fn take_back<'n>(
         &mut self,
         key: Key,
-        name: &[u8],
+        name: &'n [u8],
         wakes: &mut Wakes,
-    ) -> Result<Asked, LockError>
+    ) -> Result<Asked<'n>, LockError>
         ensures times_out { TimesOut self.old.manager key name.now result self.new.manager }
+        ensures granted { IfOk result (OwnsFor key name.now) }
         ensures refused { IfErr result (λ error. (error ≡ LockError.TimedOut) ⊎ (of_lock error ≡ true)) }
         ensures noted { Notes (told self.new.manager) wakes.old.processes.items self.old.unwoken.set wakes.new.processes.items self.new.unwoken.set }
     {

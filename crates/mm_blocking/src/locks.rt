@@ -1,9 +1,10 @@
 //! What threads share.
-ghost use Rattle.std.specs.Prelude.{◌≡◌, ◌⊎◌, ◌↔◌, true, Err, IfErr, IfOk};
+ghost use Rattle.std.specs.Prelude.{◌≡◌, ◌⊎◌, ◌↔◌, true, Err, IfErr, IfOk, IfSome};
 ghost use Rattle.mm_blocking.specs.Errors.{of_begin, of_lock, of_try, of_unlock, of_commit};
+ghost use Rattle.mm_blocking.specs.Granted.{IsFor, OwnsFor, IsAmong, IsForAll};
 ghost use Rattle.mm_manager.specs.Opening.{IsTransactionsOut, IsNamesOut, IsNameBytesOut};
 
-use crate::desk::{Asked, Desk};
+use crate::desk::{Asked, Desk, Granted, GrantedUpTo};
 use crate::error::LockError;
 use crate::parkers::Parkers;
 use crate::transaction::Transaction;
@@ -95,14 +96,28 @@ impl Locks {
     ) -> Result<Transaction<'m, R>, LockError>
         ensures refused { IfErr result (λ error. (of_begin error ≡ true) ⊎ (of_lock error ≡ true)) }
     {
-        let (key, place) = self.begin_key_with(rt, names)?;
-        let transaction = self.begun(rt, key)?;
-        transaction.go_on(names, place?)?;
+        let (transaction, _granted) = self.begin_granted(rt, names)?;
         Ok(transaction)
+    }
+
+    /// `begin_with`. What it gives out says that the transaction owned each of the names.
+    fn begin_granted<'m, 'n, R: Wait>(
+        &'m self,
+        rt: &'m R,
+        names: &'n [&'n [u8]],
+    ) -> Result<(Transaction<'m, R>, GrantedUpTo<'n>), LockError>
+        ensures granted { IfOk result (λ begun. IsForAll begun.0.key names.now begun.1) }
+        ensures refused { IfErr result (λ error. (of_begin error ≡ true) ⊎ (of_lock error ≡ true)) }
+    {
+        let (key, so_far) = self.begin_key_with(rt, names)?;
+        let transaction = self.begun(rt, key)?;
+        let granted = transaction.go_on(so_far?)?;
+        Ok((transaction, granted))
     }
 
     /// The transaction of a key that has just begun.
     fn begun<'m, R: Wait>(&'m self, rt: &'m R, key: Key) -> Result<Transaction<'m, R>, LockError>
+        ensures key { IfOk result (λ transaction. transaction.key ≡ key) }
         ensures refused { IfErr result (λ error. of_begin error ≡ true) }
     {
         match self.parkers.of(key.process) {
@@ -115,11 +130,12 @@ impl Locks {
         }
     }
 
-    fn begin_key_with<R: Wait>(
+    fn begin_key_with<'n, R: Wait>(
         &self,
         rt: &R,
-        names: &[&[u8]],
-    ) -> Result<(Key, Result<usize, LockError>), LockError>
+        names: &'n [&'n [u8]],
+    ) -> Result<(Key, Result<GrantedUpTo<'n>, LockError>), LockError>
+        ensures granted { IfOk result (λ started. IfOk started.1 (IsAmong started.0 names.now)) }
         ensures begun { IfErr result (λ error. of_begin error ≡ true) }
         ensures asked { IfOk result (λ started. IfErr started.1 (λ error. of_lock error ≡ true)) }
     {
@@ -133,47 +149,63 @@ impl Locks {
     }
 
     /// `Desk::lock`.
-    pub(crate) fn lock<R: Wait>(&self, rt: &R, key: Key, name: &[u8]) -> Result<Asked, LockError>
+    pub(crate) fn lock<'n, R: Wait>(
+        &self,
+        rt: &R,
+        key: Key,
+        name: &'n [u8],
+    ) -> Result<Asked<'n>, LockError>
+        ensures granted { IfOk result (OwnsFor key name.now) }
         ensures refused { IfErr result (λ error. of_lock error ≡ true) }
     {
         self.desk.take(rt).inside().lock(key, name)
     }
 
     /// `Desk::lock_each`.
-    pub(crate) fn lock_each<R: Wait>(
+    pub(crate) fn lock_each<'n, R: Wait>(
         &self,
         rt: &R,
-        key: Key,
-        names: &[&[u8]],
-        start: usize,
-    ) -> Result<usize, LockError>
+        so_far: GrantedUpTo<'n>,
+    ) -> Result<GrantedUpTo<'n>, LockError>
+        ensures granted { IfOk result (IsAmong so_far.entry.key so_far.entry.names.now) }
         ensures refused { IfErr result (λ error. of_lock error ≡ true) }
     {
-        self.desk.take(rt).inside().lock_each(key, names, start)
+        self.desk.take(rt).inside().lock_each(so_far)
     }
 
     /// `Desk::go_on`.
-    pub(crate) fn go_on<R: Wait>(
+    pub(crate) fn go_on<'n, R: Wait>(
         &self,
         rt: &R,
-        key: Key,
-        names: &[&[u8]],
-        place: usize,
-    ) -> Result<usize, LockError>
+        so_far: GrantedUpTo<'n>,
+    ) -> Result<GrantedUpTo<'n>, LockError>
+        ensures granted { IfOk result (IsAmong so_far.entry.key so_far.entry.names.now) }
         ensures refused { IfErr result (λ error. of_lock error ≡ true) }
     {
-        self.desk.take(rt).inside().go_on(key, names, place)
+        self.desk.take(rt).inside().go_on(so_far)
     }
 
     /// `Desk::try_lock`.
-    pub(crate) fn try_lock<R: Wait>(&self, rt: &R, key: Key, name: &[u8]) -> Result<bool, LockError>
+    pub(crate) fn try_lock<'n, R: Wait>(
+        &self,
+        rt: &R,
+        key: Key,
+        name: &'n [u8],
+    ) -> Result<Option<Granted<'n>>, LockError>
+        ensures granted { IfOk result (λ tried. IfSome tried (IsFor key name.now)) }
         ensures refused { IfErr result (λ error. of_try error ≡ true) }
     {
         self.desk.take(rt).inside().try_lock(key, name)
     }
 
     /// `Desk::asked`.
-    pub(crate) fn asked<R: Wait>(&self, rt: &R, key: Key, name: &[u8]) -> Result<Asked, LockError>
+    pub(crate) fn asked<'n, R: Wait>(
+        &self,
+        rt: &R,
+        key: Key,
+        name: &'n [u8],
+    ) -> Result<Asked<'n>, LockError>
+        ensures granted { IfOk result (OwnsFor key name.now) }
         ensures refused { IfErr result (λ error. of_lock error ≡ true) }
     {
         self.desk.take(rt).inside().asked(key, name)
@@ -185,12 +217,13 @@ impl Locks {
     }
 
     /// `Desk::take_back`.
-    pub(crate) fn take_back<R: Wait>(
+    pub(crate) fn take_back<'n, R: Wait>(
         &self,
         rt: &R,
         key: Key,
-        name: &[u8],
-    ) -> Result<Asked, LockError>
+        name: &'n [u8],
+    ) -> Result<Asked<'n>, LockError>
+        ensures granted { IfOk result (OwnsFor key name.now) }
         ensures refused { IfErr result (λ error. (error ≡ LockError.TimedOut) ⊎ (of_lock error ≡ true)) }
     {
         let mut wakes = Wakes::new();

@@ -1,8 +1,9 @@
 //! A transaction.
-ghost use Rattle.std.specs.Prelude.{◌≡◌, ◌⊎◌, true, IfErr};
+ghost use Rattle.std.specs.Prelude.{◌≡◌, ◌⊎◌, true, IfErr, IfOk, IfSome};
 ghost use Rattle.mm_blocking.specs.Errors.{of_lock, of_try, of_unlock, of_commit};
+ghost use Rattle.mm_blocking.specs.Granted.{IsFor, IsForAll};
 
-use crate::desk::Asked;
+use crate::desk::{Asked, Granted, GrantedUpTo};
 use crate::error::LockError;
 use crate::locks::Locks;
 use crate::patience::{Patience, Pause};
@@ -51,7 +52,9 @@ impl<'m, R: Wait> Transaction<'m, R> {
         locks: &'m Locks,
         parker: &'m Parker,
         key: Key,
-    ) -> Transaction<'m, R> {
+    ) -> Transaction<'m, R>
+        ensures { result.key ≡ key }
+    {
         Transaction {
             rt,
             locks,
@@ -80,22 +83,32 @@ impl<'m, R: Wait> Transaction<'m, R> {
     pub fn lock(&mut self, name: &[u8]) -> Result<(), LockError>
         ensures refused { IfErr result (λ error. of_lock error ≡ true) }
     {
+        let _granted = self.lock_granted(name)?;
+        Ok(())
+    }
+
+    /// `lock`. What it gives out says that the transaction owned the name.
+    fn lock_granted<'n>(&self, name: &'n [u8]) -> Result<Granted<'n>, LockError>
+        ensures granted { IfOk result (IsFor self.now.key name.now) }
+        ensures refused { IfErr result (λ error. of_lock error ≡ true) }
+    {
         match self.locks.lock(self.rt, self.key, name)? {
-            Asked::Owns => Ok(()),
+            Asked::Owns(granted) => Ok(granted),
             Asked::Waits => self.sleep(name),
         }
     }
 
     /// Sleeps until the transaction owns what it waits for.
     #[inline(never)]
-    fn sleep(&self, name: &[u8]) -> Result<(), LockError>
+    fn sleep<'n>(&self, name: &'n [u8]) -> Result<Granted<'n>, LockError>
+        ensures granted { IfOk result (IsFor self.now.key name.now) }
         ensures refused { IfErr result (λ error. of_lock error ≡ true) }
     {
         stay_away(YIELDS);
         for _ in self.rt.forever() {
             self.parker.park(self.rt);
             match self.locks.asked(self.rt, self.key, name)? {
-                Asked::Owns => return Ok(()),
+                Asked::Owns(granted) => return Ok(granted),
                 Asked::Waits => {}
             }
         }
@@ -110,33 +123,44 @@ impl<'m, R: Wait> Transaction<'m, R> {
     pub fn lock_all(&mut self, names: &[&[u8]]) -> Result<(), LockError>
         ensures refused { IfErr result (λ error. of_lock error ≡ true) }
     {
-        let place = self.locks.lock_each(self.rt, self.key, names, 0)?;
-        self.go_on(names, place)
+        let _granted = self.lock_each(names)?;
+        Ok(())
     }
 
-    /// Returns at once where the place is behind all names; else the transaction waits for the name at this place.
+    /// `lock_all`. What it gives out says that the transaction owned each of the names.
+    fn lock_each<'n>(&self, names: &'n [&'n [u8]]) -> Result<GrantedUpTo<'n>, LockError>
+        ensures granted { IfOk result (IsForAll self.now.key names.now) }
+        ensures refused { IfErr result (λ error. of_lock error ≡ true) }
+    {
+        let so_far = GrantedUpTo::none(self.key, names);
+        self.go_on(self.locks.lock_each(self.rt, so_far)?)
+    }
+
+    /// Returns at once where all names were granted; else the transaction waits for the first one that is left.
     #[inline]
-    pub(crate) fn go_on(&self, names: &[&[u8]], place: usize) -> Result<(), LockError>
+    pub(crate) fn go_on<'n>(&self, so_far: GrantedUpTo<'n>) -> Result<GrantedUpTo<'n>, LockError>
+        ensures granted { IfOk result (IsForAll so_far.entry.key so_far.entry.names.now) }
         ensures refused { IfErr result (λ error. of_lock error ≡ true) }
     {
-        if place >= names.len() {
-            return Ok(());
+        if so_far.is_all() {
+            return Ok(so_far);
         }
-        self.sleep_for_each(names, place)
+        self.sleep_for_each(so_far)
     }
 
-    /// Sleeps until the transaction owns the name at this place, which it waits for, and goes on with those behind it.
+    /// Sleeps until the transaction owns the first name that is left, for which it waits, and goes on with those behind it.
     #[inline(never)]
-    fn sleep_for_each(&self, names: &[&[u8]], first: usize) -> Result<(), LockError>
+    fn sleep_for_each<'n>(&self, so_far: GrantedUpTo<'n>) -> Result<GrantedUpTo<'n>, LockError>
+        ensures granted { IfOk result (IsForAll so_far.entry.key so_far.entry.names.now) }
         ensures refused { IfErr result (λ error. of_lock error ≡ true) }
     {
-        let mut place = first;
+        let mut granted = so_far;
         for _ in self.rt.forever() {
             stay_away(YIELDS);
             self.parker.park(self.rt);
-            place = self.locks.go_on(self.rt, self.key, names, place)?;
-            if place >= names.len() {
-                return Ok(());
+            granted = self.locks.go_on(self.rt, granted)?;
+            if granted.is_all() {
+                return Ok(granted);
             }
         }
         unreachable!()
@@ -146,6 +170,14 @@ impl<'m, R: Wait> Transaction<'m, R> {
     ///
     /// Refused as `Deadlock`, `NameEmpty`, `NameTooLong`, `NamesFull` or `CountsFull`. `O(length)`.
     pub fn try_lock(&mut self, name: &[u8]) -> Result<bool, LockError>
+        ensures refused { IfErr result (λ error. of_try error ≡ true) }
+    {
+        Ok(self.try_granted(name)?.is_some())
+    }
+
+    /// `try_lock`. What it gives out says that the transaction owned the name.
+    fn try_granted<'n>(&self, name: &'n [u8]) -> Result<Option<Granted<'n>>, LockError>
+        ensures granted { IfOk result (λ tried. IfSome tried (IsFor self.now.key name.now)) }
         ensures refused { IfErr result (λ error. of_try error ≡ true) }
     {
         self.locks.try_lock(self.rt, self.key, name)
@@ -185,15 +217,25 @@ impl<'m, R: Wait + Clock> Transaction<'m, R> {
     pub fn lock_for(&mut self, name: &[u8], limit: Duration) -> Result<(), LockError>
         ensures refused { IfErr result (λ error. (error ≡ LockError.TimedOut) ⊎ (of_lock error ≡ true)) }
     {
+        let _granted = self.granted_for(name, limit)?;
+        Ok(())
+    }
+
+    /// `lock_for`. What it gives out says that the transaction owned the name.
+    fn granted_for<'n>(&self, name: &'n [u8], limit: Duration) -> Result<Granted<'n>, LockError>
+        ensures granted { IfOk result (IsFor self.now.key name.now) }
+        ensures refused { IfErr result (λ error. (error ≡ LockError.TimedOut) ⊎ (of_lock error ≡ true)) }
+    {
         match self.locks.lock(self.rt, self.key, name)? {
-            Asked::Owns => Ok(()),
+            Asked::Owns(granted) => Ok(granted),
             Asked::Waits => self.sleep_for(name, limit),
         }
     }
 
     /// Sleeps until the transaction owns what it waits for, or the time is up and the request taken back.
     #[inline(never)]
-    fn sleep_for(&self, name: &[u8], limit: Duration) -> Result<(), LockError>
+    fn sleep_for<'n>(&self, name: &'n [u8], limit: Duration) -> Result<Granted<'n>, LockError>
+        ensures granted { IfOk result (IsFor self.now.key name.now) }
         ensures refused { IfErr result (λ error. (error ≡ LockError.TimedOut) ⊎ (of_lock error ≡ true)) }
     {
         let patience = Patience::new(self.rt, limit);
@@ -203,7 +245,7 @@ impl<'m, R: Wait + Clock> Transaction<'m, R> {
             };
             self.parker.park_timeout(self.rt, left);
             match self.locks.asked(self.rt, self.key, name)? {
-                Asked::Owns => return Ok(()),
+                Asked::Owns(granted) => return Ok(granted),
                 Asked::Waits => {}
             }
         }
@@ -211,13 +253,14 @@ impl<'m, R: Wait + Clock> Transaction<'m, R> {
     }
 
     /// Takes the request back as soon as that is allowed.
-    fn take_back(&self, name: &[u8]) -> Result<(), LockError>
+    fn take_back<'n>(&self, name: &'n [u8]) -> Result<Granted<'n>, LockError>
+        ensures granted { IfOk result (IsFor self.now.key name.now) }
         ensures refused { IfErr result (λ error. (error ≡ LockError.TimedOut) ⊎ (of_lock error ≡ true)) }
     {
         let mut pause = Pause::first();
         for _ in self.rt.forever() {
             match self.locks.take_back(self.rt, self.key, name)? {
-                Asked::Owns => return Ok(()),
+                Asked::Owns(granted) => return Ok(granted),
                 Asked::Waits => self.parker.park_timeout(self.rt, pause.next()),
             }
         }

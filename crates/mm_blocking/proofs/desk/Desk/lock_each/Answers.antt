@@ -1,22 +1,39 @@
-use Rattle.std.proofs.Common.{◌≡◌, ◌+◌, suc, Ok, Err, drop, rules, arith}
-use Rattle.mm_blocking.specs.Calls.{bytes_of}
-use Rattle.mm_blocking.proofs.Each.{owns_first, waits_for_first, first_is_refused}
+use Rattle.std.proofs.Common.{◌≡◌, ◌∙◌, ◌<◌, length, Ok, Err, rules, arith, sym, ap}
+use Rattle.std.proofs.lemmas.Option.{slice_get_within}
+use Rattle.mm_blocking.specs.Calls.{rest}
+use Rattle.mm_blocking.proofs.Each.{owns_first, waits_for_first, first_is_refused, has_asked_for_all}
 use Rattle.mm_blocking.proofs.desk.Desk.lock_each.Goals as goal
 
-pub returns-in_err-lock-clause-asks : goal.returns-in_err-lock-clause-asks
-returns-in_err-lock-clause-asks c =
-    let told : c.from_residual.result ≡ Err c.in_err-lock.field-0.0 = search rules in
+pub returns-in_err-one-clause-asks : goal.returns-in_err-one-clause-asks
+returns-in_err-one-clause-asks c =
+    let told : c.from_residual.result ≡ Err c.in_err-one.field-0.0 = search rules in
+    let key : c.key.result ≡ c.args.so_far.key = c.key.ensures ∙ c.loop-name.invariant.same.0 in
     rw told
-    (c.loop-place.invariant (Err c.in_err-lock.field-0.0) c.lock.new.self.manager
-    (first_is_refused c.loop-place.self.manager c.lock.new.self.manager c.args.key _ c.args.names.now c.loop-place.place c.in_err-lock.field-0.0 c.loop-place-test.true c.in_err-lock.ensures.asks))
+    (c.loop-name.invariant.each (Err c.in_err-one.field-0.0) c.lock.new.self.manager
+    (first_is_refused c.loop-name.self.manager c.lock.new.self.manager c.key.result c.args.so_far.key key c.loop-name.granted c.in-Some.name c.in-Some.ensures c.in_err-one.field-0.0 c.in_err-one.ensures.asks))
 
 pub returns-in-Waits-clause-asks : goal.returns-in-Waits-clause-asks
 returns-in-Waits-clause-asks c =
-    c.loop-place.invariant (Ok (drop c.loop-place.place (bytes_of c.args.names.now))) c.lock.new.self.manager
-    (waits_for_first c.loop-place.self.manager c.lock.new.self.manager c.args.key _ c.args.names.now c.loop-place.place c.loop-place-test.true (rw c.in-Waits.is at c.in_ok-lock.ensures.asks))
+    let key : c.key.result ≡ c.args.so_far.key = c.key.ensures ∙ c.loop-name.invariant.same.0 in
+    c.loop-name.invariant.each (Ok (rest c.loop-name.granted)) c.lock.new.self.manager
+    (waits_for_first c.loop-name.self.manager c.lock.new.self.manager c.key.result c.args.so_far.key key c.loop-name.granted c.in-Some.name c.in-Some.ensures (rw c.in-Waits.is at c.in_ok-one.ensures.asks))
 
-pub loop-place-preserved : goal.loop-place-preserved
-loop-place-preserved c =
-    let next : c.loop-place.place + 1 ≡ suc c.loop-place.place = omega arith in
-    λ answer new each. c.loop-place.invariant answer new
-    (owns_first c.loop-place.self.manager new c.args.key _ c.lock.new.self.manager c.args.names.now c.loop-place.place answer c.loop-place-test.true (rw c.in_default.is at c.in_ok-lock.ensures.asks) (rw next at each))
+pub returns-clause-asks : goal.returns-clause-asks
+returns-clause-asks c =
+    c.loop-name.invariant.each (Ok (rest c.loop-name.granted)) c.loop-name.self.manager (has_asked_for_all c.loop-name.self.manager c.args.so_far.key c.loop-name.granted c.in_default.ensures)
+
+pub loop-name-preserved : goal.loop-name-preserved
+loop-name-preserved c =
+    let key : c.key.result ≡ c.args.so_far.key = c.key.ensures ∙ c.loop-name.invariant.same.0 in
+    record {
+      same = (c.and-granted.ensures.key ∙ c.loop-name.invariant.same.0, c.and-granted.ensures.names ∙ c.loop-name.invariant.same.1);
+      each = λ answer new each. c.loop-name.invariant.each answer new
+          (owns_first c.loop-name.self.manager new c.key.result c.args.so_far.key key c.loop-name.granted c.in-Some.name c.in-Some.ensures c.lock.new.self.manager c.and-granted.result answer
+          c.and-granted.ensures.names c.and-granted.ensures.place (rw c.in-Owns.is at c.in_ok-one.ensures.asks) each);
+    }
+
+pub loop-name-smaller : goal.loop-name-smaller
+loop-name-smaller c =
+    let within : c.loop-name.granted.place < length c.loop-name.granted.names.now = slice_get_within c.loop-name.granted.names.now c.loop-name.granted.place c.in-Some.name (sym c.in-Some.ensures) in
+    let same : length c.and-granted.result.names.now ≡ length c.loop-name.granted.names.now = ap length c.and-granted.ensures.names in
+    omega arith
