@@ -2,7 +2,7 @@
 //!
 //! `Desk::granted` alone makes a `Granted`, and it requires that the transaction owns the name. The fields are private to this module, no
 //! token can be copied, and no value keeps one. So whoever has one was given it by a value behind the lock, during the call at hand.
-ghost use Rattle.std.specs.Prelude.{◌≡◌, ◌+◌, IsTrue, ◌↔◌, ◌≤◌, length, slice_get, IfSome, IsSomeAnd};
+ghost use Rattle.std.specs.Prelude.{◌≡◌, ◌+◌, IsTrue, ◌↔◌, ◌≤◌, length, slice_get, IsSomeAnd};
 ghost use Rattle.mm_manager.specs.LockState.{Owns};
 ghost use Rattle.mm_blocking.specs.Granted.{IsFor};
 

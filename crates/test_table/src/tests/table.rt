@@ -28,12 +28,43 @@ fn let_four_begin(rt: &impl Abort, table: &mut Table) {
     same(rt, table.tenant(4), None);
 }
 
+/// The tenants of the first three processes.
+fn tenants_are(rt: &impl Abort, table: &Table, tenants: [Option<Key>; 3]) {
+    for process in 0..3u32 {
+        same(rt, table.tenant(process), tenants[process as usize]);
+    }
+}
+
+fn close_ring_of_three(table: &mut Table) -> Result<(), Refusal> {
+    for process in 0..3 {
+        let key = table.begin()?;
+        table.acquire(key, process)?;
+    }
+    table.acquire(key!(0, 1), 1)?;
+    table.acquire(key!(1, 1), 2)?;
+    table.acquire(key!(2, 1), 0)?;
+    table.settle()?;
+    Ok(())
+}
+
+fn keep_tenants(rt: &impl Abort, table: &mut Table) {
+    let [first, second, third] = [key!(0, 1), key!(1, 1), key!(2, 1)];
+    holds(rt, "the ring is closed", close_ring_of_three(table).is_ok());
+    tenants_are(rt, table, [Some(first), Some(second), Some(third)]);
+    holds(rt, "the victim gives way", table.abort(third).is_ok());
+    tenants_are(rt, table, [Some(first), Some(second), None]);
+    holds(rt, "it hands over", table.finish(second).is_ok());
+    tenants_are(rt, table, [Some(first), None, None]);
+}
+
 /// What is done with a table.
 #[derive(Clone, Copy)]
 pub enum Work {
     Nothing,
     Fill,
     LetFourBegin,
+    /// A ring of three is closed and settled; its victim is aborted, and another one finishes. Who lives keeps its process.
+    KeepTenants,
     /// The example of `abort_and_wake`.
     Wake,
 }
@@ -47,6 +78,7 @@ impl Work {
                 holds(rt, "it is full", table.begin() == Err(Refusal::Full));
             }
             Work::LetFourBegin => let_four_begin(rt, table),
+            Work::KeepTenants => keep_tenants(rt, table),
             Work::Wake => wake_the_other(rt, alloc, table),
         }
     }
@@ -89,6 +121,11 @@ fn the_largest_table_opens_and_fills(rt: HostRuntime) {
 #[test]
 fn each_process_has_its_tenant(rt: HostRuntime) {
     assert!(rt; on_a_table(&rt, rt.alloc(), config(4, 4), Work::LetFourBegin).is_ok());
+}
+
+#[test]
+fn who_lives_keeps_its_process(rt: HostRuntime) {
+    assert!(rt; on_a_table(&rt, rt.alloc(), config(4, 4), Work::KeepTenants).is_ok());
 }
 
 #[test]
