@@ -6,3 +6,5 @@ pub mod Wakes
 pub mod Granted
 -- what the calls do behind the lock
 pub mod Calls
+-- what work that is run again may return
+pub mod Run

@@ -1,4 +1,8 @@
 //! Work that is done again after a deadlock.
+ghost use Rattle.std.specs.Prelude.{◌≡◌, true, IfOk, IfErr};
+ghost use Rattle.mm_blocking.specs.Errors.{of_commit};
+ghost use Rattle.mm_blocking.specs.Run.{MayReturn, IsOfRun, error_in};
+ghost use Rattle.mm_blocking.specs.declared.error.LockError.{LockError as LockErrorValue};
 
 use crate::backoff::Backoff;
 use crate::error::LockError;
@@ -34,6 +38,8 @@ impl Locks {
         F: FnMut(&mut Transaction<'m, R>) -> Result<T, E> + Drop,
     >(&'m self, rt: &'m R, attempts: u32, mut work: F) -> Result<T, E>
         requires { F.IsAlwaysCallable work }
+        ensures value { IfOk result (λ value. MayReturn F.FnMut (Ok value)) }
+        ensures error { IfErr result (IsOfRun F.FnMut E.from_gives) }
     {
         let mut backoff = Backoff::first();
         let bed = Parker::new();
@@ -63,7 +69,9 @@ fn attempt<
     F: FnMut(&mut Transaction<'m, R>) -> Result<T, E>,
 >(locks: &'m Locks, rt: &'m R, work: &mut F) -> Result<T, Failure<E>>
     requires { F.IsAlwaysCallable work.old }
-    ensures { F.IsAlwaysCallable work.new }
+    ensures again { F.IsAlwaysCallable work.new }
+    ensures value { IfOk result (λ value. MayReturn F.FnMut (Ok value)) }
+    ensures error { IfErr result (λ failure. IsOfRun F.FnMut E.from_gives (error_in failure)) }
 {
     let mut transaction = match locks.begin(rt) {
         Ok(transaction) => transaction,
@@ -79,7 +87,10 @@ fn attempt<
 fn committed<R: Wait, T: Drop, E: From<LockError>>(
     transaction: Transaction<'_, R>,
     value: T,
-) -> Result<T, Failure<E>> {
+) -> Result<T, Failure<E>>
+    ensures value { IfOk result (λ value_now. value_now ≡ value) }
+    ensures error { IfErr result (λ failure. (refused : LockErrorValue) × (of_commit refused ≡ true) × E.from_gives refused (error_in failure)) }
+{
     let key = transaction.key();
     match transaction.commit() {
         Ok(()) => Ok(value),
@@ -92,7 +103,9 @@ fn committed<R: Wait, T: Drop, E: From<LockError>>(
 }
 
 /// Rolls back the transaction of work that failed.
-fn rolled_back<R: Wait, E>(transaction: Transaction<'_, R>, error: E) -> Failure<E> {
+fn rolled_back<R: Wait, E>(transaction: Transaction<'_, R>, error: E) -> Failure<E>
+    ensures { error_in result ≡ error }
+{
     if transaction.is_in_deadlock() {
         return Failure::Deadlock {
             error,
