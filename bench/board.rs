@@ -100,29 +100,36 @@ impl Shared {
     }
 }
 
+/// Two resources. The compiler does not know their numbers, so it cannot make calls for these numbers alone.
+#[derive(Clone, Copy)]
+struct Resources {
+    first: u32,
+    second: u32,
+}
+
 /// The same as `Grants`, without a board.
-fn grant(table: &Mutex<Table>) {
+fn grant(table: &Mutex<Table>, Resources { first: resource, .. }: Resources) {
     let key = table.lock().unwrap().begin().unwrap();
-    table.lock().unwrap().acquire(key, 0).unwrap();
-    table.lock().unwrap().release(key, 0).unwrap();
+    table.lock().unwrap().acquire(key, resource).unwrap();
+    table.lock().unwrap().release(key, resource).unwrap();
     table.lock().unwrap().finish(key).unwrap();
 }
 
-fn block(shared: &Shared) {
+fn block(shared: &Shared, Resources { first: resource, .. }: Resources) {
     let (first, second) = (shared.begin(), shared.begin());
-    shared.acquire(first, 0);
-    shared.acquire(second, 0);
-    shared.release_to_one(first, 0);
+    shared.acquire(first, resource);
+    shared.acquire(second, resource);
+    shared.release_to_one(first, resource);
     shared.finish(second);
     shared.finish(first);
 }
 
-fn deadlock(shared: &Shared) {
+fn deadlock(shared: &Shared, resources: Resources) {
     let (first, second) = (shared.begin(), shared.begin());
-    shared.acquire(first, 0);
-    shared.acquire(second, 1);
-    shared.acquire(first, 1);
-    shared.acquire(second, 0);
+    shared.acquire(first, resources.first);
+    shared.acquire(second, resources.second);
+    shared.acquire(first, resources.second);
+    shared.acquire(second, resources.first);
     shared.transmit(first);
     shared.table().detect(second).unwrap();
     shared.abort_to_one(second, first);
@@ -130,9 +137,9 @@ fn deadlock(shared: &Shared) {
 }
 
 /// Hands over to the longest of sixteen, each other of whom gets a new label and a new holder.
-fn hand_over(shared: &Shared, queue: &mut std::collections::VecDeque<Key>, owner: Key) -> Key {
+fn hand_over(shared: &Shared, queue: &mut std::collections::VecDeque<Key>, owner: Key, resource: u32) -> Key {
     let mut table = shared.table();
-    table.release(owner, 0).unwrap();
+    table.release(owner, resource).unwrap();
     let next = queue.pop_front().unwrap();
     shared.board.0.store_holder(next.process, None);
     for waiter in queue.iter() {
@@ -140,18 +147,18 @@ fn hand_over(shared: &Shared, queue: &mut std::collections::VecDeque<Key>, owner
         shared.board.0.store_holder(waiter.process, Some(next.process));
     }
     drop(table);
-    shared.acquire(owner, 0);
+    shared.acquire(owner, resource);
     queue.push_back(owner);
     next
 }
 
-fn hand_overs(shared: &Shared, count: u64) {
+fn hand_overs(shared: &Shared, Resources { first: resource, .. }: Resources, count: u64) {
     let mut owner = shared.begin();
-    shared.acquire(owner, 0);
+    shared.acquire(owner, resource);
     let mut queue: std::collections::VecDeque<Key> = (0..WAITERS).map(|_| shared.begin()).collect();
-    queue.iter().for_each(|&waiter| shared.acquire(waiter, 0));
+    queue.iter().for_each(|&waiter| shared.acquire(waiter, resource));
     for _ in 0..count {
-        owner = hand_over(shared, &mut queue, owner);
+        owner = hand_over(shared, &mut queue, owner, resource);
     }
 }
 
@@ -168,10 +175,10 @@ fn peeks(board: &Board, count: u64) -> u64 {
 }
 
 /// How long the peeks take, beside a thread that blocks until they are done.
-fn peeks_beside(shared: &Shared, count: u64) -> u64 {
+fn peeks_beside(shared: &Shared, resources: Resources, count: u64) -> u64 {
     let done = AtomicBool::new(false);
     std::thread::scope(|scope| {
-        scope.spawn(|| while !done.load(SeqCst) { block(shared) });
+        scope.spawn(|| while !done.load(SeqCst) { block(shared, resources) });
         let start = Instant::now();
         black_box(peeks(&shared.board.0, count));
         let taken = start.elapsed().as_nanos() as u64;
@@ -181,15 +188,16 @@ fn peeks_beside(shared: &Shared, count: u64) -> u64 {
 }
 
 fn work(name: &str, shared: &Shared, count: u64) -> u64 {
+    let resources = black_box(Resources { first: 0, second: 1 });
     if name == "peeks-beside" {
-        return peeks_beside(shared, count);
+        return peeks_beside(shared, resources, count);
     }
     let start = Instant::now();
     match name {
-        "grants" => (0..count).for_each(|_| grant(&shared.table.0)),
-        "blocks" => (0..count).for_each(|_| block(shared)),
-        "deadlocks" => (0..count).for_each(|_| deadlock(shared)),
-        "hand-overs" => hand_overs(shared, count),
+        "grants" => (0..count).for_each(|_| grant(&shared.table.0, resources)),
+        "blocks" => (0..count).for_each(|_| block(shared, resources)),
+        "deadlocks" => (0..count).for_each(|_| deadlock(shared, resources)),
+        "hand-overs" => hand_overs(shared, resources, count),
         "peeks" => _ = black_box(peeks(&shared.board.0, count)),
         "scans" => (0..count).for_each(|_| _ = black_box(shared.board.0.scan())),
         _ => panic!("no work {name}"),

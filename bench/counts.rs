@@ -25,6 +25,7 @@ unsafe extern "C" {
     safe fn mm_bench_give_ups(waiters: u32, count: u64) -> u64;
     safe fn mm_bench_crosswise(count: u64) -> u64;
     safe fn mm_bench_chain(size: u32, settles: u32) -> u64;
+    safe fn mm_bench_rings(size: u32, is_rising: bool, settles: u32, is_closed: bool, count: u64) -> u64;
 }
 
 /// How many processes the tables of `rounds` have.
@@ -40,6 +41,8 @@ fn run_proved(workload: &str, size: u32, count: u64) -> Option<u64> {
         "give_ups" => mm_bench_give_ups(size, count),
         "crosswise" => mm_bench_crosswise(count),
         "chain" => mm_bench_chain(size, count as u32),
+        "rings" => mm_bench_rings(size, true, 1, true, count),
+        "open_rings" => mm_bench_rings(size, true, 1, false, count),
         _ => return None,
     })
 }
@@ -54,6 +57,8 @@ fn run_on<T: lock_table::LockTable>(workload: &str, size: u32, count: u64) -> Op
         "give_ups" => workloads::give_ups::<T>(size, count),
         "crosswise" => workloads::crosswise::<T>(count),
         "chain" => workloads::chain::<T>(size, count as u32),
+        "rings" => workloads::rings::<T>(size, true, 1, true, count),
+        "open_rings" => workloads::rings::<T>(size, true, 1, false, count),
         _ => return None,
     }
     .ok()
