@@ -153,8 +153,7 @@ impl SettledTable {
         answer
     }
 
-    /// `finish`, which also lists what the transaction owned, each resource once, in no order that is promised, in place of what `owned`
-    /// held.
+    /// `finish`, which also lists what the transaction owned, in no order that is promised, in place of what `owned` held.
     ///
     /// `owned` has room for each resource, and no memory is taken. Where the call is refused, what `owned` has means nothing. It is
     /// refused as `finish` is, and costs what that costs.
@@ -187,8 +186,7 @@ impl SettledTable {
         answer
     }
 
-    /// `abort`, which also lists what the transaction owned, each resource once, in no order that is promised, in place of what `owned`
-    /// held.
+    /// `abort`, which also lists what the transaction owned, in no order that is promised, in place of what `owned` held.
     ///
     /// `owned` has room for each resource, and no memory is taken. Where the call is refused, what `owned` has means nothing. It is
     /// refused as `abort` is, and costs what that costs.
