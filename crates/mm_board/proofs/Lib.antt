@@ -7,3 +7,4 @@ pub mod Holders
 pub mod Calls
 pub mod Opens
 pub mod Current
+pub mod Rising

@@ -7,12 +7,14 @@
 //! - `reader`: `Reader`, who loads.
 //! - `waiter`: the walk along the processes for one that has a holder.
 //! - `holder`: `Waiter`, a process that has a holder, and the word that keeps one.
+//! - `hint`: what a look at the board suggests to who may transmit or detect.
 //! - `views`: what contracts know of the publisher and of a reader.
 //! - `rule`: the rule that holds between any two steps, and the names of boards.
 //! - `steps`: the kinds of step.
 #![tactic(auto)]
 
 mod board;
+mod hint;
 mod holder;
 mod publisher;
 mod reader;
@@ -22,6 +24,7 @@ mod views;
 mod waiter;
 
 pub use board::{Board, MAX_PROCESSES, RawBoard};
+pub use hint::{Hint, HintKind};
 pub use holder::Waiter;
 pub use mm_arena::Memory;
 pub use publisher::Publisher;

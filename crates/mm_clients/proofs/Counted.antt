@@ -8,7 +8,7 @@ use Rattle.mm_rules.specs.Event.{Event, Answer, Step, Begin, Acquire, Release, F
 use Rattle.mm_rules.specs.Laws.{verdicts_made, aborts_made, Counts}
 use Rattle.mm_rules.proofs.States.Counts.{event_counts}
 use Rattle.mm_board.specs.declared.views.Seen.{Seen}
-use Rattle.mm_shared.specs.Shares.{Shares, CountsEvent, CountsVerdicts, CountsAborts, SeesNothing}
+use Rattle.mm_counts.specs.Shares.{Shares, CountsEvent, CountsVerdicts, CountsAborts, SeesNothing}
 
 -- the counts of a table, as workers see them
 abbrev pub shares_of : Totals → Shares

@@ -1,8 +1,8 @@
 -- Hints that are true of a table.
 use Rattle.std.specs.Prelude.{◌≡◌, Some}
 use Rattle.mm_rules.specs.TableState.{TableState, holder_of, public_of}
-use Rattle.mm_shared.specs.Hints.{IsKind}
-use Rattle.mm_shared.specs.declared.hint.Hint.{Hint}
+use Rattle.mm_board.specs.Hints.{IsKind}
+use Rattle.mm_board.specs.declared.hint.Hint.{Hint}
 
 -- the process waits for the holder, whose public label is greater or the same
 pub record IsHintOf (s : TableState) (hint : Hint) : Type 0 where

@@ -4,8 +4,8 @@ ghost use Rattle.mm_board.specs.Views.{new_seen};
 ghost use Rattle.mm_clients.specs.Hints.{IsHintOf};
 
 use crate::steps::Steps;
-use mm_shared::{Acquired, Detected, Hint, HintKind, Key, Refusal, Released, Settled, Transmitted};
-use mm_table::Table;
+use mm_board::{Hint, HintKind};
+use mm_table::{Acquired, Detected, Key, Refusal, Released, Settled, Table, Transmitted};
 use std::cmp::Ordering;
 
 /// The three counts are those of the table; there are no parts, and no board was seen.

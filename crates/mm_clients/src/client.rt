@@ -6,7 +6,7 @@ use crate::earlier::{ClientEnds, Earlier};
 use crate::end::End;
 use crate::gate::Gate;
 use crate::steps::Steps;
-use mm_shared::{Acquired, Detected, Key, Refusal};
+use mm_table::{Acquired, Detected, Key, Refusal};
 use mm_workload::{Coming, WorkStep};
 use std::marker::Model;
 use std::thread;

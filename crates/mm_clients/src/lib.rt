@@ -21,7 +21,7 @@ pub use client::Client;
 pub use earlier::{ClientEnds, Earlier};
 pub use end::End;
 pub use gate::Gate;
-pub use mm_shared::{Hint, HintKind};
+pub use mm_board::{Hint, HintKind};
 pub use outcome::{EndCounts, Outcome, TalliedOutcome};
 pub use steps::Steps;
 pub use tally::Tally;

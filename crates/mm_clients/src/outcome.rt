@@ -5,7 +5,7 @@ ghost use Rattle.mm_clients.specs.End.{is_finished, is_aborted, is_spent, is_ref
 use crate::earlier::Earlier;
 use crate::end::End;
 use crate::tally::Tally;
-use mm_shared::Report;
+use mm_counts::Report;
 use std::fmt;
 use std::fmt::{Display, Formatter};
 

@@ -1,9 +1,10 @@
 //! The events of a table, as a worker calls them.
 ghost use Rattle.std.specs.Prelude.{◌≡◌};
 ghost use Rattle.mm_rules.specs.Event.{Begin, Acquire, Release, Finish, Transmit, Detect, Abort, GiveUp, Settle};
-ghost use Rattle.mm_shared.specs.Shares.{Shares, CountsEvent};
+ghost use Rattle.mm_counts.specs.Shares.{Shares, CountsEvent};
 
-use mm_shared::{Acquired, Detected, Hint, Key, Refusal, Released, Settled, Transmitted};
+use mm_board::Hint;
+use mm_table::{Acquired, Detected, Key, Refusal, Released, Settled, Transmitted};
 
 /// What a worker needs of a table: its nine events, which transaction uses a process, and a look for labels to pass on. A `Desk` meets
 /// it, and so does a `Table`.

@@ -3,7 +3,8 @@ ghost use Rattle.std.specs.Prelude.{◌≡◌};
 
 use crate::gate::Gate;
 use crate::steps::Steps;
-use mm_shared::{Detected, Hint, HintKind, Transmitted};
+use mm_board::{Hint, HintKind};
+use mm_table::{Detected, Transmitted};
 use std::marker::Model;
 use std::thread;
 

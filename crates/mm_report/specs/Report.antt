@@ -3,7 +3,7 @@ use Rattle.std.specs.Prelude.{◌≡◌, ◌+◌, List, length, count_by}
 use Rattle.mm_clients.specs.declared.earlier.Earlier.{Earlier}
 use Rattle.mm_clients.specs.declared.end.End.{End}
 use Rattle.mm_clients.specs.End.{is_finished, is_aborted, is_spent, is_refused}
-use Rattle.mm_shared.specs.declared.close.Report.{Report}
+use Rattle.mm_counts.specs.declared.report.Report.{Report}
 use Rattle.mm_workload.specs.Work.{Work}
 use Rattle.mm_report.specs.declared.report.Ends.{Ends}
 use Rattle.mm_report.specs.declared.report.Numbers.{Numbers}

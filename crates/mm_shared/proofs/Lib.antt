@@ -1,4 +1,3 @@
 pub mod Counted
 pub mod Publishing
 pub mod Opening
-pub mod Rising

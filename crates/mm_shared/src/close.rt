@@ -1,24 +1,14 @@
 //! The end of a shared table.
 ghost use Rattle.std.specs.Prelude.{◌≡◌, ◌≢◌, IfOk, IfErr, IfSome, IfNone};
-ghost use Rattle.mm_shared.specs.Shares.{all_parts};
+ghost use Rattle.mm_counts.specs.Shares.{all_parts};
 
 use crate::pass::{ALL_PARTS, Pass};
 use crate::shared::SharedTable;
 use mm_board::Name;
+use mm_counts::Report;
 use mm_table::Refusal;
 use std::sync::ledger::Ledger;
 use thiserror::Error;
-
-/// What a shared table counted from its opening to its end: the table's totals.
-#[derive(Clone, Copy, Debug, PartialEq, Eq)]
-pub struct Report {
-    /// Accepted events.
-    pub accepted: u64,
-    /// Verdicts, by `detect` and by `settle`.
-    pub verdicts: u64,
-    /// Accepted aborts.
-    pub aborts: u64,
-}
 
 /// The table was not closed, since the pass does not have all parts. It gives both back.
 #[derive(Drop, Error)]

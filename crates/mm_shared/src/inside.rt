@@ -8,12 +8,12 @@ ghost use Rattle.mm_rules.specs.Laws.{HasSoundVerdicts, Laws};
 ghost use Rattle.mm_settle.specs.Touched.{changed_processes};
 ghost use Rattle.mm_shared.specs.Booked.{Booked};
 ghost use Rattle.mm_shared.specs.Published.{AppendsOnly, IsPublished, holders_of};
-ghost use Rattle.mm_shared.specs.Shares.{CountsEvent};
+ghost use Rattle.mm_counts.specs.Shares.{CountsEvent};
 
-use crate::close::Report;
 use crate::pass::Pass;
 use crate::publish::{publish, publish_labels};
 use mm_board::{Board, Name, Publisher};
+use mm_counts::Report;
 use mm_table::{Acquired, Detected, Key, Refusal, Released, Settled, State, Table, Transmitted};
 use std::mem;
 use std::sync::ledger::{Book, Ledger};

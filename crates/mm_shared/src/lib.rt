@@ -7,12 +7,10 @@
 //! - `publish`: what is stored on the board after an event.
 //! - `shared`: `SharedTable`, whose events and reads take the lock.
 //! - `look`: its calls that read the board, and take no lock.
-//! - `hint`: what a look at the board suggests.
 //! - `close`: the end of a shared table.
 #![tactic(auto)]
 
 mod close;
-mod hint;
 mod inside;
 mod look;
 mod pass;
@@ -20,10 +18,10 @@ mod prepared;
 mod publish;
 mod shared;
 
-pub use close::{CloseRefused, Report};
-pub use hint::{Hint, HintKind};
+pub use close::CloseRefused;
 pub use inside::Inside;
-pub use mm_board::Name;
+pub use mm_board::{Hint, HintKind, Name};
+pub use mm_counts::Report;
 pub use mm_table::{
     Acquired, Config, Detected, Key, Label, Mode, Refusal, Released, Settled, State, Transmitted,
     laws,

@@ -2,12 +2,11 @@
 ghost use Rattle.std.specs.Prelude.{◌≡◌, ◌<◌, IfSome, IsTrue};
 ghost use Rattle.mm_board.specs.Views.{label_at, with_seen, NoneFalls};
 ghost use Rattle.mm_label.specs.Label.{label_le};
-ghost use Rattle.mm_shared.specs.Hints.{IsHint};
+ghost use Rattle.mm_board.specs.Hints.{IsHint};
 
-use crate::hint::{Hint, first_hint};
 use crate::pass::Pass;
 use crate::shared::SharedTable;
-use mm_board::Name;
+use mm_board::{Hint, Name};
 use mm_table::Label;
 use std::sync::ledger::Ledger;
 
@@ -35,6 +34,6 @@ impl<N: Name, A: Ledger, V: Ledger, B: Ledger> SharedTable<N, A, V, B> {
         ensures rises { NoneFalls pass.old.seen.labels pass.new.seen.labels }
         ensures shares { pass.new ≡ record pass.old { seen = pass.new.seen } }
     {
-        first_hint(&self.board, &mut pass.reader, from)
+        pass.reader.first_hint(&self.board, from)
     }
 }

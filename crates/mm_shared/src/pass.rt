@@ -1,6 +1,6 @@
 //! What a thread has of the ledgers of a shared table, and what it has seen of its board.
 ghost use Rattle.std.specs.Prelude.{◌≡◌, ◌+◌, ◌<◌, ◌≤◌};
-ghost use Rattle.mm_shared.specs.Shares.{empty_shares, joined, less_parts};
+ghost use Rattle.mm_counts.specs.Shares.{empty_shares, joined, less_parts};
 
 use crate::shared::SharedTable;
 use mm_board::{Name, Reader};
@@ -43,7 +43,7 @@ impl<N: Name, A: Ledger, V: Ledger, B: Ledger> Drop for Pass<N, A, V, B> {
 
 impl<N: Name, A: Ledger, V: Ledger, B: Ledger> Model for Pass<N, A, V, B> {
     ghost use Rattle.std.specs.Prelude.{◌≡◌, ◌<◌};
-    ghost use Rattle.mm_shared.specs.Shares.{Shares};
+    ghost use Rattle.mm_counts.specs.Shares.{Shares};
 
     ghost Value = { Shares };
 

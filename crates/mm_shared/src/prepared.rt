@@ -3,7 +3,7 @@ ghost use Rattle.std.specs.Prelude.{◌≡◌, ◌≤◌, Ok, Err, IfOk, IfErr, 
 ghost use Rattle.mm_board.specs.Views.{opening_labels, processes_of};
 ghost use Rattle.mm_rules.specs.TableState.{opening};
 ghost use Rattle.mm_rules.specs.Event.{Opens};
-ghost use Rattle.mm_shared.specs.Shares.{all_parts, empty_shares};
+ghost use Rattle.mm_counts.specs.Shares.{all_parts, empty_shares};
 
 use crate::inside::Inside;
 use crate::pass::{ALL_PARTS, Pass};

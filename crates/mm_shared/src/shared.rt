@@ -4,7 +4,7 @@ ghost use Rattle.mm_arena.specs.declared.key.Key.{Key};
 ghost use Rattle.mm_board.specs.Views.{label_at, NoneFalls};
 ghost use Rattle.mm_label.specs.Label.{Label};
 ghost use Rattle.mm_rules.specs.Event.{Begin, Acquire, Release, Finish, Transmit, Detect, Abort, GiveUp, Settle};
-ghost use Rattle.mm_shared.specs.Shares.{all_parts, CountsEvent};
+ghost use Rattle.mm_counts.specs.Shares.{all_parts, CountsEvent};
 
 use crate::inside::Inside;
 use crate::pass::Pass;
@@ -38,7 +38,7 @@ impl<N: Name, A: Ledger, V: Ledger, B: Ledger> Drop for SharedTable<N, A, V, B> 
 
 impl<N: Name, A: Ledger, V: Ledger, B: Ledger> Model for SharedTable<N, A, V, B> {
     ghost use Rattle.std.specs.Prelude.{◌≡◌, ℕ};
-    ghost use Rattle.mm_shared.specs.Shares.{all_parts};
+    ghost use Rattle.mm_counts.specs.Shares.{all_parts};
 
     ghost Value = { ℕ };
 

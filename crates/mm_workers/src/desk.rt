@@ -21,7 +21,7 @@ pub struct Desk<'a, N: Name, A: Ledger, V: Ledger, B: Ledger, R: Wait> {
 }
 
 impl<'a, N: Name, A: Ledger, V: Ledger, B: Ledger, R: Wait> Model for Desk<'a, N, A, V, B, R> {
-    ghost use Rattle.mm_shared.specs.Shares.{Shares};
+    ghost use Rattle.mm_counts.specs.Shares.{Shares};
 
     ghost Value = { Shares };
 

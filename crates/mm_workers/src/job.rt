@@ -1,7 +1,7 @@
 //! What a worker's thread takes along, and what it gives back. Of a thread's result a proof knows what its type says, so each of these
 //! keeps its facts by its type.
 ghost use Rattle.std.specs.Prelude.{◌≡◌, ◌+◌, ◌<◌};
-ghost use Rattle.mm_shared.specs.Shares.{less_parts};
+ghost use Rattle.mm_counts.specs.Shares.{less_parts};
 ghost use Rattle.mm_clients.specs.End.{aborts_of};
 
 use crate::desk::Desk;

@@ -2,7 +2,7 @@
 ghost use Rattle.std.specs.Prelude.{◌≡◌, ◌+◌, ◌≤◌, Err, OnOk, IfOk, IfErr, length, vec_len, count_by};
 ghost use Rattle.mm_rules.specs.TableState.{IsInRange};
 ghost use Rattle.mm_rules.specs.Event.{Opens};
-ghost use Rattle.mm_shared.specs.Shares.{all_parts};
+ghost use Rattle.mm_counts.specs.Shares.{all_parts};
 ghost use Rattle.mm_clients.specs.End.{is_aborted};
 
 use crate::gather::{gather_clients, gather_transmitters};

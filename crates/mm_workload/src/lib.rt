@@ -21,7 +21,7 @@ mod workload;
 pub use fault::{Place, StepFault, WorkFault};
 pub use further::Coming;
 pub use limits::MAX_BYTES;
-pub use mm_table::Config;
+pub use mm_rules::Config;
 pub use shape::StormShape;
 pub use step::WorkStep;
 pub use storms::{shaped_storm, storm};

@@ -15,7 +15,7 @@ use crate::further::Further;
 use crate::limits::{MAX_BYTES, MAX_TRANSMITTERS, MAX_TURNS};
 use crate::workload::Workload;
 use clients::clients;
-use mm_table::Config;
+use mm_rules::Config;
 use serde_json::{Error, Value};
 use std::alloc::Global;
 

@@ -10,7 +10,7 @@ use crate::further::Further;
 use crate::shape::StormShape;
 use crate::step::WorkStep;
 use crate::workload::Workload;
-use mm_table::Config;
+use mm_rules::Config;
 use rand_core::utils::NextWord;
 use rand_pcg::Lcg64Xsh32;
 use std::alloc::{AllocError, Global};

@@ -2,7 +2,7 @@ use crate::fault::WorkFault;
 use crate::further::{Coming, Further};
 use crate::reading;
 use crate::step::WorkStep;
-use mm_table::Config;
+use mm_rules::Config;
 use std::alloc::Global;
 use std::marker::Model;
 

@@ -1,10 +1,10 @@
 use Rattle.std.proofs.Common.{Ok, ap, refl, ◌∙◌, arith}
 use Rattle.mm_board.specs.declared.views.Published.{Published}
 use Rattle.mm_rules.specs.Event.{Transmit}
-use Rattle.mm_shared.specs.Shares.{Shares}
+use Rattle.mm_counts.specs.Shares.{Shares}
 use Rattle.mm_shared.proofs.Counted.{room_stays, refused_booked, accepted_booked}
 use Rattle.mm_shared.proofs.Publishing.{left_after, refused_published, then_shown, unraised_published, raise_stored}
-use Rattle.mm_shared.proofs.Rising.{none_falls}
+use Rattle.mm_board.proofs.Rising.{none_falls}
 use Rattle.mm_shared.proofs.inside.Inside.transmit.Goals as goal
 
 pub invariant_of-self : goal.invariant_of-self

@@ -2,9 +2,9 @@
 use Rattle.std.specs.Prelude.{ℕ, ◌≡◌, ◌≤◌, ◌<◌, List, IsTrue}
 use Rattle.mm_board.specs.Views.{label_at, IsAnother}
 use Rattle.mm_label.specs.Label.{Label, label_lt}
-use Rattle.mm_shared.specs.declared.hint.Hint.{Hint}
-use Rattle.mm_shared.specs.declared.hint.HintKind.{HintKind}
-use Rattle.mm_shared.specs.declared.hint.HintKind.TheVariants.{Raise, Equal}
+use Rattle.mm_board.specs.declared.hint.Hint.{Hint}
+use Rattle.mm_board.specs.declared.hint.HintKind.{HintKind}
+use Rattle.mm_board.specs.declared.hint.HintKind.TheVariants.{Raise, Equal}
 
 -- the holder's label is greater than that of the process, or the same
 abbrev pub IsKind : HintKind → Label → Label → Type 0

@@ -1,5 +1,5 @@
-use Rattle.mm_shared.proofs.Rising.{reads_rise}
-use Rattle.mm_shared.proofs.hint.hint_of.Goals as goal
+use Rattle.mm_board.proofs.Rising.{reads_rise}
+use Rattle.mm_board.proofs.hint.hint_of.Goals as goal
 
 pub returns-then-lt-clause-rises : goal.returns-then-lt-clause-rises
 returns-then-lt-clause-rises g c =

@@ -1,9 +1,9 @@
 //! What a look at the board suggests.
 ghost use Rattle.std.specs.Prelude.{◌≡◌, ◌<◌, IfSome};
 ghost use Rattle.mm_board.specs.Views.{IsAnother, NoneFalls};
-ghost use Rattle.mm_shared.specs.Hints.{IsHint};
+ghost use Rattle.mm_board.specs.Hints.{IsHint};
 
-use mm_board::{Board, Name, Reader, Waiter};
+use crate::{Board, Name, Reader, Waiter};
 
 /// How the two labels compare that were seen.
 #[derive(Clone, Copy, Debug, PartialEq, Eq)]
@@ -53,24 +53,24 @@ fn hint_of<N: Name>(board: &Board<N>, reader: &mut Reader<N>, waiter: Waiter) ->
     None
 }
 
-/// The first hint of the processes from this one on, by rising number.
-pub(crate) fn first_hint<N: Name>(
-    board: &Board<N>,
-    reader: &mut Reader<N>,
-    from: u32,
-) -> Option<Hint>
-    ensures hint { IfSome result (λ hint. IsHint board.now from reader.new.labels hint) }
-    ensures rises { NoneFalls reader.old.labels reader.new.labels }
-{
-    let processes = board.processes();
-    let mut next = from;
-    while next < processes {
-        let waiter = reader.next_waiter(board, next)?;
-        let hint = hint_of(board, reader, waiter);
-        if hint.is_some() {
-            return hint;
+impl<N: Name> Reader<N> {
+    /// Looks at the processes from this one on, by rising number, and returns the first that waits for another one whose label is seen
+    /// above its own or is the same. `None` where there is none. `O(processes looked at)`: one load for each, and two more where it has a
+    /// holder.
+    pub fn first_hint(&mut self, board: &Board<N>, from: u32) -> Option<Hint>
+        ensures hint { IfSome result (λ hint. IsHint board.now from self.new.labels hint) }
+        ensures rises { NoneFalls self.old.labels self.new.labels }
+    {
+        let processes = board.processes();
+        let mut next = from;
+        while next < processes {
+            let waiter = self.next_waiter(board, next)?;
+            let hint = hint_of(board, self, waiter);
+            if hint.is_some() {
+                return hint;
+            }
+            next = waiter.process + 1;
         }
-        next = waiter.process + 1;
+        None
     }
-    None
 }
