@@ -1,37 +1,30 @@
-//! A deadlock detector for transactions. `mm_command` says what the words of the command line ask for.
+//! A deadlock detector for transactions. `mm_command` says what the words of the command line ask for. `mm_runs` runs scripts and the lock
+//! service.
 //!
-//! - `explain`: explains a script.
 //! - `file`: the bytes of a file.
-//! - `locks`: a lock service.
-//! - `script`: runs a script, and perhaps tells what is wrong with its lines.
 //! - `work`: runs of workloads. `work_end`: what came of one. `verbose`: what is printed meanwhile for a person. `reported`: a run whose
 //!   report is written to a file.
-//! - `ending`: how a run of the program ends, and the status that it exits with.
 #![tactic(auto)]
 
 ghost use Rattle.mm_detect.specs.Answer.{IsEndOf};
 
-mod ending;
-mod explain;
 mod file;
-mod locks;
 mod reported;
-mod script;
 mod verbose;
 mod work;
 mod work_end;
 
-use ending::{Ending, fault, print_no_memory, status};
-use explain::run_explain;
 use file::{Taken, taken_from};
-use locks::run_locks;
 use mm_command::{Request, StormOptions, asked};
 use mm_report::Source;
+use mm_runs::{
+    Ending, fault, print_no_memory, run_explain, run_locks, run_plain_script, run_verbose_script,
+    status,
+};
 use mm_script::ScriptFault;
 use mm_table::Refusal;
 use mm_workload::Workload;
 use reported::{Reporting, run_reported};
-use script::{run_plain_script, run_verbose_script};
 use std::alloc::Global;
 use std::fmt::Display;
 use std::io::{Eprint, IsTerminal, Print, Read, Write};

@@ -1,5 +1,5 @@
 //! Explains a script, that of a file or of standard input.
-ghost use Rattle.mm_detect.specs.Answer.{EndsExplain};
+ghost use Rattle.mm_runs.specs.Answer.{EndsExplain};
 
 use crate::ending::{Ending, print_no_memory};
 use mm_command::ExplainOptions;

@@ -2,8 +2,8 @@
 use Rattle.std.specs.Prelude.{ℕ, zero, suc, Option, None, Result, Ok, Err}
 use Rattle.std.specs.Result.{result_err}
 use Rattle.mm_lines.specs.declared.fault.Fault.{Fault}
-use Rattle.mm_detect.specs.declared.ending.Ending.{Ending}
-use Rattle.mm_detect.specs.declared.ending.Ending.TheVariants.{Ran, Helped, Wrong, Worked, Refused}
+use Rattle.mm_runs.specs.declared.ending.Ending.{Ending}
+use Rattle.mm_runs.specs.declared.ending.Ending.TheVariants.{Ran, Helped, Wrong, Worked, Refused}
 
 -- after a script of which so many lines are malformed, or which met a fault
 abbrev pub status_of : Result ℕ Fault → ℕ

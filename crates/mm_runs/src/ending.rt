@@ -1,6 +1,6 @@
 //! How a run of the program ends, and the status that it exits with.
 ghost use Rattle.std.specs.Prelude.{◌≡◌};
-ghost use Rattle.mm_detect.specs.Ending.{ending_status, fault_told, status_of};
+ghost use Rattle.mm_runs.specs.Ending.{ending_status, fault_told, status_of};
 
 use mm_script::ScriptFault;
 use std::io::Print;

@@ -1,5 +1,5 @@
 //! A lock service, on any reader and writer.
-ghost use Rattle.mm_detect.specs.Answer.{EndsService};
+ghost use Rattle.mm_runs.specs.Answer.{EndsService};
 
 use crate::ending::{Ending, print_no_memory};
 use mm_command::LocksOptions;
