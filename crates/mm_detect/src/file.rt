@@ -1,10 +1,11 @@
-//! The bytes of a file.
+//! The bytes of a file, and what is told of one.
 
 use mm_workload::MAX_BYTES;
 use std::alloc::Global;
+use std::fmt::Display;
 use std::fs::File;
 use std::io;
-use std::io::{ErrorKind, Read};
+use std::io::{Eprint, ErrorKind, Read};
 use std::rt::Files;
 
 /// How many bytes of a file are read: one more than a workload may have, so that a longer file is told from one of the greatest length.
@@ -42,4 +43,9 @@ fn fault(error: io::Error) -> Taken {
     } else {
         Taken::Fault(error)
     }
+}
+
+/// Tells on standard error what is wrong with this file. Where that cannot be written, it is left out.
+pub fn tell<R: Eprint, T: Display>(rt: &R, path: &str, fault: &T) {
+    let _ = eprintln!(rt; "{path}: {fault}");
 }

@@ -14,7 +14,7 @@ mod verbose;
 mod work;
 mod work_end;
 
-use file::{Taken, taken_from};
+use file::{Taken, taken_from, tell};
 use mm_command::{Request, StormOptions, asked};
 use mm_report::Source;
 use mm_runs::{
@@ -22,9 +22,8 @@ use mm_runs::{
     status,
 };
 use mm_script::ScriptFault;
-use mm_table::Refusal;
-use mm_workload::Workload;
-use reported::{Reporting, run_reported};
+use mm_workload::{WorkFault, Workload};
+use reported::{Told, run_reported};
 use std::alloc::Global;
 use std::fmt::Display;
 use std::io::{Eprint, IsTerminal, Print, Read, Write};
@@ -33,9 +32,7 @@ use std::random::RandomSource;
 use std::rt::Runtime;
 use std::sync::Wait;
 use std::thread::Threads;
-use verbose::run_verbose;
-use work::{generated, print_end, storm_on, threads_on};
-use work_end::WorkEnd;
+use work::{generated, print_fault, storm_on, threads_on};
 
 fn main(rt: HostRuntime) -> ExitCode {
     let (mut input, mut output) = (rt.stdin(), rt.stdout());
@@ -82,7 +79,10 @@ fn answer<R: Runtime + RandomSource + Threads + Wait + Sync, I: Read, W: Write +
             report,
             verbose,
         } => {
-            let told = told_of(report.as_ref(), *verbose);
+            let told = Told {
+                report: report.as_ref(),
+                verbose: *verbose,
+            };
             Ending::Worked(run_file(rt, alloc, file.as_str(), told, output))
         }
         Request::Storm {
@@ -90,7 +90,10 @@ fn answer<R: Runtime + RandomSource + Threads + Wait + Sync, I: Read, W: Write +
             report,
             verbose,
         } => {
-            let told = told_of(report.as_ref(), *verbose);
+            let told = Told {
+                report: report.as_ref(),
+                verbose: *verbose,
+            };
             Ending::Worked(run_storm(rt, alloc, *options, told, output))
         }
         Request::Help(text) => Ending::Helped(print_text(rt, text)),
@@ -111,27 +114,6 @@ fn tell_text<R: Eprint, T: Display>(rt: &R, text: &T) {
     let _ = eprint!(rt; "{text}");
 }
 
-/// What is told of a run beside its two lines.
-#[derive(Clone, Copy)]
-enum Told<'a> {
-    Nothing,
-    /// How the run goes, on standard error.
-    Verbose,
-    /// A report, and perhaps how the run goes.
-    Report(Reporting<'a>),
-}
-
-fn told_of<'a>(report: Option<&'a String>, verbose: bool) -> Told<'a> {
-    match report {
-        Some(path) => Told::Report(Reporting {
-            path: path.as_str(),
-            verbose,
-        }),
-        None if verbose => Told::Verbose,
-        None => Told::Nothing,
-    }
-}
-
 /// Runs the workload in this file, and returns the status.
 fn run_file<R: Runtime + Threads + Wait + Sync, W: Write>(
     rt: &R,
@@ -142,10 +124,10 @@ fn run_file<R: Runtime + Threads + Wait + Sync, W: Write>(
 ) -> Result<u8, ScriptFault> {
     match taken_from(rt, alloc, file) {
         Taken::Bytes(bytes) => run_bytes(rt, alloc, file, bytes.as_slice(), told, output),
-        Taken::Memory => print_end(&WorkEnd::Refused(Refusal::Memory), output),
+        Taken::Memory => print_fault(WorkFault::Memory, output),
         Taken::Fault(error) => {
-            if is_verbose(told) {
-                let _ = eprintln!(rt; "{file}: {error}");
+            if told.verbose {
+                tell(rt, file, &error);
             }
             Err(ScriptFault::Read)
         }
@@ -161,21 +143,11 @@ fn run_bytes<R: Runtime + Threads + Wait + Sync, W: Write>(
     told: Told<'_>,
     output: &mut W,
 ) -> Result<u8, ScriptFault> {
-    match told {
-        Told::Nothing => threads_on(rt, alloc, bytes, output),
-        Told::Verbose => run_verbose(rt, alloc, file, Workload::read(alloc, bytes), output),
-        Told::Report(reporting) => {
-            let source = Source::Threads { file };
-            run_reported(
-                rt,
-                alloc,
-                source,
-                reporting,
-                Workload::read(alloc, bytes),
-                output,
-            )
-        }
+    if told.report.is_none() && !told.verbose {
+        return threads_on(rt, alloc, bytes, output);
     }
+    let read = Workload::read(alloc, bytes);
+    run_reported(rt, alloc, Source::Threads { file }, told, read, output)
 }
 
 /// Runs the workload that is generated from these numbers, and returns the status.
@@ -186,36 +158,15 @@ fn run_storm<R: Runtime + Threads + Wait + Sync, W: Write>(
     told: Told<'_>,
     output: &mut W,
 ) -> Result<u8, ScriptFault> {
-    match told {
-        Told::Nothing => storm_on(rt, alloc, options, output),
-        Told::Verbose => run_verbose(rt, alloc, "storm", generated(alloc, options), output),
-        Told::Report(reporting) => {
-            let source = source_of(options);
-            run_reported(
-                rt,
-                alloc,
-                source,
-                reporting,
-                generated(alloc, options),
-                output,
-            )
-        }
+    if told.report.is_none() && !told.verbose {
+        return storm_on(rt, alloc, options, output);
     }
-}
-
-fn source_of(options: StormOptions) -> Source<'static> {
-    Source::Storm {
+    let source = Source::Storm {
         seed: options.seed,
         resources: options.resources,
         acquires: options.acquires,
         transactions: options.transactions,
-    }
-}
-
-fn is_verbose(told: Told<'_>) -> bool {
-    match told {
-        Told::Nothing => false,
-        Told::Verbose => true,
-        Told::Report(reporting) => reporting.verbose,
-    }
+    };
+    let read = generated(alloc, options);
+    run_reported(rt, alloc, source, told, read, output)
 }

@@ -1,9 +1,10 @@
-//! A run with a report, which is written once the lines of the run are printed.
+//! A run of which more is told than its two lines: how it goes, and a report, which is written once the lines are printed.
 ghost use Rattle.std.specs.Prelude.{◌≡◌, ◌≢◌, Ok, IfOk, IfErr, IsErrAnd};
 ghost use Rattle.mm_workload.specs.declared.fault.WorkFault.TheVariants.{Memory};
 ghost use Rattle.mm_detect.specs.WorkEnd.{work_status};
 
-use crate::verbose::{run_verbose, verbose_end};
+use crate::file::tell;
+use crate::verbose::verbose_end;
 use crate::work::{print_end, print_fault, quiet_end};
 use crate::work_end::WorkEnd;
 use mm_report::{RunReport, Source, report_of, text_of};
@@ -18,10 +19,12 @@ use std::sync::Wait;
 use std::thread::Threads;
 use std::time::{Clock, Instant};
 
-/// The file of a report, and whether it is told on standard error how the run goes.
+/// What is told of a run beside its two lines.
 #[derive(Clone, Copy)]
-pub struct Reporting<'a> {
-    pub path: &'a str,
+pub struct Told<'a> {
+    /// The file of a report, if one is wanted.
+    pub report: Option<&'a String>,
+    /// Whether it is told on standard error how the run goes.
     pub verbose: bool,
 }
 
@@ -31,7 +34,7 @@ pub fn run_reported<R: Runtime + Threads + Wait + Sync, W: Write>(
     rt: &R,
     alloc: Global,
     source: Source<'_>,
-    reporting: Reporting<'_>,
+    told: Told<'_>,
     read: Result<Workload, WorkFault>,
     writer: &mut W,
 ) -> Result<u8, ScriptFault>
@@ -39,12 +42,31 @@ pub fn run_reported<R: Runtime + Threads + Wait + Sync, W: Write>(
     ensures fault { IfErr result (λ fault. fault ≡ ScriptFault.Write) }
 {
     match read {
-        Ok(work) => reported(rt, alloc, source, reporting, &work, writer),
-        Err(fault) if reporting.verbose => {
-            run_verbose(rt, alloc, source.name(), Err(fault), writer)
+        Ok(work) => {
+            let status = reported(rt, alloc, source, told, &work, writer);
+            drop(work);
+            status
         }
-        Err(fault) => print_fault(fault, writer),
+        Err(fault) => tell_fault(rt, source.name(), told.verbose, fault, writer),
     }
+}
+
+/// Prints why there is no workload, and returns the status.
+fn tell_fault<R: Eprint, W: Write>(
+    rt: &R,
+    name: &str,
+    verbose: bool,
+    fault: WorkFault,
+    writer: &mut W,
+) -> Result<u8, ScriptFault>
+    ensures malformed { result ≡ Ok 1 → ¬ (fault ≡ Memory) }
+    ensures fault { IfErr result (λ fault. fault ≡ ScriptFault.Write) }
+{
+    match &fault {
+        WorkFault::Malformed(place) if verbose => tell(rt, name, place),
+        _ => (),
+    }
+    print_fault(fault, writer)
 }
 
 /// Runs the workload, prints what came of it, and writes the report.
@@ -52,7 +74,7 @@ fn reported<R: Runtime + Threads + Wait + Sync, W: Write>(
     rt: &R,
     alloc: Global,
     source: Source<'_>,
-    reporting: Reporting<'_>,
+    told: Told<'_>,
     work: &Workload,
     writer: &mut W,
 ) -> Result<u8, ScriptFault>
@@ -60,28 +82,19 @@ fn reported<R: Runtime + Threads + Wait + Sync, W: Write>(
     ensures fault { IfErr result (λ fault. fault ≡ ScriptFault.Write) }
 {
     let begun = Instant::now(rt).ok();
-    let end = end_of(rt, alloc, source, reporting.verbose, work);
+    let end = end_of(rt, alloc, source, told.verbose, work);
     let seconds = seconds_since(rt, begun);
-    let told = tell(
-        rt,
-        alloc,
-        source,
-        reporting.path,
-        work,
-        &end,
-        seconds,
-        writer,
-    );
+    let status = tell_end(rt, alloc, source, told.report, work, &end, seconds, writer);
     drop(end);
-    told
+    status
 }
 
-/// Prints what came of the workload, and writes the report where it was run.
-fn tell<R: Files + Eprint, W: Write>(
+/// Prints what came of the workload, and writes the report where it was run and one is wanted.
+fn tell_end<R: Files + Eprint, W: Write>(
     rt: &R,
     alloc: Global,
     source: Source<'_>,
-    path: &str,
+    report: Option<&String>,
     work: &Workload,
     end: &WorkEnd,
     seconds: Option<f64>,
@@ -91,10 +104,13 @@ fn tell<R: Files + Eprint, W: Write>(
     ensures fault { IfErr result (λ fault. fault ≡ ScriptFault.Write) }
 {
     let status = print_end(end, writer)?;
-    if let WorkEnd::Ran(ran) = end {
-        write_run(rt, alloc, path, source, work, ran, seconds)?;
+    match (end, report) {
+        (WorkEnd::Ran(ran), Some(path)) => {
+            write_run(rt, alloc, path.as_str(), source, work, ran, seconds)?;
+            Ok(status)
+        }
+        _ => Ok(status),
     }
-    Ok(status)
 }
 
 /// Writes the report on a run.
@@ -150,14 +166,14 @@ fn write_report<R: Files + Eprint>(
     let text = match text_of(alloc, report) {
         Ok(text) => text,
         Err(error) => {
-            let _ = eprintln!(rt; "{path}: {error}");
+            tell(rt, path, &error);
             return Err(ScriptFault::Write);
         }
     };
     match fs::write(rt, path, text.as_str()) {
         Ok(()) => Ok(()),
         Err(error) => {
-            let _ = eprintln!(rt; "{path}: {error}");
+            tell(rt, path, &error);
             Err(ScriptFault::Write)
         }
     }

@@ -1,45 +1,20 @@
 //! What is printed on standard error for a person while a workload is run. Where that cannot be written, it is left out, and the run goes on.
-ghost use Rattle.std.specs.Prelude.{◌≡◌, ◌≢◌, ◌+◌, Ok, IfErr, IsErrAnd, length, vec_len};
-ghost use Rattle.mm_workload.specs.declared.fault.WorkFault.TheVariants.{Memory};
+ghost use Rattle.std.specs.Prelude.{◌≡◌, ◌≢◌, ◌+◌, length, vec_len};
 ghost use Rattle.mm_detect.specs.WorkEnd.{work_status};
 
-use crate::work::{gates_of, print_end};
+use crate::work::gates_of;
 use crate::work_end::WorkEnd;
-use mm_script::ScriptFault;
 use mm_table::Refusal;
 use mm_workers::{End, SharedGate, TalliedOutcome, run_tallied};
-use mm_workload::{WorkFault, Workload};
+use mm_workload::Workload;
 use std::alloc::Global;
-use std::io::{Eprint, Write};
+use std::io::Eprint;
 use std::sync::Wait;
 use std::sync::atomic::AtomicBool;
 use std::sync::atomic::Ordering::SeqCst;
 use std::thread;
 use std::thread::{Scope, Threads};
 use std::time::{Clock, Duration, Instant};
-
-/// Runs the workload, if there is one, prints what came of it as without the flag, and returns the status. `name` is what the workload
-/// comes from.
-pub fn run_verbose<R: Clock + Eprint + Threads + Wait + Sync, W: Write>(
-    rt: &R,
-    alloc: Global,
-    name: &str,
-    read: Result<Workload, WorkFault>,
-    writer: &mut W,
-) -> Result<u8, ScriptFault>
-    ensures malformed { result ≡ Ok 1 → IsErrAnd read (λ fault. ¬ (fault ≡ Memory)) }
-    ensures fault { IfErr result (λ fault. fault ≡ ScriptFault.Write) }
-{
-    let end = match read {
-        Ok(work) => verbose_end(rt, alloc, name, &work),
-        Err(WorkFault::Malformed(place)) => {
-            let _ = eprintln!(rt; "{name}: {place}");
-            WorkEnd::Malformed(place)
-        }
-        Err(WorkFault::Memory) => WorkEnd::Refused(Refusal::Memory),
-    };
-    print_end(&end, writer)
-}
 
 /// Runs the workload, and prints what is run, how far it is, and how it ended.
 pub fn verbose_end<R: Clock + Eprint + Threads + Wait + Sync>(
@@ -62,7 +37,7 @@ pub fn verbose_end<R: Clock + Eprint + Threads + Wait + Sync>(
     }
 }
 
-fn print_workload(rt: &(impl Clock + Eprint), name: &str, work: &Workload) {
+fn print_workload(rt: &impl Eprint, name: &str, work: &Workload) {
     let config = work.config();
     let (clients, transmitters) = (work.clients().len(), work.transmitters());
     let _ = eprintln!(rt;
@@ -76,7 +51,7 @@ fn print_workload(rt: &(impl Clock + Eprint), name: &str, work: &Workload) {
 }
 
 /// Prints of each client that did not finish how it ended. Clients count from 1.
-fn print_ends(rt: &(impl Clock + Eprint), ends: &[End]) {
+fn print_ends(rt: &impl Eprint, ends: &[End]) {
     for (place, end) in ends.iter().enumerate() {
         let client = place.wrapping_add(1);
         let _ = match end {
