@@ -1,9 +1,9 @@
 //! A deadlock detector for transactions. `mm_command` says what the words of the command line ask for. `mm_runs` runs scripts and the lock
 //! service.
 //!
-//! - `file`: the bytes of a file.
-//! - `work`: runs of workloads. `work_end`: what came of one. `verbose`: what is printed meanwhile for a person. `reported`: a run whose
-//!   report is written to a file.
+//! - `file`: the bytes of a file, and what is told of one.
+//! - `work`: runs of workloads. `work_end`: what came of one. `verbose`: what is printed meanwhile for a person. `reported`: a run of which
+//!   more is told than its two lines: how it goes, and a report.
 #![tactic(auto)]
 
 ghost use Rattle.mm_detect.specs.Answer.{IsEndOf};
@@ -143,11 +143,16 @@ fn run_bytes<R: Runtime + Threads + Wait + Sync, W: Write>(
     told: Told<'_>,
     output: &mut W,
 ) -> Result<u8, ScriptFault> {
-    if told.report.is_none() && !told.verbose {
-        return threads_on(rt, alloc, bytes, output);
+    match told {
+        Told {
+            report: None,
+            verbose: false,
+        } => threads_on(rt, alloc, bytes, output),
+        _ => {
+            let read = Workload::read(alloc, bytes);
+            run_reported(rt, alloc, Source::Threads { file }, told, read, output)
+        }
     }
-    let read = Workload::read(alloc, bytes);
-    run_reported(rt, alloc, Source::Threads { file }, told, read, output)
 }
 
 /// Runs the workload that is generated from these numbers, and returns the status.
@@ -158,15 +163,20 @@ fn run_storm<R: Runtime + Threads + Wait + Sync, W: Write>(
     told: Told<'_>,
     output: &mut W,
 ) -> Result<u8, ScriptFault> {
-    if told.report.is_none() && !told.verbose {
-        return storm_on(rt, alloc, options, output);
+    match told {
+        Told {
+            report: None,
+            verbose: false,
+        } => storm_on(rt, alloc, options, output),
+        _ => {
+            let source = Source::Storm {
+                seed: options.seed,
+                resources: options.resources,
+                acquires: options.acquires,
+                transactions: options.transactions,
+            };
+            let read = generated(alloc, options);
+            run_reported(rt, alloc, source, told, read, output)
+        }
     }
-    let source = Source::Storm {
-        seed: options.seed,
-        resources: options.resources,
-        acquires: options.acquires,
-        transactions: options.transactions,
-    };
-    let read = generated(alloc, options);
-    run_reported(rt, alloc, source, told, read, output)
 }

@@ -104,20 +104,17 @@ fn tell_end<R: Files + Eprint, W: Write>(
     ensures fault { IfErr result (λ fault. fault ≡ ScriptFault.Write) }
 {
     let status = print_end(end, writer)?;
-    match (end, report) {
-        (WorkEnd::Ran(ran), Some(path)) => {
-            write_run(rt, alloc, path.as_str(), source, work, ran, seconds)?;
-            Ok(status)
-        }
-        _ => Ok(status),
+    if let WorkEnd::Ran(ran) = end {
+        write_run(rt, alloc, report, source, work, ran, seconds)?;
     }
+    Ok(status)
 }
 
-/// Writes the report on a run.
+/// Writes the report on a run, where one is wanted.
 fn write_run<R: Files + Eprint>(
     rt: &R,
     alloc: Global,
-    path: &str,
+    path: Option<&String>,
     source: Source<'_>,
     work: &Workload,
     ran: &TalliedOutcome,
@@ -125,8 +122,13 @@ fn write_run<R: Files + Eprint>(
 ) -> Result<(), ScriptFault>
     ensures { IfErr result (λ fault. fault ≡ ScriptFault.Write) }
 {
-    let report = report_of(source, work, ran, seconds);
-    write_report(rt, alloc, path, &report)
+    match path {
+        Some(path) => {
+            let report = report_of(source, work, ran, seconds);
+            write_report(rt, alloc, path.as_str(), &report)
+        }
+        None => Ok(()),
+    }
 }
 
 /// Runs the workload, and tells how that goes where it is wanted.
