@@ -17,6 +17,7 @@ pub mod Handed
 -- from numbers to names
 pub mod Names
 -- what a request does, by names
+pub mod Answered
 pub mod Asked
 -- from the parts to what a contract sees
 pub mod Told

@@ -1,6 +1,6 @@
 //! A number has a name exactly while it has an owner.
-ghost use Rattle.std.specs.Prelude.{◌≡◌, ◌⊎◌, Ok, Err, Some, fold, IfOk, IfErr, OnOk, OnErr, IsSome};
-ghost use Rattle.mm_names.specs.Names.{name_of, Interns, IsRefusedAsFull};
+ghost use Rattle.std.specs.Prelude.{◌≡◌, ◌⊎◌, ◌↔◌, Ok, Err, Some, fold, IfOk, IfErr, OnOk, OnErr, IsSome, IsTrue};
+ghost use Rattle.mm_names.specs.Names.{name_of, Interns, IsNamed, IsRefusedAsFull};
 ghost use Rattle.mm_rules.specs.TableState.{owner_of};
 ghost use Rattle.mm_manager.specs.Permit.{may_ask, may_name, may_ask_for};
 ghost use Rattle.mm_manager.specs.Refused.{UnlockRefused};
@@ -8,7 +8,7 @@ ghost use Rattle.mm_manager.specs.private.Numbers.{forgotten, left_by, bare};
 
 use crate::permit::{may_ask, may_name};
 use crate::{Key, Refusal};
-use mm_names::{Names, NamesError};
+use mm_names::{Entry, Names, NamesError};
 use mm_settled::{Released, Table};
 
 /// The owner of a number; `None` where it has none, or is not one of the numbers.
@@ -19,6 +19,23 @@ pub fn owner_of(table: &Table, number: u32) -> Option<Key>
     table.owner(number).ok()?
 }
 
+/// The number of a name, which it has already, or gets, and whether the name is new.
+#[inline(always)]
+pub fn entry_of(names: &mut Names, name: &[u8]) -> Result<Entry, Refusal>
+    ensures interned { IfOk result (λ entry. Interns names.old name.now entry.number names.new) }
+    ensures new { IfOk result (λ entry. IsTrue entry.is_new ↔ ¬ IsNamed names.old name.now) }
+    ensures allowed { OnOk result (may_name names.old.name_bytes name.now ≡ Ok tt) }
+    ensures refused { IfErr result (λ refusal. (may_name names.old.name_bytes name.now ≡ Err refusal) ⊎ ((may_name names.old.name_bytes name.now ≡ Ok tt) × (refusal ≡ Refusal.NamesFull) × IsRefusedAsFull names.old name.now)) }
+    ensures same { OnErr result (names.new ≡ names.old) }
+{
+    match names.enter(name) {
+        Ok(Entry { number, is_new }) => Ok(Entry { number, is_new }),
+        Err(NamesError::Empty) => Err(Refusal::NameEmpty),
+        Err(NamesError::TooLong) => Err(Refusal::NameTooLong),
+        Err(NamesError::Full) => Err(Refusal::NamesFull),
+    }
+}
+
 /// The number of a name, which it has already, or gets.
 #[inline(always)]
 pub fn number_of(names: &mut Names, name: &[u8]) -> Result<u32, Refusal>
@@ -27,11 +44,9 @@ pub fn number_of(names: &mut Names, name: &[u8]) -> Result<u32, Refusal>
     ensures refused { IfErr result (λ refusal. (may_name names.old.name_bytes name.now ≡ Err refusal) ⊎ ((may_name names.old.name_bytes name.now ≡ Ok tt) × (refusal ≡ Refusal.NamesFull) × IsRefusedAsFull names.old name.now)) }
     ensures same { OnErr result (names.new ≡ names.old) }
 {
-    match names.intern(name) {
-        Ok(number) => Ok(number),
-        Err(NamesError::Empty) => Err(Refusal::NameEmpty),
-        Err(NamesError::TooLong) => Err(Refusal::NameTooLong),
-        Err(NamesError::Full) => Err(Refusal::NamesFull),
+    match entry_of(names, name) {
+        Ok(Entry { number, .. }) => Ok(number),
+        Err(refusal) => Err(refusal),
     }
 }
 

@@ -27,7 +27,7 @@ use crate::permit::{may_ask, may_count};
 use crate::request::{request, try_request};
 use crate::{Key, Lock, Refusal, TryLock};
 use mm_names::Names;
-use mm_settled::SettledTable;
+use mm_settled::{Released, SettledTable};
 
 /// Tells of what the table granted, and ends those whose abort is due by that.
 pub fn pass_on(table: &mut SettledTable, names: &mut Names, lists: &mut Lists)
@@ -64,9 +64,13 @@ pub fn release_number(
     ensures parts { AreParts table.new.table names.new lists.new }
 {
     table.is_at_rest();
-    let Some(_) = release(table, names, key, number) else {
+    let Some(answer) = release(table, names, key, number) else {
         return Err(not_released(table.table(), key));
     };
+    if let Released::Free = answer {
+        // Nobody waited for it, so nobody is told of.
+        return Ok(());
+    }
     pass_on(table, names, lists);
     Ok(())
 }
@@ -129,8 +133,6 @@ pub fn lock(
 {
     lists.clear();
     table.is_at_rest();
-    may_ask(table.table(), key)?;
-    may_count(table.table())?;
     request(table, names, key, name)
 }
 

@@ -1,6 +1,7 @@
 //! What a call is refused for before the table is asked.
-ghost use Rattle.std.specs.Prelude.{◌≡◌};
-ghost use Rattle.mm_manager.specs.Permit.{may_ask, may_cancel, may_count, may_name, may_wait};
+ghost use Rattle.std.specs.Prelude.{◌≡◌, ◌≢◌, Ok, Err};
+ghost use Rattle.mm_manager.specs.Permit.{first_refusal, may_ask, may_cancel, may_count, may_name, may_wait};
+ghost use Rattle.mm_manager.specs.private.Requests.{may_ask_more};
 
 use crate::{Key, Refusal};
 use mm_names::Names;
@@ -47,6 +48,32 @@ pub fn may_count(table: &Table) -> Result<(), Refusal>
         Ok(())
     } else {
         Err(Refusal::CountsFull)
+    }
+}
+
+/// Why a request is refused, whatever the name is that it asks for.
+#[inline(never)]
+pub fn why_refused(table: &Table, key: Key) -> Refusal
+    requires { may_ask_more table.now key ≢ Ok tt }
+    ensures { may_ask_more table.now key ≡ Err result }
+{
+    match may_ask(table, key) {
+        Err(refusal) => refusal,
+        Ok(()) => Refusal::CountsFull,
+    }
+}
+
+/// Why a request is refused for which this was found: that, where the transaction may ask and an event may be counted.
+#[inline(never)]
+pub fn refused_first(table: &Table, key: Key, found: Refusal) -> Refusal
+    ensures { Err result ≡ first_refusal (may_ask_more table.now key) (Err found) }
+{
+    if let Err(refusal) = may_ask(table, key) {
+        return refusal;
+    }
+    match may_count(table) {
+        Err(refusal) => refusal,
+        Ok(()) => found,
     }
 }
 

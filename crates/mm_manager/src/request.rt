@@ -1,22 +1,26 @@
 //! A request for a name.
-ghost use Rattle.std.specs.Prelude.{◌≡◌, ◌≢◌, ◌<◌, ◌↔◌, true, false, Some, Ok, IfOk, IfErr, OnOk, OnErr};
+ghost use Rattle.std.specs.Prelude.{◌≡◌, ◌≢◌, ◌<◌, ◌↔◌, true, false, None, Some, Ok, IfOk, IfErr, OnOk, OnErr, IsSome};
+ghost use Rattle.std.specs.Bool.{OnTrue, OnFalse};
 ghost use Rattle.mm_arena.specs.declared.key.Key.{Key as KeyValue};
+ghost use Rattle.mm_names.specs.Names.{name_of};
 ghost use Rattle.mm_rules.specs.TableState.{owner_of};
 ghost use Rattle.mm_settled.specs.Calls.{Locks, OthersKeepVerdicts};
-ghost use Rattle.mm_manager.specs.Calls.{Requests, Tries};
+ghost use Rattle.mm_settled.specs.declared.reply.Locked.TheVariants as locked;
+ghost use Rattle.mm_manager.specs.Calls.{Tries};
 ghost use Rattle.mm_manager.specs.Permit.{event_limit, may_ask, may_name, may_wait};
-ghost use Rattle.mm_manager.specs.Refused.{TryRefused, LockRefused};
+ghost use Rattle.mm_manager.specs.Refused.{TryRefused};
 ghost use Rattle.mm_manager.specs.private.Numbers.{AreNumbered, bare};
-ghost use Rattle.mm_manager.specs.private.Requests.{tried_by};
+ghost use Rattle.mm_manager.specs.private.Requests.{AnswersNamed, AnswersNew, Requested, may_ask_more, tried_by};
 ghost use Rattle.mm_manager.specs.private.Room.{HasReserve};
 
-use crate::numbers::{number_of, owner_of};
-use crate::permit::may_wait;
+use crate::numbers::{entry_of, number_of, owner_of};
+use crate::permit::{may_ask, may_count, may_wait, refused_first, why_refused};
 use crate::{Key, Lock, Refusal, TryLock};
-use mm_names::Names;
+use mm_names::{Entry, Names};
 use mm_settled::{Locked, SettledTable, Table};
 
-/// Asks the table for the number of a name, which the name has already, or gets. The transaction may ask.
+/// Asks the table for the number of a name, which the name has already, or gets. Nobody owns a number whose name is new, so the table is
+/// asked at once, and what would refuse the request is looked for only where the table refuses it.
 pub fn request(
     table: &mut SettledTable,
     names: &mut Names,
@@ -24,19 +28,67 @@ pub fn request(
     name: &[u8],
 ) -> Result<Lock, Refusal>
     requires numbered { AreNumbered table.old.table names.old }
-    requires may { may_ask table.old.table key ≡ Ok tt }
-    requires counted { table.old.table.totals.accepted < event_limit }
     requires left { HasReserve table.old.table }
-    ensures requested { IfOk result (λ answer. Requests table.old.table names.old key name.now answer table.new.table names.new) }
-    ensures named { OnOk result (may_name names.old.name_bytes name.now ≡ Ok tt) }
-    ensures refused { IfErr result (λ refusal. LockRefused (bare table.old.table names.old) key name.now refusal) }
-    ensures table { OnErr result (table.new.table ≡ table.old.table) }
-    ensures names { OnErr result (names.new ≡ names.old) }
+    ensures requested { Requested table.old.table names.old key name.now result table.new.table names.new }
     ensures others { OthersKeepVerdicts table.old.table table.new.table key.process }
     ensures numbered { AreNumbered table.new.table names.new }
 {
     table.is_at_rest();
-    let number = number_of(names, name)?;
+    match entry_of(names, name) {
+        Ok(Entry { number, is_new }) if is_new => request_new(table, names, key, number),
+        Ok(Entry { number, .. }) => request_named(table, key, number),
+        Err(refusal) => Err(refused_first(table.table(), key, refusal)),
+    }
+}
+
+/// Asks the table for a number whose name is new. Where that is refused, the number has no name again.
+fn request_new(
+    table: &mut SettledTable,
+    names: &mut Names,
+    key: Key,
+    number: u32,
+) -> Result<Lock, Refusal>
+    requires in_range { number < table.old.table.config.resources }
+    requires left { HasReserve table.old.table }
+    requires free { owner_of table.old.table number ≡ None }
+    requires named { IsSome (name_of names.old number) }
+    ensures answers { AnswersNew table.old.table key number names.old result table.new.table names.new }
+    ensures others { OthersKeepVerdicts table.old.table table.new.table key.process }
+{
+    if is_granted(table, key, number) {
+        return Ok(Lock::Granted);
+    }
+    names.forget(number);
+    Err(why_refused(table.table(), key))
+}
+
+/// Asks the table for a number that nobody owns, and tells whether the transaction owns it then.
+fn is_granted(table: &mut SettledTable, key: Key, number: u32) -> bool
+    requires in_range { number < table.old.table.config.resources }
+    requires left { HasReserve table.old.table }
+    requires free { owner_of table.old.table number ≡ None }
+    ensures granted { OnTrue result ((may_ask_more table.old.table key ≡ Ok tt) × Locks table.old.table key number (Ok locked.Granted) table.new.table) }
+    ensures refused { OnFalse result ((may_ask_more table.old.table key ≢ Ok tt) × (table.new.table ≡ table.old.table)) }
+    ensures others { OthersKeepVerdicts table.old.table table.new.table key.process }
+{
+    table.is_at_rest();
+    if may_count(table.table()).is_err() {
+        return false;
+    }
+    table.lock(key, number).is_ok()
+}
+
+/// Asks the table for a number that has a name.
+#[inline(never)]
+fn request_named(table: &mut SettledTable, key: Key, number: u32) -> Result<Lock, Refusal>
+    requires in_range { number < table.old.table.config.resources }
+    requires left { HasReserve table.old.table }
+    ensures answers { AnswersNamed table.old.table key number result table.new.table }
+    ensures others { OthersKeepVerdicts table.old.table table.new.table key.process }
+{
+    table.is_at_rest();
+    may_ask(table.table(), key)?;
+    may_count(table.table())?;
     if is_held(table.table(), key, number)? {
         return Ok(Lock::Held);
     }

@@ -2,3 +2,5 @@ pub mod Places
 pub mod Hash
 pub mod Spots
 pub mod Index
+-- what the bytes of a length mean
+pub mod Length

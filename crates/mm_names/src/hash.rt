@@ -109,13 +109,15 @@ fn word(name: &[u8], at: usize) -> u64
     half_word(name, at) | half_word(name, at + 4) << 32
 }
 
-/// Up to eight bytes as one number, by reads that may overlap.
+/// Up to eight bytes as one number, by reads that may overlap. Eight bytes are read at once.
 #[inline]
 fn short_word(name: &[u8]) -> u64
     ensures { result ≡ read_short name.now }
 {
     let length = name.len();
-    if length >= 4 {
+    if length == 8 {
+        word(name, 0)
+    } else if length >= 4 {
         half_word(name, 0) | half_word(name, length - 4) << 32
     } else if length > 0 {
         name[0] as u64 | (name[length / 2] as u64) << 8 | (name[length - 1] as u64) << 16

@@ -2,7 +2,7 @@
 //!
 //! - `config`: `NamesConfig`, the numbers with which names are opened.
 //! - `error`: why they are not opened, and why a name gets no number.
-//! - `places`: where the bytes of each name stand.
+//! - `places`: where the bytes of each name stand. `length`: how many they are.
 //! - `hash`: the hash of a name.
 //! - `spots`: where the number of a name stands, by the hash of the name.
 //! - `names`: `Names`.
@@ -13,6 +13,7 @@ mod config;
 mod error;
 mod hash;
 mod iter;
+mod length;
 mod names;
 mod places;
 mod spots;
@@ -20,4 +21,4 @@ mod spots;
 pub use config::NamesConfig;
 pub use error::{NamesError, OpenError};
 pub use iter::Iter;
-pub use names::Names;
+pub use names::{Entry, Names};

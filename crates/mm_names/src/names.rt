@@ -13,6 +13,14 @@ use mm_owned::Owned;
 use std::alloc::{AllocError, Global};
 use std::marker::Model;
 
+/// The number of a name, and whether the name is new.
+#[derive(Clone, Copy, Debug, PartialEq, Eq)]
+pub struct Entry {
+    pub number: u32,
+    /// Whether no number had the name before.
+    pub is_new: bool,
+}
+
 /// Names for numbers: a name has one number at most, and a number one name at most. No call but `open` takes memory.
 ///
 /// A contract sees it as a `NameTable` (`specs/Names.antt`): by number its name, or none.
@@ -72,10 +80,26 @@ impl Names {
     ///
     /// Refused as `Empty` or `TooLong` exactly where the name has no bytes or more than there may be, and else as `Full` exactly where
     /// the name is new and each number has one; then nothing changes. `O(length)`, and a look at each name of the same list.
-    // In place: a call would cost a fifth of what it does.
     #[inline(always)]
     pub fn intern(&mut self, name: &[u8]) -> Result<u32, NamesError>
         ensures interned { IfOk result (λ n. Interns self.old name.now n self.new) }
+        ensures empty { (result ≡ Err NamesError.Empty) ↔ (length name.now ≡ 0) }
+        ensures too_long { (result ≡ Err NamesError.TooLong) ↔ (self.old.name_bytes < length name.now) }
+        ensures full { (result ≡ Err NamesError.Full) ↔ IsRefusedAsFull self.old name.now }
+        ensures refused { OnErr result (self.new ≡ self.old) }
+    {
+        match self.enter(name) {
+            Ok(Entry { number, .. }) => Ok(number),
+            Err(error) => Err(error),
+        }
+    }
+
+    /// `intern`, which also tells whether the name is new.
+    // In place: a call would cost a fifth of what it does.
+    #[inline(always)]
+    pub fn enter(&mut self, name: &[u8]) -> Result<Entry, NamesError>
+        ensures entered { IfOk result (λ entry. Interns self.old name.now entry.number self.new) }
+        ensures new { IfOk result (λ entry. IsTrue entry.is_new ↔ ¬ IsNamed self.old name.now) }
         ensures empty { (result ≡ Err NamesError.Empty) ↔ (length name.now ≡ 0) }
         ensures too_long { (result ≡ Err NamesError.TooLong) ↔ (self.old.name_bytes < length name.now) }
         ensures full { (result ≡ Err NamesError.Full) ↔ IsRefusedAsFull self.old name.now }
@@ -89,14 +113,20 @@ impl Names {
         }
         let spot = self.spots.of(name);
         if let Some(number) = find_at(&self.places, &self.index, spot, name) {
-            return Ok(number);
+            return Ok(Entry {
+                number,
+                is_new: false,
+            });
         }
         let Some(number) = self.free.pop() else {
             return Err(NamesError::Full);
         };
         self.index.push(spot, number);
         self.places.put(number, name);
-        Ok(number)
+        Ok(Entry {
+            number,
+            is_new: true,
+        })
     }
 
     /// The name of a number, in constant time. `None` where it has none, or is not one of the numbers.
@@ -220,9 +250,26 @@ fn all_free(alloc: Global, numbers: u32) -> Result<Vec<u32>, AllocError>
     Ok(free)
 }
 
-/// The number of a name that is nowhere but at this spot.
+/// The number of a name that is nowhere but at this spot. Most lists have one number or none, so the first one is looked at here.
 #[inline(always)]
 fn find_at(places: &Places, index: &Owned, spot: Key, name: &[u8]) -> Option<u32>
+    requires in_range { spot.process < length index.now.lists }
+    requires numbers { length index.now.owners ≡ length places.now.names }
+    requires at_spot { (n : ℕ) → name_of places.now n ≡ Some name.now → owner_at index.now n ≡ Some spot }
+    ensures { MatchOption result (¬ IsNamed places.now name.now) (λ n. name_of places.now n ≡ Some name.now) }
+{
+    let Some(first) = index.first(spot.process) else {
+        return None;
+    };
+    if is_name_of(places, index, first, spot, name) {
+        return Some(first);
+    }
+    find_in_list(places, index, spot, name)
+}
+
+/// The number of a name that is nowhere but at this spot, wherever it stands in the list.
+#[inline(never)]
+fn find_in_list(places: &Places, index: &Owned, spot: Key, name: &[u8]) -> Option<u32>
     requires in_range { spot.process < length index.now.lists }
     requires numbers { length index.now.owners ≡ length places.now.names }
     requires at_spot { (n : ℕ) → name_of places.now n ≡ Some name.now → owner_at index.now n ≡ Some spot }
@@ -240,7 +287,7 @@ fn find_at(places: &Places, index: &Owned, spot: Key, name: &[u8]) -> Option<u32
 
 /// Whether a number of the list of this spot has this name, whose spot it is. The parts of the hashes are compared first: most other names are
 /// not read.
-#[inline]
+#[inline(always)]
 fn is_name_of(places: &Places, index: &Owned, number: u32, spot: Key, name: &[u8]) -> bool
     requires in_range { number < length index.now.owners }
     requires numbers { length index.now.owners ≡ length places.now.names }

@@ -4,6 +4,7 @@ ghost use borrow.Rule.Slice.PartMut.{put_mid};
 ghost use Rattle.mm_names.specs.Names.{nameless, name_of, with_name, IsInRange};
 
 use crate::NamesConfig;
+use crate::length::Length;
 use std::alloc::{AllocError, Global};
 use std::marker::Model;
 
@@ -11,8 +12,8 @@ use std::marker::Model;
 #[derive(Debug, Drop)]
 pub(crate) struct Places {
     bytes: Vec<u8>,
-    /// By number: the length of its name, which stands first in its place; `None` where it has no name.
-    lengths: Vec<Option<u16>>,
+    /// By number: the length of its name, which stands first in its place, or none.
+    lengths: Vec<Length>,
     name_bytes: u32,
 }
 
@@ -40,7 +41,7 @@ impl Places {
     {
         let mut lengths = Vec::with_capacity(alloc, numbers as usize)?;
         'lengths: for _ in 0..numbers {
-            lengths.push_reserved(None);
+            lengths.push_reserved(Length::NONE);
         }
         let bytes = vec![in alloc; 0; numbers as usize * name_bytes as usize]?;
         Ok(Places {
@@ -72,7 +73,7 @@ impl Places {
         requires { number < length self.now.names }
         ensures { option_copied result ≡ name_of self.now number }
     {
-        let length = self.lengths[number as usize]?;
+        let length = self.lengths[number as usize].get()?;
         let start = number as usize * self.name_bytes as usize;
         Some(&self.bytes[start..start + length as usize])
     }
@@ -99,7 +100,7 @@ impl Places {
     {
         let start = number as usize * self.name_bytes as usize;
         copy(&mut self.bytes[start..start + name.len()], name);
-        self.lengths[number as usize] = Some(name.len() as u16);
+        self.lengths[number as usize] = Length::of(name.len() as u16);
     }
 
     /// Takes its name from a number, in constant time.
@@ -108,7 +109,7 @@ impl Places {
         requires { number < length self.old.names }
         ensures { self.new ≡ with_name self.old number None }
     {
-        self.lengths[number as usize] = None;
+        self.lengths[number as usize] = Length::NONE;
     }
 
     /// Does nothing. Its contract is what holds of any places.
@@ -175,7 +176,7 @@ fn copy_word(place: &mut [u8], name: &[u8], at: usize)
     place[at..at + 8].copy_from_slice(&word);
 }
 
-/// Whether two names are one, eight bytes at a time.
+/// Whether two names are one. For most names that costs less than a call of the C library.
 #[inline]
 fn are_equal(first: &[u8], second: &[u8]) -> bool
     ensures { IsTrue result ↔ (first.now ≡ second.now) }
@@ -183,6 +184,46 @@ fn are_equal(first: &[u8], second: &[u8]) -> bool
     if first.len() != second.len() {
         return false;
     }
+    match first.len() {
+        8..=16 => have_equal_ends(first, second),
+        _ => have_equal_words(first, second),
+    }
+}
+
+/// Whether two names of 8 to 16 bytes are one, by their first eight bytes and their last eight.
+#[inline]
+fn have_equal_ends(first: &[u8], second: &[u8]) -> bool
+    requires long { 8 ≤ length first.now }
+    requires short { length first.now ≤ 16 }
+    requires same_length { length first.now ≡ length second.now }
+    ensures { IsTrue result ↔ (first.now ≡ second.now) }
+{
+    have_equal_word(first, second, 0) && have_equal_word(first, second, first.len() - 8)
+}
+
+/// Whether the eight bytes from `at` on are those of both names.
+#[inline]
+fn have_equal_word(first: &[u8], second: &[u8], at: usize) -> bool
+    requires first { at + 8 ≤ length first.now }
+    requires second { at + 8 ≤ length second.now }
+    ensures { IsTrue result ↔ (take 8 (drop at first.now) ≡ take 8 (drop at second.now)) }
+{
+    let (Some(word), Some(other)) = (
+        first[at..].first_chunk::<8>(),
+        second[at..].first_chunk::<8>(),
+    ) else {
+        return false;
+    };
+    word == other
+}
+
+/// Whether two names are one, eight bytes at a time.
+// Apart: so the comparison of short names stays where it is made.
+#[inline(never)]
+fn have_equal_words(first: &[u8], second: &[u8]) -> bool
+    requires { length first.now ≡ length second.now }
+    ensures { IsTrue result ↔ (first.now ≡ second.now) }
+{
     let (mut first, mut second) = (first, second);
     'words: while let Some((word, rest)) = first.split_first_chunk::<8>() {
         let Some((other, others)) = second.split_first_chunk::<8>() else {

@@ -7,7 +7,7 @@ use crate::hash::NameHash;
 use mm_arena::Key;
 
 /// How many lists there are for each name that there can be. With more of them fewer names share one.
-const LISTS_A_NAME: u32 = 2;
+const LISTS_A_NAME: u32 = 4;
 
 /// The spots of names. A spot is a key: its process is one of the lists in which numbers stand, and its generation a part of the hash
 /// that tells names of one list apart.

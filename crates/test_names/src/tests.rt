@@ -4,7 +4,7 @@ ghost use Rattle.std.specs.Prelude.{◌≤◌};
 mod same;
 
 use crate::tests::same::same;
-use mm_names::{Names, NamesConfig, NamesError, OpenError};
+use mm_names::{Entry, Names, NamesConfig, NamesError, OpenError};
 use std::alloc::{AllocError, Global};
 use std::collections::{BTreeMap, HashMap};
 use std::process::Abort;
@@ -205,8 +205,8 @@ impl Maps {
     }
 }
 
-/// A name is interned: one that the maps have has their number, another one a number that they lack, and is added to them.
-fn intern(
+/// A name is entered: one that the maps have has their number, another one is new, gets a number that they lack, and is added to them.
+fn enter(
     rt: &impl Abort,
     alloc: Global,
     names: &mut Names,
@@ -214,18 +214,15 @@ fn intern(
     name: &[u8],
 ) -> Result<(), AllocError> {
     let known = maps.numbers.get(name).copied();
-    match names.intern(name) {
+    match names.enter(name) {
         Err(NamesError::Empty) => same(rt, name.len(), 0),
         Err(NamesError::TooLong) => same(rt, name.len() > CHANCE_CONFIG.name_bytes as usize, true),
         Err(NamesError::Full) => same(rt, (known, maps.names.len()), (None, CONFIG.names as usize)),
-        Ok(number) => match known {
-            Some(known) => same(rt, number, known),
+        Ok(Entry { number, is_new }) => match known {
+            Some(known) => same(rt, (number, is_new), (known, false)),
             None => {
-                same(
-                    rt,
-                    number < CONFIG.names && !maps.names.contains_key(&number),
-                    true,
-                );
+                let is_free = number < CONFIG.names && !maps.names.contains_key(&number);
+                same(rt, (is_free, is_new), (true, true));
                 maps.add(alloc, name, number)?;
             }
         },
@@ -287,7 +284,7 @@ fn call_by_chance(
     match (chance >> 28) % 4 {
         0 => forget(rt, names, maps, number),
         1 => look(rt, names, maps, name, number),
-        _ => intern(rt, alloc, names, maps, name)?,
+        _ => enter(rt, alloc, names, maps, name)?,
     }
     Ok(())
 }

@@ -4,7 +4,6 @@ use Rattle.std.proofs.lemmas.Bool.{cases_lt, le-ltb}
 use Rattle.mm_arena.specs.declared.key.Key.{Key}
 use Rattle.mm_rules.specs.declared.reply.Mode.TheVariants as mode
 use Rattle.mm_rules.specs.declared.reply.State.{State}
-use Rattle.mm_rules.specs.declared.refusal.Refusal as table
 use Rattle.mm_rules.specs.declared.refusal.Refusal.TheVariants.{Stale}
 use Rattle.mm_rules.specs.TableState.{TableState, is_live, has_verdict, wait_of, private_of, public_of}
 use Rattle.mm_rules.specs.Event.{mode_of, state_of}

@@ -1,5 +1,5 @@
 -- What a release by the table tells: it is accepted exactly where the transaction is active and owns the number.
-use Rattle.std.proofs.Common.{◌≡◌, ◌<◌, ℕ, List, [], ◌∷◌, true, not, Option, Some, None, Err, Ok, is_some, if◌then◌else◌, length, slice_index_or, arith, refl, sym, ap, ◌∙◌}
+use Rattle.std.proofs.Common.{◌≡◌, ◌<◌, ℕ, List, [], ◌∷◌, true, Option, Some, None, Ok, is_some, if◌then◌else◌, length, slice_index_or, arith, refl, sym, ap, ◌∙◌}
 use Rattle.std.proofs.lemmas.Bool.{not-false}
 use Rattle.mm_arena.specs.declared.key.Key.{Key}
 use Rattle.mm_rules.specs.declared.refusal.Refusal.{Refusal}
@@ -11,9 +11,12 @@ use Rattle.mm_rules.specs.Event.{Release, release_tests, release_answer}
 use Rattle.mm_rules.specs.Laws.{Laws}
 use Rattle.mm_rules.proofs.States.Lookups.{none_of_is_some}
 use Rattle.mm_settled.specs.Calls.{Made, Refuses}
+use Rattle.mm_settled.specs.Grants.{grants}
 use Rattle.mm_settled.proofs.Lemmas.Accepted.{accepted}
 use Rattle.mm_settled.proofs.Lemmas.Ends.{owner_in_range}
+use Rattle.mm_settled.proofs.Lemmas.Grants.{grants_alike}
 use Rattle.mm_settled.proofs.Lemmas.HandsOn.{next_owner, hand_over_owner}
+use Rattle.mm_settled.proofs.Lemmas.Released.{free_grants}
 use Rattle.mm_manager.specs.Permit.{may_ask}
 use Rattle.mm_names.specs.Names.{NameTable, with_name}
 use Rattle.mm_manager.specs.private.Numbers.{forgotten, left_by}
@@ -69,3 +72,7 @@ pub not_owned : (s u : TableState) (k : Key) (r : ℕ) (e : Refusal) → Laws s 
 not_owned s u k r e laws room refuses may owned =
     let active = asks s k may in
     release_never s k laws room active.live active.idle r owned u e refuses
+
+-- a release after which nobody owns the number grants nothing
+pub free_grants_none : (s u : TableState) (k : Key) (r : ℕ) → Laws s → Made (Release k r) s Free u → grants s u ≡ []
+free_grants_none s u k r laws made = grants_alike s made.mid u (rests_alike made.mid u made.rests).owners ∙ free_grants s made.mid k r laws made.event

@@ -1,8 +1,47 @@
--- A try for a name.
-use Rattle.std.specs.Prelude.{◌&&◌, if◌then◌else◌, nat_eq}
+-- How a request is answered by number, and a try for a name.
+use Rattle.std.specs.Prelude.{◌≡◌, ◌≢◌, ◌⊎◌, ◌&&◌, ℕ, List, true, false, Some, None, Result, Ok, Err, if◌then◌else◌, nat_eq}
 use Rattle.mm_arena.specs.declared.key.Key.{Key}
+use Rattle.mm_names.specs.Names.{NameTable, with_name}
+use Rattle.mm_rules.specs.TableState.{TableState, owner_of}
+use Rattle.mm_settled.specs.Calls.{Locks}
+use Rattle.mm_settled.specs.declared.reply.Locked.TheVariants as locked
+use Rattle.mm_manager.specs.Calls.{Requests}
+use Rattle.mm_manager.specs.Permit.{first_refusal, may_ask, may_count, may_request, may_wait}
+use Rattle.mm_manager.specs.Refused.{LockRefused}
+use Rattle.mm_manager.specs.declared.refusal.Refusal.{Refusal}
+use Rattle.mm_manager.specs.declared.refusal.Refusal.TheVariants.{LabelsFull}
+use Rattle.mm_manager.specs.declared.reply.Lock.{Lock}
+use Rattle.mm_manager.specs.declared.reply.Lock.TheVariants as lock
 use Rattle.mm_manager.specs.declared.reply.TryLock.{TryLock}
 use Rattle.mm_manager.specs.declared.reply.TryLock.TheVariants.{Held, Busy}
+use Rattle.mm_manager.specs.private.Numbers.{bare}
+
+-- the transaction may ask, and an event may be counted
+abbrev pub may_ask_more : TableState → Key → Result (Unit {0}) Refusal
+may_ask_more s k = first_refusal (may_ask s k) (may_count s)
+
+-- a request for a number whose name is new is granted, or refused for what the name does not matter to, and then the number has no name again
+abbrev pub AnswersNew : TableState → Key → ℕ → NameTable → Result Lock Refusal → TableState → NameTable → Type 0
+AnswersNew s k n t (Ok answer) u named = (answer ≡ lock.Granted) × (may_ask_more s k ≡ Ok tt) × Locks s k n (Ok locked.Granted) u × (named ≡ t)
+AnswersNew s k n t (Err refusal) u named = (may_ask_more s k ≡ Err refusal) × (u ≡ s) × (named ≡ with_name t n None)
+
+-- a request for a number that has a name
+abbrev pub AsksFor : TableState → Key → ℕ → Lock → TableState → Type 0
+AsksFor s k n lock.Granted u = Locks s k n (Ok locked.Granted) u
+AsksFor s k n (lock.Waits h) u = (may_wait s ≡ true) × Locks s k n (Ok (locked.Waits h)) u
+AsksFor s k n (lock.Deadlock h) u = (may_wait s ≡ true) × Locks s k n (Ok (locked.Deadlock h)) u
+AsksFor s k n lock.Held u = (owner_of s n ≡ Some k) × (u ≡ s)
+
+abbrev pub AnswersNamed : TableState → Key → ℕ → Result Lock Refusal → TableState → Type 0
+AnswersNamed s k n (Ok answer) u = (may_ask_more s k ≡ Ok tt) × AsksFor s k n answer u
+AnswersNamed s k n (Err refusal) u =
+    (u ≡ s)
+    × ((may_ask_more s k ≡ Err refusal) ⊎ ((may_ask_more s k ≡ Ok tt) × (refusal ≡ LabelsFull) × (may_wait s ≡ false) × ((h : Key) × (h ≢ k) × (owner_of s n ≡ Some h))))
+
+-- a request for a name, by what its reply says
+abbrev pub Requested : TableState → NameTable → Key → List ℕ → Result Lock Refusal → TableState → NameTable → Type 0
+Requested s t k name (Ok answer) u named = (may_request s t.name_bytes k name ≡ Ok tt) × Requests s t k name answer u named
+Requested s t k name (Err refusal) u named = LockRefused (bare s t) k name refusal × (u ≡ s) × (named ≡ t)
 
 -- what a try is told of a name that h owns
 abbrev pub tried_by : Key → Key → TryLock

@@ -1,27 +1,33 @@
-use Rattle.std.proofs.Common.{◌≡◌, Ok, sym, ap, ◌∙◌}
-use Rattle.mm_rules.specs.TableState.{TableState}
-use Rattle.mm_manager.specs.Permit.{may_ask, may_count}
-use Rattle.mm_manager.proofs.Lemmas.Asked.{MayRequest, RequestKeeps, asked_keeps, due_still}
-use Rattle.mm_manager.proofs.Lemmas.May.{asks, counted}
+use Rattle.mm_manager.proofs.Lemmas.Answered.{requested_asks, requested_may, requested_refused, requested_table, requested_names, requested_keeps, requested_due}
+use Rattle.mm_manager.proofs.Lemmas.Asked.{RequestKeeps}
 use Rattle.mm_manager.proofs.parts.lock.Goals as goal
-
-may : (c : goal.After-request) → MayRequest c.args.table.now.table
-may c = record { laws = c.is_at_rest.ensures.laws; room = c.requires.room; below = counted c.args.table.now.table (ap may_count (sym c.table-2.ensures) ∙ sym c.in_ok-may_count.ensures) }
 
 keeps : (c : goal.After-request) → RequestKeeps c.args.table.now.table c.request.new.table.table
 keeps c =
-    asked_keeps c.args.table.now.table c.request.new.table.table c.args.names.now c.request.new.names c.args.key c.args.name.now c.request.result (may c)
-    (λ answer is. rw is at c.request.ensures.requested) (λ e is. rw is at c.request.ensures.table)
+    requested_keeps c.args.table.now.table c.request.new.table.table c.args.names.now c.request.new.names c.args.key c.args.name.now c.is_at_rest.ensures.laws c.requires.room c.request.result c.request.ensures.requested
+
+pub returns-clause-requested : goal.returns-clause-requested
+returns-clause-requested c = requested_asks c.args.table.now.table c.request.new.table.table c.args.names.now c.request.new.names c.args.key c.args.name.now c.request.result c.request.ensures.requested
+
+pub returns-clause-may : goal.returns-clause-may
+returns-clause-may c = requested_may c.args.table.now.table c.request.new.table.table c.args.names.now c.request.new.names c.args.key c.args.name.now c.request.result c.request.ensures.requested
+
+pub returns-clause-refused : goal.returns-clause-refused
+returns-clause-refused c = requested_refused c.args.table.now.table c.request.new.table.table c.args.names.now c.request.new.names c.args.key c.args.name.now c.request.result c.request.ensures.requested
+
+pub returns-clause-table : goal.returns-clause-table
+returns-clause-table c = requested_table c.args.table.now.table c.request.new.table.table c.args.names.now c.request.new.names c.args.key c.args.name.now c.request.result c.request.ensures.requested
+
+pub returns-clause-names : goal.returns-clause-names
+returns-clause-names c = requested_names c.args.table.now.table c.request.new.table.table c.args.names.now c.request.new.names c.args.key c.args.name.now c.request.result c.request.ensures.requested
 
 pub returns-clause-laws : goal.returns-clause-laws
 returns-clause-laws c = (c.is_at_rest.ensures.laws, (keeps c).laws)
 
 pub returns-clause-parts : goal.returns-clause-parts
 returns-clause-parts c =
-    let s = c.args.table.now.table in
     let was = c.requires.fits in
     let cleared = c.clear.ensures in
-    let asked : may_ask s c.args.key ≡ Ok tt = ap (λ (t : TableState). may_ask t c.args.key) (sym c.table.ensures) ∙ sym c.in_ok-may_ask.ensures in
     record {
       numbered = c.request.ensures.numbered;
       fits = rw (keeps c).config record {
@@ -30,6 +36,8 @@ returns-clause-parts c =
         due = rw cleared.due was.due;
         owned = rw cleared.owned was.owned;
       };
-      due = rw cleared.due (due_still s c.request.new.table.table c.args.lists.now.due.items c.args.key (keeps c) c.request.ensures.others (asks s c.args.key asked).idle c.requires.due);
+      due = rw cleared.due
+          (requested_due c.args.table.now.table c.request.new.table.table c.args.names.now c.request.new.names c.args.key c.args.name.now c.is_at_rest.ensures.laws c.requires.room
+          c.args.lists.now.due.items c.request.result c.request.ensures.requested c.request.ensures.others c.requires.due);
       room = (keeps c).room;
     }

@@ -1,31 +1,55 @@
-use Rattle.std.proofs.Common.{Ok}
-use Rattle.mm_settled.specs.Calls.{Locks}
-use Rattle.mm_settled.specs.declared.reply.Locked.TheVariants as locked
-use Rattle.mm_manager.proofs.Lemmas.Requests.{granted_is, queued_is, numbered_granted, numbered_queued}
+use Rattle.std.proofs.Common.{◌≡◌, Some, Err, true, false, inl, inr, sym, ◌∙◌, refl, subst}
+use Rattle.mm_names.specs.Names.{name_of, with_name, IsFree, IsNamed}
+use Rattle.mm_manager.specs.Permit.{first_refusal}
+use Rattle.mm_manager.specs.private.Requests.{may_ask_more}
+use Rattle.mm_manager.proofs.Lemmas.Answered.{new_requested, new_numbered, named_requested, named_numbered, number_refused}
 use Rattle.mm_manager.proofs.request.request.Goals as goal
 
-pub returns-in-Granted-clause-numbered : goal.returns-in-Granted-clause-numbered
-returns-in-Granted-clause-numbered c =
-    let s = c.args.table.now.table in
-    let u = c.lock_number.new.table.table in
-    let locks : Locks s c.args.key c.in_ok-number.number (Ok locked.Granted) u = rw c.in-Granted.is at c.lock_number.ensures.locks in
-    numbered_granted s c.args.names.now c.requires.numbered c.number_of.new.names c.args.name.now c.in_ok-number.number c.is_at_rest.ensures.laws c.args.key u
-    (granted_is s u c.args.key c.in_ok-number.number locks) c.in_ok-number.ensures.interned
+-- ---- the name is new
 
-pub returns-in-Waits-clause-numbered : goal.returns-in-Waits-clause-numbered
-returns-in-Waits-clause-numbered c =
-    let s = c.args.table.now.table in
-    let u = c.lock_number.new.table.table in
-    let h = c.in-Waits.holder in
-    let locks : Locks s c.args.key c.in_ok-number.number (Ok (locked.Waits h)) u = rw c.in-Waits.is at c.lock_number.ensures.locks in
-    numbered_queued s c.args.names.now c.requires.numbered c.number_of.new.names c.args.name.now c.in_ok-number.number c.args.key h u
-    (queued_is s u c.args.key h c.in_ok-number.number locks.0) c.in_ok-number.ensures.interned
+fresh : (c : goal.After-request_new) → ¬ IsNamed c.args.names.now c.args.name.now
+fresh c = c.in-Ok.ensures.new.0 c.if-is_new.true
 
-pub returns-in-Deadlock-clause-numbered : goal.returns-in-Deadlock-clause-numbered
-returns-in-Deadlock-clause-numbered c =
-    let s = c.args.table.now.table in
-    let u = c.lock_number.new.table.table in
-    let h = c.in-Deadlock.holder in
-    let locks : Locks s c.args.key c.in_ok-number.number (Ok (locked.Deadlock h)) u = rw c.in-Deadlock.is at c.lock_number.ensures.locks in
-    numbered_queued s c.args.names.now c.requires.numbered c.number_of.new.names c.args.name.now c.in_ok-number.number c.args.key h u
-    (queued_is s u c.args.key h c.in_ok-number.number locks.0) c.in_ok-number.ensures.interned
+given : (c : goal.After-request_new) → IsFree c.args.names.now c.in-Ok.field-0.number × (c.entry_of.new.names ≡ with_name c.args.names.now c.in-Ok.field-0.number (Some c.args.name.now))
+given c = elim c.in-Ok.ensures.interned [
+  | inl known ↦ absurd (fresh c (c.in-Ok.field-0.number, known.0))
+  | inr new ↦ (new.1, new.2)
+]
+
+pub returns-in-Ok-clause-requested : goal.returns-in-Ok-clause-requested
+returns-in-Ok-clause-requested c =
+    new_requested c.args.table.now.table c.request_new.new.table.table c.args.names.now c.entry_of.new.names c.args.key c.args.name.now c.in-Ok.field-0.number c.in-Ok.ensures.allowed
+    c.request_new.new.names (fresh c) (given c).0 (given c).1 c.request_new.result c.request_new.ensures.answers
+
+pub returns-in-Ok-clause-numbered : goal.returns-in-Ok-clause-numbered
+returns-in-Ok-clause-numbered c =
+    new_numbered c.args.table.now.table c.request_new.new.table.table c.args.names.now c.entry_of.new.names c.args.key c.args.name.now c.in-Ok.field-0.number c.in-Ok.ensures.allowed
+    c.request_new.new.names (fresh c) (given c).0 (given c).1 c.requires.numbered c.is_at_rest.ensures.laws c.request_new.result c.request_new.ensures.answers
+
+-- ---- the name has a number
+
+known : (c : goal.After-request_named) → (name_of c.args.names.now c.in-Ok.field-0.number ≡ Some c.args.name.now) × (c.entry_of.new.names ≡ c.args.names.now)
+known c = elim c.in-Ok.ensures.interned [
+  | inl is ↦ is
+  | inr new ↦ (let never : false ≡ true = sym c.if-is_new.false ∙ c.in-Ok.ensures.new.1 new.0 in absurd (cc))
+]
+
+pub returns-in-Ok-2-clause-requested : goal.returns-in-Ok-2-clause-requested
+returns-in-Ok-2-clause-requested c =
+    named_requested c.args.table.now.table c.request_named.new.table.table c.args.names.now c.entry_of.new.names c.args.key c.args.name.now c.in-Ok.field-0.number c.in-Ok.ensures.allowed
+    (known c).0 (known c).1 c.request_named.result c.request_named.ensures.answers
+
+pub returns-in-Ok-2-clause-numbered : goal.returns-in-Ok-2-clause-numbered
+returns-in-Ok-2-clause-numbered c =
+    named_numbered c.args.table.now.table c.request_named.new.table.table c.args.names.now c.entry_of.new.names c.args.key c.args.name.now c.in-Ok.field-0.number c.in-Ok.ensures.allowed
+    (known c).0 (known c).1 c.requires.numbered c.is_at_rest.ensures.laws c.request_named.result c.request_named.ensures.answers
+
+-- ---- the name gets no number
+
+pub returns-in-Err-clause-requested : goal.returns-in-Err-clause-requested
+returns-in-Err-clause-requested c = (
+  number_refused c.args.table.now.table c.args.names.now c.args.key c.args.name.now c.in-Err.refusal c.refused_first.result c.in-Err.ensures.refused
+      (subst (λ t. Err c.refused_first.result ≡ first_refusal (may_ask_more t c.args.key) (Err c.in-Err.refusal)) c.table.ensures c.refused_first.ensures),
+  refl,
+  c.in-Err.ensures.same,
+)

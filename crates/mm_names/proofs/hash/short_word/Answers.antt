@@ -1,6 +1,6 @@
 use Rattle.std.proofs.Common.{length}
 use borrow.Author.Tests.{le-leb, lt-leb, lt-ltb, le-ltb}
-use Rattle.std.specs.Hash.FoldHasher.{read_short}
+use Rattle.std.specs.Hash.FoldHasher.{read_short, read_u64}
 use Rattle.mm_names.proofs.hash.short_word.Goals as goal
 
 pub returns-then-length-ge4 : goal.returns-then-length-ge4
@@ -14,3 +14,7 @@ returns-then-length-gt0 c = rw (lt-leb 4 (length c.args.name.now) c.if-length-ge
 pub returns-else-length-gt0 : goal.returns-else-length-gt0
 unfolding read_short
 returns-else-length-gt0 c = rw (lt-leb 4 (length c.args.name.now) c.if-length-ge4.false, le-ltb 0 (length c.args.name.now) c.if-length-gt0.false)
+
+pub returns-then-length-eq8 : goal.returns-then-length-eq8
+unfolding read_short read_u64
+returns-then-length-eq8 c = rw (c.word.ensures, c.if-length-eq8.true)

@@ -1,46 +1,17 @@
-use Rattle.std.proofs.Common.{length, arith, ap, sym, subst, ◌∙◌, inl, inr, IsTrue, rules}
+use Rattle.std.proofs.Common.{ap, sym, subst, ◌∙◌}
 use Rattle.mm_list_lemmas.specs.Members.{Among}
 use Rattle.mm_owned.specs.Owned.{list_at}
 use Rattle.mm_owned.proofs.Lemmas.ListsMatchOwners.{in_range, in_its_list}
-use Rattle.mm_owned.proofs.Lemmas.Walk.{rest_from, rest_from-head, Among-head, Among-next, rest_from-next}
-use Rattle.mm_names.specs.Names.{name_of}
+use Rattle.mm_owned.proofs.Lemmas.Walk.{rest_from, rest_from-head, Among-head}
 use Rattle.mm_names.proofs.names.find_at.Goals as goal
-
-pub list-init : goal.list-init
-list-init c =
-    let list = list_at c.args.index.now c.args.spot.process in
-    let first = c.first-next.ensures.first in
-    record {
-      among = λ q is. Among-head list q (sym first ∙ is);
-      left = λ n is. subst (Among n) (sym (ap (rest_from list) first ∙ rest_from-head list)) (in_its_list c.args.index.now c.first-next.ensures.matched n c.args.spot (c.requires.at_spot n is));
-    }
 
 pub is_name_of-requires-clause-in_range : goal.is_name_of-requires-clause-in_range
 is_name_of-requires-clause-in_range c =
-    in_range c.args.index.now c.first-next.ensures.matched c.args.spot.process c.in-Some.number (c.list.invariant.among c.in-Some.number c.in-Some.is)
+    let list = list_at c.args.index.now c.args.spot.process in
+    in_range c.args.index.now c.first.ensures.matched c.args.spot.process c.in-Some.first (Among-head list c.in-Some.first (sym c.first.ensures.first ∙ c.in-Some.is))
 
-pub next-next-requires : goal.next-next-requires
-next-next-requires c =
-    in_range c.args.index.now c.first-next.ensures.matched c.args.spot.process c.in-Some.number (c.list.invariant.among c.in-Some.number c.in-Some.is)
-
-pub list-smaller : goal.list-smaller
-list-smaller c =
-    let s = c.args.index.now in
-    let among = c.list.invariant.among c.in-Some.number c.in-Some.is in
-    let here = ap (rest_from (list_at s c.args.spot.process)) c.in-Some.is
-    ∙ rest_from-next s c.args.spot.process c.in-Some.number c.next-next.result among c.next-next.ensures.listed (c.first-next.ensures.matched.once c.args.spot.process) in
-    omega (arith, ap length here)
-
-pub list-preserved : goal.list-preserved
-list-preserved c =
-    let s = c.args.index.now in
-    let among = c.list.invariant.among c.in-Some.number c.in-Some.is in
-    let here = ap (rest_from (list_at s c.args.spot.process)) c.in-Some.is
-    ∙ rest_from-next s c.args.spot.process c.in-Some.number c.next-next.result among c.next-next.ensures.listed (c.first-next.ensures.matched.once c.args.spot.process) in
-    record {
-      among = λ q is. Among-next s c.args.spot.process c.in-Some.number c.next-next.result among c.next-next.ensures.listed q is;
-      left = λ n is. elim (subst (Among n) here (c.list.invariant.left n is)) [
-        | inl same ↦ (let yes : IsTrue c.is_name_of.result = c.is_name_of.ensures.1 (ap (name_of c.args.places.now) (sym same) ∙ is) in absurd (search (rules, yes, c.if-is_name_of.false)))
-        | inr later ↦ later
-      ];
-    }
+pub returns-in_default : goal.returns-in_default
+returns-in_default c =
+    let list = list_at c.args.index.now c.args.spot.process in
+    λ named. absurd (subst (Among named.0) (sym (ap (rest_from list) (sym c.in_default.is ∙ c.first.ensures.first) ∙ rest_from-head list))
+    (in_its_list c.args.index.now c.first.ensures.matched named.0 c.args.spot (c.requires.at_spot named.0 named.1)))

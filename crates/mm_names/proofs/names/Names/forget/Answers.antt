@@ -1,4 +1,4 @@
-use Rattle.std.proofs.Common.{rules, ◌≡◌, ℕ, List, Bor, Option, Some, None, option_copied, is_some, true, length, refl, ap, sym, ◌∙◌, arith, length-set}
+use Rattle.std.proofs.Common.{rules, ◌≡◌, None, is_some, true, length, ap, ◌∙◌, arith, length-set}
 use Rattle.mm_names.specs.Names.{NameTable, name_of}
 use Rattle.mm_names.proofs.Lemmas.Index.{AreIndexed-taken, some_in_range, few_free}
 use Rattle.mm_names.proofs.names.Names.forget.Goals as goal

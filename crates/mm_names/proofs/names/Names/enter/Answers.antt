@@ -2,7 +2,7 @@ use Rattle.std.proofs.Common.{◌++◌, Some, length, arith, ap, subst, ◌∙�
 use Rattle.std.specs.Option.{option_to_list}
 use Rattle.mm_names.specs.Names.{NameTable, IsFree, Interns}
 use Rattle.mm_names.proofs.Lemmas.Index.{free_not_full, at_none, last_is_free, AreIndexed-given}
-use Rattle.mm_names.proofs.names.Names.intern.Goals as goal
+use Rattle.mm_names.proofs.names.Names.enter.Goals as goal
 
 pub push-requires-clause-unowned : goal.push-requires-clause-unowned
 push-requires-clause-unowned c =
@@ -36,8 +36,8 @@ invariant_of-self-2 c =
       omega (arith, c.self.invariant.1, c.pop.ensures.capacity, ap (λ (t : NameTable). length t.names) c.put.ensures, length-set n.places.names c.in-Some-pop.number (Some c.args.name.now)),
     )
 
-pub returns-clause-interned : goal.returns-clause-interned
-returns-clause-interned c =
+pub returns-clause-entered : goal.returns-clause-entered
+returns-clause-entered c =
     let n = c.self.inside in
     let rest = c.pop.new.self.items in
     let is = c.pop.ensures.items ∙ ap (λ o. rest ++ option_to_list o) c.in-Some-pop.is in

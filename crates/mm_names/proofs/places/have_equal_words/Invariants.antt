@@ -1,5 +1,5 @@
 use Rattle.std.proofs.Common.{◌≡◌, ◌↔◌, length}
-use Rattle.mm_names.proofs.places.are_equal.Given as goal
+use Rattle.mm_names.proofs.places.have_equal_words.Given as goal
 
 -- what was read of both is equal
 abbrev pub invariant-words : goal.invariant-words

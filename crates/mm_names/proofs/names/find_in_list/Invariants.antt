@@ -3,7 +3,7 @@ use Rattle.mm_list_lemmas.specs.Members.{Among}
 use Rattle.mm_owned.specs.Owned.{list_at}
 use Rattle.mm_owned.proofs.Lemmas.Walk.{rest_from}
 use Rattle.mm_names.specs.Names.{name_of}
-use Rattle.mm_names.proofs.names.find_at.Given as goal
+use Rattle.mm_names.proofs.names.find_in_list.Given as goal
 
 -- `next` is in the list, and so is whoever has the name, in the part from `next` on
 abbrev pub invariant-list : goal.invariant-list
