@@ -60,7 +60,7 @@ def proved_and_kept(top):
         raise Stopped(UNWRITABLE, "no program is built of these sources, and this checkout cannot be written")
     if shutil.which("rt") is None:
         raise Stopped(NO_TOOLCHAIN, "the command rt of the Rattle toolchain is not on the PATH")
-    telling.says("no program is built of these sources: it is proved and built first; from nothing that takes about twenty minutes on four processors")
+    telling.says("no program is built of these sources: it is proved and built first; from nothing that takes about fifteen minutes on four processors")
     started = time.monotonic()
     sources = shell(top, "sources_of mm_detect")[1]
     out = f"{top}/crates/mm_detect/out"
