@@ -20,6 +20,7 @@ mod run;
 mod transaction;
 mod wakes;
 
+pub use desk::{Granted, GrantedUpTo};
 pub use error::LockError;
 pub use locks::Locks;
 pub use mm_manager::{ManagerConfig, OpenError, Totals};

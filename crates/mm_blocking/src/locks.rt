@@ -96,12 +96,12 @@ impl Locks {
     ) -> Result<Transaction<'m, R>, LockError>
         ensures refused { IfErr result (λ error. (of_begin error ≡ true) ⊎ (of_lock error ≡ true)) }
     {
-        let (transaction, _granted) = self.begin_granted(rt, names)?;
+        let (transaction, _granted) = self.begin_with_granted(rt, names)?;
         Ok(transaction)
     }
 
-    /// `begin_with`. What it gives out says that the transaction owned each of the names.
-    fn begin_granted<'m, 'n, R: Wait>(
+    /// `begin_with`, which also returns what the value behind the lock gave out: it says that the transaction owned each of the names.
+    pub fn begin_with_granted<'m, 'n, R: Wait>(
         &'m self,
         rt: &'m R,
         names: &'n [&'n [u8]],

@@ -87,9 +87,9 @@ impl<'m, R: Wait> Transaction<'m, R> {
         Ok(())
     }
 
-    /// `lock`. What it gives out says that the transaction owned the name.
-    fn lock_granted<'n>(&self, name: &'n [u8]) -> Result<Granted<'n>, LockError>
-        ensures granted { IfOk result (IsFor self.now.key name.now) }
+    /// `lock`, which also returns what the value behind the lock gave out: it says that the transaction owned the name.
+    pub fn lock_granted<'n>(&mut self, name: &'n [u8]) -> Result<Granted<'n>, LockError>
+        ensures granted { IfOk result (IsFor self.old.key name.now) }
         ensures refused { IfErr result (λ error. of_lock error ≡ true) }
     {
         match self.locks.lock(self.rt, self.key, name)? {
@@ -123,13 +123,16 @@ impl<'m, R: Wait> Transaction<'m, R> {
     pub fn lock_all(&mut self, names: &[&[u8]]) -> Result<(), LockError>
         ensures refused { IfErr result (λ error. of_lock error ≡ true) }
     {
-        let _granted = self.lock_each(names)?;
+        let _granted = self.lock_all_granted(names)?;
         Ok(())
     }
 
-    /// `lock_all`. What it gives out says that the transaction owned each of the names.
-    fn lock_each<'n>(&self, names: &'n [&'n [u8]]) -> Result<GrantedUpTo<'n>, LockError>
-        ensures granted { IfOk result (IsForAll self.now.key names.now) }
+    /// `lock_all`, which also returns what the value behind the lock gave out: it says that the transaction owned each of the names.
+    pub fn lock_all_granted<'n>(
+        &mut self,
+        names: &'n [&'n [u8]],
+    ) -> Result<GrantedUpTo<'n>, LockError>
+        ensures granted { IfOk result (IsForAll self.old.key names.now) }
         ensures refused { IfErr result (λ error. of_lock error ≡ true) }
     {
         let so_far = GrantedUpTo::none(self.key, names);
@@ -172,12 +175,12 @@ impl<'m, R: Wait> Transaction<'m, R> {
     pub fn try_lock(&mut self, name: &[u8]) -> Result<bool, LockError>
         ensures refused { IfErr result (λ error. of_try error ≡ true) }
     {
-        Ok(self.try_granted(name)?.is_some())
+        Ok(self.try_lock_granted(name)?.is_some())
     }
 
-    /// `try_lock`. What it gives out says that the transaction owned the name.
-    fn try_granted<'n>(&self, name: &'n [u8]) -> Result<Option<Granted<'n>>, LockError>
-        ensures granted { IfOk result (λ tried. IfSome tried (IsFor self.now.key name.now)) }
+    /// `try_lock`, which returns what the value behind the lock gave out, where the transaction owns the name: it says so.
+    pub fn try_lock_granted<'n>(&mut self, name: &'n [u8]) -> Result<Option<Granted<'n>>, LockError>
+        ensures granted { IfOk result (λ tried. IfSome tried (IsFor self.old.key name.now)) }
         ensures refused { IfErr result (λ error. of_try error ≡ true) }
     {
         self.locks.try_lock(self.rt, self.key, name)
@@ -217,13 +220,17 @@ impl<'m, R: Wait + Clock> Transaction<'m, R> {
     pub fn lock_for(&mut self, name: &[u8], limit: Duration) -> Result<(), LockError>
         ensures refused { IfErr result (λ error. (error ≡ LockError.TimedOut) ⊎ (of_lock error ≡ true)) }
     {
-        let _granted = self.granted_for(name, limit)?;
+        let _granted = self.lock_for_granted(name, limit)?;
         Ok(())
     }
 
-    /// `lock_for`. What it gives out says that the transaction owned the name.
-    fn granted_for<'n>(&self, name: &'n [u8], limit: Duration) -> Result<Granted<'n>, LockError>
-        ensures granted { IfOk result (IsFor self.now.key name.now) }
+    /// `lock_for`, which also returns what the value behind the lock gave out: it says that the transaction owned the name.
+    pub fn lock_for_granted<'n>(
+        &mut self,
+        name: &'n [u8],
+        limit: Duration,
+    ) -> Result<Granted<'n>, LockError>
+        ensures granted { IfOk result (IsFor self.old.key name.now) }
         ensures refused { IfErr result (λ error. (error ≡ LockError.TimedOut) ⊎ (of_lock error ≡ true)) }
     {
         match self.locks.lock(self.rt, self.key, name)? {

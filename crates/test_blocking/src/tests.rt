@@ -2,7 +2,7 @@
 //!
 //! - `cases`: the cases by name, each with its locks and threads, and the tests that go through them.
 //! - `scripts`: threads whose calls have one answer each, and `steps`: how they are made.
-//! - `again`, `asleep`, `crosswise`, `crowd`, `many`: threads that do more than a script can say.
+//! - `again`, `asleep`, `crosswise`, `crowd`, `many`, `tokens`: threads that do more than a script can say.
 
 mod again;
 mod asleep;
@@ -13,3 +13,4 @@ mod helpers;
 mod many;
 mod scripts;
 mod steps;
+mod tokens;

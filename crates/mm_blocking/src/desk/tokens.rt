@@ -16,6 +16,15 @@ pub struct Granted<'n> {
     name: &'n [u8],
 }
 
+impl<'n> Granted<'n> {
+    /// The name.
+    pub fn name(&self) -> &'n [u8]
+        ensures { result.now ≡ self.now.name.now }
+    {
+        self.name
+    }
+}
+
 impl Desk {
     /// Says that the transaction owns the name, which it does now.
     pub(super) fn granted<'n>(&self, key: Key, name: &'n [u8]) -> Granted<'n>
@@ -36,7 +45,7 @@ pub struct GrantedUpTo<'n> {
 
 impl<'n> GrantedUpTo<'n> {
     /// Says nothing of these names as yet.
-    pub fn none(key: Key, names: &'n [&'n [u8]]) -> GrantedUpTo<'n>
+    pub(crate) fn none(key: Key, names: &'n [&'n [u8]]) -> GrantedUpTo<'n>
         ensures key { result.key ≡ key }
         ensures names { result.names.now ≡ names.now }
         ensures place { result.place ≡ 0 }
@@ -49,7 +58,7 @@ impl<'n> GrantedUpTo<'n> {
     }
 
     /// Whose names they are.
-    pub fn key(&self) -> Key
+    pub(crate) fn key(&self) -> Key
         ensures { result ≡ self.now.key }
     {
         self.key
@@ -63,14 +72,14 @@ impl<'n> GrantedUpTo<'n> {
     }
 
     /// The first name of which it does not say so.
-    pub fn next(&self) -> Option<&'n [u8]>
+    pub(crate) fn next(&self) -> Option<&'n [u8]>
         ensures { result ≡ slice_get self.now.names.now self.now.place }
     {
         self.names.get(self.place).copied()
     }
 
     /// Says it of that name too, which was granted.
-    pub fn and(self, granted: Granted<'n>) -> GrantedUpTo<'n>
+    pub(crate) fn and(self, granted: Granted<'n>) -> GrantedUpTo<'n>
         requires key { granted.key ≡ self.key }
         requires name { IsSomeAnd (slice_get self.names.now self.place) (λ name. name.now ≡ granted.name.now) }
         ensures key { result.key ≡ self.entry.key }

@@ -2,7 +2,7 @@
 
 use crate::tests::helpers::{holds, same};
 use crate::tests::steps::{END, Row, take};
-use crate::tests::{again, asleep, crosswise, crowd, many};
+use crate::tests::{again, asleep, crosswise, crowd, many, tokens};
 use mm_blocking::{Locks, ManagerConfig};
 use std::alloc::{AllocError, Global};
 use std::process::Abort;
@@ -25,6 +25,7 @@ enum Work {
     Crowd,
     /// Each of many commits so many transactions.
     Many(u64),
+    Tokens,
 }
 
 /// What is to be seen when the threads have ended. Each has returned a number.
@@ -92,6 +93,10 @@ impl Work {
             Work::Crosswise => crosswise::cross_often(rt, locks, gate, number),
             Work::Crowd => crowd::client(rt, locks, owners, number),
             Work::Many(commits) => many::client(rt, locks, gate, owners, number, commits),
+            Work::Tokens => {
+                tokens::come_with_requests(rt, locks);
+                0
+            }
         }
     }
 }
@@ -172,7 +177,18 @@ fn on_locks<R: Threads + Wait + Clock + CpuClock + Abort + Sync>(
     drop(locks);
 }
 
-static CROWDS: [Case; 8] = [
+static CROWDS: [Case; 9] = [
+    // What comes with a request that succeeds is of the names that were asked for.
+    Case {
+        name: "tokens",
+        transactions: 2,
+        names: 5,
+        seed: 12,
+        owners: 0,
+        threads: 1,
+        work: Work::Tokens,
+        ended: Ended::Nothing,
+    },
     // A value is returned once its transaction is committed; an error of the work is returned, and its transaction rolled back.
     Case {
         name: "returns_what_came",
