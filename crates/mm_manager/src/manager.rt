@@ -110,7 +110,7 @@ impl LockManager {
     /// `NameTooLong`, `NamesFull` or `LabelsFull`, which are tested in this order: as `CountsFull` where `begin` is, as `NamesFull` where
     /// nobody owns the name and all numbers are taken, and as `LabelsFull` where it would wait, and half as many events were counted as
     /// labels can be high, 8,796,093,022,207, or more. `O(length)` where it does not wait; a wait costs the settle that follows.
-    // In place: a call would cost a tenth of what it does.
+    // In place: it is one call itself, of `parts::lock`.
     #[inline(always)]
     pub fn lock(&mut self, key: Key, name: &[u8]) -> Result<Lock, Refusal>
         ensures locks { LocksName self.old key name.now result self.new }

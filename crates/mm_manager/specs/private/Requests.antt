@@ -25,13 +25,14 @@ abbrev pub AnswersNew : TableState → Key → ℕ → NameTable → Result Lock
 AnswersNew s k n t (Ok answer) u named = (answer ≡ lock.Granted) × (may_ask_more s k ≡ Ok tt) × Locks s k n (Ok locked.Granted) u × (named ≡ t)
 AnswersNew s k n t (Err refusal) u named = (may_ask_more s k ≡ Err refusal) × (u ≡ s) × (named ≡ with_name t n None)
 
--- a request for a number that has a name
+-- what a request for a number that has a name does, by its answer
 abbrev pub AsksFor : TableState → Key → ℕ → Lock → TableState → Type 0
 AsksFor s k n lock.Granted u = Locks s k n (Ok locked.Granted) u
 AsksFor s k n (lock.Waits h) u = (may_wait s ≡ true) × Locks s k n (Ok (locked.Waits h)) u
 AsksFor s k n (lock.Deadlock h) u = (may_wait s ≡ true) × Locks s k n (Ok (locked.Deadlock h)) u
 AsksFor s k n lock.Held u = (owner_of s n ≡ Some k) × (u ≡ s)
 
+-- it is answered so, or refused for what the name does not matter to, or since k would wait and there may be no label left for that
 abbrev pub AnswersNamed : TableState → Key → ℕ → Result Lock Refusal → TableState → Type 0
 AnswersNamed s k n (Ok answer) u = (may_ask_more s k ≡ Ok tt) × AsksFor s k n answer u
 AnswersNamed s k n (Err refusal) u =
