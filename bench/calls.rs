@@ -28,9 +28,9 @@ unsafe extern "C" {
     safe fn mm_bench_random(count: u64) -> u64;
     safe fn mm_bench_hand_overs(waiters: u32, count: u64) -> u64;
     safe fn mm_bench_give_ups(waiters: u32, count: u64) -> u64;
-    safe fn mm_bench_crosswise(count: u64) -> u64;
+    safe fn mm_bench_crosswise(processes: u32, count: u64) -> u64;
     safe fn mm_bench_rings(size: u32, is_rising: bool, settles: u32, is_closed: bool, count: u64) -> u64;
-    safe fn mm_bench_chain(size: u32, settles: u32) -> u64;
+    safe fn mm_bench_chains(processes: u32, size: u32, settles: u32, count: u64) -> u64;
 }
 
 /// A loop over each table in Rust, behind the one over the proved table.
@@ -46,7 +46,7 @@ macro_rules! runs {
 }
 
 fn measure_openings(processes: u32) {
-    let count = 20;
+    let count = if processes < PROCESSES { 5_000 } else { 20 };
     Workload {
         name: "a table of so many processes and resources",
         size: processes,
@@ -137,14 +137,14 @@ fn measure_give_ups(waiters: u32) {
     .measure();
 }
 
-fn measure_crosswise() {
+fn measure_crosswise(processes: u32) {
     let count = 10_000;
     Workload {
-        name: "two-party deadlock, from begin to finish",
-        size: 2,
+        name: "two-party deadlock, from begin to finish, in a table of so many processes",
+        size: processes,
         units: count,
         unit: "deadlock",
-        runs: runs!(mm_bench_crosswise(if is_whole { count } else { 0 }), crosswise, is_whole, if is_whole { count } else { 0 }),
+        runs: runs!(mm_bench_crosswise(processes, if is_whole { count } else { 0 }), crosswise, is_whole, processes, if is_whole { count } else { 0 }),
     }
     .measure();
 }
@@ -161,13 +161,14 @@ fn measure_rings(size: u32, is_rising: bool) {
     .measure();
 }
 
-fn measure_chain(size: u32) {
+fn measure_chain(processes: u32, size: u32) {
+    let count = if size < PROCESSES { 500 } else { 1 };
     Workload {
-        name: "chain from its head, settled",
+        name: if processes == size { "chain from its head, settled" } else { "the same in a table of 65,536 processes" },
         size,
-        units: 1,
+        units: count,
         unit: "settle",
-        runs: runs!(mm_bench_chain(size, u32::from(is_whole)), chain, is_whole, size, u32::from(is_whole)),
+        runs: runs!(mm_bench_chains(processes, size, u32::from(is_whole), count), chains, is_whole, processes, size, u32::from(is_whole), count),
     }
     .measure();
 }
@@ -193,7 +194,7 @@ fn measure_nothing() {
 
 fn main() {
     timing::keep_memory();
-    for processes in [PROCESSES, MAX_PROCESSES] {
+    for processes in [16, PROCESSES, MAX_PROCESSES] {
         measure_openings(processes);
     }
     for processes in [PROCESSES, MAX_PROCESSES] {
@@ -211,12 +212,16 @@ fn main() {
     for waiters in [16, 4_000, 65_000] {
         measure_give_ups(waiters);
     }
-    measure_crosswise();
-    for size in [2, 64, PROCESSES, MAX_PROCESSES] {
+    for processes in [16, PROCESSES, MAX_PROCESSES] {
+        measure_crosswise(processes);
+    }
+    for size in [2, 16, 64, PROCESSES, MAX_PROCESSES] {
         measure_rings(size, false);
         measure_rings(size, true);
     }
-    measure_chain(PROCESSES);
+    for (processes, size) in [(16, 16), (PROCESSES, PROCESSES), (MAX_PROCESSES, PROCESSES)] {
+        measure_chain(processes, size);
+    }
     for size in [PROCESSES, MAX_PROCESSES] {
         measure_idle_settles(size);
     }

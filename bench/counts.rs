@@ -23,8 +23,8 @@ unsafe extern "C" {
     safe fn mm_bench_random(count: u64) -> u64;
     safe fn mm_bench_hand_overs(waiters: u32, count: u64) -> u64;
     safe fn mm_bench_give_ups(waiters: u32, count: u64) -> u64;
-    safe fn mm_bench_crosswise(count: u64) -> u64;
-    safe fn mm_bench_chain(size: u32, settles: u32) -> u64;
+    safe fn mm_bench_crosswise(processes: u32, count: u64) -> u64;
+    safe fn mm_bench_chains(processes: u32, size: u32, settles: u32, count: u64) -> u64;
     safe fn mm_bench_rings(size: u32, is_rising: bool, settles: u32, is_closed: bool, count: u64) -> u64;
 }
 
@@ -39,8 +39,8 @@ fn run_proved(workload: &str, size: u32, count: u64) -> Option<u64> {
         "random" => mm_bench_random(count),
         "hand_overs" => mm_bench_hand_overs(size, count),
         "give_ups" => mm_bench_give_ups(size, count),
-        "crosswise" => mm_bench_crosswise(count),
-        "chain" => mm_bench_chain(size, count as u32),
+        "crosswise" => mm_bench_crosswise(size, count),
+        "chain" => mm_bench_chains(size, size, count as u32, 1),
         "rings" => mm_bench_rings(size, true, 1, true, count),
         "open_rings" => mm_bench_rings(size, true, 1, false, count),
         _ => return None,
@@ -55,8 +55,8 @@ fn run_on<T: lock_table::LockTable>(workload: &str, size: u32, count: u64) -> Op
         "random" => workloads::random::<T>(count),
         "hand_overs" => workloads::hand_overs::<T>(size, count),
         "give_ups" => workloads::give_ups::<T>(size, count),
-        "crosswise" => workloads::crosswise::<T>(count),
-        "chain" => workloads::chain::<T>(size, count as u32),
+        "crosswise" => workloads::crosswise::<T>(size, count),
+        "chain" => workloads::chains::<T>(size, size, count as u32, 1),
         "rings" => workloads::rings::<T>(size, true, 1, true, count),
         "open_rings" => workloads::rings::<T>(size, true, 1, false, count),
         _ => return None,

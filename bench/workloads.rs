@@ -123,8 +123,8 @@ fn wait_crosswise<T: LockTable>(table: &mut T) -> Result<(), Refused> {
     table.finish(first)
 }
 
-pub fn crosswise<T: LockTable>(count: u64) -> Result<u64, Refused> {
-    let mut table = T::open(1_024, 1_024)?;
+pub fn crosswise<T: LockTable>(processes: u32, count: u64) -> Result<u64, Refused> {
+    let mut table = T::open(processes, processes)?;
     for _ in 0..count {
         wait_crosswise(&mut table)?;
     }
@@ -140,8 +140,8 @@ fn wait<T: LockTable>(table: &mut T, size: u32, is_rising: bool, from: u32, to: 
     table.acquire(key, process_at(to, size, is_rising))
 }
 
-fn owners<T: LockTable>(size: u32) -> Result<T, Refused> {
-    let mut table = T::open(size, size)?;
+fn owners<T: LockTable>(processes: u32, size: u32) -> Result<T, Refused> {
+    let mut table = T::open(processes, processes)?;
     for process in 0..size {
         let key = table.begin()?;
         table.acquire(key, process)?;
@@ -150,7 +150,7 @@ fn owners<T: LockTable>(size: u32) -> Result<T, Refused> {
 }
 
 fn ring<T: LockTable>(size: u32, is_rising: bool, settles: u32, is_closed: bool) -> Result<u64, Refused> {
-    let mut table: T = owners(size)?;
+    let mut table: T = owners(size, size)?;
     for place in (1..size).rev() {
         wait(&mut table, size, is_rising, place - 1, place)?;
     }
@@ -173,8 +173,8 @@ pub fn rings<T: LockTable>(size: u32, is_rising: bool, settles: u32, is_closed: 
     Ok(accepted)
 }
 
-pub fn chain<T: LockTable>(size: u32, settles: u32) -> Result<u64, Refused> {
-    let mut table: T = owners(size)?;
+fn chain<T: LockTable>(processes: u32, size: u32, settles: u32) -> Result<u64, Refused> {
+    let mut table: T = owners(processes, size)?;
     for place in 1..size {
         wait(&mut table, size, true, place - 1, place)?;
     }
@@ -182,4 +182,12 @@ pub fn chain<T: LockTable>(size: u32, settles: u32) -> Result<u64, Refused> {
         table.settle()?;
     }
     Ok(accepted(&table))
+}
+
+pub fn chains<T: LockTable>(processes: u32, size: u32, settles: u32, count: u64) -> Result<u64, Refused> {
+    let mut accepted = 0;
+    for _ in 0..count {
+        accepted += chain::<T>(processes, size, settles)?;
+    }
+    Ok(accepted)
 }

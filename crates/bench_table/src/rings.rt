@@ -104,9 +104,10 @@ pub extern "C" fn mm_bench_rings(
     accepted
 }
 
-/// A row whose waits come from its head on, so that each label is below its holder's, settled so many times.
-fn chain(alloc: Global, size: u32, settles: u32) -> Result<u64, Refusal> {
-    let mut table = open(alloc, size, size)?;
+/// A row whose waits come from its head on, so that each label is below its holder's, settled so many times, in a table of so many
+/// processes and as many resources.
+fn chain(alloc: Global, processes: u32, size: u32, settles: u32) -> Result<u64, Refusal> {
+    let mut table = open(alloc, processes, processes)?;
     let accepted = settle_chain(&mut table, size, settles);
     drop(table);
     accepted
@@ -124,8 +125,20 @@ fn settle_chain(table: &mut Table, size: u32, settles: u32) -> Result<u64, Refus
     Ok(table.totals().accepted)
 }
 
-/// A row of `size` transactions whose waits come from its head on, settled so many times.
+/// `count` rows of `size` transactions, each in a table of its own of so many processes and as many resources. The waits of a row come from
+/// its head on, and it is settled so many times.
 #[unsafe(no_mangle)]
-pub extern "C" fn mm_bench_chain(alloc: Global, size: u32, settles: u32) -> u64 {
-    chain(alloc, size, settles).unwrap_or(0)
+pub extern "C" fn mm_bench_chains(
+    alloc: Global,
+    processes: u32,
+    size: u32,
+    settles: u32,
+    count: u64,
+) -> u64 {
+    let mut accepted: u64 = 0;
+    for _ in 0..count {
+        let more = chain(alloc, processes, size, settles).unwrap_or(0);
+        accepted = accepted.wrapping_add(more);
+    }
+    accepted
 }

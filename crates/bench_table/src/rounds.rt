@@ -105,8 +105,8 @@ fn wait_crosswise(table: &mut Table) -> Result<(), Refusal> {
     table.finish(first)
 }
 
-fn crosswise(alloc: Global, count: u64) -> Result<u64, Refusal> {
-    let mut table = open(alloc, 1_024, 1_024)?;
+fn crosswise(alloc: Global, processes: u32, count: u64) -> Result<u64, Refusal> {
+    let mut table = open(alloc, processes, processes)?;
     let accepted = deadlocks(&mut table, count);
     drop(table);
     accepted
@@ -120,8 +120,8 @@ fn deadlocks(table: &mut Table, count: u64) -> Result<u64, Refusal> {
     Ok(table.totals().accepted)
 }
 
-/// `count` deadlocks of two transactions, from begin to finish.
+/// `count` deadlocks of two transactions, from begin to finish, in a table of so many processes and as many resources.
 #[unsafe(no_mangle)]
-pub extern "C" fn mm_bench_crosswise(alloc: Global, count: u64) -> u64 {
-    crosswise(alloc, count).unwrap_or(0)
+pub extern "C" fn mm_bench_crosswise(alloc: Global, processes: u32, count: u64) -> u64 {
+    crosswise(alloc, processes, count).unwrap_or(0)
 }
