@@ -1,9 +1,11 @@
 -- What a command line asks for. The first word is the program's name.
 use Rattle.std.specs.Prelude.{◌≡◌, ◌⊎◌, ℕ, List, [], ◌∷◌, Bool, true, false, Option, Some, None, codes, drop, is_some, option_and_then}
-use Rattle.clap.specs.Words.{App, IsAmong, Kinds, Row, Rule, Text, first_of, kind_of, new_app, new_rule, one_of, with_rule, with_subcommand}
+use Rattle.clap.specs.Words.{App, app_of, IsAmong, Kinds, Row, Rule, Text, first_of, kind_of, new_app, new_rule, one_of, with_rule, with_subcommand}
 use Rattle.clap.specs.Values.{IsUnsignedIn}
 use Rattle.clap.specs.declared.builder.action.ArgAction.TheVariants.{Set, SetTrue}
 use Rattle.clap.specs.declared.builder.value_parser.ValueParser.TheVariants.{Unsigned}
+use Rattle.clap.specs.declared.builder.command.Command.{Command}
+use Rattle.clap.specs.declared.builder.command.Command.TheViews.{out-Command as fields_of}
 use Rattle.clap.specs.declared.error.Error.{Error}
 use Rattle.clap.specs.declared.error.kind.ErrorKind.{ErrorKind}
 use Rattle.clap.specs.declared.error.kind.ErrorKind.TheVariants as kind
@@ -11,6 +13,10 @@ use Rattle.mm_limits.specs.declared.TheConstants.{MAX_ACQUIRES, MAX_CLIENTS, MAX
 use Rattle.mm_command.specs.Explain.{explain_app}
 use Rattle.mm_command.specs.declared.command_line.Request.{Request}
 use Rattle.mm_command.specs.declared.command_line.Request.TheVariants.{Script, Threads, Storm, Locks, Explain, Help, Wrong, Memory}
+
+-- a command is seen as this by clap, and none of its arguments is one of its subcommands too
+abbrev pub IsLocal : Command → App → Type 0
+IsLocal command app = (app_of command ≡ app) × ((fields_of command).has_globals ≡ false)
 
 -- the flag `--verbose`, or `-v`
 abbrev pub verbose_rule : Rule

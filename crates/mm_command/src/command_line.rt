@@ -14,7 +14,7 @@ mod program;
 
 use crate::help::locks_after;
 use clap::error::ErrorKind;
-use clap::{ArgMatches, Error};
+use clap::{ArgMatches, Command, Error};
 pub use explain::ExplainOptions;
 use explain::{file_of, options_of};
 use mm_limits::{MAX_NAME_BYTES, MAX_NAMES, MAX_PROCESSES};
@@ -290,6 +290,13 @@ fn are_limits(transactions: u32, names: u32, name_bytes: u32) -> bool
 
 /// An error, which shows the usage and no more of the help.
 fn wrong(alloc: Global, text: &str) -> Result<Request, AllocError> {
-    let error = command(alloc, "")?.error(ErrorKind::InvalidValue, text)?;
+    let error = usage_with(command(alloc, "")?, text)?;
     Ok(Request::Wrong(error))
+}
+
+/// The usage of this command, with this text.
+fn usage_with(mut command: Command<'_>, text: &str) -> Result<Error, AllocError> {
+    let error = command.error(ErrorKind::InvalidValue, text);
+    drop(command);
+    error
 }

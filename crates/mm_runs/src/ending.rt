@@ -3,7 +3,8 @@ ghost use Rattle.std.specs.Prelude.{◌≡◌};
 ghost use Rattle.mm_runs.specs.Ending.{ending_status, fault_told, status_of};
 
 use mm_script::ScriptFault;
-use std::io::Print;
+use std::fmt::Display;
+use std::io::{Eprint, Print};
 
 /// How a run of the program ended.
 #[derive(Clone, Copy)]
@@ -63,4 +64,15 @@ pub fn fault(ending: &Ending) -> Option<ScriptFault>
 /// Prints that memory was refused.
 pub fn print_no_memory(rt: &impl Print) -> Result<(), ScriptFault> {
     println!(rt; "refused 10 Memory").map_err(|_| ScriptFault::Write)
+}
+
+/// Prints the text of the help, or of the version.
+pub fn print_help<R: Print, T: Display>(rt: &R, text: &T) -> Result<(), ScriptFault> {
+    print!(rt; "{text}").map_err(|_| ScriptFault::Write)
+}
+
+/// Tells on standard error why the words are no command line.
+pub fn tell_wrong<R: Eprint, T: Display>(rt: &R, text: &T) {
+    // Where standard error cannot be written either, the status alone reports it.
+    let _ = eprint!(rt; "{text}");
 }

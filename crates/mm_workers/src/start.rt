@@ -4,7 +4,7 @@ ghost use Rattle.std.specs.Prelude.{◌≡◌, ◌+◌, ◌<◌, IfOk, length, v
 use crate::job::{ClientJob, Job, TransmitterJob};
 use mm_clients::Gate;
 use mm_shared::{Name, Pass, SharedTable};
-use mm_workload::Workload;
+use mm_workload::{Coming, WorkStep, Workload};
 use std::alloc::{AllocError, Global};
 use std::sync::Wait;
 use std::sync::ledger::Ledger;
@@ -26,18 +26,28 @@ pub fn client_jobs<'a, N: Name, A: Ledger, V: Ledger, B: Ledger, R: Wait, G: Gat
     ensures parts { IfOk result (λ jobs. pass.new.parts + vec_len jobs ≡ pass.old.parts) }
     ensures aborts { pass.new.aborts ≡ pass.old.aborts }
 {
-    let clients = workload.clients();
     let turns = workload.turns();
     let mut jobs = Vec::with_capacity(alloc, gates.len())?;
     let mut place = 0usize;
     for gate in gates {
-        let mut work = clients[place].clone()?;
+        let (work, coming) = transactions_of(workload, place)?;
         place += 1;
-        let coming = workload.coming(place as u64);
-        coming.make_room(&mut work)?;
         jobs.push_reserved(ClientJob::new(rt, table, pass, gate, work, coming, turns));
     }
     Ok(jobs)
+}
+
+/// The first transaction of the client at this place, with room for each that follows it, and these.
+fn transactions_of(
+    workload: &Workload,
+    place: usize,
+) -> Result<(Vec<WorkStep>, Coming), AllocError>
+    requires { place < length workload.now.clients }
+{
+    let mut work = workload.clients()[place].clone()?;
+    let coming = workload.coming(place as u64 + 1);
+    coming.make_room(&mut work)?;
+    Ok((work, coming))
 }
 
 /// A job for each transmitter, each with a part of the pass.

@@ -1,9 +1,10 @@
 //! The words of `explain`, and what they ask for.
 ghost use Rattle.std.specs.Prelude.{◌≡◌, IfOk, false};
-ghost use Rattle.clap.specs.Words.{app_of, rule_of};
-ghost use Rattle.clap.specs.declared.builder.command.Command.TheViews.{out-Command as fields_of};
+ghost use Rattle.clap.specs.Words.{rule_of};
+ghost use Rattle.mm_command.specs.CommandLine.{IsLocal};
 ghost use Rattle.mm_command.specs.Explain.{at_rule, explain_app, script_file_rule, switch_rule};
 
+use super::program::with;
 use crate::help::{ALL, AT, DOT, EXPLAIN, EXPLAIN_AFTER, MERMAID, SCRIPT_FILE};
 use clap::builder::ValueParser;
 use clap::{Arg, ArgAction, ArgMatches, Command};
@@ -38,16 +39,16 @@ pub fn file_of(alloc: Global, own: &ArgMatches<'_>) -> Result<Option<String>, Al
 }
 
 pub fn explain_command<'a>(alloc: Global) -> Result<Command<'a>, AllocError>
-    ensures { IfOk result (λ made. (app_of made ≡ explain_app) × ((fields_of made).has_globals ≡ false)) }
+    ensures { IfOk result (λ made. IsLocal made explain_app) }
 {
-    Command::new(alloc, "explain")
+    let explain = Command::new(alloc, "explain")
         .about(EXPLAIN)
-        .after_help(EXPLAIN_AFTER)
-        .arg(script_file(alloc))?
-        .arg(switch(alloc, "mermaid", MERMAID))?
-        .arg(switch(alloc, "dot", DOT))?
-        .arg(switch(alloc, "all", ALL))?
-        .arg(at(alloc))
+        .after_help(EXPLAIN_AFTER);
+    let explain = with(Ok(explain), script_file(alloc));
+    let explain = with(explain, switch(alloc, "mermaid", MERMAID));
+    let explain = with(explain, switch(alloc, "dot", DOT));
+    let explain = with(explain, switch(alloc, "all", ALL));
+    with(explain, at(alloc))
 }
 
 fn script_file<'a>(alloc: Global) -> Arg<'a>

@@ -1,8 +1,7 @@
 //! The words that there are: a function for each subcommand.
 ghost use Rattle.std.specs.Prelude.{◌≡◌, IfOk, false};
-ghost use Rattle.clap.specs.Words.{App, app_of, rule_of, with_subcommand};
-ghost use Rattle.clap.specs.declared.builder.command.Command.TheViews.{out-Command as fields_of};
-ghost use Rattle.mm_command.specs.CommandLine.{free_number_rule, locks_app, number_rule, program, report_rule, script_app, storm_app, storm_numbers_app, threads_app, verbose_rule};
+ghost use Rattle.clap.specs.Words.{App, Rule, app_of, rule_of, with_rule, with_subcommand};
+ghost use Rattle.mm_command.specs.CommandLine.{IsLocal, free_number_rule, locks_app, number_rule, program, report_rule, script_app, storm_app, storm_numbers_app, threads_app, verbose_rule};
 
 use super::explain::explain_command;
 use crate::help::{ABOUT, AFTER, LOCKS, REPORT, SCRIPT, SCRIPT_VERBOSE, STORM, THREADS, VERBOSE};
@@ -48,65 +47,90 @@ fn add<'a>(
     whole: Command<'a>,
     part: Result<Command<'a>, AllocError>,
 ) -> Result<Command<'a>, AllocError>
-    ensures { (app : App) → IfOk part.entry (λ own. (app_of own ≡ app) × ((fields_of own).has_globals ≡ false)) → IfOk result (λ made. app_of made ≡ with_subcommand (app_of whole.entry) app.top) }
+    ensures { (app : App) → IfOk part.entry (λ own. IsLocal own app) → IfOk result (λ made. app_of made ≡ with_subcommand (app_of whole.entry) app.top) }
 {
     whole.subcommand(part?)
 }
 
-fn script_command<'a>(alloc: Global) -> Result<Command<'a>, AllocError>
-    ensures { IfOk result (λ made. (app_of made ≡ script_app) × ((fields_of made).has_globals ≡ false)) }
+/// A subcommand with one argument more, where it was made. Each argument is added by a call, so that no function has a way out for each.
+pub(super) fn with<'a>(
+    command: Result<Command<'a>, AllocError>,
+    arg: Arg<'a>,
+) -> Result<Command<'a>, AllocError>
+    ensures { (app : App) (rule : Rule) → IfOk command.entry (λ own. IsLocal own app) → rule_of arg.entry ≡ rule → arg.entry.global ≡ false → IfOk result (λ made. IsLocal made (with_rule app rule)) }
 {
-    Command::new(alloc, "script")
+    command?.arg(arg)
+}
+
+fn script_command<'a>(alloc: Global) -> Result<Command<'a>, AllocError>
+    ensures { IfOk result (λ made. IsLocal made script_app) }
+{
+    let script = Command::new(alloc, "script")
         .about(SCRIPT)
-        .after_help(AFTER)
-        .arg(verbose(alloc, SCRIPT_VERBOSE))
+        .after_help(AFTER);
+    with(Ok(script), verbose(alloc, SCRIPT_VERBOSE))
 }
 
 fn threads_command<'a>(alloc: Global) -> Result<Command<'a>, AllocError>
-    ensures { IfOk result (λ made. (app_of made ≡ threads_app) × ((fields_of made).has_globals ≡ false)) }
+    ensures { IfOk result (λ made. IsLocal made threads_app) }
 {
     let file = Arg::new(alloc, "FILE")
         .required(true)
         .action(ArgAction::Set);
-    Command::new(alloc, "threads")
-        .about(THREADS)
-        .arg(file)?
-        .arg(report(alloc))?
-        .arg(verbose(alloc, VERBOSE))
+    let threads = Ok(Command::new(alloc, "threads").about(THREADS));
+    let threads = with(threads, file);
+    let threads = with(threads, report(alloc));
+    with(threads, verbose(alloc, VERBOSE))
 }
 
 fn storm_command<'a>(alloc: Global) -> Result<Command<'a>, AllocError>
-    ensures { IfOk result (λ made. (app_of made ≡ storm_app) × ((fields_of made).has_globals ≡ false)) }
+    ensures { IfOk result (λ made. IsLocal made storm_app) }
 {
-    storm_numbers_command(alloc)?
-        .arg(report(alloc))?
-        .arg(verbose(alloc, VERBOSE))
+    let storm = with(storm_numbers_command(alloc), report(alloc));
+    with(storm, verbose(alloc, VERBOSE))
 }
 
 /// A storm with its numbers alone.
 fn storm_numbers_command<'a>(alloc: Global) -> Result<Command<'a>, AllocError>
-    ensures { IfOk result (λ made. (app_of made ≡ storm_numbers_app) × ((fields_of made).has_globals ≡ false)) }
+    ensures { IfOk result (λ made. IsLocal made storm_numbers_app) }
 {
-    Command::new(alloc, "storm")
-        .about(STORM)
-        .arg(number(alloc, "seed", 0, u64::MAX, "1"))?
-        .arg(number(alloc, "clients", 1, MAX_CLIENTS as u64, "8"))?
-        .arg(number(alloc, "transmitters", 0, MAX_TRANSMITTERS as u64, "2"))?
-        .arg(number(alloc, "resources", 1, MAX_RESOURCES as u64, "8"))?
-        .arg(number(alloc, "acquires", 1, MAX_ACQUIRES as u64, "4"))?
-        .arg(number(alloc, "transactions", 1, MAX_TRANSACTIONS as u64, "1"))
+    let storm = Ok(Command::new(alloc, "storm").about(STORM));
+    let storm = with(storm, number(alloc, "seed", 0, u64::MAX, "1"));
+    let storm = with(storm, number(alloc, "clients", 1, MAX_CLIENTS as u64, "8"));
+    let storm = with(
+        storm,
+        number(alloc, "transmitters", 0, MAX_TRANSMITTERS as u64, "2"),
+    );
+    let storm = with(
+        storm,
+        number(alloc, "resources", 1, MAX_RESOURCES as u64, "8"),
+    );
+    let storm = with(
+        storm,
+        number(alloc, "acquires", 1, MAX_ACQUIRES as u64, "4"),
+    );
+    with(
+        storm,
+        number(alloc, "transactions", 1, MAX_TRANSACTIONS as u64, "1"),
+    )
 }
 
 fn locks_command<'a>(alloc: Global, locks_after: &'a str) -> Result<Command<'a>, AllocError>
-    ensures { IfOk result (λ made. (app_of made ≡ locks_app) × ((fields_of made).has_globals ≡ false)) }
+    ensures { IfOk result (λ made. IsLocal made locks_app) }
 {
-    Command::new(alloc, "locks")
+    let locks = Command::new(alloc, "locks")
         .about(LOCKS)
-        .after_help(locks_after)
-        .arg(number(alloc, "transactions", 1, MAX_PROCESSES as u64, "65536"))?
-        .arg(number(alloc, "names", 1, MAX_NAMES as u64, "65536"))?
-        .arg(number(alloc, "name-bytes", 1, MAX_NAME_BYTES as u64, "64"))?
-        .arg(free_number(alloc, "seed", 0, u64::MAX))
+        .after_help(locks_after);
+    let locks = with(
+        Ok(locks),
+        number(alloc, "transactions", 1, MAX_PROCESSES as u64, "65536"),
+    );
+    let locks = with(locks, number(alloc, "names", 1, MAX_NAMES as u64, "65536"));
+    let locks = with(
+        locks,
+        number(alloc, "name-bytes", 1, MAX_NAME_BYTES as u64, "64"),
+    );
+    with(locks, free_number(alloc, "seed", 0, u64::MAX))
 }
 
 /// The flag `--verbose`.

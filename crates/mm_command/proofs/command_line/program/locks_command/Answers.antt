@@ -1,17 +1,12 @@
-use Rattle.std.proofs.Common.{◌≡◌, ◌∙◌, rules, ap₂, codes, false, ◌||◌}
-use Rattle.std.proofs.lemmas.Result.{IfOk-weaker}
-use Rattle.clap.specs.Words.{app_of, new_app, with_rule}
-use Rattle.clap.specs.declared.builder.command.Command.TheViews.{out-Command as fields_of}
+use Rattle.std.proofs.Common.{rules, codes}
+use Rattle.clap.specs.Words.{new_app}
+use Rattle.mm_command.specs.CommandLine.{IsLocal}
 use Rattle.mm_command.proofs.command_line.program.locks_command.Goals as goal
 
 pub returns : goal.returns
 returns c =
-    let start : app_of c.after_help.result ≡ new_app (codes "locks") = search rules in
-    let first = c.in_ok-arg.ensures.shape c.number.ensures.local ∙ ap₂ with_rule start c.number.ensures.rule in
-    let second = c.in_ok-arg-2.ensures.shape c.number-2.ensures.local ∙ ap₂ with_rule first c.number-2.ensures.rule in
-    let third = c.in_ok-arg-3.ensures.shape c.number-3.ensures.local ∙ ap₂ with_rule second c.number-3.ensures.rule in
-    let none : (fields_of c.after_help.result).has_globals ≡ false = search rules in
-    let none_first = c.in_ok-arg.ensures.globals ∙ ap₂ (λ a b. a || b) none c.number.ensures.local in
-    let none_second = c.in_ok-arg-2.ensures.globals ∙ ap₂ (λ a b. a || b) none_first c.number-2.ensures.local in
-    let none_third = c.in_ok-arg-3.ensures.globals ∙ ap₂ (λ a b. a || b) none_second c.number-3.ensures.local in
-    IfOk-weaker c.arg-4.result _ _ (λ r h. (h.shape c.free_number.ensures.local ∙ ap₂ with_rule third c.free_number.ensures.rule, h.globals ∙ ap₂ (λ a b. a || b) none_third c.free_number.ensures.local)) c.arg-4.ensures
+    let start : IsLocal c.after_help-locks.result (new_app (codes "locks")) = search rules in
+    let first = c.with-locks.ensures _ _ start c.number.ensures.rule c.number.ensures.local in
+    let second = c.with-locks-2.ensures _ _ first c.number-2.ensures.rule c.number-2.ensures.local in
+    let third = c.with-locks-3.ensures _ _ second c.number-3.ensures.rule c.number-3.ensures.local in
+    c.with.ensures _ _ third c.free_number.ensures.rule c.free_number.ensures.local

@@ -1,13 +1,15 @@
 //! What came of a workload: the lines that are printed, and the status that the program exits with.
-ghost use Rattle.std.specs.Prelude.{◌≡◌};
+ghost use Rattle.std.specs.Prelude.{◌≡◌, IfOk, IfErr};
 ghost use Rattle.std.specs.List.{list_all};
-ghost use Rattle.mm_detect.specs.WorkEnd.{work_status, has_ended};
+ghost use Rattle.mm_runs.specs.WorkEnd.{fault_status, work_status, has_ended};
 
-use mm_table::Refusal;
-use mm_workers::{End, TalliedOutcome};
-use mm_workload::Place;
+use mm_clients::{End, TalliedOutcome};
+use mm_rules::Refusal;
+use mm_script::ScriptFault;
+use mm_workload::{Place, WorkFault};
 use std::fmt;
 use std::fmt::{Display, Formatter};
+use std::io::Write;
 
 /// What came of a workload.
 #[derive(Drop)]
@@ -53,4 +55,27 @@ impl Display for WorkEnd {
             }
         }
     }
+}
+
+/// Prints why there is no workload, and returns the status.
+pub fn print_fault<W: Write>(fault: WorkFault, writer: &mut W) -> Result<u8, ScriptFault>
+    ensures status { IfOk result (λ status. status ≡ fault_status fault) }
+    ensures fault { IfErr result (λ fault. fault ≡ ScriptFault.Write) }
+{
+    let end = match fault {
+        WorkFault::Malformed(place) => WorkEnd::Malformed(place),
+        WorkFault::Memory => WorkEnd::Refused(Refusal::Memory),
+    };
+    print_end(&end, writer)
+}
+
+/// Prints what came of a workload, and returns the status; `Err` where that could not be written.
+pub fn print_end<W: Write>(end: &WorkEnd, writer: &mut W) -> Result<u8, ScriptFault>
+    ensures status { IfOk result (λ status. status ≡ work_status end.now) }
+    ensures fault { IfErr result (λ fault. fault ≡ ScriptFault.Write) }
+{
+    if writeln!(writer, "{end}").is_err() || writer.flush().is_err() {
+        return Err(ScriptFault::Write);
+    }
+    Ok(end.status())
 }
