@@ -1,6 +1,5 @@
 -- The current labels and holders after a store, and at first.
 use Rattle.std.proofs.Common.{◌≡◌, ℕ, ◌<◌, length, Option, None, ap, ◌∙◌, get_or-set_same}
-use lib.Seq.{map-set}
 use Rattle.mm_label.specs.Label.{Label, opening_label}
 use Rattle.mm_board.specs.declared.views.Published.{Published}
 use Rattle.mm_board.specs.Views.{last_label, history, current_label, current_holder, with_label, with_holder, opening_published}

@@ -36,20 +36,6 @@ pub fn entry_of(names: &mut Names, name: &[u8]) -> Result<Entry, Refusal>
     }
 }
 
-/// The number of a name, which it has already, or gets.
-#[inline(always)]
-pub fn number_of(names: &mut Names, name: &[u8]) -> Result<u32, Refusal>
-    ensures interned { IfOk result (λ n. Interns names.old name.now n names.new) }
-    ensures allowed { OnOk result (may_name names.old.name_bytes name.now ≡ Ok tt) }
-    ensures refused { IfErr result (λ refusal. (may_name names.old.name_bytes name.now ≡ Err refusal) ⊎ ((may_name names.old.name_bytes name.now ≡ Ok tt) × (refusal ≡ Refusal.NamesFull) × IsRefusedAsFull names.old name.now)) }
-    ensures same { OnErr result (names.new ≡ names.old) }
-{
-    match entry_of(names, name) {
-        Ok(Entry { number, .. }) => Ok(number),
-        Err(refusal) => Err(refusal),
-    }
-}
-
 /// The number of a name. Where no number has it, the answer is why the transaction cannot unlock it.
 #[inline(always)]
 pub fn named_number(table: &Table, names: &Names, key: Key, name: &[u8]) -> Result<u32, Refusal>

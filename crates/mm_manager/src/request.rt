@@ -13,7 +13,7 @@ ghost use Rattle.mm_manager.specs.private.Numbers.{AreNumbered, bare};
 ghost use Rattle.mm_manager.specs.private.Requests.{AnswersNamed, AnswersNew, Requested, may_ask_more, tried_by};
 ghost use Rattle.mm_manager.specs.private.Room.{HasReserve};
 
-use crate::numbers::{entry_of, number_of, owner_of};
+use crate::numbers::{entry_of, owner_of};
 use crate::permit::{may_ask, may_count, may_wait, refused_first, why_refused};
 use crate::{Key, Lock, Refusal, TryLock};
 use mm_names::{Entry, Names};
@@ -119,11 +119,11 @@ pub fn try_request(
     ensures numbered { AreNumbered table.new.table names.new }
 {
     table.is_at_rest();
-    let number = number_of(names, name)?;
-    if let Some(holder) = owner_of(table.table(), number) {
+    let entry = entry_of(names, name)?;
+    if let Some(holder) = owner_of(table.table(), entry.number) {
         return Ok(tried(holder, key));
     }
-    lock_number(table, key, number);
+    lock_number(table, key, entry.number);
     Ok(TryLock::Granted)
 }
 

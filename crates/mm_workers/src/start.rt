@@ -38,10 +38,7 @@ pub fn client_jobs<'a, N: Name, A: Ledger, V: Ledger, B: Ledger, R: Wait, G: Gat
 }
 
 /// The first transaction of the client at this place, with room for each that follows it, and these.
-fn transactions_of(
-    workload: &Workload,
-    place: usize,
-) -> Result<(Vec<WorkStep>, Coming), AllocError>
+fn transactions_of(workload: &Workload, place: usize) -> Result<(Vec<WorkStep>, Coming), AllocError>
     requires { place < length workload.now.clients }
 {
     let mut work = workload.clients()[place].clone()?;

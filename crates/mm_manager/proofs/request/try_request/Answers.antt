@@ -9,7 +9,7 @@ pub returns-clause-numbered : goal.returns-clause-numbered
 returns-clause-numbered c =
     let s = c.args.table.now.table in
     let u = c.lock_number.new.table.table in
-    let free : owner_of s c.in_ok-number.number ≡ None = ap (λ (t : TableState). owner_of t c.in_ok-number.number) (sym c.table.ensures) ∙ sym c.in_default.ensures in
-    let locks : Locks s c.args.key c.in_ok-number.number (Ok locked.Granted) u = free_granted s u c.args.key c.in_ok-number.number c.lock_number.result free c.lock_number.ensures.locks in
-    numbered_granted s c.args.names.now c.requires.numbered c.number_of.new.names c.args.name.now c.in_ok-number.number c.is_at_rest.ensures.laws c.args.key u
-    (granted_is s u c.args.key c.in_ok-number.number locks) c.in_ok-number.ensures.interned
+    let free : owner_of s c.in_ok-entry.entry.number ≡ None = ap (λ (t : TableState). owner_of t c.in_ok-entry.entry.number) (sym c.table.ensures) ∙ sym c.in_default.ensures in
+    let locks : Locks s c.args.key c.in_ok-entry.entry.number (Ok locked.Granted) u = free_granted s u c.args.key c.in_ok-entry.entry.number c.lock_number.result free c.lock_number.ensures.locks in
+    numbered_granted s c.args.names.now c.requires.numbered c.entry_of.new.names c.args.name.now c.in_ok-entry.entry.number c.is_at_rest.ensures.laws c.args.key u
+    (granted_is s u c.args.key c.in_ok-entry.entry.number locks) c.in_ok-entry.ensures.interned
