@@ -2,6 +2,7 @@
 use Rattle.std.specs.Prelude.{◌≡◌, if◌then◌else◌, ℕ, Bool, true, false, Err, length, vec_len}
 use Rattle.std.specs.List.{list_all}
 use Rattle.mm_rules.specs.Event.{Opens}
+use Rattle.mm_rules.specs.declared.refusal.Refusal.TheVariants as refusals
 use Rattle.mm_clients.specs.declared.end.End.{End}
 use Rattle.mm_clients.specs.declared.end.End.TheVariants.{Finished, Aborted}
 use Rattle.mm_workload.specs.Work.{Work}
@@ -21,10 +22,10 @@ work_status (Ran ran) = if list_all has_ended ran.outcome.ends.items then 0 else
 work_status (Malformed place) = 1
 work_status (Refused refusal) = 4
 
--- after words or bytes of which no workload could be made
-abbrev pub fault_status : WorkFault → ℕ
-fault_status (faults.Malformed place) = 1
-fault_status faults.Memory = 4
+-- what it comes to that no workload could be made
+abbrev pub end_after : WorkFault → WorkEnd
+end_after (faults.Malformed place) = Malformed place
+end_after faults.Memory = Refused refusals.Memory
 
 -- a workload is run, with an end for each client, or refused as its table is
 abbrev pub EndsAs : Work → WorkEnd → Type 0

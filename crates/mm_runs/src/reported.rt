@@ -1,6 +1,6 @@
 //! What is told of a workload: its two lines, and a report, which is written once the lines are printed; or why there is none.
 ghost use Rattle.std.specs.Prelude.{◌≡◌, IfOk, IfErr};
-ghost use Rattle.mm_runs.specs.WorkEnd.{fault_status, work_status};
+ghost use Rattle.mm_runs.specs.WorkEnd.{end_after, work_status};
 
 use crate::file::tell;
 use crate::work_end::{WorkEnd, print_end, print_fault};
@@ -41,7 +41,7 @@ pub fn tell_fault<R: Eprint, W: Write>(
     fault: WorkFault,
     writer: &mut W,
 ) -> Result<u8, ScriptFault>
-    ensures status { IfOk result (λ status. status ≡ fault_status fault) }
+    ensures status { IfOk result (λ status. status ≡ work_status (end_after fault)) }
     ensures fault { IfErr result (λ fault. fault ≡ ScriptFault.Write) }
 {
     match &fault {

@@ -1,7 +1,7 @@
 //! What came of a workload: the lines that are printed, and the status that the program exits with.
 ghost use Rattle.std.specs.Prelude.{◌≡◌, IfOk, IfErr};
 ghost use Rattle.std.specs.List.{list_all};
-ghost use Rattle.mm_runs.specs.WorkEnd.{fault_status, work_status, has_ended};
+ghost use Rattle.mm_runs.specs.WorkEnd.{end_after, work_status, has_ended};
 
 use mm_clients::{End, TalliedOutcome};
 use mm_rules::Refusal;
@@ -23,6 +23,16 @@ pub enum WorkEnd {
 }
 
 impl WorkEnd {
+    /// What it comes to that no workload could be made.
+    pub fn of_fault(fault: WorkFault) -> WorkEnd
+        ensures { result ≡ end_after fault }
+    {
+        match fault {
+            WorkFault::Malformed(place) => WorkEnd::Malformed(place),
+            WorkFault::Memory => WorkEnd::Refused(Refusal::Memory),
+        }
+    }
+
     /// The status: 0 where each client finished or was aborted, 5 where some client used up its turns or was refused, 1 where the file is
     /// malformed, and 4 where something else was refused.
     pub fn status(&self) -> u8
@@ -59,14 +69,10 @@ impl Display for WorkEnd {
 
 /// Prints why there is no workload, and returns the status.
 pub fn print_fault<W: Write>(fault: WorkFault, writer: &mut W) -> Result<u8, ScriptFault>
-    ensures status { IfOk result (λ status. status ≡ fault_status fault) }
+    ensures status { IfOk result (λ status. status ≡ work_status (end_after fault)) }
     ensures fault { IfErr result (λ fault. fault ≡ ScriptFault.Write) }
 {
-    let end = match fault {
-        WorkFault::Malformed(place) => WorkEnd::Malformed(place),
-        WorkFault::Memory => WorkEnd::Refused(Refusal::Memory),
-    };
-    print_end(&end, writer)
+    print_end(&WorkEnd::of_fault(fault), writer)
 }
 
 /// Prints what came of a workload, and returns the status; `Err` where that could not be written.
