@@ -26,10 +26,10 @@ impl Model for Owner {
 }
 
 impl Owner {
-    /// No owner.
+    /// No owner. All of its bits are set, as those of `Links::NONE` are, so that an opening fills its resources byte by byte.
     pub const NONE: Owner = Owner {
         process: Link::NONE,
-        generation: 0,
+        generation: u32::MAX,
     };
 
     /// This key, whose process is below `u32::MAX`, in constant time.
