@@ -10,7 +10,8 @@ mod threads;
 mod work;
 
 use mm_command::{Request, asked};
-use mm_runs::{Ending, Told, answer_alone, fault, status};
+use mm_report::Told;
+use mm_runs::{Ending, answer_alone, fault, status};
 use std::alloc::Global;
 use std::io::{Eprint, IsTerminal, Read, Write};
 use std::process::ExitCode;

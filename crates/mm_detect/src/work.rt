@@ -3,15 +3,15 @@ ghost use Rattle.std.specs.Prelude.{◌≡◌, ◌≢◌, ◌⊎◌, Ok, IfOk, I
 ghost use Rattle.mm_workload.specs.Json.{Says, SaysNone};
 ghost use Rattle.mm_workload.specs.Work.{Work};
 ghost use Rattle.mm_workload.specs.declared.fault.WorkFault.TheVariants.{Memory};
-ghost use Rattle.mm_runs.specs.WorkEnd.{EndsAs};
+ghost use Rattle.mm_report.specs.WorkEnd.{EndsAs};
 
 use crate::threads::{run, run_told};
 use mm_command::StormOptions;
-use mm_report::Source;
-use mm_runs::{
-    ScriptFault, Taken, Told, WorkEnd, generated, print_fault, seconds_since, source_of,
-    taken_from, tell, tell_end, tell_fault,
+use mm_report::{
+    Source, Taken, Told, WorkEnd, print_fault, seconds_since, taken_from, tell, tell_end,
+    tell_fault,
 };
+use mm_runs::{ScriptFault, generated, source_of};
 use mm_workload::{WorkFault, Workload};
 use std::alloc::Global;
 use std::io::Write;

@@ -1,2 +1,4 @@
 -- what a report holds
 pub mod Report
+-- what came of a workload
+pub mod WorkEnd

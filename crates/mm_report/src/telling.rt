@@ -1,12 +1,13 @@
 //! What is told of a workload: its two lines, and a report, which is written once the lines are printed; or why there is none.
 ghost use Rattle.std.specs.Prelude.{◌≡◌, IfOk, IfErr};
-ghost use Rattle.mm_runs.specs.WorkEnd.{end_after, work_status};
+ghost use Rattle.mm_report.specs.WorkEnd.{end_after, work_status};
 
 use crate::file::tell;
+use crate::report::{RunReport, report_of, text_of};
+use crate::source::Source;
 use crate::work_end::{WorkEnd, print_end, print_fault};
 use mm_clients::TalliedOutcome;
-use mm_report::{RunReport, Source, report_of, text_of};
-use mm_script::ScriptFault;
+use mm_lines::Fault;
 use mm_workload::{WorkFault, Workload};
 use std::alloc::Global;
 use std::fs;
@@ -40,9 +41,9 @@ pub fn tell_fault<R: Eprint, W: Write>(
     verbose: bool,
     fault: WorkFault,
     writer: &mut W,
-) -> Result<u8, ScriptFault>
+) -> Result<u8, Fault>
     ensures status { IfOk result (λ status. status ≡ work_status (end_after fault)) }
-    ensures fault { IfErr result (λ fault. fault ≡ ScriptFault.Write) }
+    ensures fault { IfErr result (λ fault. fault ≡ Fault.Write) }
 {
     match &fault {
         WorkFault::Malformed(place) if verbose => tell(rt, name, place),
@@ -61,9 +62,9 @@ pub fn tell_end<R: Files + Eprint, W: Write>(
     end: &WorkEnd,
     seconds: Option<f64>,
     writer: &mut W,
-) -> Result<u8, ScriptFault>
+) -> Result<u8, Fault>
     ensures status { IfOk result (λ status. status ≡ work_status end.now) }
-    ensures fault { IfErr result (λ fault. fault ≡ ScriptFault.Write) }
+    ensures fault { IfErr result (λ fault. fault ≡ Fault.Write) }
 {
     let status = print_end(end, writer)?;
     if let WorkEnd::Ran(ran) = end {
@@ -81,8 +82,8 @@ fn write_run<R: Files + Eprint>(
     work: &Workload,
     ran: &TalliedOutcome,
     seconds: Option<f64>,
-) -> Result<(), ScriptFault>
-    ensures { IfErr result (λ fault. fault ≡ ScriptFault.Write) }
+) -> Result<(), Fault>
+    ensures { IfErr result (λ fault. fault ≡ Fault.Write) }
 {
     match path {
         Some(path) => {
@@ -107,21 +108,21 @@ fn write_report<R: Files + Eprint>(
     alloc: Global,
     path: &str,
     report: &RunReport<'_>,
-) -> Result<(), ScriptFault>
-    ensures { IfErr result (λ fault. fault ≡ ScriptFault.Write) }
+) -> Result<(), Fault>
+    ensures { IfErr result (λ fault. fault ≡ Fault.Write) }
 {
     let text = match text_of(alloc, report) {
         Ok(text) => text,
         Err(error) => {
             tell(rt, path, &error);
-            return Err(ScriptFault::Write);
+            return Err(Fault::Write);
         }
     };
     match fs::write(rt, path, text.as_str()) {
         Ok(()) => Ok(()),
         Err(error) => {
             tell(rt, path, &error);
-            Err(ScriptFault::Write)
+            Err(Fault::Write)
         }
     }
 }

@@ -1,11 +1,11 @@
 //! What came of a workload: the lines that are printed, and the status that the program exits with.
 ghost use Rattle.std.specs.Prelude.{◌≡◌, IfOk, IfErr};
 ghost use Rattle.std.specs.List.{list_all};
-ghost use Rattle.mm_runs.specs.WorkEnd.{end_after, work_status, has_ended};
+ghost use Rattle.mm_report.specs.WorkEnd.{end_after, work_status, has_ended};
 
 use mm_clients::{End, TalliedOutcome};
+use mm_lines::Fault;
 use mm_rules::Refusal;
-use mm_script::ScriptFault;
 use mm_workload::{Place, WorkFault};
 use std::fmt;
 use std::fmt::{Display, Formatter};
@@ -68,20 +68,20 @@ impl Display for WorkEnd {
 }
 
 /// Prints why there is no workload, and returns the status.
-pub fn print_fault<W: Write>(fault: WorkFault, writer: &mut W) -> Result<u8, ScriptFault>
+pub fn print_fault<W: Write>(fault: WorkFault, writer: &mut W) -> Result<u8, Fault>
     ensures status { IfOk result (λ status. status ≡ work_status (end_after fault)) }
-    ensures fault { IfErr result (λ fault. fault ≡ ScriptFault.Write) }
+    ensures fault { IfErr result (λ fault. fault ≡ Fault.Write) }
 {
     print_end(&WorkEnd::of_fault(fault), writer)
 }
 
 /// Prints what came of a workload, and returns the status; `Err` where that could not be written.
-pub fn print_end<W: Write>(end: &WorkEnd, writer: &mut W) -> Result<u8, ScriptFault>
+pub fn print_end<W: Write>(end: &WorkEnd, writer: &mut W) -> Result<u8, Fault>
     ensures status { IfOk result (λ status. status ≡ work_status end.now) }
-    ensures fault { IfErr result (λ fault. fault ≡ ScriptFault.Write) }
+    ensures fault { IfErr result (λ fault. fault ≡ Fault.Write) }
 {
     if writeln!(writer, "{end}").is_err() || writer.flush().is_err() {
-        return Err(ScriptFault::Write);
+        return Err(Fault::Write);
     }
     Ok(end.status())
 }

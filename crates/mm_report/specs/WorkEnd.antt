@@ -8,8 +8,8 @@ use Rattle.mm_clients.specs.declared.end.End.TheVariants.{Finished, Aborted}
 use Rattle.mm_workload.specs.Work.{Work}
 use Rattle.mm_workload.specs.declared.fault.WorkFault.{WorkFault}
 use Rattle.mm_workload.specs.declared.fault.WorkFault.TheVariants as faults
-use Rattle.mm_runs.specs.declared.work_end.WorkEnd.{WorkEnd}
-use Rattle.mm_runs.specs.declared.work_end.WorkEnd.TheVariants.{Ran, Malformed, Refused}
+use Rattle.mm_report.specs.declared.work_end.WorkEnd.{WorkEnd}
+use Rattle.mm_report.specs.declared.work_end.WorkEnd.TheVariants.{Ran, Malformed, Refused}
 
 -- the client finished or was aborted
 abbrev pub has_ended : End → Bool
