@@ -21,7 +21,9 @@ use std::thread::Threads;
 use std::time::Instant;
 
 /// Runs the workload in this file, tells what came of it, and returns the status that the program exits with (`WorkEnd::status`); `Err`
-/// where the file could not be read, or a line or the report not be written. Takes memory.
+/// where the file could not be read, or a line or the report not be written. Takes memory. In a call of its own, since what reads a workload
+/// takes stack that other requests do not need.
+#[inline(never)]
 pub fn run_file<R: Runtime + Threads + Wait + Sync, W: Write>(
     rt: &R,
     alloc: Global,
@@ -59,6 +61,7 @@ fn run_bytes<R: Runtime + Threads + Wait + Sync, W: Write>(
 }
 
 /// Runs the workload that is generated from these numbers, as `run_file` runs that of a file.
+#[inline(never)]
 pub fn run_storm<R: Runtime + Threads + Wait + Sync, W: Write>(
     rt: &R,
     alloc: Global,
