@@ -1,14 +1,17 @@
-//! A deadlock detector for transactions. `mm_command` says what the words of the command line ask for, and `mm_runs` does what needs no
-//! threads.
+//! A deadlock detector for transactions. `mm_command` says what the words of the command line ask for, and `mm_runs` does it where that is
+//! a script, an explanation or help. `mm_report` tells what came of a workload.
 //!
 //! - `work`: runs of workloads. `threads`: their workers, each on a thread of its own.
+//! - `locks`: a run of the lock service.
 #![tactic(auto)]
 
 ghost use Rattle.mm_runs.specs.Answer.{IsEndOf};
 
+mod locks;
 mod threads;
 mod work;
 
+use locks::run_locks;
 use mm_command::{Request, asked};
 use mm_report::Told;
 use mm_runs::{Ending, answer_alone, fault, status};
@@ -58,6 +61,7 @@ fn answer<R: Runtime + RandomSource + Threads + Wait + Sync, I: Read, W: Write +
             let told = Told::new(report, *verbose);
             Ending::Worked(run_storm(rt, alloc, *options, told, output))
         }
+        Request::Locks(options) => run_locks(rt, alloc, options, input, output),
         _ => answer_alone(rt, alloc, request, input, output),
     }
 }

@@ -1,38 +1,20 @@
 //! The ends of transactions that wait.
-ghost use Rattle.std.specs.Prelude.{◌≡◌, true, [], Ok, length};
-ghost use Rattle.mm_rules.specs.TableState.{is_live, has_verdict};
-ghost use Rattle.mm_rules.specs.Event.{Abort};
+ghost use Rattle.std.specs.Prelude.{◌≡◌, [], Ok, length};
 ghost use Rattle.mm_manager.specs.Permit.{may_cancel};
 ghost use Rattle.mm_manager.specs.private.Aborts.{AbortsWaiting, GaveUp, seen};
 ghost use Rattle.mm_manager.specs.Calls.{Aborts};
 ghost use Rattle.mm_manager.specs.Totals.{after_abort};
 ghost use Rattle.mm_manager.specs.declared.totals.Totals.{Totals as TotalsValue};
-ghost use Rattle.mm_manager.specs.private.Handed.{AreParts, Handed};
-ghost use Rattle.mm_manager.specs.private.HandsDown.{IsEnding};
+ghost use Rattle.mm_manager.specs.private.Handed.{AreParts};
 ghost use Rattle.mm_manager.specs.private.Room.{HasReserve};
 
-use crate::hand_over::abort;
 use crate::lists::Lists;
-use crate::parts::{end, pass_on};
+use crate::parts::end;
 use crate::reply::Abort as Aborted;
 use crate::{Cancel, Key, Refusal};
 use mm_names::Names;
-use mm_settled::SettledTable;
+use mm_settled::{End, SettledTable};
 use mm_table::Mode;
-
-/// Ends a transaction that is in a deadlock.
-pub fn end_convicted(table: &mut SettledTable, names: &mut Names, lists: &mut Lists, key: Key)
-    requires parts { AreParts table.old.table names.old lists.old }
-    requires none_granted { lists.old.granted.items ≡ [] }
-    requires none_aborted { lists.old.aborted.items ≡ [] }
-    requires live { is_live table.old.table key ≡ true }
-    requires verdict { has_verdict table.old.table key.process ≡ true }
-    ensures { Handed (Abort key) table.old.table names.old lists.old.due.items tt key.process (IsEnding key) table.new.table names.new lists.new }
-{
-    table.is_at_rest();
-    abort(table, names, &mut lists.owned, key);
-    pass_on(table, names, lists);
-}
 
 /// Ends a transaction that waits in no deadlock: at once where its wait can be taken back, and else as soon as its wait ends.
 pub fn abort_waiting(
@@ -52,7 +34,7 @@ pub fn abort_waiting(
     match give_up(table, key) {
         Cancel::Withdrawn => {
             lists.due[key.process as usize] = false;
-            end(table, names, lists, key);
+            end(table, names, lists, End::Active, key);
             Aborted::Done
         }
         Cancel::Carried => {
@@ -94,11 +76,11 @@ pub fn abort_any(
     };
     match state.mode {
         Mode::Active => {
-            end(table, names, lists, key);
+            end(table, names, lists, End::Active, key);
             Ok(Aborted::Done)
         }
         Mode::Convicted(_) => {
-            end_convicted(table, names, lists, key);
+            end(table, names, lists, End::Victim, key);
             Ok(Aborted::Done)
         }
         Mode::Waiting(_) => Ok(abort_waiting(table, names, lists, key)),

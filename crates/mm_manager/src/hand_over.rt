@@ -2,19 +2,20 @@
 ghost use Rattle.std.specs.Prelude.{◌≡◌, ◌≤◌, ◌↔◌, ℕ, Ok, Some, None, true, IsSome, IfSome, IfNone, OnSome, fold, vec_capacity};
 ghost use Rattle.mm_list_lemmas.specs.Members.{Among};
 ghost use Rattle.mm_names.specs.Names.{name_of};
-ghost use Rattle.mm_rules.specs.TableState.{is_live, has_verdict, owner_of, wait_of};
-ghost use Rattle.mm_rules.specs.Event.{Release, Finish, Abort};
+ghost use Rattle.mm_rules.specs.TableState.{is_live, owner_of};
+ghost use Rattle.mm_rules.specs.Event.{Release};
 ghost use Rattle.mm_manager.specs.Permit.{may_ask};
-ghost use Rattle.mm_settled.specs.Calls.{Made, OthersKeepVerdicts};
+ghost use Rattle.mm_settled.specs.Calls.{Made, MakesEnd, OthersKeepVerdicts};
 ghost use Rattle.mm_settled.specs.Grants.{Tells, EndsWaits};
-ghost use Rattle.mm_manager.specs.private.Numbers.{AreNumbered, forgotten};
+ghost use Rattle.mm_manager.specs.private.Handed.{MayEnd};
+ghost use Rattle.mm_manager.specs.private.Numbers.{AreNumbered};
 ghost use Rattle.mm_manager.specs.private.Room.{HasReserve};
 ghost use Rattle.mm_manager.specs.LockState.{KeepOwned};
 
 use crate::Key;
 use crate::numbers::{forget_each, forget_released};
 use mm_names::Names;
-use mm_settled::{Released, SettledTable};
+use mm_settled::{End, Released, SettledTable};
 
 /// `SettledTable::release` of a number that has a name: it keeps the name exactly where somebody owns it then. `None` exactly where the
 /// transaction may not ask or does not own the number, and then nothing changes.
@@ -46,14 +47,20 @@ pub fn release(
     Some(answer)
 }
 
-/// `SettledTable::finish_listing`: each name of the transaction keeps its number exactly where somebody owns it then.
-pub fn finish(table: &mut SettledTable, names: &mut Names, owned: &mut Vec<u32>, key: Key)
+/// `SettledTable::end_listing`: each name of the transaction keeps its number exactly where somebody owns it then.
+pub fn end_transaction(
+    table: &mut SettledTable,
+    names: &mut Names,
+    owned: &mut Vec<u32>,
+    kind: End,
+    key: Key,
+)
     requires numbered { AreNumbered table.old.table names.old }
     requires room { table.old.table.config.resources ≤ vec_capacity owned.old }
     requires live { is_live table.old.table key ≡ true }
-    requires active { wait_of table.old.table key.process ≡ None }
+    requires may { MayEnd kind table.old.table key.process }
     requires left { HasReserve table.old.table }
-    ensures made { Made (Finish key) table.old.table tt table.new.table }
+    ensures made { MakesEnd kind key table.old.table (Ok tt) table.new.table }
     ensures others { OthersKeepVerdicts table.old.table table.new.table key.process }
     ensures told { Tells table.old.table table.new }
     ensures ended { EndsWaits table.old.table table.new.table key.process table.new.granted }
@@ -63,38 +70,8 @@ pub fn finish(table: &mut SettledTable, names: &mut Names, owned: &mut Vec<u32>,
     ensures left { HasReserve table.new.table }
 {
     table.is_at_rest();
-    let Ok(()) = table.finish_listing(key, owned) else {
+    let Ok(()) = table.end_listing(kind, key, owned) else {
         unreachable!();
     };
-    forget_listed(table, names, owned);
-}
-
-/// `SettledTable::abort_listing`: each name of the transaction keeps its number exactly where somebody owns it then.
-pub fn abort(table: &mut SettledTable, names: &mut Names, owned: &mut Vec<u32>, key: Key)
-    requires numbered { AreNumbered table.old.table names.old }
-    requires room { table.old.table.config.resources ≤ vec_capacity owned.old }
-    requires live { is_live table.old.table key ≡ true }
-    requires verdict { has_verdict table.old.table key.process ≡ true }
-    requires left { HasReserve table.old.table }
-    ensures made { Made (Abort key) table.old.table tt table.new.table }
-    ensures others { OthersKeepVerdicts table.old.table table.new.table key.process }
-    ensures told { Tells table.old.table table.new }
-    ensures ended { EndsWaits table.old.table table.new.table key.process table.new.granted }
-    ensures names { KeepOwned names.old table.new.table names.new }
-    ensures numbered { AreNumbered table.new.table names.new }
-    ensures room { vec_capacity owned.new ≡ vec_capacity owned.old }
-    ensures left { HasReserve table.new.table }
-{
-    table.is_at_rest();
-    let Ok(()) = table.abort_listing(key, owned) else {
-        unreachable!();
-    };
-    forget_listed(table, names, owned);
-}
-
-/// Takes their names from those of these numbers that nobody owns.
-fn forget_listed(table: &SettledTable, names: &mut Names, numbers: &[u32])
-    ensures { names.new ≡ fold (forgotten table.now.table) names.old numbers.now }
-{
-    forget_each(table.table(), names, numbers);
+    forget_each(table.table(), names, owned);
 }

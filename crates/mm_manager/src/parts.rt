@@ -13,21 +13,21 @@ ghost use Rattle.mm_manager.specs.Permit.{may_ask, may_begin, may_request};
 ghost use Rattle.mm_manager.specs.Refused.{TryRefused, LockRefused, UnlockRefused};
 ghost use Rattle.mm_settled.specs.declared.reply.Grant.{Grant as GrantValue};
 ghost use Rattle.mm_manager.specs.private.Due.{AreGranted, EndsDue};
-ghost use Rattle.mm_manager.specs.private.Handed.{AreParts, Handed, IsUntouched};
+ghost use Rattle.mm_manager.specs.private.Handed.{AreParts, Handed, HandedEnd, IsUntouched, MayEnd};
 ghost use Rattle.mm_manager.specs.private.HandsDown.{IsEnding, IsReleased};
 ghost use Rattle.mm_manager.specs.private.Lists.{Fits};
 ghost use Rattle.mm_manager.specs.private.Numbers.{AreNumbered, bare};
 ghost use Rattle.mm_manager.specs.private.Room.{HasReserve};
 
 use crate::due::end_due;
-use crate::hand_over::{finish, release};
+use crate::hand_over::{end_transaction, release};
 use crate::lists::{Lists, add_grants};
 use crate::numbers::{named_number, not_released};
 use crate::permit::{may_ask, may_count};
 use crate::request::{request, try_request};
 use crate::{Key, Lock, Refusal, TryLock};
 use mm_names::Names;
-use mm_settled::{Released, SettledTable};
+use mm_settled::{End, Released, SettledTable};
 
 /// Tells of what the table granted, and ends those whose abort is due by that.
 pub fn pass_on(table: &mut SettledTable, names: &mut Names, lists: &mut Lists)
@@ -75,17 +75,17 @@ pub fn release_number(
     Ok(())
 }
 
-/// Ends an active transaction.
-pub fn end(table: &mut SettledTable, names: &mut Names, lists: &mut Lists, key: Key)
+/// Ends a transaction that is active, or the victim of a deadlock.
+pub fn end(table: &mut SettledTable, names: &mut Names, lists: &mut Lists, kind: End, key: Key)
     requires parts { AreParts table.old.table names.old lists.old }
     requires none_granted { lists.old.granted.items ≡ [] }
     requires none_aborted { lists.old.aborted.items ≡ [] }
     requires live { is_live table.old.table key ≡ true }
-    requires active { wait_of table.old.table key.process ≡ None }
-    ensures { Handed (Finish key) table.old.table names.old lists.old.due.items tt key.process (IsEnding key) table.new.table names.new lists.new }
+    requires may { MayEnd kind table.old.table key.process }
+    ensures { HandedEnd kind key table.old.table names.old lists.old.due.items table.new.table names.new lists.new }
 {
     table.is_at_rest();
-    finish(table, names, &mut lists.owned, key);
+    end_transaction(table, names, &mut lists.owned, kind, key);
     pass_on(table, names, lists);
 }
 
@@ -200,6 +200,6 @@ pub fn commit(
 {
     lists.clear();
     may_ask(table.table(), key)?;
-    end(table, names, lists, key);
+    end(table, names, lists, End::Active, key);
     Ok(())
 }

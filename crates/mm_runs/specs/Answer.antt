@@ -19,11 +19,12 @@ EndsExplain (ending.Refused printed) = ⊤
 EndsExplain ending.Wrong = ⊤
 EndsExplain _ = ⊥
 
--- it is no workload
-abbrev pub NeedsNoThreads : Request → Type 0
-NeedsNoThreads (request.Threads file report verbose) = ⊥
-NeedsNoThreads (request.Storm options report verbose) = ⊥
-NeedsNoThreads _ = ⊤
+-- it is neither a workload nor a lock service
+abbrev pub IsAlone : Request → Type 0
+IsAlone (request.Threads file report verbose) = ⊥
+IsAlone (request.Storm options report verbose) = ⊥
+IsAlone (request.Locks options) = ⊥
+IsAlone _ = ⊤
 
 -- each request has an end of its own, but for the two kinds of workload, which end alike
 abbrev pub IsEndOf : Request → Ending → Type 0

@@ -1,18 +1,16 @@
-//! What the program does once it knows what is asked for, as far as it needs no threads, and how any run of it ends.
+//! What the program does once it knows what is asked for, where that is neither a workload nor a lock service, and how any run of it ends.
 //!
-//! - `request`: does what is asked for, where that is no workload. `script`: runs a script, and perhaps tells what is wrong with its lines.
-//!   `explain`: explains one. `locks`: a lock service.
+//! - `request`: does what is asked for. `script`: runs a script, and perhaps tells what is wrong with its lines. `explain`: explains one.
 //! - `storm`: the workload that is generated. `ending`: how a run of the program ends, and the status that it exits with.
 #![tactic(auto)]
 
 mod ending;
 mod explain;
-mod locks;
 mod request;
 mod script;
 mod storm;
 
-pub use ending::{Ending, fault, status};
+pub use ending::{Ending, fault, print_no_memory, status};
 pub use mm_script::ScriptFault;
 pub use request::answer_alone;
 pub use storm::{generated, source_of};

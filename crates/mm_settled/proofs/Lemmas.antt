@@ -15,4 +15,5 @@ pub mod Quiet
 pub mod Refused
 pub mod Rest
 pub mod EndsAs
+pub mod EitherEnd
 pub mod Lock

@@ -8,9 +8,11 @@ use Rattle.mm_rules.specs.declared.refusal.Refusal.TheVariants.{CountsExhausted}
 use Rattle.mm_rules.specs.declared.reply.Acquired.TheVariants as acquired
 use Rattle.mm_rules.specs.declared.reply.Settled.{Settled}
 use Rattle.mm_rules.specs.TableState.{TableState, has_verdict}
-use Rattle.mm_rules.specs.Event.{Event, Acquire, Settle, Answer, Step, Opens}
+use Rattle.mm_rules.specs.Event.{Event, Acquire, Finish, Abort, Settle, Answer, Step, Opens}
 use Rattle.mm_rules.specs.Victims.{IsOnCycle}
 use Rattle.mm_settled.specs.SettledState.{SettledState}
+use Rattle.mm_settled.specs.declared.reply.End.{End}
+use Rattle.mm_settled.specs.declared.reply.End.TheVariants.{Active, Victim}
 use Rattle.mm_settled.specs.declared.reply.Locked.{Locked}
 use Rattle.mm_settled.specs.declared.reply.Locked.TheVariants.{Granted, Waits, Deadlock}
 
@@ -38,6 +40,11 @@ pub record Made (e : Event) (old : TableState) (answer : Answer e) (new : TableS
 abbrev pub Makes : (e : Event) → TableState → Result (Answer e) Refusal → TableState → Type 0
 Makes e old (Ok answer) new = Made e old answer new
 Makes e old (Err refusal) new = Refuses e old refusal new
+
+-- a call that ends k: a finish where k is active, an abort where it is a victim
+abbrev pub MakesEnd : End → Key → TableState → Result (Unit {0}) Refusal → TableState → Type 0
+MakesEnd Active k old reply new = Makes (Finish k) old reply new
+MakesEnd Victim k old reply new = Makes (Abort k) old reply new
 
 -- nobody but n, the process of the caller, gets or loses a verdict
 abbrev pub OthersKeepVerdicts : TableState → TableState → ℕ → Type 0

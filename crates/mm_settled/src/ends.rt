@@ -1,16 +1,18 @@
 //! The calls by which resources are handed over: a release, and the end of a transaction.
 ghost use Rattle.std.specs.Prelude.{◌≡◌, ◌↔◌, ◌≤◌, Some, OnOk, IfOk, ℕ, vec_capacity};
 ghost use Rattle.mm_list_lemmas.specs.Members.{Among};
-ghost use Rattle.mm_rules.specs.Event.{Step, Release, Finish, Abort};
+ghost use Rattle.mm_rules.specs.Event.{Step, Release};
 ghost use Rattle.mm_rules.specs.Laws.{AtRest, Laws};
 ghost use Rattle.mm_rules.specs.TableState.{owner_of};
-ghost use Rattle.mm_settled.specs.private.Ends.{Ends};
+ghost use Rattle.mm_settle.specs.Touched.{changed_processes};
+ghost use Rattle.mm_settled.specs.Calls.{Makes, MakesEnd};
+ghost use Rattle.mm_settled.specs.private.Ends.{EndStep, Ends};
 ghost use Rattle.mm_settled.specs.private.Lists.{Fits};
 ghost use Rattle.mm_settled.specs.private.Told.{TellsOf};
 
 use crate::lists::{Lists, list_given, sort};
 use crate::settle::{come_to_rest, has_room};
-use crate::{Grant, Key, Refusal, Released, Table};
+use crate::{End, Grant, Key, Refusal, Released, Table};
 
 /// Hands the resource over, and settles the table where that leaves somebody to be told.
 pub fn release(
@@ -21,7 +23,8 @@ pub fn release(
 ) -> Result<Released, Refusal>
     requires rest { AtRest table.old }
     requires fits { Fits table.old.config lists.old }
-    ensures { Ends (Release key resource) table.old result table.new key.process lists.new }
+    ensures makes { Makes (Release key resource) table.old result table.new }
+    ensures ends { Ends table.old table.new key.process lists.new }
 {
     table.keeps_laws();
     if !has_room(table) {
@@ -33,17 +36,19 @@ pub fn release(
     Ok(answer)
 }
 
-/// Ends an active transaction, and settles the table where that leaves somebody to be told. What it owned is listed.
-pub fn finish(
+/// Ends a transaction, and settles the table where that leaves somebody to be told. What it owned is listed.
+pub fn end(
     table: &mut Table,
     lists: &mut Lists,
     owned: &mut Vec<u32>,
+    kind: End,
     key: Key,
 ) -> Result<(), Refusal>
     requires rest { AtRest table.old }
     requires fits { Fits table.old.config lists.old }
     requires room { table.old.config.resources ≤ vec_capacity owned.old }
-    ensures ends { Ends (Finish key) table.old result table.new key.process lists.new }
+    ensures makes { MakesEnd kind key table.old result table.new }
+    ensures ends { Ends table.old table.new key.process lists.new }
     ensures owned { OnOk result ((r : ℕ) → Among r owned.new.items ↔ (owner_of table.old r ≡ Some key)) }
     ensures room { vec_capacity owned.new ≡ vec_capacity owned.old }
 {
@@ -52,31 +57,7 @@ pub fn finish(
         lists.clear();
         return Err(Refusal::CountsExhausted);
     }
-    finish_listing(table, lists, owned, key)?;
-    come_to_rest(table, &mut lists.changed, &mut lists.processes);
-    Ok(())
-}
-
-/// Ends a transaction with a verdict, and settles the table where that leaves somebody to be told. What it owned is listed.
-pub fn abort(
-    table: &mut Table,
-    lists: &mut Lists,
-    owned: &mut Vec<u32>,
-    key: Key,
-) -> Result<(), Refusal>
-    requires rest { AtRest table.old }
-    requires fits { Fits table.old.config lists.old }
-    requires room { table.old.config.resources ≤ vec_capacity owned.old }
-    ensures ends { Ends (Abort key) table.old result table.new key.process lists.new }
-    ensures owned { OnOk result ((r : ℕ) → Among r owned.new.items ↔ (owner_of table.old r ≡ Some key)) }
-    ensures room { vec_capacity owned.new ≡ vec_capacity owned.old }
-{
-    table.keeps_laws();
-    if !has_room(table) {
-        lists.clear();
-        return Err(Refusal::CountsExhausted);
-    }
-    abort_listing(table, lists, owned, key)?;
+    end_listing(table, lists, owned, kind, key)?;
     come_to_rest(table, &mut lists.changed, &mut lists.processes);
     Ok(())
 }
@@ -102,17 +83,19 @@ fn release_listing(
     Ok(answer)
 }
 
-/// `Table::finish`, and whom it grants what and changes. Where it changes nobody it grants nothing. What the transaction owned is listed too.
-fn finish_listing(
+/// Ends a transaction in the table, and lists whom that grants what and changes. Where it changes nobody it grants nothing. What the
+/// transaction owned is listed too.
+fn end_listing(
     table: &mut Table,
     lists: &mut Lists,
     owned: &mut Vec<u32>,
+    kind: End,
     key: Key,
 ) -> Result<(), Refusal>
     requires laws { Laws table.old }
     requires fits { Fits table.old.config lists.old }
     requires room { table.old.config.resources ≤ vec_capacity owned.old }
-    ensures step { Step (Finish key) table.old result table.new }
+    ensures step { EndStep kind key table.old result table.new }
     ensures told { TellsOf table.old table.new lists.new }
     ensures fits { Fits table.old.config lists.new }
     ensures owned { OnOk result ((r : ℕ) → Among r owned.new.items ↔ (owner_of table.old r ≡ Some key)) }
@@ -120,7 +103,7 @@ fn finish_listing(
 {
     lists.granted.clear();
     table.owned_by(key, owned);
-    table.finish_waking(key, &mut lists.changed)?;
+    end_waking(table, kind, key, &mut lists.changed)?;
     if lists.changed.is_empty() {
         return Ok(());
     }
@@ -129,29 +112,15 @@ fn finish_listing(
     Ok(())
 }
 
-/// `Table::abort`, and whom it grants what and changes, as `finish_listing` does.
-fn abort_listing(
-    table: &mut Table,
-    lists: &mut Lists,
-    owned: &mut Vec<u32>,
-    key: Key,
-) -> Result<(), Refusal>
-    requires laws { Laws table.old }
-    requires fits { Fits table.old.config lists.old }
-    requires room { table.old.config.resources ≤ vec_capacity owned.old }
-    ensures step { Step (Abort key) table.old result table.new }
-    ensures told { TellsOf table.old table.new lists.new }
-    ensures fits { Fits table.old.config lists.new }
-    ensures owned { OnOk result ((r : ℕ) → Among r owned.new.items ↔ (owner_of table.old r ≡ Some key)) }
-    ensures room { vec_capacity owned.new ≡ vec_capacity owned.old }
+/// `Table::finish_waking` of an active transaction, `Table::abort_waking` of a victim.
+fn end_waking(table: &mut Table, kind: End, key: Key, wake: &mut Vec<u32>) -> Result<(), Refusal>
+    requires room { table.old.config.processes ≤ vec_capacity wake.old }
+    ensures step { EndStep kind key table.old result table.new }
+    ensures woken { wake.new.items ≡ changed_processes table.old table.new }
+    ensures room { vec_capacity wake.new ≡ vec_capacity wake.old }
 {
-    lists.granted.clear();
-    table.owned_by(key, owned);
-    table.abort_waking(key, &mut lists.changed)?;
-    if lists.changed.is_empty() {
-        return Ok(());
+    match kind {
+        End::Active => table.finish_waking(key, wake),
+        End::Victim => table.abort_waking(key, wake),
     }
-    sort(&mut lists.resources, owned);
-    list_given(table, owned, &mut lists.granted);
-    Ok(())
 }

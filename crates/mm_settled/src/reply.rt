@@ -17,3 +17,12 @@ pub struct Grant {
     pub key: Key,
     pub resource: u32,
 }
+
+/// Which transaction a call ends.
+#[derive(Clone, Copy, Debug, PartialEq, Eq)]
+pub enum End {
+    /// An active one, as `finish` does.
+    Active,
+    /// The victim of a deadlock, as `abort` does.
+    Victim,
+}

@@ -4,14 +4,14 @@ ghost use Rattle.mm_list_lemmas.specs.Members.{Among};
 ghost use Rattle.mm_rules.specs.TableState.{has_verdict, owner_of};
 ghost use Rattle.mm_rules.specs.Laws.{Laws, AtRest};
 ghost use Rattle.mm_rules.specs.Victims.{IsOnCycle};
-ghost use Rattle.mm_settled.specs.Calls.{OpensSettled, Locks, IsDeadlock, Makes, OthersKeepVerdicts};
+ghost use Rattle.mm_settled.specs.Calls.{OpensSettled, Locks, IsDeadlock, Makes, MakesEnd, OthersKeepVerdicts};
 ghost use Rattle.mm_settled.specs.Grants.{Tells, EndsWaits};
 
-use crate::ends::{abort, finish, release};
+use crate::ends::{end, release};
 use crate::give_up::give_up;
 use crate::lists::{Lists, is_told, list};
 use crate::lock::lock;
-use crate::{Config, Grant, Key, Locked, Refusal, Released, Table};
+use crate::{Config, End, Grant, Key, Locked, Refusal, Released, Table};
 use std::alloc::Global;
 use std::marker::Model;
 
@@ -148,25 +148,13 @@ impl SettledTable {
         ensures told { Tells self.old.table self.new }
         ensures ended { EndsWaits self.old.table self.new.table key.process self.new.granted }
     {
-        let answer = finish(&mut self.table, &mut self.lists, &mut self.owned, key);
-        self.told_at = self.table.totals().accepted;
-        answer
-    }
-
-    /// `finish`, which also lists what the transaction owned, in no order that is promised, in place of what `owned` held.
-    ///
-    /// `owned` has room for each resource, and no memory is taken. Where the call is refused, what `owned` has means nothing. It is
-    /// refused as `finish` is, and costs what that costs.
-    pub fn finish_listing(&mut self, key: Key, owned: &mut Vec<u32>) -> Result<(), Refusal>
-        requires room { self.old.table.config.resources ≤ vec_capacity owned.old }
-        ensures makes { Makes (Finish key) self.old.table result self.new.table }
-        ensures others { OthersKeepVerdicts self.old.table self.new.table key.process }
-        ensures told { Tells self.old.table self.new }
-        ensures ended { EndsWaits self.old.table self.new.table key.process self.new.granted }
-        ensures owned { OnOk result ((r : ℕ) → Among r owned.new.items ↔ (owner_of self.old.table r ≡ Some key)) }
-        ensures room { vec_capacity owned.new ≡ vec_capacity owned.old }
-    {
-        let answer = finish(&mut self.table, &mut self.lists, owned, key);
+        let answer = end(
+            &mut self.table,
+            &mut self.lists,
+            &mut self.owned,
+            End::Active,
+            key,
+        );
         self.told_at = self.table.totals().accepted;
         answer
     }
@@ -181,25 +169,32 @@ impl SettledTable {
         ensures told { Tells self.old.table self.new }
         ensures ended { EndsWaits self.old.table self.new.table key.process self.new.granted }
     {
-        let answer = abort(&mut self.table, &mut self.lists, &mut self.owned, key);
+        let answer = end(
+            &mut self.table,
+            &mut self.lists,
+            &mut self.owned,
+            End::Victim,
+            key,
+        );
         self.told_at = self.table.totals().accepted;
         answer
     }
 
-    /// `abort`, which also lists what the transaction owned, in no order that is promised, in place of what `owned` held.
+    /// `finish` of an active transaction or `abort` of a victim, which also lists what the transaction owned, in no order that is promised,
+    /// in place of what `owned` held.
     ///
     /// `owned` has room for each resource, and no memory is taken. Where the call is refused, what `owned` has means nothing. It is
-    /// refused as `abort` is, and costs what that costs.
-    pub fn abort_listing(&mut self, key: Key, owned: &mut Vec<u32>) -> Result<(), Refusal>
+    /// refused as `finish` or `abort` is, and costs what that costs.
+    pub fn end_listing(&mut self, kind: End, key: Key, owned: &mut Vec<u32>) -> Result<(), Refusal>
         requires room { self.old.table.config.resources ≤ vec_capacity owned.old }
-        ensures makes { Makes (Abort key) self.old.table result self.new.table }
+        ensures makes { MakesEnd kind key self.old.table result self.new.table }
         ensures others { OthersKeepVerdicts self.old.table self.new.table key.process }
         ensures told { Tells self.old.table self.new }
         ensures ended { EndsWaits self.old.table self.new.table key.process self.new.granted }
         ensures owned { OnOk result ((r : ℕ) → Among r owned.new.items ↔ (owner_of self.old.table r ≡ Some key)) }
         ensures room { vec_capacity owned.new ≡ vec_capacity owned.old }
     {
-        let answer = abort(&mut self.table, &mut self.lists, owned, key);
+        let answer = end(&mut self.table, &mut self.lists, owned, kind, key);
         self.told_at = self.table.totals().accepted;
         answer
     }

@@ -10,13 +10,14 @@ use Rattle.mm_rules.specs.TableState.{TableState, is_live, wait_of}
 use Rattle.mm_rules.specs.Event.{Finish}
 use Rattle.mm_rules.specs.Laws.{Laws}
 use Rattle.mm_settled.specs.Grants.{grants}
+use Rattle.mm_settled.specs.declared.reply.End.TheVariants.{Active}
 use Rattle.mm_settled.specs.declared.reply.Grant.{Grant}
 use Rattle.mm_manager.specs.Calls.{EndsAll}
 use Rattle.mm_manager.specs.declared.lists.Lists.{Lists}
 use Rattle.mm_manager.specs.private.Due.{IsAmong, IsReady, EndsDue, EndsIfDue, EndsOne}
 use Rattle.mm_manager.specs.private.HandsDown.{HandsDown, IsEnding}
 use Rattle.mm_manager.specs.LockState.{KeepOwned}
-use Rattle.mm_manager.proofs.Lemmas.HandsDown.{finish_hands_down, made_laws}
+use Rattle.mm_manager.proofs.Lemmas.HandsDown.{end_hands_down, made_laws}
 use Rattle.mm_manager.proofs.Lemmas.Granted.{grants_once, granted_more}
 use Rattle.mm_manager.proofs.Lemmas.Due.{among_take, among_further, among_next, none_taken, taken_apart, cleared_stays, was_marked, keep_same, keep_then, down_same, down_then, down_of_idle, ends_then, among_last}
 
@@ -149,7 +150,7 @@ module _ (s : TableState) (t : NameTable) (first : List Grant) (marks : List Boo
         let granted = one.granted in
         let aborted = one.aborted in
         let made = one.made in
-        let down : HandsDown u g.key.process (IsEnding g.key) (grants u v) v = finish_hands_down u v g.key (grants u v) so_far.laws one.ended refl made in
+        let down : HandsDown u g.key.process (IsEnding g.key) (grants u v) v = end_hands_down u v g.key (grants u v) so_far.laws one.ended refl Active made in
         let idle : wait_of u g.key.process ≡ None = so_far.are_granted.idle g is_among in
         let laws = made_laws (Finish g.key) u v tt so_far.laws made in
         record {

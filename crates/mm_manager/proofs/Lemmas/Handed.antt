@@ -1,5 +1,5 @@
 -- An event that hands over, and the ends that come due by it.
-use Rattle.std.proofs.Common.{◌≡◌, ◌≢◌, ◌↔◌, ℕ, Bool, true, false, List, [], length, take, None, Some, is_some, inl, inr, sym, ap, subst, ◌∙◌, arith, slice_set, get_or-set_same}
+use Rattle.std.proofs.Common.{◌≡◌, ◌≢◌, ◌↔◌, ℕ, Bool, true, false, List, [], length, take, None, Some, is_some, Ok, inl, inr, refl, sym, ap, subst, ◌∙◌, arith, slice_set, get_or-set_same}
 use Rattle.std.proofs.lemmas.Bool.{cases_Bool, cases_lt}
 use Rattle.std.proofs.lemmas.List.{take_all, get_or_past}
 use Rattle.mm_arena.specs.declared.key.Key.{Key}
@@ -7,15 +7,17 @@ use Rattle.mm_list_lemmas.specs.Members.{Among}
 use Rattle.mm_bit_set.specs.BitSet.{has}
 use Rattle.mm_names.specs.Names.{NameTable}
 use Rattle.mm_rules.specs.TableState.{TableState, wait_of, is_waiting, has_verdict}
-use Rattle.mm_rules.specs.Event.{Event, Answer}
+use Rattle.mm_rules.specs.Event.{Event, Finish, Abort, Answer}
 use Rattle.mm_rules.specs.Laws.{Laws}
-use Rattle.mm_settled.specs.Calls.{Made}
+use Rattle.mm_settled.specs.Calls.{Made, MakesEnd}
 use Rattle.mm_settled.specs.Grants.{grants}
+use Rattle.mm_settled.specs.declared.reply.End.{End}
+use Rattle.mm_settled.specs.declared.reply.End.TheVariants.{Active, Victim}
 use Rattle.mm_settled.specs.declared.reply.Grant.{Grant}
 use Rattle.mm_manager.specs.declared.lists.Lists.{Lists}
 use Rattle.mm_manager.specs.private.Due.{AreGranted, IsAmong, EndsDue}
-use Rattle.mm_manager.specs.private.Handed.{DueWait, LosesOr, Handed}
-use Rattle.mm_manager.specs.private.HandsDown.{HandsDown}
+use Rattle.mm_manager.specs.private.Handed.{DueWait, LosesOr, Handed, HandedEnd, MayEnd}
+use Rattle.mm_manager.specs.private.HandsDown.{HandsDown, IsEnding}
 use Rattle.mm_manager.specs.private.Numbers.{AreNumbered}
 use Rattle.mm_manager.specs.LockState.{KeepOwned}
 use Rattle.mm_manager.proofs.Lemmas.Numbers.{some_or_not}
@@ -35,11 +37,15 @@ active_not_due s due n waits idle = elim (cases_Bool (has due n)) [
   | inl marked ↦ (let never : true ≡ false = sym (waits n marked).0 ∙ ap is_some idle in absurd (cc))
 ]
 
-pub convicted_not_due : (s : TableState) (due : List Bool) (n : ℕ) → DueWait s due → has_verdict s n ≡ true → has due n ≡ false
+convicted_not_due : (s : TableState) (due : List Bool) (n : ℕ) → DueWait s due → has_verdict s n ≡ true → has due n ≡ false
 convicted_not_due s due n waits convicted = elim (cases_Bool (has due n)) [
   | inr none ↦ none
   | inl marked ↦ (let never : true ≡ false = sym convicted ∙ (waits n marked).1 in absurd (cc))
 ]
+
+ending_not_due : (kind : End) (s : TableState) (due : List Bool) (n : ℕ) → DueWait s due → MayEnd kind s n → has due n ≡ false
+ending_not_due Active s due n waits idle = active_not_due s due n waits idle
+ending_not_due Victim s due n waits convicted = convicted_not_due s due n waits convicted
 
 -- ---- a mark that is taken away
 
@@ -103,3 +109,15 @@ module _ (e : Event) (s : TableState) (t : NameTable) (due : List Bool) (answer 
     all = λ g among marked. ends.all g (among_all g among) marked;
     stay = stays;
   }
+
+-- the end of k, and the ends by that
+module _ (k : Key) (s : TableState) (t : NameTable) (due : List Bool) (mid : TableState) (t1 : NameTable) (down : HandsDown s k.process (IsEnding k) (grants s mid) mid) (names : KeepOwned t mid t1)
+    (numbered : AreNumbered mid t1) (waits : DueWait s due) (u : TableState) (named : NameTable) (m : Lists) (ends : EndsDue mid t1 (grants s mid) due (length m.granted.items) u named m) where
+  by_own : (q : ℕ) (h : Key) → IsEnding k q h → h.process ≡ k.process
+  by_own q h is = ap (λ (i : Key). i.process) is
+
+  pub end_handed_on : (kind : End) → MakesEnd kind k s (Ok tt) mid → MayEnd kind s k.process → HandedEnd kind k s t due u named m
+  end_handed_on Active made may =
+      handed_on (Finish k) s t due tt k.process (IsEnding k) mid t1 made down names numbered by_own waits (ending_not_due Active s due k.process waits may) (length m.granted.items) u named m ends refl
+  end_handed_on Victim made may =
+      handed_on (Abort k) s t due tt k.process (IsEnding k) mid t1 made down names numbered by_own waits (ending_not_due Victim s due k.process waits may) (length m.granted.items) u named m ends refl

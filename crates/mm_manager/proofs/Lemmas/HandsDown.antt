@@ -8,17 +8,19 @@ use Rattle.mm_list_lemmas.specs.Members.{Among}
 use Rattle.mm_list_lemmas.proofs.Lemmas.Range.{among_range}
 use Rattle.mm_rules.specs.declared.reply.Released.{Released}
 use Rattle.mm_rules.specs.TableState.{TableState, is_live, has_verdict, owner_of, owns, wait_of, waited_for, waiters_of}
-use Rattle.mm_rules.specs.Change.{hand_over, vacate, abort}
-use Rattle.mm_rules.specs.Event.{Event, Answer, Release, Finish, Abort, Settle, release_tests, release_answer, finish_tests, abort_tests}
+use Rattle.mm_rules.specs.Change.{hand_over}
+use Rattle.mm_rules.specs.Event.{Event, Answer, Release, Settle, release_tests, release_answer}
 use Rattle.mm_rules.specs.Laws.{Laws}
 use Rattle.mm_rules.proofs.States.EventsKeepLaws.{event_keeps}
 use Rattle.mm_rules.proofs.States.Lookups.{waits_here, held}
 use Rattle.mm_rules.proofs.States.Release.{owns_gives}
-use Rattle.mm_settled.specs.Calls.{Made, Rests}
+use Rattle.mm_settled.specs.Calls.{Made, MakesEnd, Rests}
 use Rattle.mm_settled.specs.Grants.{waits_for, to_waiter, grant_of, grants, EndsWaits}
+use Rattle.mm_settled.specs.declared.reply.End.{End}
 use Rattle.mm_settled.specs.declared.reply.Grant.{Grant}
 use Rattle.mm_settled.proofs.Lemmas.Accepted.{accepted}
-use Rattle.mm_settled.proofs.Lemmas.Ends.{HandsOn, release_hands_on, finish_hands_on, abort_hands_on, owner_in_range}
+use Rattle.mm_settled.proofs.Lemmas.EitherEnd.{end_made, end_keeps, end_was_live, end_hands_on}
+use Rattle.mm_settled.proofs.Lemmas.Ends.{HandsOn, release_hands_on, owner_in_range}
 use Rattle.mm_settled.proofs.Lemmas.Grants.{filter_map_keeps}
 use Rattle.mm_manager.specs.private.HandsDown.{HandsDown, IsEnding, IsReleased}
 use Rattle.mm_manager.proofs.Lemmas.Numbers.{some_not_none}
@@ -130,18 +132,10 @@ module _ (s u : TableState) (k : Key) (granted : List Grant) (laws : Laws s) (en
         | inr other ↦ ne_eqb q r other
       ])
 
-  pub finish_hands_down : Made (Finish k) s tt u → HandsDown s k.process (IsEnding k) granted u
-  finish_hands_down made =
-      let done = accepted (finish_tests s k) s tt (vacate s k.process) tt made.mid made.event in
-      let on = finish_hands_on s made.mid k laws made.event in
-      hands_down s made.mid u k.process (owns s k.process) (IsEnding k) granted (made_laws (Finish k) s u tt laws made) on made.rests ends are made.verdicts
+  pub end_hands_down : (kind : End) → MakesEnd kind k s (Ok tt) u → HandsDown s k.process (IsEnding k) granted u
+  end_hands_down kind makes =
+      let made = end_made kind s u k makes in
+      let on = end_hands_on kind s made.mid k laws made.step in
+      hands_down s made.mid u k.process (owns s k.process) (IsEnding k) granted (rest_laws made.mid u (end_keeps kind s made.mid k laws made.step) made.rests) on made.rests ends are made.verdicts
       (λ q h loses owned. gone_all s made.mid k q laws on (owned ∙ ap Some loses))
-      (other_key s k laws (not-false (is_live s k) done.passed.1.0))
-
-  pub abort_hands_down : Made (Abort k) s tt u → HandsDown s k.process (IsEnding k) granted u
-  abort_hands_down made =
-      let done = accepted (abort_tests s k) s tt (abort s k.process) tt made.mid made.event in
-      let on = abort_hands_on s made.mid k laws made.event in
-      hands_down s made.mid u k.process (owns s k.process) (IsEnding k) granted (made_laws (Abort k) s u tt laws made) on made.rests ends are made.verdicts
-      (λ q h loses owned. gone_all s made.mid k q laws on (owned ∙ ap Some loses))
-      (other_key s k laws (not-false (is_live s k) done.passed.1.0))
+      (other_key s k laws (end_was_live kind s made.mid k made.step))

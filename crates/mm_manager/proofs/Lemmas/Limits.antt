@@ -15,9 +15,12 @@ use Rattle.mm_rules.specs.Change.{activate, label_against, block_fits, give_to_f
 use Rattle.mm_rules.specs.Event.{Tests, Release, Finish, Abort, GiveUp, Gives, Step, allowed, counts_exhausted, decided, outcome, acquire_tests, acquire_answer, acquire_change, release_tests, release_answer, finish_tests, abort_tests, give_up_tests}
 use Rattle.mm_rules.specs.Laws.{Laws}
 use Rattle.mm_rules.proofs.States.Vacate.{live_process}
-use Rattle.mm_settled.specs.Calls.{Locks, Refuses, has_room}
+use Rattle.mm_settled.specs.Calls.{Locks, MakesEnd, Refuses, has_room}
+use Rattle.mm_settled.specs.declared.reply.End.{End}
+use Rattle.mm_settled.specs.declared.reply.End.TheVariants.{Active, Victim}
 use Rattle.mm_settled.proofs.Lemmas.Ends.{owner_in_range}
 use Rattle.mm_manager.specs.Permit.{event_limit}
+use Rattle.mm_manager.specs.private.Handed.{MayEnd}
 use Rattle.mm_manager.specs.private.Room.{LabelsWithin, HasReserve}
 use Rattle.mm_manager.proofs.Lemmas.Fewer.{live_to_end}
 
@@ -120,7 +123,7 @@ module _ (s : TableState) (k : Key) (laws : Laws s) (room : HasReserve s) (live 
     not_waiting : {P : Type 0} → is_waiting s k.process ≡ true → P
     not_waiting = never_true (is_waiting s k.process) (ap is_some idle)
 
-    pub finish_never : (u : TableState) (e : Refusal) → Refuses (Finish k) s e u → ⊥
+    finish_never : (u : TableState) (e : Refusal) → Refuses (Finish k) s e u → ⊥
     finish_never u e refuses =
         each_true Never (finish_tests s k) e
         ((λ is. not_counted is), ((λ is. not_stale is), ((λ is. not_waiting is), ((λ is. never_true (not (vacate_fits s k.process)) (not_of (vacate_fits s k.process) (vacate_has_room s room.labels k.process)) is), tt))))
@@ -146,7 +149,7 @@ module _ (s : TableState) (k : Key) (laws : Laws s) (room : HasReserve s) (live 
 
   -- ---- an abort, and a wait that is taken back
 
-  pub abort_never : has_verdict s k.process ≡ true → (u : TableState) (e : Refusal) → Refuses (Abort k) s e u → ⊥
+  abort_never : has_verdict s k.process ≡ true → (u : TableState) (e : Refusal) → Refuses (Abort k) s e u → ⊥
   abort_never verdict u e refuses =
       each_true Never (abort_tests s k) e (
         (λ is. not_counted is),
@@ -159,6 +162,10 @@ module _ (s : TableState) (k : Key) (laws : Laws s) (room : HasReserve s) (live 
         ),
       )
       (refused_tests (abort_tests s k) s tt (abort s k.process) e s (by_room (has_room s) (Step (Abort k) s (Err e) s) (e ≡ CountsExhausted) can.room refuses.1))
+
+  pub end_never : (kind : End) → MayEnd kind s k.process → (u : TableState) (e : Refusal) → MakesEnd kind k s (Err e) u → ⊥
+  end_never Active idle u e refuses = finish_never idle u e refuses
+  end_never Victim verdict u e refuses = abort_never verdict u e refuses
 
   abbrev IsCarried : Refusal → Type 0
   IsCarried e = e ≡ Carried

@@ -20,7 +20,9 @@ use Rattle.mm_rules.proofs.States.Config.{event_config}
 use Rattle.mm_rules.proofs.States.Counts.{event_counts}
 use Rattle.mm_rules.proofs.States.SettleKeeps.{settle_keeps}
 use Rattle.mm_rules.proofs.States.Vacate.{live_process}
-use Rattle.mm_settled.specs.Calls.{Made, Rests, WaitsFrom}
+use Rattle.mm_settled.specs.Calls.{Made, MakesEnd, Rests, WaitsFrom}
+use Rattle.mm_settled.specs.declared.reply.End.{End}
+use Rattle.mm_settled.specs.declared.reply.End.TheVariants.{Active, Victim}
 use Rattle.mm_settled.proofs.Lemmas.Accepted.{IsAccepted, accepted}
 use Rattle.mm_settled.proofs.Lemmas.Ends.{owner_in_range}
 use Rattle.mm_manager.specs.Permit.{event_limit}
@@ -127,7 +129,7 @@ release_room s u k r answer laws owned room made =
       fewer = omega (arith, less, ap to_end done.state);
     } (omega (arith, (event_counts (Release k r) s made.mid (Ok answer) made.event).2))
 
-pub finish_room : (s u : TableState) (k : Key) → Laws s → HasReserve s → Made (Finish k) s tt u → HasReserve u
+finish_room : (s u : TableState) (k : Key) → Laws s → HasReserve s → Made (Finish k) s tt u → HasReserve u
 finish_room s u k laws room made =
     let n = k.process in
     let done : IsAccepted (Unit {0}) (finish_tests s k) tt (vacate s n) tt made.mid = accepted (finish_tests s k) s tt (vacate s n) tt made.mid made.event in
@@ -137,7 +139,7 @@ finish_room s u k laws room made =
       fewer = omega (arith, vacate_less s n (resources_of s n) live, ap to_end done.state);
     } (omega (arith, (event_counts (Finish k) s made.mid (Ok tt) made.event).2))
 
-pub abort_room : (s u : TableState) (k : Key) → Laws s → HasReserve s → Made (Abort k) s tt u → HasReserve u
+abort_room : (s u : TableState) (k : Key) → Laws s → HasReserve s → Made (Abort k) s tt u → HasReserve u
 abort_room s u k laws room made =
     let n = k.process in
     let t = take_back s n in
@@ -148,6 +150,10 @@ abort_room s u k laws room made =
       labels = λ most labels. subst (λ v. LabelsWithin v most) (sym done.state) (vacate_within t n most (resources_of t n) once (activate_within s n most labels));
       fewer = omega (arith, vacate_less t n (resources_of t n) live, activate_held s n, ap to_end done.state);
     } (omega (arith, (event_counts (Abort k) s made.mid (Ok tt) made.event).2))
+
+pub end_room : (kind : End) (s u : TableState) (k : Key) → Laws s → HasReserve s → MakesEnd kind k s (Ok tt) u → HasReserve u
+end_room Active s u k laws room made = finish_room s u k laws room made
+end_room Victim s u k laws room made = abort_room s u k laws room made
 
 some_of_waiting : (s : TableState) (n : ℕ) → is_waiting s n ≡ true → (r : ℕ) × (wait_of s n ≡ Some r)
 some_of_waiting s n waits = by_wait (wait_of s n) refl

@@ -1,18 +1,20 @@
 -- A call that hands over, by number.
-use Rattle.std.specs.Prelude.{◌≡◌, ◌≢◌, ◌↔◌, ◌⊎◌, ◌++◌, ℕ, Bool, true, false, List, []}
+use Rattle.std.specs.Prelude.{◌≡◌, ◌≢◌, ◌↔◌, ◌⊎◌, ◌++◌, ℕ, Bool, true, false, List, [], None}
 use Rattle.mm_arena.specs.declared.key.Key.{Key}
 use Rattle.mm_list_lemmas.specs.Members.{Among}
 use Rattle.mm_bit_set.specs.BitSet.{has}
 use Rattle.mm_names.specs.Names.{NameTable}
-use Rattle.mm_rules.specs.TableState.{TableState, is_waiting, has_verdict}
-use Rattle.mm_rules.specs.Event.{Event, Answer}
+use Rattle.mm_rules.specs.TableState.{TableState, is_waiting, has_verdict, wait_of}
+use Rattle.mm_rules.specs.Event.{Event, Finish, Abort, Answer}
 use Rattle.mm_rules.specs.Laws.{Laws}
 use Rattle.mm_settled.specs.Calls.{Made}
 use Rattle.mm_settled.specs.Grants.{grants}
+use Rattle.mm_settled.specs.declared.reply.End.{End}
+use Rattle.mm_settled.specs.declared.reply.End.TheVariants.{Active, Victim}
 use Rattle.mm_settled.specs.declared.reply.Grant.{Grant}
 use Rattle.mm_manager.specs.Calls.{EndsAll}
 use Rattle.mm_manager.specs.declared.lists.Lists.{Lists}
-use Rattle.mm_manager.specs.private.HandsDown.{HandsDown}
+use Rattle.mm_manager.specs.private.HandsDown.{HandsDown, IsEnding}
 use Rattle.mm_manager.specs.private.Lists.{Fits}
 use Rattle.mm_manager.specs.private.Numbers.{AreNumbered}
 use Rattle.mm_manager.specs.private.Room.{HasReserve}
@@ -55,3 +57,13 @@ pub record Handed (e : Event) (s : TableState) (t : NameTable) (due : List Bool)
   pub was_due : (k : Key) → Among k m.aborted.items → (has due k.process ≡ true) × ((g : Grant) × Among g m.granted.items × (g.key ≡ k))
   pub all : (g : Grant) → Among g m.granted.items → has due g.key.process ≡ true → Among g.key m.aborted.items
   pub stay : (p : ℕ) → (has m.due.items p ≡ true) ↔ ((has due p ≡ true) × ((g : Grant) → Among g m.granted.items → g.key.process ≢ p))
+
+-- the transaction of process n can end in this way: it waits for nothing, or has a verdict
+abbrev pub MayEnd : End → TableState → ℕ → Type 0
+MayEnd Active s n = wait_of s n ≡ None
+MayEnd Victim s n = has_verdict s n ≡ true
+
+-- k ends, and then those whose abort is due by that
+abbrev pub HandedEnd : End → Key → TableState → NameTable → List Bool → TableState → NameTable → Lists → Type 0
+HandedEnd Active k s t due u named m = Handed (Finish k) s t due tt k.process (IsEnding k) u named m
+HandedEnd Victim k s t due u named m = Handed (Abort k) s t due tt k.process (IsEnding k) u named m

@@ -1,18 +1,25 @@
 -- What `release`, `finish` and `abort` do, by which resources are handed over.
 use Rattle.std.specs.Prelude.{◌≡◌, ℕ, Result}
+use Rattle.mm_arena.specs.declared.key.Key.{Key}
 use Rattle.mm_rules.specs.declared.refusal.Refusal.{Refusal}
 use Rattle.mm_rules.specs.TableState.{TableState}
-use Rattle.mm_rules.specs.Event.{Event, Answer}
+use Rattle.mm_rules.specs.Event.{Finish, Abort, Step}
 use Rattle.mm_rules.specs.Laws.{AtRest}
-use Rattle.mm_settled.specs.Calls.{Makes, OthersKeepVerdicts}
+use Rattle.mm_settled.specs.Calls.{OthersKeepVerdicts}
 use Rattle.mm_settled.specs.Grants.{EndsWaits}
 use Rattle.mm_settled.specs.declared.lists.Lists.{Lists}
+use Rattle.mm_settled.specs.declared.reply.End.{End}
+use Rattle.mm_settled.specs.declared.reply.End.TheVariants.{Active, Victim}
 use Rattle.mm_settled.specs.private.Lists.{Fits}
 use Rattle.mm_settled.specs.private.Told.{TellsOf}
 
--- the call of process n makes this event and settles the table where that is needed, and the lists tell of both
-pub record Ends (e : Event) (old : TableState) (reply : Result (Answer e) Refusal) (new : TableState) (n : ℕ) (lists : Lists) : Type 0 where
-  pub makes : Makes e old reply new
+-- the event by which k ends: a finish where k is active, an abort where it is a victim
+abbrev pub EndStep : End → Key → TableState → Result (Unit {0}) Refusal → TableState → Type 0
+EndStep Active k old reply new = Step (Finish k) old reply new
+EndStep Victim k old reply new = Step (Abort k) old reply new
+
+-- a call of process n that hands over, and settles the table where that is needed, leaves it at rest, and the lists tell of both
+pub record Ends (old new : TableState) (n : ℕ) (lists : Lists) : Type 0 where
   pub others : OthersKeepVerdicts old new n
   pub told : TellsOf old new lists
   pub ended : EndsWaits old new n lists.granted.items

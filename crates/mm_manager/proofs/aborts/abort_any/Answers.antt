@@ -13,8 +13,8 @@ end-requires-clause-live c =
     let is = told_active s k c.in-Ok.state (is_told s k c.in-Ok.state told) c.in-Active.is in
     is.live
 
-pub end-requires-clause-active : goal.end-requires-clause-active
-end-requires-clause-active c =
+pub end-requires-clause-may : goal.end-requires-clause-may
+end-requires-clause-may c =
     let s = c.args.table.now.table in
     let k = c.args.key in
     let told : state_of s k ≡ Ok c.in-Ok.state = ap (λ (t : TableState). state_of t k) (sym c.table.ensures) ∙ sym c.state.ensures ∙ c.in-Ok.is in
@@ -29,16 +29,16 @@ returns-in-Active-clause-aborts c before =
     let is = told_active s k c.in-Ok.state (is_told s k c.in-Ok.state told) c.in-Active.is in
     active_aborts s c.end.new.table.table c.args.names.now c.end.new.names c.args.lists.now c.clear.new.self c.end.new.lists before _ k c.clear.ensures.due c.end.ensures
 
-pub end_convicted-requires-clause-live : goal.end_convicted-requires-clause-live
-end_convicted-requires-clause-live c =
+pub end-requires-in-Convicted-clause-live : goal.end-requires-in-Convicted-clause-live
+end-requires-in-Convicted-clause-live c =
     let s = c.args.table.now.table in
     let k = c.args.key in
     let told : state_of s k ≡ Ok c.in-Ok.state = ap (λ (t : TableState). state_of t k) (sym c.table.ensures) ∙ sym c.state.ensures ∙ c.in-Ok.is in
     let is = told_convicted s k c.in-Ok.state c.in-Convicted.field-0 (is_told s k c.in-Ok.state told) c.in-Convicted.is in
     is.live
 
-pub end_convicted-requires-clause-verdict : goal.end_convicted-requires-clause-verdict
-end_convicted-requires-clause-verdict c =
+pub end-requires-in-Convicted-clause-may : goal.end-requires-in-Convicted-clause-may
+end-requires-in-Convicted-clause-may c =
     let s = c.args.table.now.table in
     let k = c.args.key in
     let told : state_of s k ≡ Ok c.in-Ok.state = ap (λ (t : TableState). state_of t k) (sym c.table.ensures) ∙ sym c.state.ensures ∙ c.in-Ok.is in
@@ -51,7 +51,7 @@ returns-in-Convicted-clause-aborts c before =
     let k = c.args.key in
     let told : state_of s k ≡ Ok c.in-Ok.state = ap (λ (t : TableState). state_of t k) (sym c.table.ensures) ∙ sym c.state.ensures ∙ c.in-Ok.is in
     let is = told_convicted s k c.in-Ok.state c.in-Convicted.field-0 (is_told s k c.in-Ok.state told) c.in-Convicted.is in
-    convicted_aborts s c.end_convicted.new.table.table c.args.names.now c.end_convicted.new.names c.args.lists.now c.clear.new.self c.end_convicted.new.lists before _ k c.clear.ensures.due c.end_convicted.ensures
+    convicted_aborts s c.end-in-Convicted.new.table.table c.args.names.now c.end-in-Convicted.new.names c.args.lists.now c.clear.new.self c.end-in-Convicted.new.lists before _ k c.clear.ensures.due c.end-in-Convicted.ensures
 
 pub abort_waiting-requires-clause-may : goal.abort_waiting-requires-clause-may
 abort_waiting-requires-clause-may c =

@@ -17,8 +17,8 @@ end-requires-clause-parts c =
       room = c.give_up.ensures.left;
     }
 
-pub end-requires-clause-active : goal.end-requires-clause-active
-end-requires-clause-active c =
+pub end-requires-clause-may : goal.end-requires-clause-may
+end-requires-clause-may c =
     let s = c.args.table.now.table in
     let u = c.give_up.new.table.table in
     let step : Step (GiveUp c.args.key) s (Ok tt) u = rw c.in-Withdrawn.is at c.give_up.ensures.gave_up in

@@ -1,28 +1,25 @@
-use Rattle.std.proofs.Common.{◌≡◌, Ok, Err, false, replicate, nat_eq, vec_capacity, sym, ap, ◌∙◌, arith}
+use Rattle.std.proofs.Common.{◌≡◌, Ok, Err, false, replicate, nat_eq, vec_capacity, refl, sym, ap, ◌∙◌, arith}
 use Rattle.mm_rules.specs.declared.config.Config.{Config}
-use Rattle.mm_rules.specs.declared.refusal.Refusal.TheVariants.{CountsExhausted}
 use Rattle.mm_rules.specs.Event.{Release, Step}
 use Rattle.mm_rules.proofs.States.Config.{event_config}
-use Rattle.mm_settle.specs.Shown.{IdleShowTheSame}
 use Rattle.mm_settle.proofs.Lemmas.Shown.{shown_changes_are_told}
+use Rattle.mm_settled.specs.declared.lists.Lists.{Lists}
 use Rattle.mm_settled.proofs.Lemmas.Changed.{changed_within_after}
 use Rattle.mm_settled.proofs.Lemmas.Ends.{release_hands_on}
-use Rattle.mm_settled.proofs.Lemmas.Fits.{fits_again}
-use Rattle.mm_settled.proofs.Lemmas.Quiet.{same_is_quiet, same_changes_nobody}
+use Rattle.mm_settled.proofs.Lemmas.EndsAs.{refused_for_room, ends_refused, ends_cleared, makes_as, hands_over_made, hands_over_ends}
+use Rattle.mm_settled.proofs.Lemmas.Fits.{HasSameRoom}
 use Rattle.mm_settled.proofs.Lemmas.Refused.{release_refused, refuses}
-use Rattle.mm_settled.proofs.Lemmas.EndsAs.{refused_for_room, ends_refused, ends_as, ends_accepted}
-use Rattle.mm_settled.proofs.Lemmas.Rest.{EndsAtRest, ends_at_rest, room_left}
+use Rattle.mm_settled.proofs.Lemmas.Rest.{room_left}
 use Rattle.mm_settled.proofs.ends.release.Goals as goal
 
-pub returns-then-not-has_room : goal.returns-then-not-has_room
-returns-then-not-has_room c =
-    let s = c.args.table.now in
+pub returns-then-not-has_room-clause-makes : goal.returns-then-not-has_room-clause-makes
+returns-then-not-has_room-clause-makes c = refused_for_room (Release c.args.key c.args.resource) c.args.table.now (sym c.has_room.ensures ∙ c.if-not-has_room.true)
+
+pub returns-then-not-has_room-clause-ends : goal.returns-then-not-has_room-clause-ends
+returns-then-not-has_room-clause-ends c =
     let cleared = c.clear.ensures in
-    ends_refused (Release c.args.key c.args.resource) s s CountsExhausted c.args.key.process c.clear.new.self c.keeps_laws.ensures c.requires.rest (λ i. s)
-    (refused_for_room (Release c.args.key c.args.resource) s (sym c.has_room.ensures ∙ c.if-not-has_room.true))
-    record { granted = cleared.granted ∙ sym (same_is_quiet s s c.keeps_laws.ensures (λ i. s)).granted; changed = cleared.changed ∙ sym (same_changes_nobody s s (λ i. s)) }
-    (fits_again s.config s.config c.args.lists.now c.clear.new.self (λ i. s.config) c.requires.fits
-    record { granted = cleared.room_to_grant; changed = cleared.room_to_change; resources = cleared.resources; processes = cleared.processes })
+    ends_cleared c.args.table.now c.args.key.process c.args.lists.now c.clear.new.self c.keeps_laws.ensures c.requires.rest c.requires.fits
+    record { granted = cleared.room_to_grant; changed = cleared.room_to_change; resources = cleared.resources; processes = cleared.processes } cleared.granted cleared.changed
 
 -- ---- the table refuses
 
@@ -32,14 +29,16 @@ is_refused c = rw c.in_err-answer.was at c.release_listing.ensures.step
 same : (c : goal.After-from_residual) → c.release_listing.new.table ≡ c.args.table.now
 same c = release_refused c.args.table.now c.release_listing.new.table c.args.key c.args.resource c.in_err-answer.field-0.0 (is_refused c)
 
-pub returns-in_err-answer : goal.returns-in_err-answer
-returns-in_err-answer c =
-    let s = c.args.table.now in
-    let t = c.release_listing.new.table in
-    let lists = c.release_listing.new.lists in
-    ends_as (Release c.args.key c.args.resource) s t c.args.key.process lists c.from_residual.result c.in_err-answer.field-0.0 c.from_residual.ensures
-    (ends_refused (Release c.args.key c.args.resource) s t c.in_err-answer.field-0.0 c.args.key.process lists c.keeps_laws.ensures c.requires.rest (same c)
-    (refuses (Release c.args.key c.args.resource) s t c.in_err-answer.field-0.0 (sym c.has_room.ensures ∙ c.if-not-has_room.false) (is_refused c) (same c)) c.release_listing.ensures.told c.release_listing.ensures.fits)
+pub returns-in_err-answer-clause-makes : goal.returns-in_err-answer-clause-makes
+returns-in_err-answer-clause-makes c =
+    let e = Release c.args.key c.args.resource in
+    makes_as e c.args.table.now c.release_listing.new.table c.from_residual.result c.in_err-answer.field-0.0 c.from_residual.ensures
+    (refuses e c.args.table.now c.release_listing.new.table c.in_err-answer.field-0.0 (sym c.has_room.ensures ∙ c.if-not-has_room.false) (is_refused c) (same c))
+
+pub returns-in_err-answer-clause-ends : goal.returns-in_err-answer-clause-ends
+returns-in_err-answer-clause-ends c =
+    ends_refused c.args.table.now c.release_listing.new.table c.args.key.process c.release_listing.new.lists c.keeps_laws.ensures c.requires.rest (same c)
+    c.release_listing.ensures.told c.release_listing.ensures.fits
 
 -- ---- it is accepted
 
@@ -63,26 +62,33 @@ pub come_to_rest-requires-clause-within : goal.come_to_rest-requires-clause-with
 come_to_rest-requires-clause-within c =
     changed_within_after c.args.table.now c.release_listing.new.table c.release_listing.new.lists.changed.items (same_config c) c.release_listing.ensures.told.changed
 
-ends : (c : goal.After-come_to_rest)
-    → EndsAtRest (Release c.args.key c.args.resource) c.args.table.now c.in_ok-answer.answer c.come_to_rest.new.table c.args.key.process c.release_listing.new.lists.granted.items c.come_to_rest.new.changed.items
-ends c =
+abbrev lists_then : (c : goal.After-come_to_rest) → Lists
+lists_then c = record c.release_listing.new.lists { changed = c.come_to_rest.new.changed; processes = c.come_to_rest.new.set }
+
+same_room : (c : goal.After-come_to_rest) → HasSameRoom c.release_listing.new.lists (lists_then c)
+same_room c = record {
+  granted = λ i. vec_capacity c.release_listing.new.lists.granted;
+  changed = c.come_to_rest.ensures.room;
+  resources = λ i. c.release_listing.new.lists.resources;
+  processes = c.come_to_rest.ensures.none;
+}
+
+pub returns-clause-makes : goal.returns-clause-makes
+returns-clause-makes c =
     let s = c.args.table.now in
     let mid = c.release_listing.new.table in
-    let step : Step (Release c.args.key c.args.resource) s (Ok c.in_ok-answer.answer) mid = rw c.in_ok-answer.was at c.release_listing.ensures.step in
-    let idle : IdleShowTheSame s mid = (shown_changes_are_told (Release c.args.key c.args.resource) s mid (Ok c.in_ok-answer.answer) step c.keeps_laws.ensures).shown in
-    ends_at_rest (Release c.args.key c.args.resource) s mid c.come_to_rest.new.table c.in_ok-answer.answer c.keeps_laws.ensures c.requires.rest step (λ never. never) idle
-    c.release_listing.new.lists.changed.items c.come_to_rest.new.changed.items c.release_listing.ensures.told.changed c.come_to_rest.ensures.rests c.args.key.process (λ q. nat_eq q c.args.resource) (release_hands_on s mid c.args.key c.args.resource c.in_ok-answer.answer c.keeps_laws.ensures step)
-    (sym c.has_room.ensures ∙ c.if-not-has_room.false) c.release_listing.new.lists.granted.items c.release_listing.ensures.told.granted
+    let e = Release c.args.key c.args.resource in
+    let step : Step e s (Ok c.in_ok-answer.answer) mid = rw c.in_ok-answer.was at c.release_listing.ensures.step in
+    hands_over_made s mid c.come_to_rest.new.table c.args.key.process (λ q. nat_eq q c.args.resource) c.release_listing.new.lists (lists_then c) c.keeps_laws.ensures c.requires.rest
+    (sym c.has_room.ensures ∙ c.if-not-has_room.false) c.release_listing.ensures.told c.come_to_rest.ensures.rests c.release_listing.ensures.fits (same_room c) refl e c.in_ok-answer.answer step (λ never. never)
+    (shown_changes_are_told e s mid (Ok c.in_ok-answer.answer) step c.keeps_laws.ensures).shown (release_hands_on s mid c.args.key c.args.resource c.in_ok-answer.answer c.keeps_laws.ensures step)
 
-pub returns : goal.returns
-returns c =
-    let was = c.release_listing.new.lists in
-    let lists = record was { changed = c.come_to_rest.new.changed; processes = c.come_to_rest.new.set } in
-    ends_accepted (Release c.args.key c.args.resource) c.args.table.now c.come_to_rest.new.table c.in_ok-answer.answer c.args.key.process lists (ends c)
-    (fits_again c.args.table.now.config c.come_to_rest.new.table.config was lists (ends c).config c.release_listing.ensures.fits
-    record {
-      granted = λ i. vec_capacity was.granted;
-      changed = c.come_to_rest.ensures.room;
-      resources = λ i. was.resources;
-      processes = c.come_to_rest.ensures.none;
-    })
+pub returns-clause-ends : goal.returns-clause-ends
+returns-clause-ends c =
+    let s = c.args.table.now in
+    let mid = c.release_listing.new.table in
+    let e = Release c.args.key c.args.resource in
+    let step : Step e s (Ok c.in_ok-answer.answer) mid = rw c.in_ok-answer.was at c.release_listing.ensures.step in
+    hands_over_ends s mid c.come_to_rest.new.table c.args.key.process (λ q. nat_eq q c.args.resource) c.release_listing.new.lists (lists_then c) c.keeps_laws.ensures c.requires.rest
+    (sym c.has_room.ensures ∙ c.if-not-has_room.false) c.release_listing.ensures.told c.come_to_rest.ensures.rests c.release_listing.ensures.fits (same_room c) refl e c.in_ok-answer.answer step (λ never. never)
+    (shown_changes_are_told e s mid (Ok c.in_ok-answer.answer) step c.keeps_laws.ensures).shown (release_hands_on s mid c.args.key c.args.resource c.in_ok-answer.answer c.keeps_laws.ensures step)

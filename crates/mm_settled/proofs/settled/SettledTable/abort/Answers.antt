@@ -5,8 +5,8 @@ use Rattle.mm_settled.proofs.settled.SettledTable.abort.Goals as goal
 
 pub invariant_of-self : goal.invariant_of-self
 invariant_of-self c = record {
-  rest = c.abort-answer.ensures.ends.rest;
-  fits = c.abort-answer.ensures.ends.fits;
-  owned = room_again c.self.inside.table.config c.abort-answer.new.table.config (vec_capacity c.abort-answer.new.owned) c.abort-answer.ensures.ends.config (omega (arith, c.self.invariant.owned, c.abort-answer.ensures.room));
+  rest = c.end-answer.ensures.ends.rest;
+  fits = c.end-answer.ensures.ends.fits;
+  owned = room_again c.self.inside.table.config c.end-answer.new.table.config (vec_capacity c.end-answer.new.owned) c.end-answer.ensures.ends.config (omega (arith, c.self.invariant.owned, c.end-answer.ensures.room));
   told_at = omega (arith, ap (λ (n : Totals). n.accepted) c.totals.ensures);
 }

@@ -5,8 +5,8 @@ use Rattle.mm_settled.proofs.settled.SettledTable.finish.Goals as goal
 
 pub invariant_of-self : goal.invariant_of-self
 invariant_of-self c = record {
-  rest = c.finish-answer.ensures.ends.rest;
-  fits = c.finish-answer.ensures.ends.fits;
-  owned = room_again c.self.inside.table.config c.finish-answer.new.table.config (vec_capacity c.finish-answer.new.owned) c.finish-answer.ensures.ends.config (omega (arith, c.self.invariant.owned, c.finish-answer.ensures.room));
+  rest = c.end-answer.ensures.ends.rest;
+  fits = c.end-answer.ensures.ends.fits;
+  owned = room_again c.self.inside.table.config c.end-answer.new.table.config (vec_capacity c.end-answer.new.owned) c.end-answer.ensures.ends.config (omega (arith, c.self.invariant.owned, c.end-answer.ensures.room));
   told_at = omega (arith, ap (λ (n : Totals). n.accepted) c.totals.ensures);
 }

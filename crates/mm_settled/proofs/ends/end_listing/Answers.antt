@@ -1,0 +1,77 @@
+use Rattle.std.proofs.Common.{◌≡◌, ◌↔◌, ℕ, List, [], Ok, Err, Some, false, length, vec_len, sym, ap, subst, ◌∙◌, arith}
+use Rattle.std.specs.List.{filter_map}
+use Rattle.std.proofs.lemmas.Bool.{eqb-true}
+use Rattle.std.proofs.lemmas.List.{length-replicate}
+use Rattle.mm_arena.specs.declared.key.Key.{Key}
+use Rattle.mm_list_lemmas.specs.Members.{Among}
+use Rattle.mm_rules.specs.TableState.{TableState, owner_of, owns}
+use Rattle.mm_rules.specs.Laws.{Laws}
+use Rattle.mm_settle.specs.Touched.{changed_processes}
+use Rattle.mm_settled.specs.Grants.{grants}
+use Rattle.mm_settled.specs.declared.reply.End.{End}
+use Rattle.mm_settled.specs.private.Ends.{EndStep}
+use Rattle.mm_settled.specs.private.Lists.{given, owned_by_key}
+use Rattle.mm_settled.proofs.Lemmas.EitherEnd.{end_refused, end_keeps, end_was_live, end_hands_on}
+use Rattle.mm_settled.proofs.Lemmas.Fits.{owned_by_process, owned_within, owned_listed, sorted_owned}
+use Rattle.mm_settled.proofs.Lemmas.Grants.{given_are_grants, few_grants, nobody_changed_grants_none}
+use Rattle.mm_settled.proofs.Lemmas.Numbers.{no_length}
+use Rattle.mm_settled.proofs.Lemmas.Quiet.{same_is_quiet}
+use Rattle.mm_settled.proofs.ends.end_listing.Goals as goal
+
+pub returns-in_err-end_waking-clause-told : goal.returns-in_err-end_waking-clause-told
+returns-in_err-end_waking-clause-told c =
+    let s = c.args.table.now in
+    let is : EndStep c.args.kind c.args.key s (Err c.in_err-end_waking.field-0.0) c.end_waking.new.table = rw c.in_err-end_waking.was at c.end_waking.ensures.step in
+    let same = end_refused c.args.kind s c.end_waking.new.table c.args.key c.in_err-end_waking.field-0.0 is in
+    record {
+      granted = c.clear.ensures.items ∙ sym (same_is_quiet s c.end_waking.new.table c.requires.laws same).granted;
+      changed = c.end_waking.ensures.woken;
+    }
+
+-- ---- it is accepted
+
+-- those that own now what the transaction owned are the grants
+given_now : (kind : End) (s t : TableState) (k : Key) (ns : List ℕ) → Laws s → EndStep kind k s (Ok tt) t → ns ≡ owned_by_key s k → filter_map (given t) ns ≡ grants s t
+given_now kind s t k ns laws is are_owned =
+    ap (filter_map (given t)) (are_owned ∙ owned_by_process s k laws (end_was_live kind s t k is)) ∙ given_are_grants s t k.process (owns s k.process) laws (end_hands_on kind s t k laws is)
+
+pub returns-then-is_empty-clause-told : goal.returns-then-is_empty-clause-told
+returns-then-is_empty-clause-told c =
+    let s = c.args.table.now in
+    let t = c.end_waking.new.table in
+    let is : EndStep c.args.kind c.args.key s (Ok tt) t = rw c.in_ok-end_waking.was at c.end_waking.ensures.step in
+    let nobody : changed_processes s t ≡ [] = sym c.end_waking.ensures.woken ∙ no_length c.end_waking.new.wake.items (omega (arith, c.end_waking.new.wake.ok, eqb-true (vec_len c.end_waking.new.wake) 0 (sym c.is_empty.ensures ∙ c.if-is_empty.true))) in
+    record {
+      granted = c.clear.ensures.items ∙ sym (nobody_changed_grants_none s t c.requires.laws (end_keeps c.args.kind s t c.args.key c.requires.laws is) nobody);
+      changed = c.end_waking.ensures.woken;
+    }
+
+pub sort-requires-clause-within : goal.sort-requires-clause-within
+sort-requires-clause-within c =
+    owned_within c.args.table.now c.args.key c.owned_by.new.resources.items (length c.args.lists.now.resources) c.requires.laws
+    (ap length c.requires.fits.resources ∙ length-replicate c.args.table.now.config.resources false) c.owned_by.ensures.listed
+
+are_grants : (c : goal.After-list_given-arg-1) → filter_map (given c.end_waking.new.table) c.deref.result.now ≡ grants c.args.table.now c.end_waking.new.table
+are_grants c =
+    let s = c.args.table.now in
+    let is : EndStep c.args.kind c.args.key s (Ok tt) c.end_waking.new.table = rw c.in_ok-end_waking.was at c.end_waking.ensures.step in
+    given_now c.args.kind s c.end_waking.new.table c.args.key c.deref.result.now c.requires.laws is
+    (c.deref.ensures.value ∙ c.sort.ensures.sorted ∙ sorted_owned s c.args.key c.owned_by.new.resources.items c.args.lists.now.resources c.requires.fits.resources c.owned_by.ensures.listed)
+
+pub list_given-requires : goal.list_given-requires
+list_given-requires c = omega (arith, ap length (are_grants c), few_grants c.args.table.now c.end_waking.new.table c.requires.laws, c.requires.fits.granted, c.clear.ensures.capacity)
+
+is_sorted : (c : goal.After-list_given) → c.sort.new.numbers.items ≡ owned_by_key c.args.table.now c.args.key
+is_sorted c = c.sort.ensures.sorted ∙ sorted_owned c.args.table.now c.args.key c.owned_by.new.resources.items c.args.lists.now.resources c.requires.fits.resources c.owned_by.ensures.listed
+
+pub returns-clause-told : goal.returns-clause-told
+returns-clause-told c =
+    let s = c.args.table.now in
+    let is : EndStep c.args.kind c.args.key s (Ok tt) c.end_waking.new.table = rw c.in_ok-end_waking.was at c.end_waking.ensures.step in
+    record {
+      granted = c.list_given.ensures.given ∙ given_now c.args.kind s c.end_waking.new.table c.args.key c.deref.result.now c.requires.laws is (c.deref.ensures.value ∙ is_sorted c);
+      changed = c.end_waking.ensures.woken;
+    }
+
+pub returns-clause-owned : goal.returns-clause-owned
+returns-clause-owned c = λ r. subst (λ ns. Among r ns ↔ (owner_of c.args.table.now r ≡ Some c.args.key)) (sym (is_sorted c)) (owned_listed c.args.table.now c.args.key c.requires.laws r)
