@@ -73,8 +73,8 @@ Calls of a script, one a line, and their replies:
   transmit K     raised B: the label that the transaction shows now; or still
   detect K       deadlock B: a verdict from now on, on this label; standing,
                  where it has one; or clear
-  abort K        aborted: a transaction with a verdict gives way, and ends as
-                 by finish
+  abort K        aborted: a transaction with a verdict waits no longer, and
+                 ends as by finish
   give_up K      withdrawn: the transaction waits no longer; it has no
                  verdict, and its two labels are equal
   settle         settled N M: so many labels raised and so many verdicts

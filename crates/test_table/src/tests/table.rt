@@ -51,7 +51,7 @@ fn keep_tenants(rt: &impl Abort, table: &mut Table) {
     let [first, second, third] = [key!(0, 1), key!(1, 1), key!(2, 1)];
     holds(rt, "the ring is closed", close_ring_of_three(table).is_ok());
     tenants_are(rt, table, [Some(first), Some(second), Some(third)]);
-    holds(rt, "the victim gives way", table.abort(third).is_ok());
+    holds(rt, "the victim is aborted", table.abort(third).is_ok());
     tenants_are(rt, table, [Some(first), Some(second), None]);
     holds(rt, "it hands over", table.finish(second).is_ok());
     tenants_are(rt, table, [Some(first), None, None]);
