@@ -13,7 +13,7 @@ use crate::parts::end;
 use crate::reply::Abort as Aborted;
 use crate::{Cancel, Key, Refusal};
 use mm_names::Names;
-use mm_settled::{End, SettledTable};
+use mm_settled::{EndKind, SettledTable};
 use mm_table::Mode;
 
 /// Ends a transaction that waits in no deadlock: at once where its wait can be taken back, and else as soon as its wait ends.
@@ -34,7 +34,7 @@ pub fn abort_waiting(
     match give_up(table, key) {
         Cancel::Withdrawn => {
             lists.due[key.process as usize] = false;
-            end(table, names, lists, End::Active, key);
+            end(table, names, lists, EndKind::Finish, key);
             Aborted::Done
         }
         Cancel::Carried => {
@@ -76,11 +76,11 @@ pub fn abort_any(
     };
     match state.mode {
         Mode::Active => {
-            end(table, names, lists, End::Active, key);
+            end(table, names, lists, EndKind::Finish, key);
             Ok(Aborted::Done)
         }
         Mode::Convicted(_) => {
-            end(table, names, lists, End::Victim, key);
+            end(table, names, lists, EndKind::Abort, key);
             Ok(Aborted::Done)
         }
         Mode::Waiting(_) => Ok(abort_waiting(table, names, lists, key)),

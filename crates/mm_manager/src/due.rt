@@ -11,7 +11,7 @@ use crate::Key;
 use crate::hand_over::end_transaction;
 use crate::lists::{Lists, add_grants};
 use mm_names::Names;
-use mm_settled::{End, SettledTable};
+use mm_settled::{EndKind, SettledTable};
 
 /// Ends those that were granted something and whose abort is due, and those whose abort comes due by that, until none is left.
 pub fn end_due(table: &mut SettledTable, names: &mut Names, lists: &mut Lists)
@@ -59,7 +59,7 @@ fn end_one(table: &mut SettledTable, names: &mut Names, lists: &mut Lists, key: 
 {
     table.is_at_rest();
     lists.due[key.process as usize] = false;
-    end_transaction(table, names, &mut lists.owned, End::Active, key);
+    end_transaction(table, names, &mut lists.owned, EndKind::Finish, key);
     lists.aborted.push_reserved(key);
     add_grants(&mut lists.granted, table.granted());
 }

@@ -15,7 +15,7 @@ ghost use Rattle.mm_manager.specs.LockState.{KeepOwned};
 use crate::Key;
 use crate::numbers::{forget_each, forget_released};
 use mm_names::Names;
-use mm_settled::{End, Released, SettledTable};
+use mm_settled::{EndKind, Released, SettledTable};
 
 /// `SettledTable::release` of a number that has a name: it keeps the name exactly where somebody owns it then. `None` exactly where the
 /// transaction may not ask or does not own the number, and then nothing changes.
@@ -52,7 +52,7 @@ pub fn end_transaction(
     table: &mut SettledTable,
     names: &mut Names,
     owned: &mut Vec<u32>,
-    kind: End,
+    kind: EndKind,
     key: Key,
 )
     requires numbered { AreNumbered table.old.table names.old }

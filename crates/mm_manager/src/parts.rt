@@ -27,7 +27,7 @@ use crate::permit::{may_ask, may_count};
 use crate::request::{request, try_request};
 use crate::{Key, Lock, Refusal, TryLock};
 use mm_names::Names;
-use mm_settled::{End, Released, SettledTable};
+use mm_settled::{EndKind, Released, SettledTable};
 
 /// Tells of what the table granted, and ends those whose abort is due by that.
 pub fn pass_on(table: &mut SettledTable, names: &mut Names, lists: &mut Lists)
@@ -76,7 +76,7 @@ pub fn release_number(
 }
 
 /// Ends a transaction that is active, or the victim of a deadlock.
-pub fn end(table: &mut SettledTable, names: &mut Names, lists: &mut Lists, kind: End, key: Key)
+pub fn end(table: &mut SettledTable, names: &mut Names, lists: &mut Lists, kind: EndKind, key: Key)
     requires parts { AreParts table.old.table names.old lists.old }
     requires none_granted { lists.old.granted.items ≡ [] }
     requires none_aborted { lists.old.aborted.items ≡ [] }
@@ -200,6 +200,6 @@ pub fn commit(
 {
     lists.clear();
     may_ask(table.table(), key)?;
-    end(table, names, lists, End::Active, key);
+    end(table, names, lists, EndKind::Finish, key);
     Ok(())
 }

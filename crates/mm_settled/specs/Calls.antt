@@ -11,8 +11,8 @@ use Rattle.mm_rules.specs.TableState.{TableState, has_verdict}
 use Rattle.mm_rules.specs.Event.{Event, Acquire, Finish, Abort, Settle, Answer, Step, Opens}
 use Rattle.mm_rules.specs.Victims.{IsOnCycle}
 use Rattle.mm_settled.specs.SettledState.{SettledState}
-use Rattle.mm_settled.specs.declared.reply.End.{End}
-use Rattle.mm_settled.specs.declared.reply.End.TheVariants.{Active, Victim}
+use Rattle.mm_settled.specs.declared.reply.EndKind.{EndKind}
+use Rattle.mm_settled.specs.declared.reply.EndKind.TheVariants as way
 use Rattle.mm_settled.specs.declared.reply.Locked.{Locked}
 use Rattle.mm_settled.specs.declared.reply.Locked.TheVariants.{Granted, Waits, Deadlock}
 
@@ -41,10 +41,10 @@ abbrev pub Makes : (e : Event) → TableState → Result (Answer e) Refusal → 
 Makes e old (Ok answer) new = Made e old answer new
 Makes e old (Err refusal) new = Refuses e old refusal new
 
--- a call that ends k: a finish where k is active, an abort where it is a victim
-abbrev pub MakesEnd : End → Key → TableState → Result (Unit {0}) Refusal → TableState → Type 0
-MakesEnd Active k old reply new = Makes (Finish k) old reply new
-MakesEnd Victim k old reply new = Makes (Abort k) old reply new
+-- a call that ends k in this way
+abbrev pub MakesEnd : EndKind → Key → TableState → Result (Unit {0}) Refusal → TableState → Type 0
+MakesEnd way.Finish k old reply new = Makes (Finish k) old reply new
+MakesEnd way.Abort k old reply new = Makes (Abort k) old reply new
 
 -- nobody but n, the process of the caller, gets or loses a verdict
 abbrev pub OthersKeepVerdicts : TableState → TableState → ℕ → Type 0

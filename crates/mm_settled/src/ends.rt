@@ -12,7 +12,7 @@ ghost use Rattle.mm_settled.specs.private.Told.{TellsOf};
 
 use crate::lists::{Lists, list_given, sort};
 use crate::settle::{come_to_rest, has_room};
-use crate::{End, Grant, Key, Refusal, Released, Table};
+use crate::{EndKind, Grant, Key, Refusal, Released, Table};
 
 /// Hands the resource over, and settles the table where that leaves somebody to be told.
 pub fn release(
@@ -41,7 +41,7 @@ pub fn end(
     table: &mut Table,
     lists: &mut Lists,
     owned: &mut Vec<u32>,
-    kind: End,
+    kind: EndKind,
     key: Key,
 ) -> Result<(), Refusal>
     requires rest { AtRest table.old }
@@ -89,7 +89,7 @@ fn end_listing(
     table: &mut Table,
     lists: &mut Lists,
     owned: &mut Vec<u32>,
-    kind: End,
+    kind: EndKind,
     key: Key,
 ) -> Result<(), Refusal>
     requires laws { Laws table.old }
@@ -113,14 +113,19 @@ fn end_listing(
 }
 
 /// `Table::finish_waking` of an active transaction, `Table::abort_waking` of a victim.
-fn end_waking(table: &mut Table, kind: End, key: Key, wake: &mut Vec<u32>) -> Result<(), Refusal>
+fn end_waking(
+    table: &mut Table,
+    kind: EndKind,
+    key: Key,
+    wake: &mut Vec<u32>,
+) -> Result<(), Refusal>
     requires room { table.old.config.processes ≤ vec_capacity wake.old }
     ensures step { EndStep kind key table.old result table.new }
     ensures woken { wake.new.items ≡ changed_processes table.old table.new }
     ensures room { vec_capacity wake.new ≡ vec_capacity wake.old }
 {
     match kind {
-        End::Active => table.finish_waking(key, wake),
-        End::Victim => table.abort_waking(key, wake),
+        EndKind::Finish => table.finish_waking(key, wake),
+        EndKind::Abort => table.abort_waking(key, wake),
     }
 }

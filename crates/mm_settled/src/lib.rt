@@ -2,7 +2,7 @@
 //! closes a cycle of waits is its victim.
 //!
 //! - `settled`: `SettledTable`, with one method for each call.
-//! - `reply`: what a request is told, what a grant is, and which transaction a call ends.
+//! - `reply`: what a request is told, what a grant is, and how a call ends a transaction.
 //! - `lock`, `give_up`, `ends`: the calls, over a table and the lists of what a call told.
 //! - `lists`: whom a call granted what, and whom it changed; how both are found.
 //! - `settle`: a settle that is not refused, and when one is needed.
@@ -17,5 +17,5 @@ mod settle;
 mod settled;
 
 pub use mm_table::{Config, Key, Refusal, Released, Table};
-pub use reply::{End, Grant, Locked};
+pub use reply::{EndKind, Grant, Locked};
 pub use settled::SettledTable;

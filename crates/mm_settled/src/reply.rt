@@ -18,11 +18,11 @@ pub struct Grant {
     pub resource: u32,
 }
 
-/// Which transaction a call ends.
+/// How a call ends a transaction.
 #[derive(Clone, Copy, Debug, PartialEq, Eq)]
-pub enum End {
-    /// An active one, as `finish` does.
-    Active,
-    /// The victim of a deadlock, as `abort` does.
-    Victim,
+pub enum EndKind {
+    /// A finish, of an active transaction.
+    Finish,
+    /// An abort, of the victim of a deadlock.
+    Abort,
 }

@@ -11,7 +11,7 @@ use crate::ends::{end, release};
 use crate::give_up::give_up;
 use crate::lists::{Lists, is_told, list};
 use crate::lock::lock;
-use crate::{Config, End, Grant, Key, Locked, Refusal, Released, Table};
+use crate::{Config, EndKind, Grant, Key, Locked, Refusal, Released, Table};
 use std::alloc::Global;
 use std::marker::Model;
 
@@ -152,7 +152,7 @@ impl SettledTable {
             &mut self.table,
             &mut self.lists,
             &mut self.owned,
-            End::Active,
+            EndKind::Finish,
             key,
         );
         self.told_at = self.table.totals().accepted;
@@ -173,7 +173,7 @@ impl SettledTable {
             &mut self.table,
             &mut self.lists,
             &mut self.owned,
-            End::Victim,
+            EndKind::Abort,
             key,
         );
         self.told_at = self.table.totals().accepted;
@@ -185,7 +185,12 @@ impl SettledTable {
     ///
     /// `owned` has room for each resource, and no memory is taken. Where the call is refused, what `owned` has means nothing. It is
     /// refused as `finish` or `abort` is, and costs what that costs.
-    pub fn end_listing(&mut self, kind: End, key: Key, owned: &mut Vec<u32>) -> Result<(), Refusal>
+    pub fn end_listing(
+        &mut self,
+        kind: EndKind,
+        key: Key,
+        owned: &mut Vec<u32>,
+    ) -> Result<(), Refusal>
         requires room { self.old.table.config.resources ≤ vec_capacity owned.old }
         ensures makes { MakesEnd kind key self.old.table result self.new.table }
         ensures others { OthersKeepVerdicts self.old.table self.new.table key.process }

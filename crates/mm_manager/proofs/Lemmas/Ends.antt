@@ -10,7 +10,7 @@ use Rattle.mm_rules.specs.TableState.{TableState, is_live, wait_of}
 use Rattle.mm_rules.specs.Event.{Finish}
 use Rattle.mm_rules.specs.Laws.{Laws}
 use Rattle.mm_settled.specs.Grants.{grants}
-use Rattle.mm_settled.specs.declared.reply.End.TheVariants.{Active}
+use Rattle.mm_settled.specs.declared.reply.EndKind.TheVariants as way
 use Rattle.mm_settled.specs.declared.reply.Grant.{Grant}
 use Rattle.mm_manager.specs.Calls.{EndsAll}
 use Rattle.mm_manager.specs.declared.lists.Lists.{Lists}
@@ -150,7 +150,7 @@ module _ (s : TableState) (t : NameTable) (first : List Grant) (marks : List Boo
         let granted = one.granted in
         let aborted = one.aborted in
         let made = one.made in
-        let down : HandsDown u g.key.process (IsEnding g.key) (grants u v) v = end_hands_down u v g.key (grants u v) so_far.laws one.ended refl Active made in
+        let down : HandsDown u g.key.process (IsEnding g.key) (grants u v) v = end_hands_down u v g.key (grants u v) so_far.laws one.ended refl way.Finish made in
         let idle : wait_of u g.key.process ≡ None = so_far.are_granted.idle g is_among in
         let laws = made_laws (Finish g.key) u v tt so_far.laws made in
         record {

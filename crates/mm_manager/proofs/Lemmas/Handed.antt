@@ -11,8 +11,8 @@ use Rattle.mm_rules.specs.Event.{Event, Finish, Abort, Answer}
 use Rattle.mm_rules.specs.Laws.{Laws}
 use Rattle.mm_settled.specs.Calls.{Made, MakesEnd}
 use Rattle.mm_settled.specs.Grants.{grants}
-use Rattle.mm_settled.specs.declared.reply.End.{End}
-use Rattle.mm_settled.specs.declared.reply.End.TheVariants.{Active, Victim}
+use Rattle.mm_settled.specs.declared.reply.EndKind.{EndKind}
+use Rattle.mm_settled.specs.declared.reply.EndKind.TheVariants as way
 use Rattle.mm_settled.specs.declared.reply.Grant.{Grant}
 use Rattle.mm_manager.specs.declared.lists.Lists.{Lists}
 use Rattle.mm_manager.specs.private.Due.{AreGranted, IsAmong, EndsDue}
@@ -43,9 +43,9 @@ convicted_not_due s due n waits convicted = elim (cases_Bool (has due n)) [
   | inl marked ↦ (let never : true ≡ false = sym convicted ∙ (waits n marked).1 in absurd (cc))
 ]
 
-ending_not_due : (kind : End) (s : TableState) (due : List Bool) (n : ℕ) → DueWait s due → MayEnd kind s n → has due n ≡ false
-ending_not_due Active s due n waits idle = active_not_due s due n waits idle
-ending_not_due Victim s due n waits convicted = convicted_not_due s due n waits convicted
+ending_not_due : (kind : EndKind) (s : TableState) (due : List Bool) (n : ℕ) → DueWait s due → MayEnd kind s n → has due n ≡ false
+ending_not_due way.Finish s due n waits idle = active_not_due s due n waits idle
+ending_not_due way.Abort s due n waits convicted = convicted_not_due s due n waits convicted
 
 -- ---- a mark that is taken away
 
@@ -116,8 +116,8 @@ module _ (k : Key) (s : TableState) (t : NameTable) (due : List Bool) (mid : Tab
   by_own : (q : ℕ) (h : Key) → IsEnding k q h → h.process ≡ k.process
   by_own q h is = ap (λ (i : Key). i.process) is
 
-  pub end_handed_on : (kind : End) → MakesEnd kind k s (Ok tt) mid → MayEnd kind s k.process → HandedEnd kind k s t due u named m
-  end_handed_on Active made may =
-      handed_on (Finish k) s t due tt k.process (IsEnding k) mid t1 made down names numbered by_own waits (ending_not_due Active s due k.process waits may) (length m.granted.items) u named m ends refl
-  end_handed_on Victim made may =
-      handed_on (Abort k) s t due tt k.process (IsEnding k) mid t1 made down names numbered by_own waits (ending_not_due Victim s due k.process waits may) (length m.granted.items) u named m ends refl
+  pub end_handed_on : (kind : EndKind) → MakesEnd kind k s (Ok tt) mid → MayEnd kind s k.process → HandedEnd kind k s t due u named m
+  end_handed_on way.Finish made may =
+      handed_on (Finish k) s t due tt k.process (IsEnding k) mid t1 made down names numbered by_own waits (ending_not_due way.Finish s due k.process waits may) (length m.granted.items) u named m ends refl
+  end_handed_on way.Abort made may =
+      handed_on (Abort k) s t due tt k.process (IsEnding k) mid t1 made down names numbered by_own waits (ending_not_due way.Abort s due k.process waits may) (length m.granted.items) u named m ends refl

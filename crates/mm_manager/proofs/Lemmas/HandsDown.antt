@@ -16,7 +16,7 @@ use Rattle.mm_rules.proofs.States.Lookups.{waits_here, held}
 use Rattle.mm_rules.proofs.States.Release.{owns_gives}
 use Rattle.mm_settled.specs.Calls.{Made, MakesEnd, Rests}
 use Rattle.mm_settled.specs.Grants.{waits_for, to_waiter, grant_of, grants, EndsWaits}
-use Rattle.mm_settled.specs.declared.reply.End.{End}
+use Rattle.mm_settled.specs.declared.reply.EndKind.{EndKind}
 use Rattle.mm_settled.specs.declared.reply.Grant.{Grant}
 use Rattle.mm_settled.proofs.Lemmas.Accepted.{accepted}
 use Rattle.mm_settled.proofs.Lemmas.EitherEnd.{end_made, end_keeps, end_was_live, end_hands_on}
@@ -132,7 +132,7 @@ module _ (s u : TableState) (k : Key) (granted : List Grant) (laws : Laws s) (en
         | inr other ↦ ne_eqb q r other
       ])
 
-  pub end_hands_down : (kind : End) → MakesEnd kind k s (Ok tt) u → HandsDown s k.process (IsEnding k) granted u
+  pub end_hands_down : (kind : EndKind) → MakesEnd kind k s (Ok tt) u → HandsDown s k.process (IsEnding k) granted u
   end_hands_down kind makes =
       let made = end_made kind s u k makes in
       let on = end_hands_on kind s made.mid k laws made.step in

@@ -16,8 +16,8 @@ use Rattle.mm_rules.specs.Event.{Tests, Release, Finish, Abort, GiveUp, Gives, S
 use Rattle.mm_rules.specs.Laws.{Laws}
 use Rattle.mm_rules.proofs.States.Vacate.{live_process}
 use Rattle.mm_settled.specs.Calls.{Locks, MakesEnd, Refuses, has_room}
-use Rattle.mm_settled.specs.declared.reply.End.{End}
-use Rattle.mm_settled.specs.declared.reply.End.TheVariants.{Active, Victim}
+use Rattle.mm_settled.specs.declared.reply.EndKind.{EndKind}
+use Rattle.mm_settled.specs.declared.reply.EndKind.TheVariants as way
 use Rattle.mm_settled.proofs.Lemmas.Ends.{owner_in_range}
 use Rattle.mm_manager.specs.Permit.{event_limit}
 use Rattle.mm_manager.specs.private.Handed.{MayEnd}
@@ -163,9 +163,9 @@ module _ (s : TableState) (k : Key) (laws : Laws s) (room : HasReserve s) (live 
       )
       (refused_tests (abort_tests s k) s tt (abort s k.process) e s (by_room (has_room s) (Step (Abort k) s (Err e) s) (e ≡ CountsExhausted) can.room refuses.1))
 
-  pub end_never : (kind : End) → MayEnd kind s k.process → (u : TableState) (e : Refusal) → MakesEnd kind k s (Err e) u → ⊥
-  end_never Active idle u e refuses = finish_never idle u e refuses
-  end_never Victim verdict u e refuses = abort_never verdict u e refuses
+  pub end_never : (kind : EndKind) → MayEnd kind s k.process → (u : TableState) (e : Refusal) → MakesEnd kind k s (Err e) u → ⊥
+  end_never way.Finish idle u e refuses = finish_never idle u e refuses
+  end_never way.Abort verdict u e refuses = abort_never verdict u e refuses
 
   abbrev IsCarried : Refusal → Type 0
   IsCarried e = e ≡ Carried

@@ -8,7 +8,7 @@ use Rattle.mm_rules.specs.Event.{Release}
 use Rattle.mm_rules.specs.Laws.{Laws}
 use Rattle.mm_rules.proofs.States.SettleKeeps.{settle_keeps}
 use Rattle.mm_settled.specs.Calls.{Made, MakesEnd, Rests}
-use Rattle.mm_settled.specs.declared.reply.End.{End}
+use Rattle.mm_settled.specs.declared.reply.EndKind.{EndKind}
 use Rattle.mm_settled.proofs.Lemmas.EitherEnd.{end_made, end_was_live, end_hands_on}
 use Rattle.mm_settled.proofs.Lemmas.Ends.{release_hands_on}
 use Rattle.mm_manager.proofs.Lemmas.Requests.{owner_is_key}
@@ -44,7 +44,7 @@ not_mine s k q laws live other = elim (cases_Bool (owns s k.process q)) [
   | inr apart ↦ apart
 ]
 
-pub end_leaves : (kind : End) (s new : TableState) (k : Key) → Laws s → MakesEnd kind k s (Ok tt) new → LeavesOwners s (λ q. owner_of s q ≡ Some k) new
+pub end_leaves : (kind : EndKind) (s new : TableState) (k : Key) → Laws s → MakesEnd kind k s (Ok tt) new → LeavesOwners s (λ q. owner_of s q ≡ Some k) new
 end_leaves kind s new k laws makes =
     let made = end_made kind s new k makes in
     let on = end_hands_on kind s made.mid k laws made.step in

@@ -21,8 +21,8 @@ use Rattle.mm_rules.proofs.States.Counts.{event_counts}
 use Rattle.mm_rules.proofs.States.SettleKeeps.{settle_keeps}
 use Rattle.mm_rules.proofs.States.Vacate.{live_process}
 use Rattle.mm_settled.specs.Calls.{Made, MakesEnd, Rests, WaitsFrom}
-use Rattle.mm_settled.specs.declared.reply.End.{End}
-use Rattle.mm_settled.specs.declared.reply.End.TheVariants.{Active, Victim}
+use Rattle.mm_settled.specs.declared.reply.EndKind.{EndKind}
+use Rattle.mm_settled.specs.declared.reply.EndKind.TheVariants as way
 use Rattle.mm_settled.proofs.Lemmas.Accepted.{IsAccepted, accepted}
 use Rattle.mm_settled.proofs.Lemmas.Ends.{owner_in_range}
 use Rattle.mm_manager.specs.Permit.{event_limit}
@@ -151,9 +151,9 @@ abort_room s u k laws room made =
       fewer = omega (arith, vacate_less t n (resources_of t n) live, activate_held s n, ap to_end done.state);
     } (omega (arith, (event_counts (Abort k) s made.mid (Ok tt) made.event).2))
 
-pub end_room : (kind : End) (s u : TableState) (k : Key) → Laws s → HasReserve s → MakesEnd kind k s (Ok tt) u → HasReserve u
-end_room Active s u k laws room made = finish_room s u k laws room made
-end_room Victim s u k laws room made = abort_room s u k laws room made
+pub end_room : (kind : EndKind) (s u : TableState) (k : Key) → Laws s → HasReserve s → MakesEnd kind k s (Ok tt) u → HasReserve u
+end_room way.Finish s u k laws room made = finish_room s u k laws room made
+end_room way.Abort s u k laws room made = abort_room s u k laws room made
 
 some_of_waiting : (s : TableState) (n : ℕ) → is_waiting s n ≡ true → (r : ℕ) × (wait_of s n ≡ Some r)
 some_of_waiting s n waits = by_wait (wait_of s n) refl

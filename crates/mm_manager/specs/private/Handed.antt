@@ -9,8 +9,8 @@ use Rattle.mm_rules.specs.Event.{Event, Finish, Abort, Answer}
 use Rattle.mm_rules.specs.Laws.{Laws}
 use Rattle.mm_settled.specs.Calls.{Made}
 use Rattle.mm_settled.specs.Grants.{grants}
-use Rattle.mm_settled.specs.declared.reply.End.{End}
-use Rattle.mm_settled.specs.declared.reply.End.TheVariants.{Active, Victim}
+use Rattle.mm_settled.specs.declared.reply.EndKind.{EndKind}
+use Rattle.mm_settled.specs.declared.reply.EndKind.TheVariants as way
 use Rattle.mm_settled.specs.declared.reply.Grant.{Grant}
 use Rattle.mm_manager.specs.Calls.{EndsAll}
 use Rattle.mm_manager.specs.declared.lists.Lists.{Lists}
@@ -58,12 +58,12 @@ pub record Handed (e : Event) (s : TableState) (t : NameTable) (due : List Bool)
   pub all : (g : Grant) → Among g m.granted.items → has due g.key.process ≡ true → Among g.key m.aborted.items
   pub stay : (p : ℕ) → (has m.due.items p ≡ true) ↔ ((has due p ≡ true) × ((g : Grant) → Among g m.granted.items → g.key.process ≢ p))
 
--- the transaction of process n can end in this way: it waits for nothing, or has a verdict
-abbrev pub MayEnd : End → TableState → ℕ → Type 0
-MayEnd Active s n = wait_of s n ≡ None
-MayEnd Victim s n = has_verdict s n ≡ true
+-- the transaction of process n can end in this way: by a finish where it waits for nothing, by an abort where it has a verdict
+abbrev pub MayEnd : EndKind → TableState → ℕ → Type 0
+MayEnd way.Finish s n = wait_of s n ≡ None
+MayEnd way.Abort s n = has_verdict s n ≡ true
 
 -- k ends, and then those whose abort is due by that
-abbrev pub HandedEnd : End → Key → TableState → NameTable → List Bool → TableState → NameTable → Lists → Type 0
-HandedEnd Active k s t due u named m = Handed (Finish k) s t due tt k.process (IsEnding k) u named m
-HandedEnd Victim k s t due u named m = Handed (Abort k) s t due tt k.process (IsEnding k) u named m
+abbrev pub HandedEnd : EndKind → Key → TableState → NameTable → List Bool → TableState → NameTable → Lists → Type 0
+HandedEnd way.Finish k s t due u named m = Handed (Finish k) s t due tt k.process (IsEnding k) u named m
+HandedEnd way.Abort k s t due u named m = Handed (Abort k) s t due tt k.process (IsEnding k) u named m

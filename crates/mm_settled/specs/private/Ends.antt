@@ -8,15 +8,15 @@ use Rattle.mm_rules.specs.Laws.{AtRest}
 use Rattle.mm_settled.specs.Calls.{OthersKeepVerdicts}
 use Rattle.mm_settled.specs.Grants.{EndsWaits}
 use Rattle.mm_settled.specs.declared.lists.Lists.{Lists}
-use Rattle.mm_settled.specs.declared.reply.End.{End}
-use Rattle.mm_settled.specs.declared.reply.End.TheVariants.{Active, Victim}
+use Rattle.mm_settled.specs.declared.reply.EndKind.{EndKind}
+use Rattle.mm_settled.specs.declared.reply.EndKind.TheVariants as way
 use Rattle.mm_settled.specs.private.Lists.{Fits}
 use Rattle.mm_settled.specs.private.Told.{TellsOf}
 
--- the event by which k ends: a finish where k is active, an abort where it is a victim
-abbrev pub EndStep : End → Key → TableState → Result (Unit {0}) Refusal → TableState → Type 0
-EndStep Active k old reply new = Step (Finish k) old reply new
-EndStep Victim k old reply new = Step (Abort k) old reply new
+-- the event by which k ends
+abbrev pub EndStep : EndKind → Key → TableState → Result (Unit {0}) Refusal → TableState → Type 0
+EndStep way.Finish k old reply new = Step (Finish k) old reply new
+EndStep way.Abort k old reply new = Step (Abort k) old reply new
 
 -- a call of process n that hands over, and settles the table where that is needed, leaves it at rest, and the lists tell of both
 pub record Ends (old new : TableState) (n : ℕ) (lists : Lists) : Type 0 where

@@ -1,6 +1,6 @@
 use Rattle.std.proofs.Common.{◌++◌, ◌+◌, ◌≤◌, Bool, List, false, length, length-set, ap, subst, refl, ◌∙◌, arith}
 use Rattle.mm_settled.specs.Grants.{grants, EndsWaits}
-use Rattle.mm_settled.specs.declared.reply.End.TheVariants.{Active}
+use Rattle.mm_settled.specs.declared.reply.EndKind.TheVariants as way
 use Rattle.mm_manager.proofs.Lemmas.Owners.{end_leaves}
 use Rattle.mm_manager.proofs.Lemmas.Ended.{room_for_grants}
 use Rattle.mm_manager.proofs.due.end_one.Goals as goal
@@ -18,7 +18,7 @@ pub returns : goal.returns
 returns c =
     let s = c.args.table.now.table in
     let u = c.end_transaction.new.table.table in
-    let config = (end_leaves Active s u c.args.key c.is_at_rest.ensures.laws c.end_transaction.ensures.made).config in
+    let config = (end_leaves way.Finish s u c.args.key c.is_at_rest.ensures.laws c.end_transaction.ensures.made).config in
     let was = c.requires.fits in
     record {
       made = c.end_transaction.ensures.made;

@@ -8,7 +8,7 @@ use Rattle.mm_rules.specs.TableState.{TableState, owner_of, owns}
 use Rattle.mm_rules.specs.Laws.{Laws}
 use Rattle.mm_settle.specs.Touched.{changed_processes}
 use Rattle.mm_settled.specs.Grants.{grants}
-use Rattle.mm_settled.specs.declared.reply.End.{End}
+use Rattle.mm_settled.specs.declared.reply.EndKind.{EndKind}
 use Rattle.mm_settled.specs.private.Ends.{EndStep}
 use Rattle.mm_settled.specs.private.Lists.{given, owned_by_key}
 use Rattle.mm_settled.proofs.Lemmas.EitherEnd.{end_refused, end_keeps, end_was_live, end_hands_on}
@@ -31,7 +31,7 @@ returns-in_err-end_waking-clause-told c =
 -- ---- it is accepted
 
 -- those that own now what the transaction owned are the grants
-given_now : (kind : End) (s t : TableState) (k : Key) (ns : List ℕ) → Laws s → EndStep kind k s (Ok tt) t → ns ≡ owned_by_key s k → filter_map (given t) ns ≡ grants s t
+given_now : (kind : EndKind) (s t : TableState) (k : Key) (ns : List ℕ) → Laws s → EndStep kind k s (Ok tt) t → ns ≡ owned_by_key s k → filter_map (given t) ns ≡ grants s t
 given_now kind s t k ns laws is are_owned =
     ap (filter_map (given t)) (are_owned ∙ owned_by_process s k laws (end_was_live kind s t k is)) ∙ given_are_grants s t k.process (owns s k.process) laws (end_hands_on kind s t k laws is)
 
