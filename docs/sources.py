@@ -25,7 +25,7 @@ def closing(text, at, pair="{}"):
 
 def signature(text):
     """A signature in one line."""
-    text = re.sub(r"\s+", " ", text).strip()
+    text = re.sub(r"\s+", " ", text).strip().rstrip(",")
     return re.sub(r",? ([)>\]])", r"\1", re.sub(r"([(<\[]) ", r"\1", text))
 
 

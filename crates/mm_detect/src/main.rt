@@ -1,20 +1,16 @@
-//! A deadlock detector for transactions. `mm_command` says what the words of the command line ask for, and `mm_runs` does it where that is
-//! a script, an explanation or help. `mm_report` tells what came of a workload.
-//!
-//! - `work`: runs of workloads. `threads`: their workers, each on a thread of its own.
-//! - `locks`: a run of the lock service.
+//! A deadlock detector for transactions. `mm_command` says what the words of the command line ask for. `mm_runs` does it where that is a
+//! script, an explanation or help, `mm_workload_runs` where it is a workload, and `locks` where it is the lock service.
 #![tactic(auto)]
 
 ghost use Rattle.mm_runs.specs.Answer.{IsEndOf};
 
 mod locks;
-mod threads;
-mod work;
 
 use locks::run_locks;
 use mm_command::{Request, asked};
 use mm_report::Told;
 use mm_runs::{Ending, answer_alone, fault, status};
+use mm_workload_runs::{run_file, run_storm};
 use std::alloc::Global;
 use std::io::{Eprint, IsTerminal, Read, Write};
 use std::process::ExitCode;
@@ -22,7 +18,6 @@ use std::random::RandomSource;
 use std::rt::Runtime;
 use std::sync::Wait;
 use std::thread::Threads;
-use work::{run_file, run_storm};
 
 fn main(rt: HostRuntime) -> ExitCode {
     let (mut input, mut output) = (rt.stdin(), rt.stdout());

@@ -6,18 +6,11 @@ ghost use Rattle.mm_clients.specs.End.{aborts_of};
 
 use crate::desk::Desk;
 use mm_clients::{Client, ClientEnds, Gate, Tally, Transmitter};
+use mm_jobs::Job;
 use mm_shared::{Name, Pass, SharedTable};
 use mm_workload::{Coming, WorkStep};
 use std::sync::Wait;
 use std::sync::ledger::Ledger;
-
-/// What the thread of a worker does.
-pub trait Job: Drop {
-    /// What it gives back.
-    type Gives: Drop;
-
-    fn run(self) -> Self::Gives;
-}
 
 /// A client whose pass has one part, and has counted no abort, with the transactions that follow its first one.
 #[derive(Drop)]

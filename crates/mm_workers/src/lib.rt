@@ -3,15 +3,15 @@
 //! - `shared_gate`: `SharedGate`, a gate for threads.
 //! - `desk`: `Desk`, a shared table with a pass, as the workers of `mm_clients` call it.
 //! - `job`: what a worker's thread takes along, and what it gives back.
-//! - `run`: `run_threads`, all workers of a workload at once. `start` starts them, and `gather` joins their passes.
+//! - `run`: `run_threads`, all workers of a workload at once. `jobs` makes a job for each, which `mm_jobs` runs, and `gather` joins their passes.
 #![tactic(auto)]
 
 mod desk;
 mod gather;
 mod job;
+mod jobs;
 mod run;
 mod shared_gate;
-mod start;
 
 pub use desk::Desk;
 pub use mm_clients::{

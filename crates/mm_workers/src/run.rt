@@ -7,8 +7,9 @@ ghost use Rattle.mm_clients.specs.End.{is_aborted};
 
 use crate::gather::{gather_clients, gather_transmitters};
 use crate::job::{Ended, Stopped};
-use crate::start::{client_jobs, run_jobs, transmitter_jobs};
+use crate::jobs::{client_jobs, transmitter_jobs};
 use mm_clients::{Earlier, End, Gate, Outcome, TalliedOutcome, Tally};
+use mm_jobs::run_jobs;
 use mm_shared::{Name, Pass, Prepared, Refusal, SharedTable};
 use mm_workload::Workload;
 use std::alloc::{AllocError, Global};

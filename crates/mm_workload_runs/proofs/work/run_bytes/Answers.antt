@@ -1,5 +1,5 @@
 use Rattle.std.proofs.Common.{Result, Ok, Err, IfErr, IsErrAnd}
-use Rattle.mm_detect.proofs.work.run_bytes.Goals as goal
+use Rattle.mm_workload_runs.proofs.work.run_bytes.Goals as goal
 
 -- what follows from an error of which this holds
 of_error : {A E B : Type 0} (P : E → Type 0) (r : Result A E) → IsErrAnd r P → IfErr r (λ e. P e → B) → B
