@@ -5,13 +5,14 @@ ghost use Rattle.mm_workload.specs.Work.{Work};
 ghost use Rattle.mm_workload.specs.declared.fault.WorkFault.TheVariants.{Memory};
 ghost use Rattle.mm_report.specs.WorkEnd.{EndsAs};
 
+use crate::storm::{generated, source_of};
 use crate::threads::{run, run_told};
 use mm_command::StormOptions;
 use mm_report::{
     Source, Taken, Told, WorkEnd, print_fault, seconds_since, taken_from, tell, tell_end,
     tell_fault,
 };
-use mm_runs::{ScriptFault, generated, source_of};
+use mm_script::ScriptFault;
 use mm_workload::{WorkFault, Workload};
 use std::alloc::Global;
 use std::io::Write;
