@@ -3,7 +3,7 @@ ghost use Rattle.std.specs.Prelude.{◌≡◌, ◌≢◌, ◌⊎◌, Ok, IfOk, I
 ghost use Rattle.mm_workload.specs.Json.{Says, SaysNone};
 ghost use Rattle.mm_workload.specs.Work.{Work};
 ghost use Rattle.mm_workload.specs.declared.fault.WorkFault.TheVariants.{Memory};
-ghost use Rattle.mm_report.specs.WorkEnd.{EndsAs};
+ghost use Rattle.mm_report.specs.WorkEnd.{EndsAs, end_after, work_status};
 
 use crate::storm::{generated, source_of};
 use crate::threads::{run, run_told};
@@ -88,6 +88,7 @@ fn run_work<R: Runtime + Threads + Wait + Sync, W: Write>(
 ) -> Result<u8, ScriptFault>
     ensures malformed { result ≡ Ok 1 → IsErrAnd read (λ fault. ¬ (fault ≡ Memory)) }
     ensures ran { (result ≡ Ok 0) ⊎ (result ≡ Ok 5) → IsOk read }
+    ensures told { IfErr read (λ fault. IfOk result (λ status. status ≡ work_status (end_after fault))) }
     ensures fault { IfErr result (λ fault. fault ≡ ScriptFault.Write) }
 {
     match read {
