@@ -31,7 +31,9 @@ pub fn run_file<R: Runtime + Threads + Wait + Sync, W: Write>(
     file: &str,
     told: Told<'_>,
     output: &mut W,
-) -> Result<u8, ScriptFault> {
+) -> Result<u8, ScriptFault>
+    ensures fault { IfErr result (λ fault. (fault ≡ ScriptFault.Read) ⊎ (fault ≡ ScriptFault.Write)) }
+{
     match taken_from(rt, alloc, file) {
         Taken::Bytes(bytes) => run_bytes(rt, alloc, file, bytes.as_slice(), told, output),
         Taken::Memory => print_fault(WorkFault::Memory, output),
