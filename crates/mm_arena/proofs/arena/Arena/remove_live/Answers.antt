@@ -1,4 +1,5 @@
-use Rattle.std.proofs.Common.{◌+◌, sym, ap, subst, ◌∙◌}
+use Rattle.std.proofs.Common.{◌+◌, sym, ap, subst, ◌∙◌, arith}
+use Rattle.std.proofs.lemmas.Grind.{common_steps}
 use Rattle.mm_arena.specs.declared.slot.State.TheVariants.{Free}
 use Rattle.mm_arena.specs.Slots.{IsLive, vacated}
 use Rattle.mm_arena.proofs.Lemmas.Layout.{Removes-freed, Removes-retired}
@@ -40,3 +41,21 @@ returns-clause-dropped g c =
     let freed = c.free.ensures.freed ∙ ap (λ next. record { generation = c.index_mut-slot.result.now.generation + 1; state = Free next }) c.replace-before.ensures.value in
     let removes = Removes-freed _ c.self.invariant c.args.key live c.free.result _ c.index_mut-slot.ensures.value c.free.ensures.value _ c.if-slot-self.false freed in
     rw (c.replace-before.ensures.after, ← c.self.view_is, removes.shows) removes.dropped
+
+pub overflow_sub-self : goal.overflow_sub-self
+overflow_sub-self g c = grind (arith, common_steps)
+
+pub index_mut-slot-requires : goal.index_mut-slot-requires
+index_mut-slot-requires g c = grind (arith, common_steps)
+
+pub retire-requires : goal.retire-requires
+retire-requires g c = grind (arith, common_steps)
+
+pub returns-then-slot-self-clause-value : goal.returns-then-slot-self-clause-value
+returns-then-slot-self-clause-value g c = grind (arith, common_steps)
+
+pub free-requires-clause-live : goal.free-requires-clause-live
+free-requires-clause-live g c = grind (arith, common_steps)
+
+pub returns-clause-value : goal.returns-clause-value
+returns-clause-value g c = grind (arith, common_steps)

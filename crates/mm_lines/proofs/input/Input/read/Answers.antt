@@ -11,3 +11,12 @@ returns-in-Ok-clause-ok g c =
     let some : 0 < length c.read.new.buf = grind (arith, common_steps) in
     let len : length (take n c.read.new.buf) ≡ n = grind (arith, common_steps) in
     rw (← c.self.view_is) (reads_piece _ _ _ _ (take n c.read.new.buf) n len c.in-Ok.ensures.bytes.0 (λ none. c.in-Ok.ensures.bytes.1 none some) (grind (arith, common_steps)) refl refl few)
+
+pub slice_bounds-piece-end-in-Ok : goal.slice_bounds-piece-end-in-Ok
+slice_bounds-piece-end-in-Ok g c = grind (arith, common_steps)
+
+pub slice_bounds-try_extend_from_slice-end : goal.slice_bounds-try_extend_from_slice-end
+slice_bounds-try_extend_from_slice-end g c = grind (arith, common_steps)
+
+pub overflow_add-self : goal.overflow_add-self
+overflow_add-self g c = grind (arith, common_steps)

@@ -1,4 +1,5 @@
 use Rattle.std.proofs.Common.{◌≡◌, ◌*◌, None, ap, length, replicate, arith, ◌∙◌, sym, vec_len}
+use Rattle.std.proofs.lemmas.Grind.{common_steps}
 use Rattle.std.proofs.lemmas.List.{length-replicate}
 use Rattle.mm_names.proofs.Lemmas.Places.{names_in-none, no_length}
 use Rattle.mm_names.proofs.places.Places.new.Goals as goal
@@ -19,3 +20,9 @@ pub returns : goal.returns
 returns c =
     let all : c.lengths.lengths.items ≡ replicate c.args.numbers None = c.lengths.invariant.0 ∙ ap (λ n. replicate n None) (omega arith) in
     rw all (ap (λ names. record { names = names; name_bytes = c.args.name_bytes }) (names_in-none c.args.name_bytes c.args.numbers c.in_ok-bytes.bytes.items))
+
+pub push_reserved-requires : goal.push_reserved-requires
+push_reserved-requires c = grind (arith, common_steps)
+
+pub lengths-preserved : goal.lengths-preserved
+lengths-preserved c = grind (arith, common_steps)

@@ -1,4 +1,5 @@
 use Rattle.std.proofs.Common.{◌≡◌, ◌+◌, ◌<◌, rules, ℕ, Ok, true, false, Option, Some, None, is_some, refl, ap, sym, subst, ◌∙◌, arith, IsTrue}
+use Rattle.std.proofs.lemmas.Grind.{common_steps}
 use Rattle.mm_rules.specs.TableState.{TableState, wait_of}
 use Rattle.mm_rules.specs.Change.{abort, vacate, vacate_fits, take_back}
 use Rattle.mm_rules.specs.Event.{abort_tests, allowed, decided}
@@ -57,3 +58,6 @@ returns-clause-step c =
       ap (λ o. o.reply) given,
       c.count.ensures ∙ ap (λ (t : TableState). record t { totals = record t.totals { accepted = t.totals.accepted + 1 } }) vacated ∙ ap (λ o. o.state) given,
     )
+
+pub add-requires : goal.add-requires
+add-requires c = grind (arith, common_steps)

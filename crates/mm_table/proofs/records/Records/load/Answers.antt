@@ -1,4 +1,5 @@
 use Rattle.std.proofs.Common.{◌≡◌, ◌≤◌, ◌<◌, ℕ, Bool, false, List, Option, Some, None, inl, inr, subst, length, refl, sym, ap, ◌∙◌, arith, rules, length-set}
+use Rattle.std.proofs.lemmas.Grind.{common_steps}
 use Rattle.std.proofs.lemmas.Bool.{cases_lt}
 use Rattle.std.specs.Option.{option_map_or}
 use Rattle.mm_list_lemmas.proofs.Lemmas.Set.{true_within}
@@ -65,3 +66,12 @@ pub returns-clause-none : goal.returns-clause-none
 returns-clause-none c =
     subst IsNoneMarked (sym c.in_default.ensures.none.1)
     (none_left c.loop-process.changed c.loop-process.from c.loop-process.invariant.way.below c.in_default.ensures.none.0)
+
+pub load_one-requires-clause-process : goal.load_one-requires-clause-process
+load_one-requires-clause-process c = grind (arith, common_steps)
+
+pub overflow_add-from : goal.overflow_add-from
+overflow_add-from c = grind (arith, common_steps)
+
+pub loop-process-smaller : goal.loop-process-smaller
+loop-process-smaller c = grind (arith, common_steps)
