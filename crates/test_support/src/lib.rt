@@ -1,6 +1,6 @@
 //! What the tests of several crates share.
 //!
-//! - `Row`, `ROWS`: scripts with the replies that they are to have.
+//! - `Row`, `all_rows`: scripts with the replies that they are to have.
 //! - `label`: a label by its parts.
 #![tactic(auto)]
 
@@ -8,4 +8,4 @@ mod labels;
 mod rows;
 
 pub use labels::label;
-pub use rows::{ROWS, Row};
+pub use rows::{Row, all_rows};

@@ -11,7 +11,7 @@ use std::process::Abort;
 use std::sync::Wait;
 use std::sync::ledger::Ledger;
 use std::test::Fail;
-use test_support::{ROWS, Row};
+use test_support::{Row, all_rows};
 
 /// Ends the test unless each process has the same tenant in both tables.
 fn have_the_same_tenants<N: Name, A: Ledger, V: Ledger, B: Ledger, R: Wait + Abort>(
@@ -104,9 +104,15 @@ fn on_both<R: Wait + Abort>(rt: &R, alloc: Global, row: &'static Row) -> Result<
 /// Those scripts that begin by opening a table and have no malformed line.
 #[test]
 fn shared_calls_answer_as_those_of_a_table(rt: HostRuntime) -> Result<(), Fail> {
-    for row in &ROWS {
+    let [first, second] = all_rows();
+    each_on_both(&rt, rt.alloc(), first)?;
+    each_on_both(&rt, rt.alloc(), second)
+}
+
+fn each_on_both<R: Wait + Abort>(rt: &R, alloc: Global, rows: &'static [Row]) -> Result<(), Fail> {
+    for row in rows {
         if row.malformed == 0 && row.output.starts_with("ok\n") {
-            on_both(&rt, rt.alloc(), row)?;
+            on_both(rt, alloc, row)?;
         }
     }
     Ok(())
