@@ -1,4 +1,5 @@
 use Rattle.std.proofs.Common.{Ok, Some, ap, refl, ◌∙◌, arith}
+use Rattle.std.proofs.lemmas.Grind.{common_steps}
 use Rattle.mm_board.specs.declared.views.Published.{Published}
 use Rattle.mm_board.specs.Views.{with_holder}
 use Rattle.mm_rules.specs.Event.{Acquire}
@@ -113,3 +114,6 @@ returns-in_err-answer-clause-rises g c = none_falls c.args.pass.now.seen.labels 
 pub returns-in_default-clause-rises : goal.returns-in_default-clause-rises
 returns-in_default-clause-rises g c =
     none_falls c.args.pass.now.seen.labels c.count_accepted.new.self.seen.labels (ap (λ (s : Shares). s.seen.labels) c.count_accepted.ensures.share)
+
+pub returns-clause-seen : goal.returns-clause-seen
+returns-clause-seen g c = grind (arith, common_steps)
