@@ -1,6 +1,6 @@
 -- What is written piece by piece.
-use Rattle.std.proofs.Common.{◌≡◌, ◌∙◌, sym, ap, subst, ℕ, ◌+◌, ◌<◌, List, ◌∷◌, ◌++◌, length, drop, get_or, Option, append_assoc, codes}
-use Rattle.std.proofs.lemmas.List.{at_drop_more}
+use Rattle.std.proofs.Common.{◌≡◌, ◌∙◌, sym, ap, subst, ℕ, ◌+◌, ◌<◌, ◌≤◌, List, [], ◌∷◌, ◌++◌, length, drop, get_or, Option, append_assoc, append-nil, codes}
+use Rattle.std.proofs.lemmas.List.{at_drop_all, at_drop_more}
 use Rattle.mm_lines.specs.Output.{Writes}
 use Rattle.mm_service.specs.Reply.{line_text}
 use Rattle.mm_lines.proofs.Lemmas.Output.{writes_none, writes_then, writes_added}
@@ -36,6 +36,13 @@ writes_next text line first before mid after bytes kept room now xs i d h so_far
     let all = writes_kept before mid after bytes kept (text (drop i xs)) room so_far in_room in
     let P : List ℕ → Type 0 = λ l. Writes before after bytes (room ++ l) in
     writes_piece before after bytes room (line (get_or xs i d)) (text (drop (i + 1) xs)) now (subst P next all) added
+
+-- the last of a list of lines is printed
+pub writes_whole : {X : Type 0} (text : List X → List ℕ) → text [] ≡ []
+    → (before after : Option (List ℕ)) (bytes kept : List ℕ) (xs : List X) (i : ℕ) → length xs ≤ i → Writes before after bytes (kept ++ text (drop i xs)) → Writes before after bytes kept
+writes_whole text none before after bytes kept xs i h w =
+    let same : kept ++ text (drop i xs) ≡ kept = ap (λ l. kept ++ l) (at_drop_all text xs i h ∙ none) ∙ append-nil kept in
+    subst (Writes before after bytes) same w
 
 -- the head of a line was printed and its body is written, kept or lost: then its end follows
 pub writes_line : (before after : Option (List ℕ)) (old head body now lost : List ℕ) → now ≡ old ++ head → Writes before after (now ++ body) lost → Writes before after (old ++ line_text (head ++ body)) (lost ++ codes "\n")

@@ -2,7 +2,7 @@ use Rattle.std.proofs.Common.{ap, refl, subst, List, ℕ, ◌++◌, drop}
 use Rattle.mm_lines.specs.Output.{Writes}
 use Rattle.mm_settled.specs.declared.reply.Grant.{Grant}
 use Rattle.mm_service.specs.Text.{told_line, told_lines}
-use Rattle.mm_service.proofs.Lemmas.Pieces.{writes_kept, writes_next}
+use Rattle.mm_service.proofs.Lemmas.Pieces.{writes_kept, writes_next, writes_whole}
 use Rattle.mm_service.proofs.Lemmas.Run.{on_ok-at_err}
 use Rattle.mm_service.proofs.lists.write_told.Goals as goal
 
@@ -22,3 +22,11 @@ returns-in_err-make_room-clause-written g c =
     let all = ap (told_lines m) c.granted-grant-items.ensures in
     let P = λ (l : List ℕ). Writes (g.W.Write.contents c.args.writer.now) (g.W.Write.contents c.make_room.new.writer) (c.args.output.now.items ++ l) (room.0 ++ rest) in
     (room.0 ++ rest, subst P all (writes_kept _ _ _ _ c.loop-grant.output.items rest room.0 c.loop-grant.invariant room.1), on_ok-at_err _ _ c.from_residual.ensures.0)
+
+pub returns-clause-written : goal.returns-clause-written
+returns-clause-written g c =
+    let m = c.args.manager.now in
+    let kept = c.loop-grant.output.items in
+    let all = ap (told_lines m) c.granted-grant-items.ensures in
+    let P = λ (l : List ℕ). Writes (g.W.Write.contents c.args.writer.now) (g.W.Write.contents c.loop-grant.writer) (c.args.output.now.items ++ l) kept in
+    (kept, subst P all (writes_whole (told_lines m) refl _ _ _ kept c.granted-grant-items.result.now c.loop-grant.grant-index c.loop-grant-test.false c.loop-grant.invariant), refl)
