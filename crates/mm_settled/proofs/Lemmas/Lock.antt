@@ -4,6 +4,7 @@ use Rattle.std.specs.Prelude.{OnOk, ◌↔◌}
 use Rattle.std.proofs.lemmas.Bool.{cases_Bool, eqb-true, eqb-false, not-false, lt-ltb, leb-false}
 use Rattle.mm_label.specs.Label.{Label}
 use Rattle.mm_arena.specs.declared.key.Key.{Key}
+use Rattle.mm_rules.specs.declared.config.Config.{Config}
 use Rattle.mm_rules.specs.declared.refusal.Refusal.{Refusal}
 use Rattle.mm_rules.specs.declared.refusal.Refusal.TheVariants.{NoResource}
 use Rattle.mm_rules.specs.declared.reply.Acquired.{Acquired}
@@ -73,6 +74,10 @@ begins_to_wait s t k h r l laws step =
     let done : IsAccepted Acquired (acquire_tests s k r) (acquire_answer s k (owner_of s r)) change (acquired.Waits h l) t
     = accepted (acquire_tests s k r) s (acquire_answer s k (owner_of s r)) change (acquired.Waits h l) t step in
     waits_by s t k h r l (owner_of s r) laws (not-false (is_live s k) done.passed.1.0) done.answer (change.totals.accepted + 1) done.state
+
+pub waiter_within : (s t : TableState) (k h : Key) (r : ℕ) (l : Label) → Laws s → Step (Acquire k r) s (Ok (acquired.Waits h l)) t → k.process < t.config.processes
+waiter_within s t k h r l laws step =
+    omega (arith, (begins_to_wait s t k h r l laws step).within, ap (λ (c : Config). c.processes) (event_config (Acquire k r) s t (Ok (acquired.Waits h l)) step))
 
 -- the answer tells whether the requester is on a cycle
 pub deadlock_iff : (old new : TableState) (k : Key) (r : ℕ) (reply : Result Locked Refusal) → Laws old → Locks old k r reply new → OnOk reply (IsTrue (IsDeadlock reply) ↔ IsOnCycle new k.process)

@@ -3,6 +3,7 @@ use Rattle.std.proofs.Common.{◌≡◌, ◌≤◌, ◌+◌, ℕ, Bool, true, fa
 use Rattle.std.proofs.lemmas.Bool.{eq-eqb, ne_eqb}
 use Rattle.mm_arena.specs.declared.key.Key.{Key}
 use Rattle.mm_rules.specs.declared.reply.Acquired.{Acquired}
+use Rattle.mm_rules.specs.declared.reply.Totals.{Totals}
 use Rattle.mm_rules.specs.TableState.{TableState, key_of, owner_of}
 use Rattle.mm_rules.specs.Event.{Begin, Acquire, Step, begin_tests, acquire_tests, acquire_answer, acquire_change}
 use Rattle.mm_rules.proofs.States.Outcome.{counting}
@@ -28,6 +29,12 @@ pub told_now : (at : ℕ) (s : TableState) → at ≡ s.totals.accepted → is_t
 told_now at s is = eq-eqb at s.totals.accepted is
 
 -- ---- an event was accepted since
+
+pub counted_alike : (n m : Totals) → n ≡ m → n.accepted ≤ m.accepted
+counted_alike n m same = omega (arith, ap (λ (t : Totals). t.accepted) same)
+
+pub counted_past : (at : ℕ) (s t : TableState) → at ≤ s.totals.accepted → t.totals.accepted ≡ s.totals.accepted + 1 → at ≤ t.totals.accepted
+counted_past at s t before counted = omega (arith, before, counted)
 
 -- a begin and an acquire that are accepted are counted
 pub begin_counts : (s t : TableState) (k : Key) → Step Begin s (Ok k) t → t.totals.accepted ≡ s.totals.accepted + 1

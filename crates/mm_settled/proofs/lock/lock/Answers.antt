@@ -10,10 +10,11 @@ use Rattle.mm_settled.specs.Calls.{has_room, Locks}
 use Rattle.mm_settled.specs.private.Lists.{Fits}
 use Rattle.mm_settled.specs.private.Told.{TellsOf, TellsIf, is_told}
 use Rattle.mm_settled.proofs.Lemmas.Fits.{fits_again}
-use Rattle.mm_settled.proofs.Lemmas.Lock.{waiter_rests, waiter_config, waiter_alone, waiter_locks, waiter_changed, waiter_grants, waits_with_room, lacks_room_both}
+use Rattle.mm_settled.proofs.Lemmas.Lock.{waiter_rests, waiter_config, waiter_alone, waiter_locks, waiter_changed, waiter_grants, waiter_within, waits_with_room, lacks_room_both}
 use Rattle.mm_settled.proofs.Lemmas.Quiet.{GrantsNow, granted_quiet, quiet_rests, same_is_quiet, same_changes_nobody}
 use Rattle.mm_settled.proofs.Lemmas.Refused.{acquire_refused}
-use Rattle.mm_settled.proofs.Lemmas.Told.{tells_nothing, told_now, acquire_counts, told_before}
+use Rattle.mm_settled.proofs.Lemmas.Rest.{room_left}
+use Rattle.mm_settled.proofs.Lemmas.Told.{tells_nothing, told_now, acquire_counts, counted_alike, counted_past, told_before}
 use Rattle.mm_settled.proofs.lock.lock.Goals as goal
 
 -- ---- there is no room to count it with a settle
@@ -25,6 +26,12 @@ pub returns-then-lacks_room-clause-told : goal.returns-then-lacks_room-clause-to
 returns-then-lacks_room-clause-told c =
     let s = c.args.table.now in
     tells_nothing (is_told c.args.told_at.now s) s s c.clear.new.self c.clear.ensures.granted c.clear.ensures.changed (same_is_quiet s s c.keeps_laws.ensures (λ i. s)).granted (same_changes_nobody s s (λ i. s))
+
+pub returns-then-lacks_room-clause-fits : goal.returns-then-lacks_room-clause-fits
+returns-then-lacks_room-clause-fits c =
+    let cleared = c.clear.ensures in
+    fits_again c.args.table.now.config c.args.table.now.config c.args.lists.now c.clear.new.self refl c.requires.fits
+    record { granted = cleared.room_to_grant; changed = cleared.room_to_change; resources = cleared.resources; processes = cleared.processes }
 
 -- ---- the table refuses
 
@@ -71,6 +78,16 @@ is_granted c = rw (c.in-Ok-Granted.is, c.in-Ok-Granted.field-0-is) at c.acquire.
 grants : (c : goal.In-Ok-Granted) → GrantsNow c.args.table.now c.args.key c.acquire.new.self
 grants c = granted_quiet c.args.table.now c.acquire.new.self c.args.key c.args.resource c.keeps_laws.ensures (is_granted c)
 
+pub returns-in-Ok-Granted-clause-locks : goal.returns-in-Ok-Granted-clause-locks
+returns-in-Ok-Granted-clause-locks c = is_granted c
+
+pub returns-in-Ok-Granted-clause-others : goal.returns-in-Ok-Granted-clause-others
+returns-in-Ok-Granted-clause-others c = λ v apart. (grants c).quiet.verdicts v
+
+pub returns-in-Ok-Granted-clause-stamp : goal.returns-in-Ok-Granted-clause-stamp
+returns-in-Ok-Granted-clause-stamp c =
+    counted_past c.args.told_at.now c.args.table.now c.acquire.new.self c.requires.stamp (acquire_counts c.args.table.now c.acquire.new.self c.args.key c.args.resource Granted (is_granted c))
+
 pub returns-in-Ok-Granted-clause-told : goal.returns-in-Ok-Granted-clause-told
 returns-in-Ok-Granted-clause-told c =
     let s = c.args.table.now in
@@ -85,7 +102,34 @@ returns-in-Ok-Granted-clause-rest c =
 pub returns-in-Ok-Granted-clause-config : goal.returns-in-Ok-Granted-clause-config
 returns-in-Ok-Granted-clause-config c = event_config (Acquire c.args.key c.args.resource) c.args.table.now c.acquire.new.self c.acquire.result c.acquire.ensures
 
+pub returns-in-Ok-Granted-clause-fits : goal.returns-in-Ok-Granted-clause-fits
+returns-in-Ok-Granted-clause-fits c =
+    let now = event_config (Acquire c.args.key c.args.resource) c.args.table.now c.acquire.new.self c.acquire.result c.acquire.ensures in
+    subst (λ (f : Config). Fits f c.args.lists.now) (sym now) c.requires.fits
+
 -- ---- it waits
+
+pub settle_waiter-locked-requires-clause-counts : goal.settle_waiter-locked-requires-clause-counts
+settle_waiter-locked-requires-clause-counts c =
+    let s = c.args.table.now in
+    let mid = c.acquire.new.self in
+    let k = c.args.key in
+    let r = c.args.resource in
+    let h = c.in-Ok-Waits.holder in
+    let l = c.in-Ok-Waits.field-0-1 in
+    let asks : Step (Acquire k r) s (Ok (Waits h l)) mid = rw (c.in-Ok-Waits.is, c.in-Ok-Waits.field-0-is) at c.acquire.ensures in
+    room_left (Acquire k r) s mid (Waits h l) asks refl (waits_with_room s mid k h r l (sym c.lacks_room.ensures ∙ c.if-lacks_room.false) asks)
+
+pub settle_waiter-locked-requires-clause-process : goal.settle_waiter-locked-requires-clause-process
+settle_waiter-locked-requires-clause-process c =
+    let asks : Step (Acquire c.args.key c.args.resource) c.args.table.now (Ok (Waits c.in-Ok-Waits.holder c.in-Ok-Waits.field-0-1)) c.acquire.new.self =
+    rw (c.in-Ok-Waits.is, c.in-Ok-Waits.field-0-is) at c.acquire.ensures in
+    waiter_within c.args.table.now c.acquire.new.self c.args.key c.in-Ok-Waits.holder c.args.resource c.in-Ok-Waits.field-0-1 c.keeps_laws.ensures asks
+
+pub settle_waiter-locked-requires-clause-fits : goal.settle_waiter-locked-requires-clause-fits
+settle_waiter-locked-requires-clause-fits c =
+    let now = event_config (Acquire c.args.key c.args.resource) c.args.table.now c.acquire.new.self c.acquire.result c.acquire.ensures in
+    subst (λ (f : Config). Fits f c.args.lists.now) (sym now) c.requires.fits
 
 asks : (c : goal.After-totals) → Step (Acquire c.args.key c.args.resource) c.args.table.now (Ok (Waits c.in-Ok-Waits.holder c.in-Ok-Waits.field-0-1)) c.acquire.new.self
 asks c = rw (c.in-Ok-Waits.is, c.in-Ok-Waits.field-0-is) at c.acquire.ensures
@@ -120,6 +164,9 @@ returns-in-Ok-Waits-clause-told c =
           ∙ waiter_changed s mid new c.args.key c.in-Ok-Waits.holder c.args.resource c.in-Ok-Waits.field-0-1 settled.0 c.keeps_laws.ensures c.requires.rest (asks c) settled.1;
     } in
     subst (λ b. TellsIf b s new c.settle_waiter-locked.new.lists) (sym (told_now c.totals.result.accepted new (ap (λ (n : Totals). n.accepted) c.totals.ensures))) told
+
+pub returns-in-Ok-Waits-clause-stamp : goal.returns-in-Ok-Waits-clause-stamp
+returns-in-Ok-Waits-clause-stamp c = counted_alike c.totals.result c.settle_waiter-locked.new.table.totals c.totals.ensures
 
 pub returns-in-Ok-Waits-clause-rest : goal.returns-in-Ok-Waits-clause-rest
 returns-in-Ok-Waits-clause-rest c =
