@@ -1,4 +1,4 @@
-use Rattle.std.proofs.Common.{◌≡◌, ◌↔◌, ℕ, List, [], Ok, Err, Some, false, length, vec_len, sym, ap, subst, ◌∙◌, arith}
+use Rattle.std.proofs.Common.{◌≡◌, ◌↔◌, ℕ, List, [], Ok, Err, Some, false, length, vec_len, refl, sym, ap, subst, ◌∙◌, arith}
 use Rattle.std.specs.List.{filter_map}
 use Rattle.std.proofs.lemmas.Bool.{eqb-true}
 use Rattle.std.proofs.lemmas.List.{length-replicate}
@@ -12,7 +12,7 @@ use Rattle.mm_settled.specs.declared.reply.EndKind.{EndKind}
 use Rattle.mm_settled.specs.private.Ends.{EndStep}
 use Rattle.mm_settled.specs.private.Lists.{given, owned_by_key}
 use Rattle.mm_settled.proofs.Lemmas.EitherEnd.{end_refused, end_keeps, end_was_live, end_hands_on}
-use Rattle.mm_settled.proofs.Lemmas.Fits.{owned_by_process, owned_within, owned_listed, sorted_owned}
+use Rattle.mm_settled.proofs.Lemmas.Fits.{fits_again, owned_by_process, owned_within, owned_listed, sorted_owned}
 use Rattle.mm_settled.proofs.Lemmas.Grants.{given_are_grants, few_grants, nobody_changed_grants_none}
 use Rattle.mm_settled.proofs.Lemmas.Numbers.{no_length}
 use Rattle.mm_settled.proofs.Lemmas.Quiet.{same_is_quiet}
@@ -75,3 +75,18 @@ returns-clause-told c =
 
 pub returns-clause-owned : goal.returns-clause-owned
 returns-clause-owned c = λ r. subst (λ ns. Among r ns ↔ (owner_of c.args.table.now r ≡ Some c.args.key)) (sym (is_sorted c)) (owned_listed c.args.table.now c.args.key c.requires.laws r)
+
+pub returns-in_err-end_waking-clause-fits : goal.returns-in_err-end_waking-clause-fits
+returns-in_err-end_waking-clause-fits c =
+    fits_again c.args.table.now.config c.args.table.now.config c.args.lists.now _ refl c.requires.fits
+    record { granted = c.clear.ensures.capacity; changed = c.end_waking.ensures.room; resources = refl; processes = refl }
+
+pub returns-then-is_empty-clause-fits : goal.returns-then-is_empty-clause-fits
+returns-then-is_empty-clause-fits c =
+    fits_again c.args.table.now.config c.args.table.now.config c.args.lists.now _ refl c.requires.fits
+    record { granted = c.clear.ensures.capacity; changed = c.end_waking.ensures.room; resources = refl; processes = refl }
+
+pub returns-clause-fits : goal.returns-clause-fits
+returns-clause-fits c =
+    fits_again c.args.table.now.config c.args.table.now.config c.args.lists.now _ refl c.requires.fits
+    record { granted = c.list_given.ensures.room ∙ c.clear.ensures.capacity; changed = c.end_waking.ensures.room; resources = c.sort.ensures.none; processes = refl }
