@@ -21,6 +21,7 @@ pub mod Answered
 pub mod Asked
 -- from the parts to what a contract sees
 pub mod Told
+pub mod Cleared
 -- a manager that was just opened
 pub mod Opening
 -- a wait that is taken back

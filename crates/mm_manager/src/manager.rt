@@ -1,5 +1,5 @@
 //! The lock manager.
-ghost use Rattle.std.specs.Prelude.{◌≡◌, ◌↔◌, ◌≤◌, ℕ, List, [], Some, Ok, Err, IfOk, OnOk, option_copied, vec_capacity, length};
+ghost use Rattle.std.specs.Prelude.{◌≡◌, ◌↔◌, ◌≤◌, ℕ, List, [], Some, Ok, Err, IfOk, IfErr, OnOk, option_copied, vec_capacity, length};
 ghost use Rattle.mm_arena.specs.declared.key.Key.{Key as KeyValue};
 ghost use Rattle.mm_bit_set.specs.BitSet.{has};
 ghost use Rattle.mm_list_lemmas.specs.Members.{Among, NoRepeat};
@@ -74,6 +74,17 @@ impl LockManager {
         ensures name_bytes { (result ≡ Err OpenError.NameBytes) ↔ (¬ IsTransactionsOut config × ¬ IsNamesOut config × IsNameBytesOut config) }
     {
         config.check()?;
+        LockManager::open_in_range(alloc, config)
+    }
+
+    /// `open`, where each number is in its range: only a request for memory can be refused.
+    fn open_in_range(alloc: Global, config: ManagerConfig) -> Result<LockManager, OpenError>
+        requires transactions { ¬ IsTransactionsOut config }
+        requires names { ¬ IsNamesOut config }
+        requires name_bytes { ¬ IsNameBytesOut config }
+        ensures opened { IfOk result (λ manager. manager ≡ opening_state config) }
+        ensures memory { IfErr result (λ error. error ≡ OpenError.Memory) }
+    {
         let lists = Lists::open(alloc, config)?;
         let names = open_names(alloc, config)?;
         let table = open_table(alloc, config)?;

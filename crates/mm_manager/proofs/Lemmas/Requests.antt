@@ -1,9 +1,10 @@
 -- What a request leaves of names and owners.
-use Rattle.std.proofs.Common.{◌≡◌, ◌<◌, ◌+◌, ◌++◌, ℕ, true, false, List, [], ◌∷◌, length, Option, Some, None, Ok, IsTrue, refl, sym, ap, ◌∙◌, inl, inr, slice_set, slice_index, slice_index_or, get_or-set_same, nat_eq}
-use Rattle.std.proofs.lemmas.Bool.{and_parts, eqb-true}
+use Rattle.std.proofs.Common.{◌≡◌, ◌<◌, ◌+◌, ◌++◌, ℕ, true, false, List, [], ◌∷◌, length, Option, Some, None, Result, Ok, Err, Bool, IsTrue, IfErr, if◌then◌else◌, ◌&&◌, ◌≢◌, ◌⊎◌, subst, refl, sym, ap, ◌∙◌, inl, inr, slice_set, slice_index, slice_index_or, get_or-set_same, nat_eq}
+use Rattle.std.specs.Result.{IsErr, IsErrAnd}
+use Rattle.std.proofs.lemmas.Bool.{and_parts, eqb-true, eq-eqb, lt-ltb}
 use Rattle.mm_arena.specs.declared.key.Key.{Key}
 use Rattle.mm_label.specs.Label.{Label}
-use Rattle.mm_names.specs.Names.{NameTable, name_of, with_name, Interns}
+use Rattle.mm_names.specs.Names.{NameTable, name_of, with_name, Interns, IsRefusedAsFull}
 use Rattle.mm_rules.specs.declared.reply.Acquired.{Acquired}
 use Rattle.mm_rules.specs.declared.reply.Acquired.TheVariants as acquired
 use Rattle.mm_rules.specs.TableState.{TableState, is_live, owner_of, owns, wait_of}
@@ -17,7 +18,14 @@ use Rattle.mm_settled.specs.Calls.{Locks, WaitsFrom}
 use Rattle.mm_settled.specs.declared.reply.Locked.{Locked}
 use Rattle.mm_settled.specs.declared.reply.Locked.TheVariants as locked
 use Rattle.mm_settled.proofs.Lemmas.Accepted.{IsAccepted, accepted}
-use Rattle.mm_manager.specs.private.Numbers.{AreNumbered}
+use Rattle.mm_manager.specs.Calls.{Tries}
+use Rattle.mm_manager.specs.Permit.{event_limit, first_refusal, may_ask, may_count, may_name, may_request}
+use Rattle.mm_manager.specs.Refused.{TryRefused}
+use Rattle.mm_manager.specs.declared.refusal.Refusal.{Refusal}
+use Rattle.mm_manager.specs.declared.refusal.Refusal.TheVariants.{CountsFull, NamesFull}
+use Rattle.mm_manager.specs.declared.reply.TryLock.TheVariants as tried
+use Rattle.mm_manager.specs.private.Numbers.{AreNumbered, bare}
+use Rattle.mm_manager.specs.private.Requests.{tried_by}
 use Rattle.mm_manager.proofs.Lemmas.Numbers.{some_not_none, numbered_alike, numbered_set}
 
 -- ---- what the table does
@@ -115,3 +123,47 @@ module _ (s : TableState) (t : NameTable) (numbered : AreNumbered s t) (u : Name
 
   pub numbered_queued : (k h : Key) (v : TableState) → IsQueued s k n h v → Interns t name n u → AreNumbered v u
   numbered_queued k h v queued interned = rw (owned_is_known h queued.held interned).1 (numbered_alike s t numbered v queued.owners queued.config)
+
+-- ---- a try for a number that is owned
+
+same_key : (h k : Key) → (nat_eq h.process k.process && nat_eq h.generation k.generation) ≡ true → h ≡ k
+same_key h k same =
+    let parts = and_parts (nat_eq h.process k.process) (nat_eq h.generation k.generation) same in
+    ap (λ n. record { process = n; generation = h.generation }) (eqb-true h.process k.process parts.0) ∙ ap (λ g. record { process = k.process; generation = g }) (eqb-true h.generation k.generation parts.1)
+
+key_itself : (k : Key) → (nat_eq k.process k.process && nat_eq k.generation k.generation) ≡ true
+key_itself k = rw (eq-eqb k.process k.process refl, eq-eqb k.generation k.generation refl) refl
+
+other_key : (h k : Key) → (nat_eq h.process k.process && nat_eq h.generation k.generation) ≡ false → h ≢ k
+other_key h k apart same =
+    let is : (nat_eq h.process k.process && nat_eq h.generation k.generation) ≡ true = subst (λ (g : Key). (nat_eq g.process k.process && nat_eq g.generation k.generation) ≡ true) (sym same) (key_itself k) in
+    let never : true ≡ false = sym is ∙ apart in
+    absurd (cc)
+
+tried_by_test : (s : TableState) (t u : NameTable) (k h : Key) (name : List ℕ) (n : ℕ) → name_of t n ≡ Some name → owner_of s n ≡ Some h → u ≡ t
+    → (b : Bool) → (b ≡ true → h ≡ k) → (b ≡ false → h ≢ k) → Tries s t k name (if b then tried.Held else tried.Busy h) s u
+tried_by_test s t u k h name n named owned same true mine apart = ((n, named, subst (λ (g : Key). owner_of s n ≡ Some g) (mine refl) owned), refl, same)
+tried_by_test s t u k h name n named owned same false mine apart = (apart refl, ((n, named, owned), refl, same))
+
+-- a try for it finds it so
+pub tried_finds : (s : TableState) (t u : NameTable) (k h : Key) (name : List ℕ) (n : ℕ) → name_of t n ≡ Some name → owner_of s n ≡ Some h → u ≡ t → Tries s t k name (tried_by h k) s u
+tried_finds s t u k h name n named owned same =
+    tried_by_test s t u k h name n named owned same (nat_eq h.process k.process && nat_eq h.generation k.generation) (same_key h k) (other_key h k)
+
+-- ---- a try that gets no number
+
+-- where the transaction may ask and an event can be counted, the name alone decides
+name_decides : (s : TableState) (name_bytes : ℕ) (k : Key) (name : List ℕ) → may_ask s k ≡ Ok tt → s.totals.accepted < event_limit → may_request s name_bytes k name ≡ may_name name_bytes name
+name_decides s name_bytes k name may few =
+    ap (λ r. first_refusal r (first_refusal (may_count s) (may_name name_bytes name))) may
+    ∙ ap (λ (b : Bool). first_refusal (if b then Ok tt else Err CountsFull) (may_name name_bytes name)) (lt-ltb s.totals.accepted event_limit few)
+
+pub try_refused : (s : TableState) (t : NameTable) (k : Key) (name : List ℕ) (refusal : Refusal) → may_ask s k ≡ Ok tt → s.totals.accepted < event_limit
+    → (may_name t.name_bytes name ≡ Err refusal) ⊎ ((may_name t.name_bytes name ≡ Ok tt) × (refusal ≡ NamesFull) × IsRefusedAsFull t name) → TryRefused (bare s t) k name refusal
+try_refused s t k name refusal may few (inl out) = inl (name_decides s t.name_bytes k name may few ∙ out)
+try_refused s t k name refusal may few (inr full) = inr (name_decides s t.name_bytes k name may few ∙ full.0, full.1, full.2)
+
+-- what holds of the refusal holds of the reply
+pub if_refused : {A : Type 0} (reply : Result A Refusal) (refusal : Refusal) (P : Refusal → Type 0) → IsErr reply × IsErrAnd reply (λ x. x ≡ refusal) → P refusal → IfErr reply P
+if_refused (Ok value) refusal P is holds = tt
+if_refused (Err other) refusal P is holds = subst P (sym is.1) holds

@@ -1,7 +1,7 @@
 use Rattle.std.proofs.Common.{arith}
 use Rattle.mm_manager.specs.Opening.{table_config}
 use Rattle.mm_manager.proofs.Lemmas.Opening.{opening_parts}
-use Rattle.mm_manager.proofs.manager.LockManager.open.Goals as goal
+use Rattle.mm_manager.proofs.manager.LockManager.open_in_range.Goals as goal
 
 pub invariant_of-result : goal.invariant_of-result
 invariant_of-result c = record {
