@@ -36,6 +36,7 @@ pub mod Requests
 pub mod May
 -- what a refusal is of a call that may be made
 pub mod Limits
+pub mod Unowned
 pub mod Unlocks
 -- who waits, and for what
 pub mod Reads

@@ -1,4 +1,6 @@
 //! The numbers with which a manager is opened.
+ghost use Rattle.std.specs.Prelude.{◌≡◌, ◌⊎◌, ◌↔◌, ◌<◌, true};
+
 use crate::OpenError;
 use mm_names::NamesConfig;
 use mm_settled::Config;
@@ -27,13 +29,13 @@ impl ManagerConfig {
         ensures name_bytes { (result ≡ Err OpenError.NameBytes) ↔ (¬ IsTransactionsOut self.now × ¬ IsNamesOut self.now × IsNameBytesOut self.now) }
         ensures memory { ¬ (result ≡ Err OpenError.Memory) }
     {
-        if !(1..=Config::MAX_PROCESSES).contains(&self.transactions) {
+        if is_out(self.transactions, Config::MAX_PROCESSES) {
             return Err(OpenError::Transactions);
         }
-        if !(1..=NamesConfig::MAX_NAMES).contains(&self.names) {
+        if is_out(self.names, NamesConfig::MAX_NAMES) {
             return Err(OpenError::Names);
         }
-        if !(1..=NamesConfig::MAX_NAME_BYTES).contains(&self.name_bytes) {
+        if is_out(self.name_bytes, NamesConfig::MAX_NAME_BYTES) {
             return Err(OpenError::NameBytes);
         }
         Ok(())
@@ -62,4 +64,11 @@ impl ManagerConfig {
             seed: self.seed,
         }
     }
+}
+
+/// Whether a number is not from 1 to this one.
+fn is_out(number: u32, most: u32) -> bool
+    ensures { (result ≡ true) ↔ ((number ≡ 0) ⊎ (most < number)) }
+{
+    !(1..=most).contains(&number)
 }
