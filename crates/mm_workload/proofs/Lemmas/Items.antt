@@ -1,10 +1,10 @@
 -- The items of an array in turn, and how many there are.
-use Rattle.std.proofs.Common.{◌≡◌, ◌∙◌, ap, refl, ℕ, ◌+◌, ◌<◌, ◌≤◌, true, false, List, [], ◌∷◌, ◌++◌, length, drop, nat_le, ◌&&◌, cond, if◌then◌else◌, Option, Some, None, option_map, option_and_then, arith}
+use Rattle.std.proofs.Common.{◌≡◌, ◌∙◌, ap, refl, sym, ℕ, suc, ◌+◌, ◌<◌, ◌≤◌, true, false, List, [], ◌∷◌, ◌++◌, length, get_or, drop, drop-cons, add-one, append_assoc, length-append, nat_le, ◌&&◌, cond, if◌then◌else◌, Option, Some, None, option_map, option_and_then, arith}
 use Rattle.std.proofs.lemmas.Grind.{common_steps}
 use Rattle.std.proofs.lemmas.Bool.{le-leb, lt-leb}
-use Rattle.serde_json.specs.Data.{Data, Items}
+use Rattle.serde_json.specs.Data.{Data, Items, item}
 use Rattle.serde_json.specs.Find.{as_array}
-use Rattle.serde_json.specs.View.{items_view}
+use Rattle.serde_json.specs.View.{view, items_view}
 use Rattle.serde_json.specs.declared.value.Value.{Value}
 use Rattle.mm_workload.specs.Json.{all_of, all_in, count}
 
@@ -58,3 +58,32 @@ goes_on-end f made all i h on =
 pub in_array : {X : Type 0} → (f : Items → Option X) (o : Option Data) → option_and_then (λ d. option_and_then f (as_array d)) o ≡ option_and_then f (option_and_then as_array o)
 in_array f None = refl
 in_array f (Some d) = refl
+
+-- the items from one on
+items_at : (all : List Value) (i : ℕ) (v : Value) → v ≡ get_or all i v → i < length all → items_view (drop i all) ≡ item (view v) (items_view (drop (i + 1) all))
+items_at all i v is before =
+    ap items_view (drop-cons all i v before ∙ (ap (λ w. w ∷ drop (suc i) all) (sym is) ∙ ap (λ n. v ∷ drop n all) (sym (add-one i))))
+
+one_more : {X : Type 0} → (made : List X) (x : X) (o : Option (List X)) →
+    option_map (λ more. made ++ more) (option_map (λ xs. x ∷ xs) o) ≡ option_map (λ more. (made ++ x ∷ []) ++ more) o
+one_more made x None = refl
+one_more made x (Some xs) = ap Some (sym (append_assoc made (x ∷ []) xs))
+
+-- an item that is something
+pub goes_on-next : {X : Type 0} → (f : Data → Option X) (made : List X) (all : List Value) (i : ℕ) (v : Value) (x : X) → v ≡ get_or all i v → i < length all →
+    f (view v) ≡ Some x → GoesOn f made all (drop i all) → GoesOn f (made ++ x ∷ []) all (drop (i + 1) all)
+goes_on-next f made all i v x is before found on =
+    let rest = all_of f (items_view (drop (i + 1) all)) in
+    on ∙ (ap (λ ds. option_map (λ more. made ++ more) (all_of f ds)) (items_at all i v is before)
+    ∙ (ap (λ o. option_map (λ more. made ++ more) (option_and_then (λ y. option_map (λ xs. y ∷ xs) rest) o)) found ∙ one_more made x rest))
+
+-- an item that is nothing
+pub goes_on-none : {X : Type 0} → (f : Data → Option X) (made : List X) (all : List Value) (i : ℕ) (v : Value) → v ≡ get_or all i v → i < length all →
+    f (view v) ≡ None → GoesOn f made all (drop i all) → all_of f (items_view all) ≡ None
+goes_on-none f made all i v is before none on =
+    let rest = all_of f (items_view (drop (i + 1) all)) in
+    on ∙ (ap (λ ds. option_map (λ more. made ++ more) (all_of f ds)) (items_at all i v is before)
+    ∙ ap (λ o. option_map (λ more. made ++ more) (option_and_then (λ y. option_map (λ xs. y ∷ xs) rest) o)) none)
+
+pub longer : {X : Type 0} → (made all : List X) (x : X) (n : ℕ) → all ≡ made ++ x ∷ [] → length made ≡ n → length all ≡ n + 1
+longer made all x n is long = ap length is ∙ (length-append made (x ∷ []) ∙ ap (λ k. k + 1) long)
