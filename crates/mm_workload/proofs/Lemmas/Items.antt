@@ -1,12 +1,17 @@
 -- The items of an array in turn, and how many there are.
-use Rattle.std.proofs.Common.{◌≡◌, ◌∙◌, ap, refl, sym, ℕ, suc, ◌+◌, ◌<◌, ◌≤◌, true, false, List, [], ◌∷◌, ◌++◌, length, get_or, drop, drop-cons, add-one, append_assoc, length-append, nat_le, ◌&&◌, cond, if◌then◌else◌, Option, Some, None, option_map, option_and_then, arith}
+use Rattle.std.proofs.Common.{◌≡◌, ◌∙◌, ap, refl, sym, ℕ, suc, ◌+◌, ◌<◌, ◌≤◌, true, false, List, [], ◌∷◌, ◌++◌, length, map, get_or, drop, drop-cons, add-one, append_assoc, length-append, nat_le, ◌&&◌, cond, if◌then◌else◌, Option, Some, None, option_map, option_and_then, arith}
+use Rattle.std.specs.List.{All}
 use Rattle.std.proofs.lemmas.Grind.{common_steps}
+use Rattle.std.proofs.lemmas.List.{map-append}
+use Rattle.std.proofs.lemmas.List.Elements.{All-append, All-cons}
 use Rattle.std.proofs.lemmas.Bool.{le-leb, lt-leb}
 use Rattle.serde_json.specs.Data.{Data, Items, item}
 use Rattle.serde_json.specs.Find.{as_array}
 use Rattle.serde_json.specs.View.{view, items_view}
 use Rattle.serde_json.specs.declared.value.Value.{Value}
+use Rattle.mm_workload.specs.declared.step.WorkStep.{WorkStep}
 use Rattle.mm_workload.specs.Json.{all_of, all_in, count}
+use Rattle.mm_workload.specs.Work.{IsShort}
 
 -- what was made so far, and what the rest gives
 abbrev pub GoesOn : {X : Type 0} → (Data → Option X) → List X → List Value → List Value → Type 0
@@ -87,3 +92,13 @@ goes_on-none f made all i v is before none on =
 
 pub longer : {X : Type 0} → (made all : List X) (x : X) (n : ℕ) → all ≡ made ++ x ∷ [] → length made ≡ n → length all ≡ n + 1
 longer made all x n is long = ap length is ∙ (length-append made (x ∷ []) ∙ ap (λ k. k + 1) long)
+
+pub one_mapped : {X Y : Type 0} → (f : X → Y) (made all : List X) (x : X) → all ≡ made ++ x ∷ [] → map f all ≡ map f made ++ f x ∷ []
+one_mapped f made all x is = ap (map f) is ∙ map-append f made (x ∷ [])
+
+alone : (own : List WorkStep) → IsShort own → All IsShort (own ∷ [])
+alone own h = All-cons IsShort own [] h (λ k d below. omega arith)
+
+-- one client more, whose steps are few
+pub one_short : (made : List (List WorkStep)) (own : List WorkStep) → All IsShort made → IsShort own → All IsShort (made ++ own ∷ [])
+one_short made own few h = All-append IsShort made (own ∷ []) few (alone own h)
