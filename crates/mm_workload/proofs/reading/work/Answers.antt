@@ -1,18 +1,27 @@
-use Rattle.std.proofs.Common.{◌≡◌, Result, Ok, Err, IfErr}
+use Rattle.std.proofs.Common.{◌≡◌, Option, Some, None, Result, Ok, Err, IfErr}
 use Rattle.serde_json.specs.Data.{Data}
 use Rattle.serde_json.specs.View.{view}
-use Rattle.mm_rules.specs.declared.config.Config.{Config}
 use Rattle.mm_workload.specs.Work.{Work}
-use Rattle.mm_workload.specs.Json.{SaysConfig, SaysWork}
+use Rattle.mm_workload.specs.Json.{SaysWork}
 use Rattle.mm_workload.specs.declared.fault.WorkFault.{WorkFault}
 use Rattle.mm_workload.specs.declared.fault.WorkFault.TheVariants.{Memory}
 use Rattle.mm_workload.proofs.reading.work.Goals as goal
 
--- a value without the numbers of a table says no workload
-says_none : {W : Type 0} → (r : Result W WorkFault) (d : Data) → ((c : Config) → ¬ SaysConfig d c) →
-    IfErr r (λ e. ¬ (e ≡ Memory) → (w : Work) → ¬ SaysWork d w)
+-- a value that says no workload
+says_none : {W : Type 0} → (r : Result W WorkFault) (d : Data) → ((w : Work) → ¬ SaysWork d w) → IfErr r (λ e. ¬ (e ≡ Memory) → (w : Work) → ¬ SaysWork d w)
 says_none (Ok w) d none = tt
-says_none (Err e) d none = λ other w says. none w.config says.config
+says_none (Err e) d none = λ other. none
+
+never : {X : Type 0} → (o : Option X) (x : X) → o ≡ None → ¬ (o ≡ Some x)
+never o x none some = cc
 
 pub returns-in_err-config-clause-malformed : goal.returns-in_err-config-clause-malformed
-returns-in_err-config-clause-malformed c = says_none c.from_residual.result (view c.args.value.now) c.in_err-config.ensures
+returns-in_err-config-clause-malformed c = says_none c.from_residual.result (view c.args.value.now) (λ w says. c.in_err-config.ensures w.config says.config)
+
+pub returns-in_err-transmitters-clause-malformed : goal.returns-in_err-transmitters-clause-malformed
+returns-in_err-transmitters-clause-malformed c =
+    says_none c.from_residual-in_err-transmitters.result (view c.args.value.now) (λ w says. never _ w.transmitters c.in_err-transmitters.ensures says.transmitters)
+
+pub returns-in_err-turns-clause-malformed : goal.returns-in_err-turns-clause-malformed
+returns-in_err-turns-clause-malformed c =
+    says_none c.from_residual-in_err-turns.result (view c.args.value.now) (λ w says. never _ w.turns c.in_err-turns.ensures says.turns)
