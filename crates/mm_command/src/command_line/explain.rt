@@ -4,9 +4,8 @@ ghost use Rattle.clap.specs.Words.{rule_of};
 ghost use Rattle.mm_command.specs.CommandLine.{IsLocal};
 ghost use Rattle.mm_command.specs.Explain.{at_rule, explain_app, script_file_rule, switch_rule};
 
-use super::program::with;
+use super::program::{free_number, with};
 use crate::help::{ALL, AT, DOT, EXPLAIN, EXPLAIN_AFTER, MERMAID, SCRIPT_FILE};
-use clap::builder::ValueParser;
 use clap::{Arg, ArgAction, ArgMatches, Command};
 use std::alloc::{AllocError, Global};
 
@@ -61,7 +60,7 @@ fn script_file<'a>(alloc: Global) -> Arg<'a>
 }
 
 /// A flag `--name`.
-fn switch<'a>(alloc: Global, name: &'a str, help: &'a str) -> Arg<'a>
+pub(super) fn switch<'a>(alloc: Global, name: &'a str, help: &'a str) -> Arg<'a>
     ensures rule { rule_of result ≡ switch_rule name.entry.now }
     ensures local { result.global ≡ false }
 {
@@ -75,10 +74,5 @@ fn at<'a>(alloc: Global) -> Arg<'a>
     ensures rule { rule_of result ≡ at_rule }
     ensures local { result.global ≡ false }
 {
-    Arg::new(alloc, "at")
-        .long("at")
-        .value_name("N")
-        .action(ArgAction::Set)
-        .value_parser(ValueParser::unsigned(1, u64::MAX))
-        .help(AT)
+    free_number(alloc, "at", 1, u64::MAX).help(AT)
 }

@@ -3,7 +3,7 @@ ghost use Rattle.std.specs.Prelude.{◌≡◌, IfOk, false};
 ghost use Rattle.clap.specs.Words.{App, Rule, app_of, rule_of, with_rule, with_subcommand};
 ghost use Rattle.mm_command.specs.CommandLine.{IsLocal, free_number_rule, locks_app, number_rule, program, report_rule, script_app, storm_app, storm_numbers_app, threads_app, verbose_rule};
 
-use super::explain::explain_command;
+use super::explain::{explain_command, switch};
 use crate::help::{ABOUT, AFTER, LOCKS, REPORT, SCRIPT, SCRIPT_VERBOSE, STORM, THREADS, VERBOSE};
 use crate::version::VERSION;
 use clap::builder::ValueParser;
@@ -138,11 +138,7 @@ fn verbose<'a>(alloc: Global, help: &'a str) -> Arg<'a>
     ensures rule { rule_of result ≡ verbose_rule }
     ensures local { result.global ≡ false }
 {
-    Arg::new(alloc, "verbose")
-        .long("verbose")
-        .short('v')
-        .action(ArgAction::SetTrue)
-        .help(help)
+    switch(alloc, "verbose", help).short('v')
 }
 
 /// The option `--report FILE`.
@@ -157,21 +153,16 @@ fn report<'a>(alloc: Global) -> Arg<'a>
         .help(REPORT)
 }
 
-/// An option `--name N` with a whole number in this range.
+/// An option `--name N` with a whole number in this range, and with this one where it is not given.
 fn number<'a>(alloc: Global, name: &'a str, least: u64, most: u64, default: &'a str) -> Arg<'a>
     ensures rule { rule_of result ≡ number_rule name.entry.now least most default.entry.now }
     ensures local { result.global ≡ false }
 {
-    Arg::new(alloc, name)
-        .long(name)
-        .value_name("N")
-        .action(ArgAction::Set)
-        .value_parser(ValueParser::unsigned(least, most))
-        .default_value(default)
+    free_number(alloc, name, least, most).default_value(default)
 }
 
 /// The same without a value where it is not given.
-fn free_number<'a>(alloc: Global, name: &'a str, least: u64, most: u64) -> Arg<'a>
+pub(super) fn free_number<'a>(alloc: Global, name: &'a str, least: u64, most: u64) -> Arg<'a>
     ensures rule { rule_of result ≡ free_number_rule name.entry.now least most }
     ensures local { result.global ≡ false }
 {
