@@ -4,7 +4,7 @@ ghost use Rattle.clap.specs.Words.{rule_of};
 ghost use Rattle.mm_command.specs.CommandLine.{IsLocal};
 ghost use Rattle.mm_command.specs.Explain.{at_rule, explain_app, script_file_rule, switch_rule};
 
-use super::program::{free_number, with};
+use super::program::{free_number, subcommand, with};
 use crate::help::{ALL, AT, DOT, EXPLAIN, EXPLAIN_AFTER, MERMAID, SCRIPT_FILE};
 use clap::{Arg, ArgAction, ArgMatches, Command};
 use std::alloc::{AllocError, Global};
@@ -40,10 +40,8 @@ pub fn file_of(alloc: Global, own: &ArgMatches<'_>) -> Result<Option<String>, Al
 pub fn explain_command<'a>(alloc: Global) -> Result<Command<'a>, AllocError>
     ensures { IfOk result (λ made. IsLocal made explain_app) }
 {
-    let explain = Command::new(alloc, "explain")
-        .about(EXPLAIN)
-        .after_help(EXPLAIN_AFTER);
-    let explain = with(Ok(explain), script_file(alloc));
+    let explain = subcommand(alloc, "explain", EXPLAIN, EXPLAIN_AFTER);
+    let explain = with(explain, script_file(alloc));
     let explain = with(explain, switch(alloc, "mermaid", MERMAID));
     let explain = with(explain, switch(alloc, "dot", DOT));
     let explain = with(explain, switch(alloc, "all", ALL));

@@ -1,6 +1,6 @@
 //! The words that there are: a function for each subcommand.
 ghost use Rattle.std.specs.Prelude.{◌≡◌, IfOk, false};
-ghost use Rattle.clap.specs.Words.{App, Rule, app_of, rule_of, with_rule, with_subcommand};
+ghost use Rattle.clap.specs.Words.{App, Rule, app_of, new_app, rule_of, with_rule, with_subcommand};
 ghost use Rattle.mm_command.specs.CommandLine.{IsLocal, free_number_rule, locks_app, number_rule, program, report_rule, script_app, storm_app, storm_numbers_app, threads_app, verbose_rule};
 
 use super::explain::{explain_command, switch};
@@ -65,10 +65,20 @@ pub(super) fn with<'a>(
 fn script_command<'a>(alloc: Global) -> Result<Command<'a>, AllocError>
     ensures { IfOk result (λ made. IsLocal made script_app) }
 {
-    let script = Command::new(alloc, "script")
-        .about(SCRIPT)
-        .after_help(AFTER);
-    with(Ok(script), verbose(alloc, SCRIPT_VERBOSE))
+    let script = subcommand(alloc, "script", SCRIPT, AFTER);
+    with(script, verbose(alloc, SCRIPT_VERBOSE))
+}
+
+/// A subcommand without arguments, with what help says of it before its options and after them. It is in the form that `with` takes.
+pub(super) fn subcommand<'a>(
+    alloc: Global,
+    name: &'a str,
+    about: &'a str,
+    after: &'a str,
+) -> Result<Command<'a>, AllocError>
+    ensures { IfOk result (λ made. IsLocal made (new_app name.entry.now)) }
+{
+    Ok(Command::new(alloc, name).about(about).after_help(after))
 }
 
 fn threads_command<'a>(alloc: Global) -> Result<Command<'a>, AllocError>
@@ -118,11 +128,9 @@ fn storm_numbers_command<'a>(alloc: Global) -> Result<Command<'a>, AllocError>
 fn locks_command<'a>(alloc: Global, locks_after: &'a str) -> Result<Command<'a>, AllocError>
     ensures { IfOk result (λ made. IsLocal made locks_app) }
 {
-    let locks = Command::new(alloc, "locks")
-        .about(LOCKS)
-        .after_help(locks_after);
+    let locks = subcommand(alloc, "locks", LOCKS, locks_after);
     let locks = with(
-        Ok(locks),
+        locks,
         number(alloc, "transactions", 1, MAX_PROCESSES as u64, "65536"),
     );
     let locks = with(locks, number(alloc, "names", 1, MAX_NAMES as u64, "65536"));
