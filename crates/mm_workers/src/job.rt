@@ -12,13 +12,17 @@ use mm_workload::{Coming, WorkStep};
 use std::sync::Wait;
 use std::sync::ledger::Ledger;
 
-/// A client whose pass has one part, and has counted no abort, with the transactions that follow its first one.
+/// What a client is made of: a desk whose pass has one part, and has counted no abort, a gate, the steps of its first transaction, and the
+/// transactions that follow it.
 #[derive(Drop)]
 pub struct ClientJob<'a, N: Name, A: Ledger, V: Ledger, B: Ledger, R: Wait, G: Gate + Drop> {
-    client: Client<Desk<'a, N, A, V, B, R>, G>,
+    desk: Desk<'a, N, A, V, B, R>,
+    gate: G,
+    work: Vec<WorkStep>,
     coming: Coming,
-    ghost one_part: { client.parts ≡ 1 },
-    ghost no_abort: { client.aborts ≡ 0 },
+    turns: u64,
+    ghost one_part: { desk.parts ≡ 1 },
+    ghost no_abort: { desk.aborts ≡ 0 },
 }
 
 impl<'a, N: Name, A: Ledger, V: Ledger, B: Ledger, R: Wait, G: Gate + Drop> ClientJob<
@@ -30,7 +34,7 @@ impl<'a, N: Name, A: Ledger, V: Ledger, B: Ledger, R: Wait, G: Gate + Drop> Clie
     R,
     G,
 > {
-    /// A client with a part of this pass.
+    /// The job of a client with a part of this pass.
     pub fn new(
         rt: &'a R,
         table: &'a SharedTable<N, A, V, B>,
@@ -45,22 +49,29 @@ impl<'a, N: Name, A: Ledger, V: Ledger, B: Ledger, R: Wait, G: Gate + Drop> Clie
     {
         let part = pass.split(table, 1);
         ClientJob {
-            client: Client::new(Desk::new(rt, table, part), gate, work, turns),
+            desk: Desk::new(rt, table, part),
+            gate,
+            work,
             coming,
+            turns,
         }
     }
 }
 
-/// Runs the client.
+/// Makes the client, and runs it.
 impl<'a, N: Name, A: Ledger, V: Ledger, B: Ledger, R: Wait, G: Gate + Drop> Job
     for ClientJob<'a, N, A, V, B, R, G> {
     type Gives = Ended<N, A, V, B>;
 
     fn run(self) -> Ended<N, A, V, B> {
         let ClientJob {
-            mut client,
+            desk,
+            gate,
+            work,
             mut coming,
+            turns,
         } = self;
+        let mut client = Client::new(desk, gate, work, turns);
         let ends = client.run_all(&mut coming);
         let desk = client.into_steps();
         let tally = desk.tally();
@@ -72,12 +83,15 @@ impl<'a, N: Name, A: Ledger, V: Ledger, B: Ledger, R: Wait, G: Gate + Drop> Job
     }
 }
 
-/// A transmitter whose pass has one part, and has counted no abort.
+/// What a transmitter is made of: a desk whose pass has one part, and has counted no abort, and a gate.
 #[derive(Drop)]
 pub struct TransmitterJob<'a, N: Name, A: Ledger, V: Ledger, B: Ledger, R: Wait, G: Gate + Drop> {
-    transmitter: Transmitter<Desk<'a, N, A, V, B, R>, G>,
-    ghost one_part: { transmitter.parts ≡ 1 },
-    ghost no_abort: { transmitter.aborts ≡ 0 },
+    desk: Desk<'a, N, A, V, B, R>,
+    gate: G,
+    processes: u32,
+    turns: u64,
+    ghost one_part: { desk.parts ≡ 1 },
+    ghost no_abort: { desk.aborts ≡ 0 },
 }
 
 impl<'a, N: Name, A: Ledger, V: Ledger, B: Ledger, R: Wait, G: Gate + Drop> TransmitterJob<
@@ -89,7 +103,7 @@ impl<'a, N: Name, A: Ledger, V: Ledger, B: Ledger, R: Wait, G: Gate + Drop> Tran
     R,
     G,
 > {
-    /// A transmitter with a part of this pass.
+    /// The job of a transmitter with a part of this pass.
     pub fn new(
         rt: &'a R,
         table: &'a SharedTable<N, A, V, B>,
@@ -102,23 +116,27 @@ impl<'a, N: Name, A: Ledger, V: Ledger, B: Ledger, R: Wait, G: Gate + Drop> Tran
     {
         let part = pass.split(table, 1);
         TransmitterJob {
-            transmitter: Transmitter::new(
-                Desk::new(rt, table, part),
-                gate,
-                table.processes(),
-                turns,
-            ),
+            desk: Desk::new(rt, table, part),
+            gate,
+            processes: table.processes(),
+            turns,
         }
     }
 }
 
-/// Runs the transmitter.
+/// Makes the transmitter, and runs it.
 impl<'a, N: Name, A: Ledger, V: Ledger, B: Ledger, R: Wait, G: Gate + Drop> Job
     for TransmitterJob<'a, N, A, V, B, R, G> {
     type Gives = Stopped<N, A, V, B>;
 
     fn run(self) -> Stopped<N, A, V, B> {
-        let TransmitterJob { mut transmitter } = self;
+        let TransmitterJob {
+            desk,
+            gate,
+            processes,
+            turns,
+        } = self;
+        let mut transmitter = Transmitter::new(desk, gate, processes, turns);
         transmitter.run();
         let desk = transmitter.into_steps();
         let tally = desk.tally();
