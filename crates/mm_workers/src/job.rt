@@ -5,7 +5,7 @@ ghost use Rattle.mm_counts.specs.Shares.{less_parts};
 ghost use Rattle.mm_clients.specs.End.{aborts_of};
 
 use crate::desk::Desk;
-use mm_clients::{Client, ClientEnds, Gate, Tally, Transmitter};
+use mm_clients::{Client, ClientEnds, Gate, Steps, Tally, Transmitter};
 use mm_jobs::Job;
 use mm_shared::{Name, Pass, SharedTable};
 use mm_workload::{Coming, WorkStep};
@@ -68,12 +68,10 @@ impl<'a, N: Name, A: Ledger, V: Ledger, B: Ledger, R: Wait, G: Gate + Drop> Job
             desk,
             gate,
             work,
-            mut coming,
+            coming,
             turns,
         } = self;
-        let mut client = Client::new(desk, gate, work, turns);
-        let ends = client.run_all(&mut coming);
-        let desk = client.into_steps();
+        let (ends, desk) = run_client(desk, gate, work, coming, turns);
         let tally = desk.tally();
         Ended {
             ends,
@@ -81,6 +79,23 @@ impl<'a, N: Name, A: Ledger, V: Ledger, B: Ledger, R: Wait, G: Gate + Drop> Job
             tally,
         }
     }
+}
+
+/// Makes a client, and runs it. Returns how its transactions ended, and its table.
+fn run_client<S: Steps + Drop, G: Gate + Drop>(
+    steps: S,
+    gate: G,
+    work: Vec<WorkStep>,
+    mut coming: Coming,
+    turns: u64,
+) -> (ClientEnds, S)
+    ensures aborts { (S.shares result.1).aborts ≡ (S.shares steps).aborts + result.0.earlier.aborted + aborts_of result.0.last }
+    ensures parts { (S.shares result.1).parts ≡ (S.shares steps).parts }
+    ensures few { result.0.earlier.finished + result.0.earlier.aborted < 1000000 }
+{
+    let mut client = Client::new(steps, gate, work, turns);
+    let ends = client.run_all(&mut coming);
+    (ends, client.into_steps())
 }
 
 /// What a transmitter is made of: a desk whose pass has one part, and has counted no abort, and a gate.
@@ -136,15 +151,28 @@ impl<'a, N: Name, A: Ledger, V: Ledger, B: Ledger, R: Wait, G: Gate + Drop> Job
             processes,
             turns,
         } = self;
-        let mut transmitter = Transmitter::new(desk, gate, processes, turns);
-        transmitter.run();
-        let desk = transmitter.into_steps();
+        let desk = run_transmitter(desk, gate, processes, turns);
         let tally = desk.tally();
         Stopped {
             pass: desk.into_pass(),
             tally,
         }
     }
+}
+
+/// Makes a transmitter, and runs it. Returns its table.
+fn run_transmitter<S: Steps + Drop, G: Gate + Drop>(
+    steps: S,
+    gate: G,
+    processes: u32,
+    turns: u64,
+) -> S
+    ensures aborts { (S.shares result).aborts ≡ (S.shares steps).aborts }
+    ensures parts { (S.shares result).parts ≡ (S.shares steps).parts }
+{
+    let mut transmitter = Transmitter::new(steps, gate, processes, turns);
+    transmitter.run();
+    transmitter.into_steps()
 }
 
 /// How a client's transactions ended, what it counted, and its pass, which counts the client's aborts.
