@@ -134,20 +134,23 @@ fn ends_of<
     let (ended, stopped) = at_work(rt, alloc, table, pass, workload, gates)?;
     let earlier = gather_clients(table, pass, ended, &mut ends, tally);
     gather_transmitters(table, pass, stopped, tally);
-    let earlier = as_they_can_be(workload, earlier)?;
-    Ok((ends, earlier))
+    as_they_can_be(workload, ends, earlier)
 }
 
-/// These earlier ends, which are none where each client makes one transaction. A proof knows of what a thread returns its type alone, so it
-/// needs this look; it never refuses.
-fn as_they_can_be(workload: &Workload, earlier: Earlier) -> Result<Earlier, AllocError>
-    ensures same { IfOk result (λ own. own ≡ earlier) }
-    ensures alone { IfOk result (λ own. workload.now.further.shape.transactions ≡ 1 → (own.finished ≡ 0) × (own.aborted ≡ 0)) }
+/// The ends, and these earlier ones, which are none where each client makes one transaction. A proof knows of what a thread returns its type
+/// alone, so it needs this look; it never refuses.
+fn as_they_can_be(
+    workload: &Workload,
+    ends: Vec<End>,
+    earlier: Earlier,
+) -> Result<(Vec<End>, Earlier), AllocError>
+    ensures same { IfOk result (λ own. (own.0 ≡ ends) × (own.1 ≡ earlier)) }
+    ensures alone { IfOk result (λ own. workload.now.further.shape.transactions ≡ 1 → (own.1.finished ≡ 0) × (own.1.aborted ≡ 0)) }
 {
     if workload.coming(1).count() == 0 && earlier != Earlier::NONE {
         return Err(AllocError);
     }
-    Ok(earlier)
+    Ok((ends, earlier))
 }
 
 /// Gives each worker a part of the pass, runs them all, and waits for them.

@@ -1,4 +1,6 @@
-use Rattle.std.proofs.Common.{ℕ, ◌≡◌, ◌+◌, ap, ◌∙◌, arith, vec_len, count_by}
+use Rattle.std.proofs.Common.{ℕ, ◌≡◌, ◌+◌, ◌≤◌, List, length, map, sym, ap, ◌∙◌, arith, vec_len, vec_capacity, count_by}
+use Rattle.std.proofs.lemmas.List.{length-map}
+use Rattle.std.proofs.lemmas.Result.{IfOk-weaker}
 use Rattle.mm_clients.specs.End.{is_aborted}
 use Rattle.mm_clients.specs.declared.earlier.Earlier.{Earlier}
 use Rattle.mm_counts.specs.Shares.{all_parts}
@@ -11,14 +13,37 @@ all_counted : (before count earlier own mid last : ℕ) → before ≡ 0 → mid
 all_counted before count earlier own mid last p q r s = omega arith
 
 pub returns : goal.returns
-returns g c = record {
-  each = c.gather_clients-earlier.ensures.each ∙ c.in_ok-ended.ensures.each;
-  parts =
-      all_back c.at_work.new.pass.parts (vec_len c.in_ok-ended.ended) (vec_len c.in_ok-ended.stopped) c.gather_clients-earlier.new.pass.parts c.gather_transmitters.new.pass.parts all_parts
-      c.in_ok-ended.ensures.parts c.gather_clients-earlier.ensures.parts c.gather_transmitters.ensures.parts;
-  aborts =
-      all_counted c.at_work.new.pass.aborts (count_by is_aborted c.gather_clients-earlier.new.ends.items) c.gather_clients-earlier.result.aborted c.in_ok-earlier.earlier.aborted
-      c.gather_clients-earlier.new.pass.aborts c.gather_transmitters.new.pass.aborts
-      c.at_work.ensures.aborts c.gather_clients-earlier.ensures.aborts c.gather_transmitters.ensures.aborts (ap (λ (e : Earlier). e.aborted) c.in_ok-earlier.ensures.same);
-  alone = c.in_ok-earlier.ensures.alone;
-}
+returns g c =
+    let all : c.gather_transmitters.new.pass.parts ≡ all_parts =
+    all_back c.at_work.new.pass.parts (vec_len c.in_ok-ended.ended) (vec_len c.in_ok-ended.stopped) c.gather_clients-earlier.new.pass.parts c.gather_transmitters.new.pass.parts all_parts
+    c.in_ok-ended.ensures.parts c.gather_clients-earlier.ensures.parts c.gather_transmitters.ensures.parts in
+    let counted : (n : ℕ) → n ≡ c.gather_clients-earlier.result.aborted → count_by is_aborted c.gather_clients-earlier.new.ends.items + n ≡ c.gather_transmitters.new.pass.aborts =
+    λ n same.
+    all_counted c.at_work.new.pass.aborts (count_by is_aborted c.gather_clients-earlier.new.ends.items) c.gather_clients-earlier.result.aborted n
+    c.gather_clients-earlier.new.pass.aborts c.gather_transmitters.new.pass.aborts
+    c.at_work.ensures.aborts c.gather_clients-earlier.ensures.aborts c.gather_transmitters.ensures.aborts same in
+    record {
+      each = IfOk-weaker c.as_they_can_be.result _ _ (λ own same. rw same.0 (c.gather_clients-earlier.ensures.each ∙ c.in_ok-ended.ensures.each)) c.as_they_can_be.ensures.same;
+      parts = IfOk-weaker c.as_they_can_be.result _ _ (λ own same. all) c.as_they_can_be.ensures.same;
+      aborts = IfOk-weaker c.as_they_can_be.result _ _ (λ own same. rw same.0 (counted own.1.aborted (ap (λ (e : Earlier). e.aborted) same.1))) c.as_they_can_be.ensures.same;
+      alone = c.as_they_can_be.ensures.alone;
+    }
+
+-- ---- what is listed has room, and is of few clients
+
+same_length : {A B : Type 0} (f : A → B) (xs : List A) (ys : List B) → map f xs ≡ ys → length xs ≡ length ys
+same_length f xs ys e = sym (length-map xs f) ∙ ap length e
+
+below : (ended clients listed most : ℕ) → ended ≡ clients → listed ≡ clients → listed ≤ most → ended ≤ most
+below ended clients listed most p q r = omega arith
+
+pub gather_clients-earlier-requires-clause-empty : goal.gather_clients-earlier-requires-clause-empty
+gather_clients-earlier-requires-clause-empty g c = c.in_ok-ends.ensures.len
+
+pub gather_clients-earlier-requires-clause-room : goal.gather_clients-earlier-requires-clause-room
+gather_clients-earlier-requires-clause-room g c =
+    below (vec_len c.in_ok-ended.ended) (length c.args.workload.now.clients) (length c.clients.result.now) (vec_capacity c.in_ok-ends.ends) c.in_ok-ended.ensures.each (same_length _ _ _ c.clients.ensures.value) c.in_ok-ends.ensures.capacity
+
+pub gather_clients-earlier-requires-clause-few : goal.gather_clients-earlier-requires-clause-few
+gather_clients-earlier-requires-clause-few g c =
+    below (vec_len c.in_ok-ended.ended) (length c.args.workload.now.clients) (length c.clients.result.now) 64 c.in_ok-ended.ensures.each (same_length _ _ _ c.clients.ensures.value) c.clients.ensures.range.1
