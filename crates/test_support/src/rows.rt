@@ -217,7 +217,7 @@ static SECOND: [Row; 17] = [
     },
 ];
 
-/// All scripts, in two parts: a function that names a constant array is proved in a time that grows with the square of its length.
+/// All scripts, in two parts. A function that names one array of all of them takes twice as long to prove.
 pub fn all_rows() -> [&'static [Row]; 2] {
     [&FIRST, &SECOND]
 }
