@@ -1,3 +1,4 @@
 pub mod Counted
 pub mod Publishing
+pub mod Replies
 pub mod Opening

@@ -3,7 +3,8 @@ use Rattle.mm_rules.specs.declared.refusal.Refusal.{Refusal}
 use Rattle.mm_rules.specs.Event.{Abort, Step}
 use Rattle.mm_shared.specs.private.Publishing.{IsToPublish}
 use Rattle.mm_shared.proofs.Counted.{room_stays, refused_booked, accepted_booked}
-use Rattle.mm_shared.proofs.Publishing.{left_after, known, idle_stand, refused_published}
+use Rattle.mm_shared.proofs.Replies.{refused_step, refused_counts, abort_counts}
+use Rattle.mm_shared.proofs.Publishing.{appends_none, left_after, known, idle_stand, refused_published}
 use Rattle.mm_shared.proofs.inside.Inside.abort.Goals as goal
 
 pub invariant_of-self : goal.invariant_of-self
@@ -53,3 +54,25 @@ returns-clause-step g c =
 
 pub returns-clause-appends : goal.returns-clause-appends
 returns-clause-appends g c = c.publish.ensures.appends
+
+-- ---- where it is refused
+
+pub returns-in_err-abort_waking-clause-step : goal.returns-in_err-abort_waking-clause-step
+returns-in_err-abort_waking-clause-step g c = refused_step (Abort c.args.key) c.from_residual.result c.in_err-abort_waking.field-0.0 c.from_residual.ensures c.args.self.now.table c.abort_waking.new.self c.abort_waking.result c.abort_waking.ensures.step c.in_err-abort_waking.was
+
+pub returns-in_err-abort_waking-clause-counts : goal.returns-in_err-abort_waking-clause-counts
+returns-in_err-abort_waking-clause-counts g c = refused_counts (Abort c.args.key) c.from_residual.result c.in_err-abort_waking.field-0.0 c.from_residual.ensures c.args.pass.now
+
+pub returns-in_err-abort_waking-clause-appends : goal.returns-in_err-abort_waking-clause-appends
+returns-in_err-abort_waking-clause-appends g c = appends_none c.args.self.now.publisher c.abort_waking.new.self
+
+pub returns-in_err-abort_waking-clause-changed : goal.returns-in_err-abort_waking-clause-changed
+returns-in_err-abort_waking-clause-changed g c = c.abort_waking.ensures.woken
+
+-- ---- where it is accepted
+
+pub returns-clause-counts : goal.returns-clause-counts
+returns-clause-counts g c = abort_counts c.args.pass.now c.count_accepted.new.self c.count_abort.new.self c.count_accepted.ensures.share c.args.key tt c.count_abort.ensures.share
+
+pub returns-clause-changed : goal.returns-clause-changed
+returns-clause-changed g c = c.abort_waking.ensures.woken

@@ -4,7 +4,8 @@ use Rattle.mm_rules.specs.declared.reply.Released.{Released}
 use Rattle.mm_rules.specs.Event.{Release, Step}
 use Rattle.mm_shared.specs.private.Publishing.{IsToPublish}
 use Rattle.mm_shared.proofs.Counted.{room_stays, refused_booked, accepted_booked}
-use Rattle.mm_shared.proofs.Publishing.{left_after, known, idle_stand, refused_published}
+use Rattle.mm_shared.proofs.Replies.{refused_step, refused_counts, release_counts}
+use Rattle.mm_shared.proofs.Publishing.{appends_none, left_after, known, idle_stand, refused_published}
 use Rattle.mm_shared.proofs.inside.Inside.release.Goals as goal
 
 pub invariant_of-self : goal.invariant_of-self
@@ -54,3 +55,25 @@ returns-clause-step g c =
 
 pub returns-clause-appends : goal.returns-clause-appends
 returns-clause-appends g c = c.publish.ensures.appends
+
+-- ---- where it is refused
+
+pub returns-in_err-answer-clause-step : goal.returns-in_err-answer-clause-step
+returns-in_err-answer-clause-step g c = refused_step (Release c.args.key c.args.resource) c.from_residual.result c.in_err-answer.field-0.0 c.from_residual.ensures c.args.self.now.table c.release_waking.new.self c.release_waking.result c.release_waking.ensures.step c.in_err-answer.was
+
+pub returns-in_err-answer-clause-counts : goal.returns-in_err-answer-clause-counts
+returns-in_err-answer-clause-counts g c = refused_counts (Release c.args.key c.args.resource) c.from_residual.result c.in_err-answer.field-0.0 c.from_residual.ensures c.args.pass.now
+
+pub returns-in_err-answer-clause-appends : goal.returns-in_err-answer-clause-appends
+returns-in_err-answer-clause-appends g c = appends_none c.args.self.now.publisher c.release_waking.new.self
+
+pub returns-in_err-answer-clause-changed : goal.returns-in_err-answer-clause-changed
+returns-in_err-answer-clause-changed g c = c.release_waking.ensures.woken
+
+-- ---- where it is accepted
+
+pub returns-clause-counts : goal.returns-clause-counts
+returns-clause-counts g c = release_counts c.args.pass.now c.count_accepted.new.self c.count_accepted.ensures.share c.args.key c.args.resource c.in_ok-answer.answer
+
+pub returns-clause-changed : goal.returns-clause-changed
+returns-clause-changed g c = c.release_waking.ensures.woken

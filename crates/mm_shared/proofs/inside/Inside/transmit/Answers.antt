@@ -1,9 +1,13 @@
-use Rattle.std.proofs.Common.{Ok, ap, refl, ◌∙◌, arith}
+use Rattle.std.proofs.Common.{List, Ok, ap, refl, sym, subst, ◌∙◌, arith}
 use Rattle.mm_board.specs.declared.views.Published.{Published}
+use Rattle.mm_board.specs.Views.{new_seen, current_labels, NoneFalls}
+use Rattle.mm_label.specs.Label.{Label}
+use Rattle.mm_rules.specs.declared.reply.Transmitted.TheVariants.{Raised}
 use Rattle.mm_rules.specs.Event.{Transmit}
 use Rattle.mm_counts.specs.Shares.{Shares}
 use Rattle.mm_shared.proofs.Counted.{room_stays, refused_booked, accepted_booked}
-use Rattle.mm_shared.proofs.Publishing.{left_after, refused_published, then_shown, unraised_published, raise_stored}
+use Rattle.mm_shared.proofs.Replies.{refused_step, refused_counts, refused_not, answered_step, same_answer, transmit_counts, transmit_sees}
+use Rattle.mm_shared.proofs.Publishing.{appends_none, left_after, refused_published, then_shown, unraised_published, raise_stored}
 use Rattle.mm_board.proofs.Rising.{none_falls}
 use Rattle.mm_shared.proofs.inside.Inside.transmit.Goals as goal
 
@@ -92,3 +96,51 @@ returns-in_err-answer-clause-rises g c = none_falls c.args.pass.now.seen.labels 
 pub returns-in_default-clause-rises : goal.returns-in_default-clause-rises
 returns-in_default-clause-rises g c =
     none_falls c.args.pass.now.seen.labels c.count_accepted.new.self.seen.labels (ap (λ (s : Shares). s.seen.labels) c.count_accepted.ensures.share)
+
+-- ---- where it is refused
+
+pub returns-in_err-answer-clause-step : goal.returns-in_err-answer-clause-step
+returns-in_err-answer-clause-step g c = refused_step (Transmit c.args.key) c.from_residual.result c.in_err-answer.field-0.0 c.from_residual.ensures c.args.self.now.table c.transmit.new.self c.transmit.result c.transmit.ensures c.in_err-answer.was
+
+pub returns-in_err-answer-clause-counts : goal.returns-in_err-answer-clause-counts
+returns-in_err-answer-clause-counts g c = refused_counts (Transmit c.args.key) c.from_residual.result c.in_err-answer.field-0.0 c.from_residual.ensures c.args.pass.now
+
+pub returns-in_err-answer-clause-seen : goal.returns-in_err-answer-clause-seen
+returns-in_err-answer-clause-seen g c = λ label told. absurd (refused_not c.from_residual.result c.in_err-answer.field-0.0 (Raised label) c.from_residual.ensures told)
+
+pub returns-in_err-answer-clause-shown : goal.returns-in_err-answer-clause-shown
+returns-in_err-answer-clause-shown g c = λ label told. absurd (refused_not c.from_residual.result c.in_err-answer.field-0.0 (Raised label) c.from_residual.ensures told)
+
+pub returns-in_err-answer-clause-appends : goal.returns-in_err-answer-clause-appends
+returns-in_err-answer-clause-appends g c = appends_none c.args.self.now.publisher c.transmit.new.self
+
+-- ---- where it raises no label
+
+pub returns-in_default-clause-step : goal.returns-in_default-clause-step
+returns-in_default-clause-step g c = answered_step (Transmit c.args.key) c.args.self.now.table c.transmit.new.self c.transmit.result c.in_ok-answer.answer c.transmit.ensures c.in_ok-answer.was
+
+pub returns-in_default-clause-counts : goal.returns-in_default-clause-counts
+returns-in_default-clause-counts g c = transmit_counts c.args.pass.now c.count_accepted.new.self c.count_accepted.ensures.share c.args.key c.in_ok-answer.answer
+
+pub returns-in_default-clause-seen : goal.returns-in_default-clause-seen
+returns-in_default-clause-seen g c = λ label told. absurd (c.in_default.not-Raised label (same_answer (Ok c.in_ok-answer.answer) _ _ refl told))
+
+pub returns-in_default-clause-shown : goal.returns-in_default-clause-shown
+returns-in_default-clause-shown g c = λ label told. absurd (c.in_default.not-Raised label (same_answer (Ok c.in_ok-answer.answer) _ _ refl told))
+
+pub returns-in_default-clause-appends : goal.returns-in_default-clause-appends
+returns-in_default-clause-appends g c = appends_none c.args.self.now.publisher c.transmit.new.self
+
+-- ---- where it raises one
+
+pub returns-clause-step : goal.returns-clause-step
+returns-clause-step g c = answered_step (Transmit c.args.key) c.args.self.now.table c.transmit.new.self c.transmit.result (Raised c.in-Raised.label) c.transmit.ensures (c.in_ok-answer.was ∙ ap Ok c.in-Raised.is)
+
+pub returns-clause-counts : goal.returns-clause-counts
+returns-clause-counts g c = transmit_sees c.args.pass.now _ (c.pass.view_is ∙ c.count_accepted.ensures.share) c.args.key (Raised c.in-Raised.label) c.show.new.reader
+
+pub returns-clause-shown : goal.returns-clause-shown
+returns-clause-shown g c = λ label told. c.show.ensures.shown ∙ sym (ap (λ (p : Published). new_seen (current_labels p)) c.show.ensures.met)
+
+pub returns-clause-rises : goal.returns-clause-rises
+returns-clause-rises g c = subst (λ (ls : List Label). NoneFalls ls c.show.new.reader.labels) (ap (λ (s : Shares). s.seen.labels) (c.pass.view_is ∙ c.count_accepted.ensures.share)) c.show.ensures.rises
