@@ -1,21 +1,23 @@
 -- What the clauses of an event say at each way out, over plain variables.
-use Rattle.std.proofs.Common.{◌≡◌, ◌+◌, ℕ, List, Result, Ok, Err, OnOk, IfOk, IsErr, IsErrAnd, refl, sym, ap, ◌∙◌, subst, arith}
+use Rattle.std.proofs.Common.{◌≡◌, ◌<◌, ◌+◌, ℕ, List, [], length, map, Result, Ok, Err, OnOk, IfOk, IsErr, IsErrAnd, refl, sym, ap, ◌∙◌, subst, arith}
+use Rattle.std.proofs.lemmas.List.{get_or-map}
 use Rattle.mm_board.specs.declared.views.Published.{Published}
 use Rattle.mm_board.specs.declared.views.Seen.{Seen}
-use Rattle.mm_board.specs.Views.{NoneFalls}
-use Rattle.mm_board.proofs.Rising.{none_falls}
+use Rattle.mm_board.specs.Views.{new_seen, current_labels, label_at, last_label, with_label}
+use Rattle.mm_board.proofs.Current.{current_label_stored}
+use Rattle.mm_board.proofs.Histories.{length-with_label}
 use Rattle.mm_arena.specs.declared.key.Key.{Key}
-use Rattle.mm_label.specs.Label.{Label}
+use Rattle.mm_label.specs.Label.{Label, opening_label}
 use Rattle.mm_rules.specs.declared.refusal.Refusal.{Refusal}
 use Rattle.mm_rules.specs.declared.reply.Acquired.{Acquired}
 use Rattle.mm_rules.specs.declared.reply.Transmitted.{Transmitted}
+use Rattle.mm_rules.specs.declared.reply.Transmitted.TheVariants.{Raised}
 use Rattle.mm_rules.specs.declared.reply.Acquired.TheVariants.{Granted, Waits}
 use Rattle.mm_rules.specs.TableState.{TableState}
 use Rattle.mm_rules.specs.Event.{Event, Answer, Step, Begin, Acquire, Release, Finish, Transmit, Detect, Abort, GiveUp, Settle}
 use Rattle.mm_rules.specs.Laws.{verdicts_made}
 use Rattle.mm_counts.specs.Shares.{Shares, CountsEvent}
-use Rattle.mm_shared.specs.Published.{AppendsOnly, holders_of}
-use Rattle.mm_shared.proofs.Publishing.{appends_none}
+use Rattle.mm_shared.specs.Published.{holders_of}
 
 -- the reply is this refusal
 abbrev pub IsRefused : {A : Type 0} → Result A Refusal → Refusal → Type 0
@@ -156,3 +158,21 @@ module _ (before after : Shares) (counted : after ≡ record before { accepted =
   transmit_sees k answer seen =
       let c = transmit_counts (record before { seen = seen }) (record after { seen = seen }) (seen_counted seen) k answer in
       record { accepted = c.accepted; verdicts = c.verdicts; aborts = c.aborts; parts = c.parts; seen = tt; refused = tt }
+
+-- ---- what was shown
+
+-- the label that was just stored is seen
+pub stored_is_seen : (p m q : Published) (seen : Seen) (n : ℕ) (l told : Label) → n < length p.histories → m ≡ with_label p n l → q.histories ≡ m.histories → seen ≡ new_seen (current_labels q)
+    → l ≡ told → label_at seen.labels n ≡ told
+stored_is_seen p m q seen n l told within stored same is equal =
+    let histories : q.histories ≡ (with_label p n l).histories = same ∙ ap (λ (r : Published). r.histories) stored in
+    ap (λ (s : Seen). label_at s.labels n) is ∙ ap (λ hs. label_at (map last_label hs) n) histories
+    ∙ get_or-map last_label (with_label p n l).histories n [] (opening_label 0) (omega (arith, within, length-with_label p n l))
+    ∙ current_label_stored p n l within
+    ∙ equal
+
+pub same_wait : (reply : Result Acquired Refusal) (h k : Key) (l told : Label) → reply ≡ Ok (Waits h l) → reply ≡ Ok (Waits k told) → l ≡ told
+same_wait reply h k l told first second = cc
+
+pub same_raise : (reply : Result Transmitted Refusal) (l told : Label) → reply ≡ Ok (Raised l) → reply ≡ Ok (Raised told) → l ≡ told
+same_raise reply l told first second = cc

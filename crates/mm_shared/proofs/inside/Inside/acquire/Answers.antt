@@ -1,5 +1,4 @@
 use Rattle.std.proofs.Common.{◌+◌, List, Ok, Some, ap, refl, sym, subst, ◌∙◌, arith}
-use Rattle.std.proofs.lemmas.Grind.{common_steps}
 use Rattle.mm_board.specs.declared.views.Published.{Published}
 use Rattle.mm_board.specs.Views.{with_holder, new_seen, current_labels, NoneFalls}
 use Rattle.mm_label.specs.Label.{Label}
@@ -7,7 +6,7 @@ use Rattle.mm_rules.specs.declared.reply.Acquired.TheVariants.{Waits}
 use Rattle.mm_rules.specs.Event.{Acquire}
 use Rattle.mm_counts.specs.Shares.{Shares}
 use Rattle.mm_shared.proofs.Counted.{room_stays, refused_booked, accepted_booked}
-use Rattle.mm_shared.proofs.Replies.{refused_step, refused_counts, refused_not, none_answered, answered_step, same_answer, none_held, acquire_counts, acquire_sees}
+use Rattle.mm_shared.proofs.Replies.{refused_step, refused_counts, refused_not, none_answered, answered_step, same_answer, none_held, acquire_counts, acquire_sees, stored_is_seen, same_wait}
 use Rattle.mm_shared.proofs.Publishing.{appends_none, left_after, refused_published, then_shown, granted_published, wait_stored, waits_for_another}
 use Rattle.mm_board.proofs.Rising.{none_falls}
 use Rattle.mm_shared.proofs.inside.Inside.acquire.Goals as goal
@@ -118,9 +117,6 @@ pub returns-in_default-clause-rises : goal.returns-in_default-clause-rises
 returns-in_default-clause-rises g c =
     none_falls c.args.pass.now.seen.labels c.count_accepted.new.self.seen.labels (ap (λ (s : Shares). s.seen.labels) c.count_accepted.ensures.share)
 
-pub returns-clause-seen : goal.returns-clause-seen
-returns-clause-seen g c = grind (arith, common_steps)
-
 -- ---- where it is refused
 
 pub returns-in_err-answer-clause-step : goal.returns-in_err-answer-clause-step
@@ -179,3 +175,11 @@ pub returns-clause-held : goal.returns-clause-held
 returns-clause-held g c =
     let count = λ (p : Published). p.holders_stored in
     ap count c.show.ensures.met ∙ ap count c.store_holder.ensures.stored ∙ ap (λ (p : Published). p.holders_stored + 1) c.store_label.ensures.stored
+
+pub returns-clause-seen : goal.returns-clause-seen
+returns-clause-seen g c = λ holder label told.
+    let old = c.args.self.now in
+    let is = c.in_ok-answer.was ∙ ap Ok c.in-Waits.is in
+    let may = wait_stored old.publisher old.table c.acquire.new.self c.args.key c.keeps_laws.ensures old.published c.args.resource c.acquire.result c.acquire.ensures c.in-Waits.holder c.in-Waits.label is in
+    stored_is_seen old.publisher c.store_label.new.self c.store_holder.new.self c.show.new.reader c.args.key.process c.in-Waits.label label may.within c.store_label.ensures.stored
+    (ap (λ (q : Published). q.histories) c.store_holder.ensures.stored) c.show.ensures.shown (same_wait (Ok (Waits c.in-Waits.holder c.in-Waits.label)) c.in-Waits.holder holder _ _ refl told)

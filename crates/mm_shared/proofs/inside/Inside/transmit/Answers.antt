@@ -6,7 +6,7 @@ use Rattle.mm_rules.specs.declared.reply.Transmitted.TheVariants.{Raised}
 use Rattle.mm_rules.specs.Event.{Transmit}
 use Rattle.mm_counts.specs.Shares.{Shares}
 use Rattle.mm_shared.proofs.Counted.{room_stays, refused_booked, accepted_booked}
-use Rattle.mm_shared.proofs.Replies.{refused_step, refused_counts, refused_not, answered_step, same_answer, transmit_counts, transmit_sees}
+use Rattle.mm_shared.proofs.Replies.{refused_step, refused_counts, refused_not, answered_step, same_answer, transmit_counts, transmit_sees, stored_is_seen, same_raise}
 use Rattle.mm_shared.proofs.Publishing.{appends_none, left_after, refused_published, then_shown, unraised_published, raise_stored}
 use Rattle.mm_board.proofs.Rising.{none_falls}
 use Rattle.mm_shared.proofs.inside.Inside.transmit.Goals as goal
@@ -144,3 +144,11 @@ returns-clause-shown g c = λ label told. c.show.ensures.shown ∙ sym (ap (λ (
 
 pub returns-clause-rises : goal.returns-clause-rises
 returns-clause-rises g c = subst (λ (ls : List Label). NoneFalls ls c.show.new.reader.labels) (ap (λ (s : Shares). s.seen.labels) (c.pass.view_is ∙ c.count_accepted.ensures.share)) c.show.ensures.rises
+
+pub returns-clause-seen : goal.returns-clause-seen
+returns-clause-seen g c = λ label told.
+    let old = c.args.self.now in
+    let is = c.in_ok-answer.was ∙ ap Ok c.in-Raised.is in
+    let may = raise_stored old.publisher old.table c.transmit.new.self c.args.key c.keeps_laws.ensures old.published c.transmit.result c.transmit.ensures c.in-Raised.label is in
+    stored_is_seen old.publisher c.store_label.new.self c.store_label.new.self c.show.new.reader c.args.key.process c.in-Raised.label label may.within c.store_label.ensures.stored
+    refl c.show.ensures.shown (same_raise (Ok (Raised c.in-Raised.label)) _ _ refl told)
