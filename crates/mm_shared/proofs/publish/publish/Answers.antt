@@ -1,7 +1,8 @@
-use Rattle.std.proofs.Common.{◌≡◌, ◌<◌, ℕ, Bool, false, Option, Some, None, is_some, IfNone, length, slice_index, subst, sym, ap, ◌∙◌, arith}
+use Rattle.std.proofs.Common.{◌≡◌, ◌<◌, ℕ, Bool, false, Option, Some, None, is_some, IfNone, IfSome, IsTrue, length, slice_index, subst, sym, ap, ◌∙◌, arith}
 use Rattle.std.proofs.lemmas.List.{drop_all}
 use Rattle.mm_board.specs.declared.views.Published.{Published}
-use Rattle.mm_board.specs.Views.{with_label, with_holder}
+use Rattle.mm_board.specs.Views.{with_label, with_holder, current_label, IsAnother}
+use Rattle.mm_label.specs.Label.{Label, label_le}
 use Rattle.mm_shared.specs.Published.{AppendsOnly}
 use Rattle.mm_shared.specs.private.Publishing.{IdleAreShown, IsToPublish}
 use Rattle.mm_shared.proofs.Publishing.{all_stored, appends_none, listed_within, both_stored_at, holder_stored_at, appends_at, idle_at}
@@ -80,3 +81,18 @@ returns-clause-published g c =
     let s = c.args.table.now in
     let now = c.loop-process.publisher in
     all_stored now s (subst (λ ns. IsToPublish ns now s) (drop_all c.loop-process.process-index c.args.processes.now c.loop-process-test.false) c.loop-process.invariant.left)
+
+pub store_label-requires-clause-rises : goal.store_label-requires-clause-rises
+store_label-requires-clause-rises g c =
+    let x = slice_index c.args.processes.now c.loop-process.process-index in
+    let left = c.loop-process.invariant.left in
+    let within = listed_within c.loop-process.process-index c.args.processes.now c.loop-process.publisher c.args.table.now c.loop-process-test.true left in
+    subst (λ (l : Label). IsTrue (label_le (current_label c.loop-process.publisher x) l)) (sym c.public_label.ensures) (left.below x within)
+
+pub store_holder-requires-clause-another : goal.store_holder-requires-clause-another
+store_holder-requires-clause-another g c =
+    let x = slice_index c.args.processes.now c.loop-process.process-index in
+    subst (λ (n : ℕ). IfSome c.holder-holder.result (λ other. IsAnother n x other)) (sym c.requires.left.histories ∙ c.fits.ensures.histories) c.holder-holder.ensures.another
+
+pub returns-clause-appends : goal.returns-clause-appends
+returns-clause-appends g c = c.loop-process.invariant.appends

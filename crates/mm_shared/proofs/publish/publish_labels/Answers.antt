@@ -1,6 +1,8 @@
-use Rattle.std.proofs.Common.{arith, slice_index, subst, sym, ap, refl, ◌∙◌}
+use Rattle.std.proofs.Common.{IsTrue, arith, slice_index, subst, sym, ap, refl, ◌∙◌}
 use Rattle.std.proofs.lemmas.List.{drop_all}
 use Rattle.mm_board.specs.declared.views.Published.{Published}
+use Rattle.mm_board.specs.Views.{current_label}
+use Rattle.mm_label.specs.Label.{Label, label_le}
 use Rattle.mm_shared.specs.private.Publishing.{HoldersAreShown, IsToPublish}
 use Rattle.mm_shared.proofs.Publishing.{all_stored, appends_none, listed_within, label_stored_at, appends_at}
 use Rattle.mm_shared.proofs.publish.publish_labels.Goals as goal
@@ -41,3 +43,16 @@ returns-clause-published g c =
     let s = c.args.table.now in
     let now = c.loop-process.publisher in
     all_stored now s (subst (λ ns. IsToPublish ns now s) (drop_all c.loop-process.process-index c.args.processes.now c.loop-process-test.false) c.loop-process.invariant.left)
+
+pub store_label-requires-clause-rises : goal.store_label-requires-clause-rises
+store_label-requires-clause-rises g c =
+    let x = slice_index c.args.processes.now c.loop-process.process-index in
+    let left = c.loop-process.invariant.left in
+    let within = listed_within c.loop-process.process-index c.args.processes.now c.loop-process.publisher c.args.table.now c.loop-process-test.true left in
+    subst (λ (l : Label). IsTrue (label_le (current_label c.loop-process.publisher x) l)) (sym c.public_label.ensures) (left.below x within)
+
+pub returns-clause-appends : goal.returns-clause-appends
+returns-clause-appends g c = c.loop-process.invariant.appends
+
+pub returns-clause-held : goal.returns-clause-held
+returns-clause-held g c = c.loop-process.invariant.held
