@@ -10,5 +10,7 @@ pub mod Walk
 pub mod Adding
 pub mod BlockQueue
 pub mod HandOver
+-- what an event gives
+pub mod Gives
 -- tables, by any event
 pub mod Table

@@ -1,6 +1,6 @@
-use Rattle.std.proofs.Common.{◌≡◌, ◌+◌, ◌<◌, rules, ℕ, Ok, true, false, Option, Some, None, is_some, refl, ap, sym, subst, ◌∙◌, arith, IsTrue}
+use Rattle.std.proofs.Common.{◌≡◌, ◌+◌, ◌<◌, rules, ℕ, Ok, Err, true, false, Option, Some, None, is_some, refl, ap, sym, subst, ◌∙◌, arith, IsTrue}
 use Rattle.std.proofs.lemmas.Grind.{common_steps}
-use Rattle.mm_rules.specs.TableState.{TableState, wait_of}
+use Rattle.mm_rules.specs.TableState.{TableState, is_live, wait_of}
 use Rattle.mm_rules.specs.Change.{abort, vacate, vacate_fits, take_back}
 use Rattle.mm_rules.specs.Event.{abort_tests, allowed, decided}
 use Rattle.mm_rules.specs.Laws.{Laws}
@@ -13,8 +13,30 @@ use Rattle.mm_settle.specs.Touched.{Touches}
 use Rattle.mm_settle.specs.Steps.Vacating.{IsVacating}
 use Rattle.mm_settle.proofs.Lemmas.Added.{adds_set}
 use Rattle.mm_settle.proofs.Lemmas.Told.{touches_counted}
+use Rattle.mm_settle.proofs.Lemmas.Touched.{unchanged, touches_nobody}
 use Rattle.mm_settle.proofs.Lemmas.Vacated.{abort_touches}
+use Rattle.mm_table.proofs.Fields.Gives.{gives_refused}
 use Rattle.mm_table.proofs.records.Records.abort.Goals as goal
+
+pub returns-in_err-may_abort-clause-step : goal.returns-in_err-may_abort-clause-step
+returns-in_err-may_abort-clause-step c =
+    let told : c.from_residual.result ≡ Err c.in_err-may_abort.field-0.0 = search rules in
+    let s = c.args.self.now in
+    let gives = gives_refused (abort_tests s c.args.key) c.in_err-may_abort.field-0.0 s tt (abort s c.args.key.process) (sym c.may_abort.ensures.tests ∙ c.in_err-may_abort.was) in
+    (told ∙ gives.0, gives.1)
+
+pub returns-in_err-may_abort-clause-touched : goal.returns-in_err-may_abort-clause-touched
+returns-in_err-may_abort-clause-touched c = touches_nobody c.args.self.now c.args.self.now c.args.touched.now (λ n. unchanged c.args.self.now n)
+
+pub take_back-requires-clause-live : goal.take_back-requires-clause-live
+take_back-requires-clause-live c = c.in_ok-may_abort.ensures.live
+
+pub take_back-requires-clause-waiting : goal.take_back-requires-clause-waiting
+take_back-requires-clause-waiting c =
+    waiting_is_some c.args.self.now c.args.key.process _ (c.requires.laws.convicted c.args.key.process c.in_ok-may_abort.ensures.verdict).1.waits
+
+pub vacate-requires-clause-live : goal.vacate-requires-clause-live
+vacate-requires-clause-live c = subst (λ (s : TableState). IsTrue (is_live s c.args.key)) (sym c.take_back.ensures) c.in_ok-may_abort.ensures.live
 
 pub vacate-requires-clause-laws : goal.vacate-requires-clause-laws
 vacate-requires-clause-laws c = subst Laws (sym c.take_back.ensures) (take_back_keeps c.args.self.now c.args.key.process c.requires.laws c.in_ok-may_abort.ensures.verdict).laws

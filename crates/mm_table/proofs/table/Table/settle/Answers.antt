@@ -1,4 +1,5 @@
 use Rattle.std.proofs.Common.{◌≡◌, ◌∙◌, Ok, subst, sym}
+use Rattle.mm_rules.specs.TableState.{TableState}
 use Rattle.mm_rules.specs.Event.{Step, Settle}
 use Rattle.mm_settle.proofs.Lemmas.Untouched.{nothing}
 use Rattle.mm_table.proofs.Fields.Table.{settled_keeps_table, still_keeps_table, answer_is}
@@ -16,3 +17,21 @@ invariant_of-self-else-ne c =
     still_keeps_table c.self.inside c.settle-answer.new.self (subst (λ answer. Step Settle c.self.inside.records answer c.settle-answer.new.self) still c.settle-answer.ensures.step) c.self.invariant
     c.settle-answer.new.sets.changed c.settle-answer.new.sets.touched c.settle-answer.new.sets.pending c.settle-answer.new.sets.checks
     c.settle-answer.ensures.changed c.settle-answer.ensures.sized c.settle-answer.ensures.touched
+
+pub settle-answer-requires-clause-laws : goal.settle-answer-requires-clause-laws
+settle-answer-requires-clause-laws c = c.self.invariant.laws
+
+pub settle-answer-requires-clause-changed : goal.settle-answer-requires-clause-changed
+settle-answer-requires-clause-changed c = c.self.invariant.changed
+
+pub settle-answer-requires-clause-sized : goal.settle-answer-requires-clause-sized
+settle-answer-requires-clause-sized c = c.self.invariant.sized
+
+pub settle-answer-requires-clause-touched : goal.settle-answer-requires-clause-touched
+settle-answer-requires-clause-touched c = c.self.invariant.touched_sized
+
+pub returns-then-ne : goal.returns-then-ne
+returns-then-ne c = subst (λ (s : TableState). Step Settle s c.settle-answer.result c.settle-answer.new.self) c.self.view_is c.settle-answer.ensures.step
+
+pub returns-else-ne : goal.returns-else-ne
+returns-else-ne c = subst (λ (s : TableState). Step Settle s c.settle-answer.result c.settle-answer.new.self) c.self.view_is c.settle-answer.ensures.step
