@@ -32,6 +32,7 @@ pub mod Aborted
 pub mod Forgets
 -- what a request leaves of names and owners
 pub mod Requests
+pub mod Entered
 -- what is known of a transaction that may make a call
 pub mod May
 -- what a refusal is of a call that may be made

@@ -1,5 +1,6 @@
 -- What an unlock, an end and a cancel do, from the parts to what a contract sees.
-use Rattle.std.proofs.Common.{◌≡◌, ℕ, true, false, List, Some, Result, Ok, Err, IfErr, OnOk, OnErr, inl, inr, refl, sym, ap, subst, ◌∙◌, slice_set}
+use Rattle.std.proofs.Common.{◌≡◌, ℕ, Bool, true, false, List, [], Some, Result, Ok, Err, IfErr, OnOk, OnErr, inl, inr, refl, sym, ap, subst, ◌∙◌, slice_set}
+use Rattle.std.specs.Result.{IsErr, IsErrAnd}
 use Rattle.std.proofs.lemmas.List.{set-get_or}
 use Rattle.mm_arena.specs.declared.key.Key.{Key}
 use Rattle.mm_bit_set.specs.BitSet.{has}
@@ -16,9 +17,10 @@ use Rattle.mm_manager.specs.declared.lists.Lists.{Lists}
 use Rattle.mm_manager.specs.declared.totals.Totals.{Totals}
 use Rattle.mm_manager.specs.declared.refusal.Refusal.{Refusal}
 use Rattle.mm_manager.specs.declared.reply.Abort as reply
+use Rattle.mm_manager.specs.declared.reply.Cancel as reply_to_cancel
 use Rattle.mm_manager.specs.declared.reply.Cancel.TheVariants as cancels
 use Rattle.mm_manager.specs.declared.reply.Abort.TheVariants.{Done, Later}
-use Rattle.mm_manager.specs.private.Aborts.{AbortsWaiting, seen, cancel_of}
+use Rattle.mm_manager.specs.private.Aborts.{AbortsWaiting, GaveUp, seen, cancel_of}
 use Rattle.mm_manager.specs.private.Handed.{Handed, IsUntouched}
 use Rattle.mm_manager.specs.private.HandsDown.{IsEnding, IsReleased}
 use Rattle.mm_manager.proofs.Lemmas.Told.{released_unlocks, ended_by}
@@ -82,3 +84,19 @@ module _ (s u : TableState) (t named : NameTable) (l cleared m : Lists) (before 
   due_cancels may Later came_due totals is_due (step, table, names, due, nobody) =
       let still = due ∙ ap (λ ds. slice_set ds k.process true) marks ∙ ap (slice_set l.due.items k.process) (sym is_due) ∙ set-get_or l.due.items k.process false in
       (step, λ i. record { table = table i; names = names i; due = still i; granted = nobody.granted i; aborted = nobody.aborted i; totals = totals i })
+
+  -- the wait of a transaction whose abort is not due is taken back
+  pub waiting_cancels : (answer : reply_to_cancel.Cancel) (came_due : ℕ) → after ≡ after_cancel before (Ok answer) (has l.due.items k.process) came_due → has l.due.items k.process ≡ false → GaveUp s k answer u → named ≡ t
+      → m.due.items ≡ cleared.due.items → m.granted.items ≡ [] → m.aborted.items ≡ [] → Cancels old k (Ok answer) new
+  waiting_cancels cancels.Withdrawn came_due totals not_due step names due granted aborted =
+      let still = due ∙ marks in
+      let counted = totals ∙ ap (λ b. after_cancel before (Ok cancels.Withdrawn) b came_due) not_due in
+      inl (not_due, (step, λ i. record { table = u; names = names i; due = still i; granted = granted i; aborted = aborted i; totals = counted i }))
+  waiting_cancels cancels.Carried came_due totals not_due (step, table) names due granted aborted =
+      let still = due ∙ marks in
+      (step, λ i. record { table = table i; names = names i; due = still i; granted = granted i; aborted = aborted i; totals = totals i })
+
+  pub refused_cancels : (answer : Result reply_to_cancel.Cancel Refusal) (refusal : Refusal) (is_due : Bool) (came_due : ℕ) → after ≡ after_cancel before answer is_due came_due → IsErr answer × IsErrAnd answer (λ x. x ≡ refusal)
+      → may_cancel s k ≡ Err refusal → IsUntouched s t cleared u named m → Cancels old k answer new
+  refused_cancels (Ok x) refusal is_due came_due totals is may same_parts = absurd (cc)
+  refused_cancels (Err e) refusal is_due came_due totals is may same_parts = (untouched same_parts totals, subst (λ r. may_cancel s k ≡ Err r) (sym is.1) may)

@@ -1,5 +1,5 @@
 -- What a request leaves of names and owners.
-use Rattle.std.proofs.Common.{◌≡◌, ◌<◌, ◌+◌, ◌++◌, ℕ, true, false, List, [], ◌∷◌, length, Option, Some, None, Result, Ok, Err, Bool, IsTrue, IfErr, if◌then◌else◌, ◌&&◌, ◌≢◌, ◌⊎◌, subst, refl, sym, ap, ◌∙◌, inl, inr, slice_set, slice_index, slice_index_or, get_or-set_same, nat_eq}
+use Rattle.std.proofs.Common.{◌≡◌, ◌<◌, ◌+◌, ◌++◌, ℕ, true, false, List, [], ◌∷◌, length, Option, Some, None, Result, Ok, Err, Bool, IsTrue, IfOk, IfErr, OnOk, OnErr, if◌then◌else◌, ◌&&◌, ◌≢◌, ◌⊎◌, subst, refl, sym, ap, ◌∙◌, inl, inr, slice_set, slice_index, slice_index_or, get_or-set_same, nat_eq}
 use Rattle.std.specs.Result.{IsErr, IsErrAnd}
 use Rattle.std.proofs.lemmas.Bool.{and_parts, eqb-true, eq-eqb, lt-ltb}
 use Rattle.mm_arena.specs.declared.key.Key.{Key}
@@ -153,7 +153,7 @@ tried_finds s t u k h name n named owned same =
 -- ---- a try that gets no number
 
 -- where the transaction may ask and an event can be counted, the name alone decides
-name_decides : (s : TableState) (name_bytes : ℕ) (k : Key) (name : List ℕ) → may_ask s k ≡ Ok tt → s.totals.accepted < event_limit → may_request s name_bytes k name ≡ may_name name_bytes name
+pub name_decides : (s : TableState) (name_bytes : ℕ) (k : Key) (name : List ℕ) → may_ask s k ≡ Ok tt → s.totals.accepted < event_limit → may_request s name_bytes k name ≡ may_name name_bytes name
 name_decides s name_bytes k name may few =
     ap (λ r. first_refusal r (first_refusal (may_count s) (may_name name_bytes name))) may
     ∙ ap (λ (b : Bool). first_refusal (if b then Ok tt else Err CountsFull) (may_name name_bytes name)) (lt-ltb s.totals.accepted event_limit few)
@@ -167,3 +167,24 @@ try_refused s t k name refusal may few (inr full) = inr (name_decides s t.name_b
 pub if_refused : {A : Type 0} (reply : Result A Refusal) (refusal : Refusal) (P : Refusal → Type 0) → IsErr reply × IsErrAnd reply (λ x. x ≡ refusal) → P refusal → IfErr reply P
 if_refused (Ok value) refusal P is holds = tt
 if_refused (Err other) refusal P is holds = subst P (sym is.1) holds
+
+pub if_ok_refused : {A : Type 0} (reply : Result A Refusal) (P : A → Type 0) → IsErr reply → IfOk reply P
+if_ok_refused (Ok value) P is = absurd (cc)
+if_ok_refused (Err other) P is = tt
+
+pub on_ok_refused : {A : Type 0} (reply : Result A Refusal) (P : Type 0) → IsErr reply → OnOk reply P
+on_ok_refused (Ok value) P is = absurd (cc)
+on_ok_refused (Err other) P is = tt
+
+pub on_refused : {A : Type 0} (reply : Result A Refusal) (P : Type 0) → P → OnErr reply P
+on_refused (Ok value) P holds = tt
+on_refused (Err other) P holds = holds
+
+-- what follows from what holds of an accepted reply holds of it, and so for a refused one
+pub on_ok_so : {A : Type 0} (reply : Result A Refusal) (P Q : Type 0) → (P → Q) → OnOk reply P → OnOk reply Q
+on_ok_so (Ok value) P Q so holds = so holds
+on_ok_so (Err other) P Q so holds = tt
+
+pub on_err_so : {A : Type 0} (reply : Result A Refusal) (P Q : Type 0) → (P → Q) → OnErr reply P → OnErr reply Q
+on_err_so (Ok value) P Q so holds = tt
+on_err_so (Err other) P Q so holds = so holds

@@ -2,6 +2,7 @@ use Rattle.std.proofs.Common.{◌≡◌, Ok, refl, sym, ap, ◌∙◌}
 use Rattle.mm_rules.specs.TableState.{TableState}
 use Rattle.mm_rules.specs.Event.{state_of}
 use Rattle.mm_manager.proofs.Lemmas.Aborted.{active_aborts, convicted_aborts, waiting_aborts}
+use Rattle.mm_manager.proofs.Lemmas.Cleared.{cleared_parts}
 use Rattle.mm_manager.proofs.Lemmas.May.{is_told, told_active, told_convicted, told_waiting, may_cancel_of}
 use Rattle.mm_manager.proofs.aborts.abort_any.Goals as goal
 
@@ -69,3 +70,26 @@ returns-in-Waiting-clause-aborts c before =
     let is = told_waiting s k c.in-Ok.state c.in-Waiting.field-0 (is_told s k c.in-Ok.state told) c.in-Waiting.is in
     waiting_aborts s c.abort_waiting.new.table.table c.args.names.now c.abort_waiting.new.names c.args.lists.now c.clear.new.self c.abort_waiting.new.lists before _ k c.clear.ensures.due (may_cancel_of s k c.in-Waiting.field-0 is)
     c.abort_waiting.result _ refl c.abort_waiting.ensures.aborts
+
+-- ---- the parts
+
+pub returns-in_default-clause-parts : goal.returns-in_default-clause-parts
+returns-in_default-clause-parts c = cleared_parts c.args.table.now.table c.args.names.now c.args.lists.now c.clear.new.self c.requires c.clear.ensures.room_to_grant c.clear.ensures.room_to_abort c.clear.ensures.due c.clear.ensures.owned
+
+pub end-requires-clause-parts : goal.end-requires-clause-parts
+end-requires-clause-parts c = cleared_parts c.args.table.now.table c.args.names.now c.args.lists.now c.clear.new.self c.requires c.clear.ensures.room_to_grant c.clear.ensures.room_to_abort c.clear.ensures.due c.clear.ensures.owned
+
+pub end-requires-in-Convicted-clause-parts : goal.end-requires-in-Convicted-clause-parts
+end-requires-in-Convicted-clause-parts c = cleared_parts c.args.table.now.table c.args.names.now c.args.lists.now c.clear.new.self c.requires c.clear.ensures.room_to_grant c.clear.ensures.room_to_abort c.clear.ensures.due c.clear.ensures.owned
+
+pub abort_waiting-requires-clause-parts : goal.abort_waiting-requires-clause-parts
+abort_waiting-requires-clause-parts c = cleared_parts c.args.table.now.table c.args.names.now c.args.lists.now c.clear.new.self c.requires c.clear.ensures.room_to_grant c.clear.ensures.room_to_abort c.clear.ensures.due c.clear.ensures.owned
+
+pub returns-in-Active-clause-parts : goal.returns-in-Active-clause-parts
+returns-in-Active-clause-parts c = c.end.ensures.parts
+
+pub returns-in-Convicted-clause-parts : goal.returns-in-Convicted-clause-parts
+returns-in-Convicted-clause-parts c = c.end-in-Convicted.ensures.parts
+
+pub returns-in-Waiting-clause-parts : goal.returns-in-Waiting-clause-parts
+returns-in-Waiting-clause-parts c = c.abort_waiting.ensures.parts

@@ -1,16 +1,17 @@
-use Rattle.std.proofs.Common.{◌≡◌, ◌<◌, Ok, ℕ, zero, suc, Bool, true, List, [], ◌∷◌, length, refl, sym, ap, ◌∙◌, slice_index_or, arith}
+use Rattle.std.proofs.Common.{◌≡◌, ◌<◌, Ok, ℕ, zero, suc, Bool, true, false, List, [], ◌∷◌, length, refl, sym, ap, ◌∙◌, slice_index_or, arith}
 use Rattle.mm_bit_set.specs.BitSet.{has}
 use Rattle.mm_rules.specs.TableState.{TableState}
 use Rattle.mm_rules.proofs.States.Lookups.{live_within}
 use Rattle.mm_manager.specs.Permit.{may_cancel}
-use Rattle.mm_manager.proofs.Lemmas.Aborted.{due_cancels}
+use Rattle.mm_manager.proofs.Lemmas.Aborted.{due_cancels, waiting_cancels, refused_cancels}
+use Rattle.mm_manager.proofs.Lemmas.Cleared.{cleared_parts}
 use Rattle.mm_manager.proofs.Lemmas.May.{cancels}
 use Rattle.mm_manager.proofs.cancels.cancel_any.Goals as goal
 
-marked_at : (ds : List Bool) (i : ℕ) (b : Bool) → i < length ds → b ≡ slice_index_or ds i b → b ≡ true → has ds i ≡ true
-marked_at [] i b within is marked = absurd (omega (arith, within))
-marked_at (d ∷ ds) zero b within is marked = sym is ∙ marked
-marked_at (d ∷ ds) (suc i) b within is marked = marked_at ds i b (omega (arith, within)) is marked
+mark_at : (ds : List Bool) (i : ℕ) (b v : Bool) → i < length ds → b ≡ slice_index_or ds i b → b ≡ v → has ds i ≡ v
+mark_at [] i b v within is mark = absurd (omega (arith, within))
+mark_at (d ∷ ds) zero b v within is mark = sym is ∙ mark
+mark_at (d ∷ ds) (suc i) b v within is mark = mark_at ds i b v (omega (arith, within)) is mark
 
 pub returns-then-index-clause-cancels : goal.returns-then-index-clause-cancels
 returns-then-index-clause-cancels c before =
@@ -20,8 +21,47 @@ returns-then-index-clause-cancels c before =
     let live = (cancels s k may).live in
     let within = live_within s k c.is_at_rest.ensures.laws.lawful.well_formed.sizes live in
     let marked : has c.clear.new.self.due.items k.process ≡ true
-    = marked_at c.clear.new.self.due.items k.process c.index.result.now (omega (arith, within, c.requires.fits.due, ap (λ v. length v.items) c.clear.ensures.due)) c.index.ensures c.if-index.true in
+    = mark_at c.clear.new.self.due.items k.process c.index.result.now true (omega (arith, within, c.requires.fits.due, ap (λ v. length v.items) c.clear.ensures.due)) c.index.ensures c.if-index.true in
     let due : has c.args.lists.now.due.items k.process ≡ true = ap (λ v. has v.items k.process) (sym c.clear.ensures.due) ∙ marked in
     rw c.of_abort.ensures
     (due_cancels s c.abort_waiting.new.table.table c.args.names.now c.abort_waiting.new.names c.args.lists.now c.clear.new.self c.abort_waiting.new.lists before _ k c.clear.ensures.due
     may c.abort_waiting.result _ refl due c.abort_waiting.ensures.aborts)
+
+-- ---- the parts
+
+pub returns-in_err-may_cancel-clause-parts : goal.returns-in_err-may_cancel-clause-parts
+returns-in_err-may_cancel-clause-parts c = cleared_parts c.args.table.now.table c.args.names.now c.args.lists.now c.clear.new.self c.requires c.clear.ensures.room_to_grant c.clear.ensures.room_to_abort c.clear.ensures.due c.clear.ensures.owned
+
+pub abort_waiting-requires-clause-parts : goal.abort_waiting-requires-clause-parts
+abort_waiting-requires-clause-parts c = cleared_parts c.args.table.now.table c.args.names.now c.args.lists.now c.clear.new.self c.requires c.clear.ensures.room_to_grant c.clear.ensures.room_to_abort c.clear.ensures.due c.clear.ensures.owned
+
+pub cancel_waiting-requires-clause-parts : goal.cancel_waiting-requires-clause-parts
+cancel_waiting-requires-clause-parts c = cleared_parts c.args.table.now.table c.args.names.now c.args.lists.now c.clear.new.self c.requires c.clear.ensures.room_to_grant c.clear.ensures.room_to_abort c.clear.ensures.due c.clear.ensures.owned
+
+pub returns-then-index-clause-parts : goal.returns-then-index-clause-parts
+returns-then-index-clause-parts c = c.abort_waiting.ensures.parts
+
+pub returns-clause-parts : goal.returns-clause-parts
+returns-clause-parts c = c.cancel_waiting.ensures.parts
+
+-- ---- no abort is due, or it is refused
+
+pub returns-in_err-may_cancel-clause-cancels : goal.returns-in_err-may_cancel-clause-cancels
+returns-in_err-may_cancel-clause-cancels c before =
+    let s = c.args.table.now.table in
+    let t = c.args.names.now in
+    refused_cancels s s t t c.args.lists.now c.clear.new.self c.clear.new.self before _ c.args.key c.clear.ensures.due c.from_residual.result c.in_err-may_cancel.field-0.0 _ _ refl c.from_residual.ensures
+    (ap (λ (v : TableState). may_cancel v c.args.key) (sym c.table.ensures) ∙ sym c.in_err-may_cancel.ensures) record { table = refl; names = refl; due = refl; granted = c.clear.ensures.granted; aborted = c.clear.ensures.aborted }
+
+pub returns-clause-cancels : goal.returns-clause-cancels
+returns-clause-cancels c before =
+    let s = c.args.table.now.table in
+    let t = c.args.names.now in
+    let k = c.args.key in
+    let may : may_cancel s k ≡ Ok tt = ap (λ (v : TableState). may_cancel v k) (sym c.table.ensures) ∙ sym c.in_ok-may_cancel.ensures in
+    let within = live_within s k c.is_at_rest.ensures.laws.lawful.well_formed.sizes (cancels s k may).live in
+    let unmarked : has c.clear.new.self.due.items k.process ≡ false
+    = mark_at c.clear.new.self.due.items k.process c.index.result.now false (omega (arith, within, c.requires.fits.due, ap (λ v. length v.items) c.clear.ensures.due)) c.index.ensures c.if-index.false in
+    let not_due : has c.args.lists.now.due.items k.process ≡ false = ap (λ v. has v.items k.process) (sym c.clear.ensures.due) ∙ unmarked in
+    waiting_cancels s c.cancel_waiting.new.table.table t t c.args.lists.now c.clear.new.self c.clear.new.self before _ c.args.key c.clear.ensures.due c.cancel_waiting.result _ refl not_due c.cancel_waiting.ensures.gave_up refl refl
+    c.clear.ensures.granted c.clear.ensures.aborted

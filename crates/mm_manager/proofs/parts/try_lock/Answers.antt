@@ -1,8 +1,15 @@
-use Rattle.std.proofs.Common.{◌≡◌, Ok, sym, ap, ◌∙◌}
+use Rattle.std.proofs.Common.{◌≡◌, Ok, inl, refl, sym, ap, ◌∙◌}
 use Rattle.mm_rules.specs.TableState.{TableState}
-use Rattle.mm_manager.specs.Permit.{may_ask, may_count}
+use Rattle.mm_manager.specs.Permit.{first_refusal, may_ask, may_count, may_name}
+use Rattle.mm_manager.specs.Calls.{Tries}
+use Rattle.mm_manager.specs.Refused.{TryRefused}
+use Rattle.mm_manager.specs.declared.refusal.Refusal.{Refusal}
+use Rattle.mm_manager.specs.declared.reply.TryLock.{TryLock}
+use Rattle.mm_manager.specs.private.Numbers.{bare}
 use Rattle.mm_manager.proofs.Lemmas.Asked.{MayRequest, RequestKeeps, try_keeps, due_still}
+use Rattle.mm_manager.proofs.Lemmas.Cleared.{cleared_parts}
 use Rattle.mm_manager.proofs.Lemmas.May.{asks, counted}
+use Rattle.mm_manager.proofs.Lemmas.Requests.{if_refused, if_ok_refused, on_ok_refused, on_ok_so, on_refused, name_decides}
 use Rattle.mm_manager.proofs.parts.try_lock.Goals as goal
 
 may : (c : goal.After-try_request) → MayRequest c.args.table.now.table
@@ -30,3 +37,90 @@ returns-clause-parts c =
       due = rw cleared.due (due_still s c.try_request.new.table.table c.args.lists.now.due.items c.args.key (keeps c) c.try_request.ensures.others (asks s c.args.key asked).idle c.requires.due);
       room = (keeps c).room;
     }
+
+-- ---- it is refused
+
+pub returns-in_err-may_ask-clause-refused : goal.returns-in_err-may_ask-clause-refused
+returns-in_err-may_ask-clause-refused c =
+    let s = c.args.table.now.table in
+    let t = c.args.names.now in
+    if_refused c.from_residual.result c.in_err-may_ask.field-0.0 (λ (refusal : Refusal). TryRefused (bare s t) c.args.key c.args.name.now refusal) c.from_residual.ensures
+    (inl (ap (λ a. first_refusal a (first_refusal (may_count s) (may_name t.name_bytes c.args.name.now))) (ap (λ (v : TableState). may_ask v c.args.key) (sym c.table.ensures) ∙ sym c.in_err-may_ask.ensures)))
+
+pub returns-in_err-may_ask-clause-parts : goal.returns-in_err-may_ask-clause-parts
+returns-in_err-may_ask-clause-parts c =
+    let cleared = c.clear.ensures in
+    cleared_parts c.args.table.now.table c.args.names.now c.args.lists.now c.clear.new.self c.requires cleared.room_to_grant cleared.room_to_abort cleared.due cleared.owned
+
+pub returns-in_err-may_count-clause-refused : goal.returns-in_err-may_count-clause-refused
+returns-in_err-may_count-clause-refused c =
+    let s = c.args.table.now.table in
+    let t = c.args.names.now in
+    let asked : may_ask s c.args.key ≡ Ok tt = ap (λ (v : TableState). may_ask v c.args.key) (sym c.table.ensures) ∙ sym c.in_ok-may_ask.ensures in
+    if_refused c.from_residual-in_err-may_count.result c.in_err-may_count.field-0.0 (λ (refusal : Refusal). TryRefused (bare s t) c.args.key c.args.name.now refusal) c.from_residual-in_err-may_count.ensures
+    (inl (ap (λ a. first_refusal a (first_refusal (may_count s) (may_name t.name_bytes c.args.name.now))) asked
+    ∙ ap (λ a. first_refusal a (may_name t.name_bytes c.args.name.now)) (ap may_count (sym c.table-2.ensures) ∙ sym c.in_err-may_count.ensures)))
+
+pub returns-in_err-may_count-clause-parts : goal.returns-in_err-may_count-clause-parts
+returns-in_err-may_count-clause-parts c =
+    let cleared = c.clear.ensures in
+    cleared_parts c.args.table.now.table c.args.names.now c.args.lists.now c.clear.new.self c.requires cleared.room_to_grant cleared.room_to_abort cleared.due cleared.owned
+
+pub returns-in_err-may_ask-clause-tried : goal.returns-in_err-may_ask-clause-tried
+returns-in_err-may_ask-clause-tried c =
+    let s = c.args.table.now.table in
+    let t = c.args.names.now in
+    if_ok_refused c.from_residual.result (λ (answer : TryLock). Tries s t c.args.key c.args.name.now answer s t) c.from_residual.ensures.0
+
+pub returns-in_err-may_ask-clause-may : goal.returns-in_err-may_ask-clause-may
+returns-in_err-may_ask-clause-may c = on_ok_refused c.from_residual.result _ c.from_residual.ensures.0
+
+pub returns-in_err-may_ask-clause-table : goal.returns-in_err-may_ask-clause-table
+returns-in_err-may_ask-clause-table c = on_refused c.from_residual.result _ refl
+
+pub returns-in_err-may_ask-clause-names : goal.returns-in_err-may_ask-clause-names
+returns-in_err-may_ask-clause-names c = on_refused c.from_residual.result _ refl
+
+pub returns-in_err-may_ask-clause-others : goal.returns-in_err-may_ask-clause-others
+returns-in_err-may_ask-clause-others c = λ v apart. refl
+
+pub returns-in_err-may_count-clause-tried : goal.returns-in_err-may_count-clause-tried
+returns-in_err-may_count-clause-tried c =
+    let s = c.args.table.now.table in
+    let t = c.args.names.now in
+    if_ok_refused c.from_residual-in_err-may_count.result (λ (answer : TryLock). Tries s t c.args.key c.args.name.now answer s t) c.from_residual-in_err-may_count.ensures.0
+
+pub returns-in_err-may_count-clause-may : goal.returns-in_err-may_count-clause-may
+returns-in_err-may_count-clause-may c = on_ok_refused c.from_residual-in_err-may_count.result _ c.from_residual-in_err-may_count.ensures.0
+
+pub returns-in_err-may_count-clause-table : goal.returns-in_err-may_count-clause-table
+returns-in_err-may_count-clause-table c = on_refused c.from_residual-in_err-may_count.result _ refl
+
+pub returns-in_err-may_count-clause-names : goal.returns-in_err-may_count-clause-names
+returns-in_err-may_count-clause-names c = on_refused c.from_residual-in_err-may_count.result _ refl
+
+pub returns-in_err-may_count-clause-others : goal.returns-in_err-may_count-clause-others
+returns-in_err-may_count-clause-others c = λ v apart. refl
+
+-- ---- it is answered
+
+pub returns-clause-may : goal.returns-clause-may
+returns-clause-may c =
+    let s = c.args.table.now.table in
+    let asked : may_ask s c.args.key ≡ Ok tt = ap (λ (t : TableState). may_ask t c.args.key) (sym c.table.ensures) ∙ sym c.in_ok-may_ask.ensures in
+    on_ok_so c.try_request.result _ _ (λ is. name_decides s c.args.names.now.name_bytes c.args.key c.args.name.now asked (may c).below ∙ is) c.try_request.ensures.named
+
+pub returns-clause-tried : goal.returns-clause-tried
+returns-clause-tried c = c.try_request.ensures.tried
+
+pub returns-clause-refused : goal.returns-clause-refused
+returns-clause-refused c = c.try_request.ensures.refused
+
+pub returns-clause-table : goal.returns-clause-table
+returns-clause-table c = c.try_request.ensures.table
+
+pub returns-clause-names : goal.returns-clause-names
+returns-clause-names c = c.try_request.ensures.names
+
+pub returns-clause-others : goal.returns-clause-others
+returns-clause-others c = c.try_request.ensures.others

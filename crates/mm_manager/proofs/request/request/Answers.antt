@@ -1,8 +1,11 @@
-use Rattle.std.proofs.Common.{◌≡◌, Some, Err, true, false, inl, inr, sym, ◌∙◌, refl, subst}
-use Rattle.mm_names.specs.Names.{name_of, with_name, IsFree, IsNamed}
+use Rattle.std.proofs.Common.{◌≡◌, ◌<◌, Some, Err, true, false, inl, inr, sym, ◌∙◌, refl, subst, ap, is_some}
+use Rattle.mm_names.specs.Names.{NameTable, name_of, with_name, IsFree, IsNamed}
+use Rattle.mm_names.proofs.Lemmas.Index.{some_in_range}
 use Rattle.mm_manager.specs.Permit.{first_refusal}
+use Rattle.mm_manager.specs.private.Numbers.{AreNumbered}
 use Rattle.mm_manager.specs.private.Requests.{may_ask_more}
 use Rattle.mm_manager.proofs.Lemmas.Answered.{new_requested, new_numbered, named_requested, named_numbered, number_refused}
+use Rattle.mm_manager.proofs.Lemmas.Requests.{interned_name}
 use Rattle.mm_manager.proofs.request.request.Goals as goal
 
 -- ---- the name is new
@@ -53,3 +56,44 @@ returns-in-Err-clause-requested c = (
   refl,
   c.in-Err.ensures.same,
 )
+
+pub returns-in-Err-clause-others : goal.returns-in-Err-clause-others
+returns-in-Err-clause-others c = λ v apart. refl
+
+pub returns-in-Err-clause-numbered : goal.returns-in-Err-clause-numbered
+returns-in-Err-clause-numbered c = subst (λ (v : NameTable). AreNumbered c.args.table.now.table v) (sym c.in-Err.ensures.same) c.requires.numbered
+
+-- ---- others
+
+pub returns-in-Ok-clause-others : goal.returns-in-Ok-clause-others
+returns-in-Ok-clause-others c = c.request_new.ensures.others
+
+pub returns-in-Ok-2-clause-others : goal.returns-in-Ok-2-clause-others
+returns-in-Ok-2-clause-others c = c.request_named.ensures.others
+
+-- ---- what the requests require
+
+free : (c : goal.After-request_new-arg-in-Ok-1) → IsFree c.args.names.now c.in-Ok.field-0.number
+free c = elim c.in-Ok.ensures.interned [
+  | inl known ↦ absurd (c.in-Ok.ensures.new.0 c.if-is_new.true (c.in-Ok.field-0.number, known.0))
+  | inr new ↦ new.1
+]
+
+pub request_new-requires-clause-in_range : goal.request_new-requires-clause-in_range
+request_new-requires-clause-in_range c = subst (λ m. c.in-Ok.field-0.number < m) c.requires.numbered.as_many (free c).0
+
+pub request_new-requires-clause-free : goal.request_new-requires-clause-free
+request_new-requires-clause-free c = (c.requires.numbered.named c.in-Ok.field-0.number).0 (free c).1
+
+pub request_new-requires-clause-named : goal.request_new-requires-clause-named
+request_new-requires-clause-named c = ap is_some (interned_name c.args.names.now c.entry_of.new.names c.args.name.now c.in-Ok.field-0.number c.in-Ok.ensures.interned)
+
+pub request_named-requires-clause-in_range : goal.request_named-requires-clause-in_range
+request_named-requires-clause-in_range c =
+    let t = c.args.names.now in
+    let n = c.in-Ok.field-0.number in
+    let is : name_of t n ≡ Some c.args.name.now = elim c.in-Ok.ensures.interned [
+      | inl known ↦ known.0
+      | inr new ↦ (let never : false ≡ true = sym c.if-is_new.false ∙ c.in-Ok.ensures.new.1 new.0 in absurd (cc))
+    ] in
+    subst (λ m. n < m) c.requires.numbered.as_many (some_in_range t n (ap is_some is))
