@@ -1,3 +1,4 @@
+mod Attempts
 mod Each
 mod Keys
 mod Noting
