@@ -1,6 +1,7 @@
 //! A shared table, as a worker with a pass calls it.
 ghost use Rattle.std.specs.Prelude.{◌≡◌};
 
+use crate::divisible::Divisible;
 use mm_clients::{Steps, Tally};
 use mm_shared::{
     Acquired, Detected, Hint, Key, Name, Pass, Refusal, Released, Settled, SharedTable, Transmitted,
@@ -121,5 +122,21 @@ impl<'a, N: Name, A: Ledger, V: Ledger, B: Ledger, R: Wait> Steps for Desk<'a, N
 
     fn scan(&mut self, from: u32) -> Option<Hint> {
         self.table.scan(&mut self.pass, from)
+    }
+}
+
+impl<'a, N: Name, A: Ledger, V: Ledger, B: Ledger, R: Wait> Divisible for Desk<'a, N, A, V, B, R> {
+    fn split(&mut self) -> Desk<'a, N, A, V, B, R> {
+        let part = self.pass.split(self.table, 1);
+        Desk::new(self.rt, self.table, part)
+    }
+
+    fn join(&mut self, other: Desk<'a, N, A, V, B, R>) {
+        self.tally.add(other.tally);
+        self.pass.join(self.table, other.into_pass());
+    }
+
+    fn processes(&self) -> u32 {
+        self.table.processes()
     }
 }

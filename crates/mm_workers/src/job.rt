@@ -4,52 +4,38 @@ ghost use Rattle.std.specs.Prelude.{◌≡◌, ◌+◌, ◌<◌};
 ghost use Rattle.mm_counts.specs.Shares.{less_parts};
 ghost use Rattle.mm_clients.specs.End.{aborts_of};
 
-use crate::desk::Desk;
-use mm_clients::{Client, ClientEnds, Gate, Steps, Tally, Transmitter};
+use crate::divisible::Divisible;
+use mm_clients::{Client, ClientEnds, Gate, Steps, Transmitter};
 use mm_jobs::Job;
-use mm_shared::{Name, Pass, SharedTable};
 use mm_workload::{Coming, WorkStep};
-use std::sync::Wait;
-use std::sync::ledger::Ledger;
 
-/// What a client is made of: a desk whose pass has one part, and has counted no abort, a gate, the steps of its first transaction, and the
+/// What a client is made of: a part of the table, at which no abort is counted, a gate, the steps of its first transaction, and the
 /// transactions that follow it.
 #[derive(Drop)]
-pub struct ClientJob<'a, N: Name, A: Ledger, V: Ledger, B: Ledger, R: Wait, G: Gate + Drop> {
-    desk: Desk<'a, N, A, V, B, R>,
+pub struct ClientJob<S: Steps + Drop, G: Gate + Drop> {
+    part: S,
     gate: G,
     work: Vec<WorkStep>,
     coming: Coming,
     turns: u64,
-    ghost one_part: { desk.parts ≡ 1 },
-    ghost no_abort: { desk.aborts ≡ 0 },
+    ghost one_part: { (S.shares part).parts ≡ 1 },
+    ghost no_abort: { (S.shares part).aborts ≡ 0 },
 }
 
-impl<'a, N: Name, A: Ledger, V: Ledger, B: Ledger, R: Wait, G: Gate + Drop> ClientJob<
-    'a,
-    N,
-    A,
-    V,
-    B,
-    R,
-    G,
-> {
-    /// The job of a client with a part of this pass.
+impl<S: Divisible + Drop, G: Gate + Drop> ClientJob<S, G> {
+    /// The job of a client with a part of this table.
     pub fn new(
-        rt: &'a R,
-        table: &'a SharedTable<N, A, V, B>,
-        pass: &mut Pass<N, A, V, B>,
+        table: &mut S,
         gate: G,
         work: Vec<WorkStep>,
         coming: Coming,
         turns: u64,
-    ) -> ClientJob<'a, N, A, V, B, R, G>
-        requires { 1 < pass.old.parts }
-        ensures { pass.new ≡ less_parts pass.old 1 }
+    ) -> ClientJob<S, G>
+        requires { 1 < (S.shares table.old).parts }
+        ensures { S.shares table.new ≡ less_parts (S.shares table.old) 1 }
     {
-        let part = pass.split(table, 1);
         ClientJob {
-            desk: Desk::new(rt, table, part),
+            part: table.split(),
             gate,
             work,
             coming,
@@ -59,79 +45,45 @@ impl<'a, N: Name, A: Ledger, V: Ledger, B: Ledger, R: Wait, G: Gate + Drop> Clie
 }
 
 /// Makes the client, and runs it.
-impl<'a, N: Name, A: Ledger, V: Ledger, B: Ledger, R: Wait, G: Gate + Drop> Job
-    for ClientJob<'a, N, A, V, B, R, G> {
-    type Gives = Ended<N, A, V, B>;
+impl<S: Steps + Drop, G: Gate + Drop> Job for ClientJob<S, G> {
+    type Gives = Ended<S>;
 
-    fn run(self) -> Ended<N, A, V, B> {
+    fn run(self) -> Ended<S> {
         let ClientJob {
-            desk,
+            part,
             gate,
             work,
-            coming,
+            mut coming,
             turns,
         } = self;
-        let (ends, desk) = run_client(desk, gate, work, coming, turns);
-        let tally = desk.tally();
+        let mut client = Client::new(part, gate, work, turns);
+        let ends = client.run_all(&mut coming);
         Ended {
             ends,
-            pass: desk.into_pass(),
-            tally,
+            part: client.into_steps(),
         }
     }
 }
 
-/// Makes a client, and runs it. Returns how its transactions ended, and its table.
-fn run_client<S: Steps + Drop, G: Gate + Drop>(
-    steps: S,
-    gate: G,
-    work: Vec<WorkStep>,
-    mut coming: Coming,
-    turns: u64,
-) -> (ClientEnds, S)
-    ensures aborts { (S.shares result.1).aborts ≡ (S.shares steps).aborts + result.0.earlier.aborted + aborts_of result.0.last }
-    ensures parts { (S.shares result.1).parts ≡ (S.shares steps).parts }
-    ensures few { result.0.earlier.finished + result.0.earlier.aborted < 1000000 }
-{
-    let mut client = Client::new(steps, gate, work, turns);
-    let ends = client.run_all(&mut coming);
-    (ends, client.into_steps())
-}
-
-/// What a transmitter is made of: a desk whose pass has one part, and has counted no abort, and a gate.
+/// What a transmitter is made of: a part of the table, at which no abort is counted, and a gate.
 #[derive(Drop)]
-pub struct TransmitterJob<'a, N: Name, A: Ledger, V: Ledger, B: Ledger, R: Wait, G: Gate + Drop> {
-    desk: Desk<'a, N, A, V, B, R>,
+pub struct TransmitterJob<S: Steps + Drop, G: Gate + Drop> {
+    part: S,
     gate: G,
     processes: u32,
     turns: u64,
-    ghost one_part: { desk.parts ≡ 1 },
-    ghost no_abort: { desk.aborts ≡ 0 },
+    ghost one_part: { (S.shares part).parts ≡ 1 },
+    ghost no_abort: { (S.shares part).aborts ≡ 0 },
 }
 
-impl<'a, N: Name, A: Ledger, V: Ledger, B: Ledger, R: Wait, G: Gate + Drop> TransmitterJob<
-    'a,
-    N,
-    A,
-    V,
-    B,
-    R,
-    G,
-> {
-    /// The job of a transmitter with a part of this pass.
-    pub fn new(
-        rt: &'a R,
-        table: &'a SharedTable<N, A, V, B>,
-        pass: &mut Pass<N, A, V, B>,
-        gate: G,
-        turns: u64,
-    ) -> TransmitterJob<'a, N, A, V, B, R, G>
-        requires { 1 < pass.old.parts }
-        ensures { pass.new ≡ less_parts pass.old 1 }
+impl<S: Divisible + Drop, G: Gate + Drop> TransmitterJob<S, G> {
+    /// The job of a transmitter with a part of this table.
+    pub fn new(table: &mut S, gate: G, turns: u64) -> TransmitterJob<S, G>
+        requires { 1 < (S.shares table.old).parts }
+        ensures { S.shares table.new ≡ less_parts (S.shares table.old) 1 }
     {
-        let part = pass.split(table, 1);
         TransmitterJob {
-            desk: Desk::new(rt, table, part),
+            part: table.split(),
             gate,
             processes: table.processes(),
             turns,
@@ -140,80 +92,61 @@ impl<'a, N: Name, A: Ledger, V: Ledger, B: Ledger, R: Wait, G: Gate + Drop> Tran
 }
 
 /// Makes the transmitter, and runs it.
-impl<'a, N: Name, A: Ledger, V: Ledger, B: Ledger, R: Wait, G: Gate + Drop> Job
-    for TransmitterJob<'a, N, A, V, B, R, G> {
-    type Gives = Stopped<N, A, V, B>;
+impl<S: Steps + Drop, G: Gate + Drop> Job for TransmitterJob<S, G> {
+    type Gives = Stopped<S>;
 
-    fn run(self) -> Stopped<N, A, V, B> {
+    fn run(self) -> Stopped<S> {
         let TransmitterJob {
-            desk,
+            part,
             gate,
             processes,
             turns,
         } = self;
-        let desk = run_transmitter(desk, gate, processes, turns);
-        let tally = desk.tally();
+        let mut transmitter = Transmitter::new(part, gate, processes, turns);
+        transmitter.run();
         Stopped {
-            pass: desk.into_pass(),
-            tally,
+            part: transmitter.into_steps(),
         }
     }
 }
 
-/// Makes a transmitter, and runs it. Returns its table.
-fn run_transmitter<S: Steps + Drop, G: Gate + Drop>(
-    steps: S,
-    gate: G,
-    processes: u32,
-    turns: u64,
-) -> S
-    ensures aborts { (S.shares result).aborts ≡ (S.shares steps).aborts }
-    ensures parts { (S.shares result).parts ≡ (S.shares steps).parts }
-{
-    let mut transmitter = Transmitter::new(steps, gate, processes, turns);
-    transmitter.run();
-    transmitter.into_steps()
-}
-
-/// How a client's transactions ended, what it counted, and its pass, which counts the client's aborts.
+/// How a client's transactions ended, and its part of the table, which counts the client's aborts.
 #[derive(Drop)]
-pub struct Ended<N: Name, A: Ledger, V: Ledger, B: Ledger> {
+pub struct Ended<S: Steps + Drop> {
     ends: ClientEnds,
-    pass: Pass<N, A, V, B>,
-    tally: Tally,
-    ghost one_part: { pass.parts ≡ 1 },
-    ghost counted: { pass.aborts ≡ ends.earlier.aborted + aborts_of ends.last },
+    part: S,
+    ghost one_part: { (S.shares part).parts ≡ 1 },
+    ghost counted: { (S.shares part).aborts ≡ ends.earlier.aborted + aborts_of ends.last },
     ghost few: { ends.earlier.finished + ends.earlier.aborted < 1000000 },
 }
 
-impl<N: Name, A: Ledger, V: Ledger, B: Ledger> Ended<N, A, V, B> {
-    /// The ends, the pass, and what was counted.
-    pub fn into_parts(self) -> (ClientEnds, Pass<N, A, V, B>, Tally)
-        ensures one_part { result.1.parts ≡ 1 }
-        ensures counted { result.1.aborts ≡ result.0.earlier.aborted + aborts_of result.0.last }
+impl<S: Steps + Drop> Ended<S> {
+    /// The ends, and the part.
+    pub fn into_parts(self) -> (ClientEnds, S)
+        ensures one_part { (S.shares result.1).parts ≡ 1 }
+        ensures counted { (S.shares result.1).aborts ≡ result.0.earlier.aborted + aborts_of result.0.last }
         ensures few { result.0.earlier.finished + result.0.earlier.aborted < 1000000 }
     {
-        let Ended { ends, pass, tally } = self;
-        (ends, pass, tally)
+        let Ended { ends, part } = self;
+        (ends, part)
     }
 }
 
-/// What a transmitter counted, and its pass, which has counted no abort.
+/// A transmitter's part of the table, at which no abort is counted.
 #[derive(Drop)]
-pub struct Stopped<N: Name, A: Ledger, V: Ledger, B: Ledger> {
-    pass: Pass<N, A, V, B>,
-    tally: Tally,
-    ghost one_part: { pass.parts ≡ 1 },
-    ghost no_abort: { pass.aborts ≡ 0 },
+pub struct Stopped<S: Steps + Drop> {
+    part: S,
+    ghost one_part: { (S.shares part).parts ≡ 1 },
+    ghost no_abort: { (S.shares part).aborts ≡ 0 },
 }
 
-impl<N: Name, A: Ledger, V: Ledger, B: Ledger> Stopped<N, A, V, B> {
-    /// The pass, and what was counted.
-    pub fn into_parts(self) -> (Pass<N, A, V, B>, Tally)
-        ensures one_part { result.0.parts ≡ 1 }
-        ensures no_abort { result.0.aborts ≡ 0 }
+impl<S: Steps + Drop> Stopped<S> {
+    /// The part.
+    pub fn into_part(self) -> S
+        ensures one_part { (S.shares result).parts ≡ 1 }
+        ensures no_abort { (S.shares result).aborts ≡ 0 }
     {
-        let Stopped { pass, tally } = self;
-        (pass, tally)
+        let Stopped { part } = self;
+        part
     }
 }

@@ -5,12 +5,14 @@ ghost use Rattle.mm_rules.specs.Event.{Opens};
 ghost use Rattle.mm_counts.specs.Shares.{all_parts};
 ghost use Rattle.mm_clients.specs.End.{is_aborted};
 
+use crate::desk::Desk;
+use crate::divisible::Divisible;
 use crate::gather::{gather_clients, gather_transmitters};
 use crate::job::{Ended, Stopped};
 use crate::jobs::{client_jobs, transmitter_jobs};
-use mm_clients::{Earlier, End, Gate, Outcome, TalliedOutcome, Tally};
+use mm_clients::{Earlier, End, Gate, Outcome, TalliedOutcome};
 use mm_jobs::run_jobs;
-use mm_shared::{Name, Pass, Prepared, Refusal, SharedTable};
+use mm_shared::{Name, Prepared, Refusal};
 use mm_workload::Workload;
 use std::alloc::{AllocError, Global};
 use std::marker::Brand;
@@ -87,9 +89,11 @@ fn run_on<
     ensures aborts { IfOk result (λ ran. count_by is_aborted ran.outcome.ends.items + ran.outcome.earlier.aborted ≡ ran.outcome.report.aborts) }
     ensures alone { IfOk result (λ ran. workload.now.further.shape.transactions ≡ 1 → (ran.outcome.earlier.finished ≡ 0) × (ran.outcome.earlier.aborted ≡ 0)) }
 {
-    let (table, mut pass) = prepared.open::<N, A, V, B>();
-    let mut tally = Tally::NONE;
-    let ended = ends_of(rt, alloc, &table, &mut pass, &mut tally, workload, gates);
+    let (table, pass) = prepared.open::<N, A, V, B>();
+    let mut desk = Desk::new(rt, &table, pass);
+    let ended = ends_of(rt, alloc, &mut desk, workload, gates);
+    let tally = desk.tally();
+    let pass = desk.into_pass();
     let report = table.into_report(pass);
     let (ends, earlier) = ended?;
     match report {
@@ -105,35 +109,25 @@ fn run_on<
     }
 }
 
-/// Runs them on this table, adds what they counted, and lists how each client ended, with the ends of its transactions before. All parts
-/// are back in the pass then.
-fn ends_of<
-    N: Name + Send + Sync,
-    A: Ledger + Send + Sync,
-    V: Ledger + Send + Sync,
-    B: Ledger + Send + Sync,
-    R: Threads + Wait + Sync,
-    G: Gate + Send + Drop,
->(
+/// Runs them on this table, and lists how each client ended, with the ends of its transactions before. All parts are back then.
+fn ends_of<S: Divisible + Send + Drop, R: Threads + Wait + Sync, G: Gate + Send + Drop>(
     rt: &R,
     alloc: Global,
-    table: &SharedTable<N, A, V, B>,
-    pass: &mut Pass<N, A, V, B>,
-    tally: &mut Tally,
+    table: &mut S,
     workload: &Workload,
     gates: Vec<G>,
 ) -> Result<(Vec<End>, Earlier), AllocError>
     requires gates { vec_len gates ≡ length workload.now.clients + workload.now.transmitters }
-    requires pass { (pass.old.parts ≡ all_parts) × (pass.old.aborts ≡ 0) }
+    requires all { ((S.shares table.old).parts ≡ all_parts) × ((S.shares table.old).aborts ≡ 0) }
     ensures each { IfOk result (λ ended. vec_len ended.0 ≡ length workload.now.clients) }
-    ensures parts { OnOk result (pass.new.parts ≡ all_parts) }
-    ensures aborts { IfOk result (λ ended. count_by is_aborted ended.0.items + ended.1.aborted ≡ pass.new.aborts) }
+    ensures parts { OnOk result ((S.shares table.new).parts ≡ all_parts) }
+    ensures aborts { IfOk result (λ ended. count_by is_aborted ended.0.items + ended.1.aborted ≡ (S.shares table.new).aborts) }
     ensures alone { IfOk result (λ ended. workload.now.further.shape.transactions ≡ 1 → (ended.1.finished ≡ 0) × (ended.1.aborted ≡ 0)) }
 {
     let mut ends = Vec::with_capacity(alloc, workload.clients().len())?;
-    let (ended, stopped) = at_work(rt, alloc, table, pass, workload, gates)?;
-    let earlier = gather_clients(table, pass, ended, &mut ends, tally);
-    gather_transmitters(table, pass, stopped, tally);
+    let (ended, stopped) = at_work(rt, alloc, table, workload, gates)?;
+    let earlier = gather_clients(table, ended, &mut ends);
+    gather_transmitters(table, stopped);
     as_they_can_be(workload, ends, earlier)
 }
 
@@ -153,30 +147,22 @@ fn as_they_can_be(
     Ok((ends, earlier))
 }
 
-/// Gives each worker a part of the pass, runs them all, and waits for them.
-fn at_work<
-    N: Name + Send + Sync,
-    A: Ledger + Send + Sync,
-    V: Ledger + Send + Sync,
-    B: Ledger + Send + Sync,
-    R: Threads + Wait + Sync,
-    G: Gate + Send + Drop,
->(
+/// Gives each worker a part of the table, runs them all, and waits for them.
+fn at_work<S: Divisible + Send + Drop, R: Threads + Wait + Sync, G: Gate + Send + Drop>(
     rt: &R,
     alloc: Global,
-    table: &SharedTable<N, A, V, B>,
-    pass: &mut Pass<N, A, V, B>,
+    table: &mut S,
     workload: &Workload,
     mut gates: Vec<G>,
-) -> Result<(Vec<Ended<N, A, V, B>>, Vec<Stopped<N, A, V, B>>), AllocError>
+) -> Result<(Vec<Ended<S>>, Vec<Stopped<S>>), AllocError>
     requires gates { vec_len gates ≡ length workload.now.clients + workload.now.transmitters }
-    requires pass { (pass.old.parts ≡ all_parts) × (pass.old.aborts ≡ 0) }
+    requires all { ((S.shares table.old).parts ≡ all_parts) × ((S.shares table.old).aborts ≡ 0) }
     ensures each { IfOk result (λ done. vec_len done.0 ≡ length workload.now.clients) }
-    ensures parts { IfOk result (λ done. pass.new.parts + vec_len done.0 + vec_len done.1 ≡ all_parts) }
-    ensures aborts { pass.new.aborts ≡ 0 }
+    ensures parts { IfOk result (λ done. (S.shares table.new).parts + vec_len done.0 + vec_len done.1 ≡ all_parts) }
+    ensures aborts { (S.shares table.new).aborts ≡ 0 }
 {
     let transmitter_gates = gates.split_off(workload.clients().len())?;
-    let clients = client_jobs(rt, alloc, table, pass, workload, gates)?;
-    let transmitters = transmitter_jobs(rt, alloc, table, pass, workload, transmitter_gates)?;
+    let clients = client_jobs(alloc, table, workload, gates)?;
+    let transmitters = transmitter_jobs(alloc, table, workload, transmitter_gates)?;
     run_jobs(rt, alloc, clients, transmitters)
 }

@@ -39,16 +39,20 @@ still_few finished aborted more_finished more_aborted listed now p q r = omega a
 pub loop-one-preserved : goal.loop-one-preserved
 loop-one-preserved g c =
     let kept = c.loop-one.invariant in
-    let own = c.into_parts-other.result.0 in
+    let own = c.into_parts-part.result.0 in
+    let part : Shares = g.S.Steps.shares c.into_parts-part.result.1 in
+    let before : Shares = g.S.Steps.shares c.loop-one.table in
+    let after : Shares = g.S.Steps.shares c.join.new.self in
+    let start : Shares = g.S.Steps.shares c.args.table.now in
     let pushed = c.push_reserved.ensures in (
       still_each (vec_len c.loop-one.ends) (vec_len c.push_reserved.new.self) (into_iter_len c.next.new.self) (into_iter_len c.loop-one.one-iterator) (vec_len c.args.ended)
           pushed.len c.in-Some.ensures.steps.1 kept.0,
       still_room (vec_len c.args.ended) (vec_capacity c.loop-one.ends) (vec_capacity c.push_reserved.new.self) kept.1 pushed.capacity,
-      still_parts c.loop-one.pass.parts c.join.new.self.parts c.into_parts-other.result.1.parts c.args.pass.now.parts (vec_len c.loop-one.ends) (vec_len c.push_reserved.new.self)
-          (joined_parts c.loop-one.pass c.join.new.self c.into_parts-other.result.1 c.join.ensures) c.into_parts-other.ensures.one_part kept.2 pushed.len,
-      still_aborts c.loop-one.pass.aborts c.join.new.self.aborts c.into_parts-other.result.1.aborts c.args.pass.now.aborts (count_by is_aborted c.loop-one.ends.items) (count_by is_aborted c.push_reserved.new.self.items)
+      still_parts before.parts after.parts part.parts start.parts (vec_len c.loop-one.ends) (vec_len c.push_reserved.new.self)
+          (joined_parts before after part c.join.ensures) c.into_parts-part.ensures.one_part kept.2 pushed.len,
+      still_aborts before.aborts after.aborts part.aborts start.aborts (count_by is_aborted c.loop-one.ends.items) (count_by is_aborted c.push_reserved.new.self.items)
           c.loop-one.earlier.aborted own.earlier.aborted (aborts_of own.last)
-          (joined_aborts c.loop-one.pass c.join.new.self c.into_parts-other.result.1 c.join.ensures) c.into_parts-other.ensures.counted kept.3 (counts_one c.loop-one.ends.items c.push_reserved.new.self.items own.last pushed.items),
+          (joined_aborts before after part c.join.ensures) c.into_parts-part.ensures.counted kept.3 (counts_one c.loop-one.ends.items c.push_reserved.new.self.items own.last pushed.items),
       still_few c.loop-one.earlier.finished c.loop-one.earlier.aborted own.earlier.finished own.earlier.aborted (vec_len c.loop-one.ends) (vec_len c.push_reserved.new.self)
-          kept.4 c.into_parts-other.ensures.few pushed.len,
+          kept.4 c.into_parts-part.ensures.few pushed.len,
     )

@@ -7,6 +7,6 @@ abbrev pub invariant-loop-one : goal.invariant-loop-one
 invariant-loop-one g l =
     (vec_len l.ends + into_iter_len l.one-iterator ≡ vec_len l.fn.ended)
     × (vec_len l.fn.ended ≤ vec_capacity l.ends)
-    × (l.pass.parts ≡ l.fn.pass.parts + vec_len l.ends)
-    × (l.pass.aborts ≡ l.fn.pass.aborts + count_by is_aborted l.ends.items + l.earlier.aborted)
+    × ((g.S.Steps.shares l.table).parts ≡ (g.S.Steps.shares l.fn.table).parts + vec_len l.ends)
+    × ((g.S.Steps.shares l.table).aborts ≡ (g.S.Steps.shares l.fn.table).aborts + count_by is_aborted l.ends.items + l.earlier.aborted)
     × (l.earlier.finished + l.earlier.aborted ≤ vec_len l.ends * 1000000)

@@ -3,4 +3,6 @@ use Rattle.std.specs.Vec.Iter.{into_iter_len}
 use Rattle.mm_workers.proofs.gather.gather_transmitters.Given as goal
 
 abbrev pub invariant-loop-one : goal.invariant-loop-one
-invariant-loop-one g l = (l.pass.parts + into_iter_len l.one-iterator ≡ l.fn.pass.parts + vec_len l.fn.stopped) × (l.pass.aborts ≡ l.fn.pass.aborts)
+invariant-loop-one g l =
+    ((g.S.Steps.shares l.table).parts + into_iter_len l.one-iterator ≡ (g.S.Steps.shares l.fn.table).parts + vec_len l.fn.stopped)
+    × ((g.S.Steps.shares l.table).aborts ≡ (g.S.Steps.shares l.fn.table).aborts)

@@ -7,6 +7,6 @@ invariant-loop-gate g l =
     (goal.iterator-loop-gate g).can_next l.gate-iterator
     × (goal.iterator-loop-gate g).is_finite l.gate-iterator
     × (vec_len l.jobs + into_iter_len l.gate-iterator ≡ vec_len l.fn.gates)
-    × (l.pass.parts + vec_len l.jobs ≡ l.fn.pass.parts)
-    × (l.pass.aborts ≡ l.fn.pass.aborts)
+    × ((g.S.Steps.shares l.table).parts + vec_len l.jobs ≡ (g.S.Steps.shares l.fn.table).parts)
+    × ((g.S.Steps.shares l.table).aborts ≡ (g.S.Steps.shares l.fn.table).aborts)
     × (vec_len l.fn.gates ≤ vec_capacity l.jobs)

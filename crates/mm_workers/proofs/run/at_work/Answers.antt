@@ -37,12 +37,12 @@ left_over left jobs clients listed parts all p q r s t u = omega arith
 
 pub client_jobs-requires-clause-parts : goal.client_jobs-requires-clause-parts
 client_jobs-requires-clause-parts g c =
-    few_of (vec_len c.split_off.new.self) (length c.clients.result.now) c.args.pass.now.parts all_parts c.in_ok-transmitter_gates.ensures.len c.clients.ensures.range.1 c.requires.pass.0 (omega arith)
+    few_of (vec_len c.split_off.new.self) (length c.clients.result.now) (g.S.Steps.shares c.args.table.now).parts all_parts c.in_ok-transmitter_gates.ensures.len c.clients.ensures.range.1 c.requires.all.0 (omega arith)
 
 pub transmitter_jobs-requires-clause-parts : goal.transmitter_jobs-requires-clause-parts
 transmitter_jobs-requires-clause-parts g c =
-    left_over c.client_jobs.new.pass.parts (vec_len c.in_ok-clients.clients) (length c.args.workload.now.clients) (length c.clients.result.now) c.args.pass.now.parts all_parts
-    c.in_ok-clients.ensures.parts c.in_ok-clients.ensures.each (same_length _ _ _ c.clients.ensures.value) c.clients.ensures.range.1 c.requires.pass.0 (omega arith)
+    left_over (g.S.Steps.shares c.client_jobs.new.table).parts (vec_len c.in_ok-clients.clients) (length c.args.workload.now.clients) (length c.clients.result.now) (g.S.Steps.shares c.args.table.now).parts all_parts
+    c.in_ok-clients.ensures.parts c.in_ok-clients.ensures.each (same_length _ _ _ c.clients.ensures.value) c.clients.ensures.range.1 c.requires.all.0 (omega arith)
 
 -- ---- what comes back
 
@@ -57,8 +57,8 @@ returns-clause-each g c = IfOk-weaker c.run_jobs.result _ _ (λ done own. own �
 
 pub returns-clause-parts : goal.returns-clause-parts
 returns-clause-parts g c =
-    all_back c.run_jobs.result (λ done. vec_len done.0) (λ done. vec_len done.1) c.transmitter_jobs.new.pass.parts (vec_len c.in_ok-clients.clients) (vec_len c.in_ok-transmitters.transmitters) c.client_jobs.new.pass.parts c.args.pass.now.parts all_parts
-    c.in_ok-clients.ensures.parts c.requires.pass.0 c.in_ok-transmitters.ensures.parts c.run_jobs.ensures.first c.run_jobs.ensures.second
+    all_back c.run_jobs.result (λ done. vec_len done.0) (λ done. vec_len done.1) (g.S.Steps.shares c.transmitter_jobs.new.table).parts (vec_len c.in_ok-clients.clients) (vec_len c.in_ok-transmitters.transmitters) (g.S.Steps.shares c.client_jobs.new.table).parts (g.S.Steps.shares c.args.table.now).parts all_parts
+    c.in_ok-clients.ensures.parts c.requires.all.0 c.in_ok-transmitters.ensures.parts c.run_jobs.ensures.first c.run_jobs.ensures.second
 
 pub returns-clause-aborts : goal.returns-clause-aborts
-returns-clause-aborts g c = c.transmitter_jobs.ensures.aborts ∙ c.client_jobs.ensures.aborts ∙ c.requires.pass.1
+returns-clause-aborts g c = c.transmitter_jobs.ensures.aborts ∙ c.client_jobs.ensures.aborts ∙ c.requires.all.1

@@ -14,13 +14,13 @@ all_counted before count earlier own mid last p q r s = omega arith
 
 pub returns : goal.returns
 returns g c =
-    let all : c.gather_transmitters.new.pass.parts ≡ all_parts =
-    all_back c.at_work.new.pass.parts (vec_len c.in_ok-ended.ended) (vec_len c.in_ok-ended.stopped) c.gather_clients-earlier.new.pass.parts c.gather_transmitters.new.pass.parts all_parts
+    let all : (g.S.Steps.shares c.gather_transmitters.new.table).parts ≡ all_parts =
+    all_back (g.S.Steps.shares c.at_work.new.table).parts (vec_len c.in_ok-ended.ended) (vec_len c.in_ok-ended.stopped) (g.S.Steps.shares c.gather_clients-earlier.new.table).parts (g.S.Steps.shares c.gather_transmitters.new.table).parts all_parts
     c.in_ok-ended.ensures.parts c.gather_clients-earlier.ensures.parts c.gather_transmitters.ensures.parts in
-    let counted : (n : ℕ) → n ≡ c.gather_clients-earlier.result.aborted → count_by is_aborted c.gather_clients-earlier.new.ends.items + n ≡ c.gather_transmitters.new.pass.aborts =
+    let counted : (n : ℕ) → n ≡ c.gather_clients-earlier.result.aborted → count_by is_aborted c.gather_clients-earlier.new.ends.items + n ≡ (g.S.Steps.shares c.gather_transmitters.new.table).aborts =
     λ n same.
-    all_counted c.at_work.new.pass.aborts (count_by is_aborted c.gather_clients-earlier.new.ends.items) c.gather_clients-earlier.result.aborted n
-    c.gather_clients-earlier.new.pass.aborts c.gather_transmitters.new.pass.aborts
+    all_counted (g.S.Steps.shares c.at_work.new.table).aborts (count_by is_aborted c.gather_clients-earlier.new.ends.items) c.gather_clients-earlier.result.aborted n
+    (g.S.Steps.shares c.gather_clients-earlier.new.table).aborts (g.S.Steps.shares c.gather_transmitters.new.table).aborts
     c.at_work.ensures.aborts c.gather_clients-earlier.ensures.aborts c.gather_transmitters.ensures.aborts same in
     record {
       each = IfOk-weaker c.as_they_can_be.result _ _ (λ own same. rw same.0 (c.gather_clients-earlier.ensures.each ∙ c.in_ok-ended.ensures.each)) c.as_they_can_be.ensures.same;
