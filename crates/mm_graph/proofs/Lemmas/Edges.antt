@@ -1,5 +1,6 @@
 -- The list of edges is that of the waits.
-use Rattle.std.proofs.Common.{◌≡◌, ◌+◌, ◌<◌, ◌↔◌, ℕ, Bool, true, false, List, [], ◌∷◌, ◌++◌, map, Option, Some, None, option_map, option_and_then, nat_eq, slice_index, slice_index_or, if◌then◌else◌, IsTrue, inl, inr, refl, sym, ap, subst, ◌∙◌, arith, zero-add}
+use Rattle.std.proofs.lemmas.Grind.{common_steps}
+use Rattle.std.proofs.Common.{rules, ◌≡◌, ◌+◌, ◌<◌, ◌↔◌, ℕ, Bool, true, false, List, [], ◌∷◌, ◌++◌, map, Option, Some, None, option_map, option_and_then, nat_eq, nat_lt, length, ◌≤◌, ◌⊎◌, Ok, Err, slice_index, slice_index_or, if◌then◌else◌, IsTrue, inl, inr, refl, sym, ap, subst, ◌∙◌, arith, zero-add}
 use Rattle.std.specs.List.{cons_option, filter_map, range_with_len}
 use Rattle.std.proofs.lemmas.Bool.{and_parts, eqb-true}
 use Rattle.std.proofs.lemmas.List.{map-id}
@@ -9,8 +10,13 @@ use Rattle.mm_arena.specs.declared.key.Key.{Key}
 use Rattle.mm_list_lemmas.specs.Members.{Among, NoRepeat}
 use Rattle.mm_list_lemmas.proofs.Lemmas.Among.{among_map_gives}
 use Rattle.mm_list_lemmas.proofs.Lemmas.Range.{among_range, no_repeat_range}
-use Rattle.mm_rules.specs.TableState.{TableState, Wait, key_of, is_live, owner_of, wait_of}
-use Rattle.mm_rules.specs.Event.{tenant_of}
+use Rattle.mm_rules.specs.TableState.{TableState, Wait, key_of, is_live, owner_of, wait_of, has_verdict, private_of, public_of}
+use Rattle.mm_rules.specs.Event.{tenant_of, state_of, mode_of, owner_told}
+use Rattle.mm_rules.specs.declared.reply.State.{State}
+use Rattle.mm_rules.specs.declared.reply.Mode.{Mode}
+use Rattle.mm_rules.specs.declared.reply.Mode.TheVariants.{Active, Waiting, Convicted}
+use Rattle.mm_rules.specs.declared.refusal.Refusal.TheVariants.{NoResource}
+use Rattle.std.specs.Result.{result_ok}
 use Rattle.mm_rules.specs.Laws.{Laws}
 use Rattle.mm_rules.proofs.States.Lookups.{WaitsHere, waits_here, waiter_waits, waiter_live, waiter_within}
 use Rattle.mm_rules.proofs.States.Vacate.{live_process}
@@ -158,3 +164,77 @@ module _ (s : TableState) (laws : Laws s) where
 
 pub edges_once : (s : TableState) (n : ℕ) → NoRepeat (map (λ (edge : Edge). edge.waiter.process) (filter_map (edge_at s) (range_with_len 0 n)))
 edges_once s n = no_repeat_filter_map (edge_at s) (λ (edge : Edge). edge.waiter.process) (edge_process s) (range_with_len 0 n) (no_repeat_range 0 n)
+
+-- ---- what the reads of a table say of an edge
+
+-- what `state` answers of the transaction that a process has
+abbrev state_at : TableState → ℕ → State
+state_at s n = record { mode = mode_of (wait_of s n) (has_verdict s n); private = private_of s n; public = public_of s n }
+
+told_by : (s : TableState) (n : ℕ) (k : Key) (b : Bool) → slice_index_or s.live n false ≡ b → (if b then Some (key_of s n) else None) ≡ Some k
+    → (k ≡ key_of s n) × (result_ok (state_of s k) ≡ Some (state_at s n))
+told_by s n k false e is = (let never : None ≡ Some k = is in absurd (cc))
+told_by s n k true e is =
+    let same : key_of s n ≡ k = (let both : Some (key_of s n) ≡ Some k = is in cc) in
+    (sym same, rw (← same, e) (search rules))
+
+told : (s : TableState) (n : ℕ) (k : Key) → tenant_of s n ≡ Some k → (k ≡ key_of s n) × (result_ok (state_of s k) ≡ Some (state_at s n))
+told s n k is = told_by s n k (slice_index_or s.live n false) refl is
+
+-- `state` refuses no live key
+pub never_stale : (s : TableState) (n : ℕ) (k : Key) → tenant_of s n ≡ Some k → result_ok (state_of s k) ≡ None → ⊥
+never_stale s n k is none = (let never : Some (state_at s n) ≡ None = sym (told s n k is).1 ∙ none in absurd (cc))
+
+pub mode_told : (s : TableState) (n : ℕ) (k : Key) (state : State) → tenant_of s n ≡ Some k → result_ok (state_of s k) ≡ Some state → state.mode ≡ mode_of (wait_of s n) (has_verdict s n)
+mode_told s n k state is read =
+    let both : Some state ≡ Some (state_at s n) = sym read ∙ (told s n k is).1 in
+    let same : state ≡ state_at s n = cc in
+    ap (λ (t : State). t.mode) same
+
+-- an active transaction has no edge
+active_waits_not : (o : Option ℕ) (v : Bool) → Active ≡ mode_of o v → o ≡ None
+active_waits_not None v is = refl
+active_waits_not (Some r) true is = (let never : Active ≡ Convicted r = is in absurd (cc))
+active_waits_not (Some r) false is = (let never : Active ≡ Waiting r = is in absurd (cc))
+
+pub no_edge_of_active : (s : TableState) (n : ℕ) (m : Mode) → m ≡ mode_of (wait_of s n) (has_verdict s n) → m ≡ Active → edge_at s n ≡ None
+no_edge_of_active s n m is active = ap (option_and_then (edge_over s n)) (active_waits_not (wait_of s n) (has_verdict s n) (sym active ∙ is))
+
+-- what the mode says is waited for
+waits_by : (o : Option ℕ) (v : Bool) (r : ℕ) → (Waiting r ≡ mode_of o v) ⊎ (Convicted r ≡ mode_of o v) → o ≡ Some r
+waits_by None v r (inl is) = (let never : Waiting r ≡ Active = is in absurd (cc))
+waits_by None v r (inr is) = (let never : Convicted r ≡ Active = is in absurd (cc))
+waits_by (Some q) true r (inl is) = (let never : Waiting r ≡ Convicted q = is in absurd (cc))
+waits_by (Some q) true r (inr is) = (let same : Convicted r ≡ Convicted q = is in cc)
+waits_by (Some q) false r (inl is) = (let same : Waiting r ≡ Waiting q = is in cc)
+waits_by (Some q) false r (inr is) = (let never : Convicted r ≡ Waiting q = is in absurd (cc))
+
+pub waits_for : (s : TableState) (n r q : ℕ) (m : Mode) → m ≡ mode_of (wait_of s n) (has_verdict s n) → r ≡ q → (m ≡ Waiting q) ⊎ (m ≡ Convicted q) → wait_of s n ≡ Some r
+waits_for s n r q m is same (inl waiting) = waits_by (wait_of s n) (has_verdict s n) q (inl (sym waiting ∙ is)) ∙ ap Some (sym same)
+waits_for s n r q m is same (inr convicted) = waits_by (wait_of s n) (has_verdict s n) q (inr (sym convicted ∙ is)) ∙ ap Some (sym same)
+
+-- what `owner` answers
+read_by : (s : TableState) (r : ℕ) (o : Option Key) (b : Bool) → result_ok (if b then Ok (owner_of s r) else Err NoResource) ≡ Some o → owner_of s r ≡ o
+read_by s r o true is = (let same : Some (owner_of s r) ≡ Some o = is in cc)
+read_by s r o false is = (let never : None ≡ Some o = is in absurd (cc))
+
+pub owner_read : (s : TableState) (r : ℕ) (o : Option Key) → result_ok (owner_told s r) ≡ Some o → owner_of s r ≡ o
+owner_read s r o is = read_by s r o (nat_lt r s.config.resources) is
+
+past_end : (xs : List (Option Key)) (i : ℕ) → length xs ≤ i → slice_index_or xs i None ≡ None
+past_end xs i past = grind (arith, common_steps)
+
+refused_by : (s : TableState) (r : ℕ) (b : Bool) → nat_lt r s.config.resources ≡ b → length s.owners ≡ s.config.resources → result_ok (if b then Ok (owner_of s r) else Err NoResource) ≡ None
+    → owner_of s r ≡ None
+refused_by s r true e sized is = (let never : Some (owner_of s r) ≡ None = is in absurd (cc))
+refused_by s r false e sized is = past_end s.owners r (grind (arith, common_steps))
+
+pub owner_refused : (s : TableState) (r : ℕ) → Laws s → result_ok (owner_told s r) ≡ None → owner_of s r ≡ None
+owner_refused s r laws is = refused_by s r (nat_lt r s.config.resources) refl laws.lawful.well_formed.sizes.owners is
+
+-- who waits for what nobody owns has no edge
+pub no_edge_to_nobody : (s : TableState) (n r : ℕ) → wait_of s n ≡ Some r → owner_of s r ≡ None → edge_at s n ≡ None
+no_edge_to_nobody s n r waits free = rw (waits, free) refl
+
+pub edge_made : (s : TableState) (n r : ℕ) (k h : Key) → tenant_of s n ≡ Some k → wait_of s n ≡ Some r → owner_of s r ≡ Some h → Some (record { waiter = k; resource = r; holder = h }) ≡ edge_at s n
+edge_made s n r k h is waits held = rw (waits, held, (told s n k is).0) refl
