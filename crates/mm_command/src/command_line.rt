@@ -2,21 +2,23 @@
 //!
 //! - `program`: the words that there are.
 //! - `explain`: those of `explain`.
+//! - `arguments`: a subcommand's arguments.
 //! - `options`: the numbers of a generated workload, and those of a lock service.
 ghost use Rattle.std.specs.Prelude.{◌≡◌, ◌≢◌, ◌↔◌, List, [], IfOk, IfSome, IsSome, IsTrue, Some, codes, false, true, map};
 ghost use Rattle.clap.specs.Words.{FailsBy, HasMatchesOf, Text, fault_of, found_of, one_of, rows_of, subcommand_name_of, subcommand_rows_of};
 ghost use Rattle.mm_command.specs.CommandLine.{AsksForHelp, AsksForScript, AsksForVerboseScript, AsksForVersion, HasLimits, HasNumbers, HasShape, HasText, HasWanted, IsByFault, IsHelp, IsOff, IsOn, IsRun, IsScript, IsScriptName, IsVerboseScript, program, request_at, runs, verbose_in};
 ghost use Rattle.mm_command.specs.Limits.{AreLimits, AreShape};
 
+mod arguments;
 mod explain;
 mod options;
 mod program;
 
 use crate::help::locks_after;
 use clap::error::ErrorKind;
-use clap::{ArgMatches, Command, Error};
+use clap::{ArgMatches, Error};
 pub use explain::ExplainOptions;
-use explain::{file_of, options_of};
+use explain::options_of;
 use mm_limits::{MAX_NAME_BYTES, MAX_NAMES, MAX_PROCESSES};
 pub use options::{LocksOptions, StormOptions};
 use program::{
@@ -178,14 +180,14 @@ fn threads(alloc: Global, own: &ArgMatches<'_>) -> Result<Request, AllocError>
     };
     Ok(Request::Threads {
         file: String::from_str(alloc, file)?,
-        report: report(alloc, own)?,
+        report: file_of(alloc, own, "report")?,
         verbose: own.get_flag("verbose"),
     })
 }
 
-/// The file for a report, where one is named.
-fn report(alloc: Global, own: &ArgMatches<'_>) -> Result<Option<String>, AllocError> {
-    match own.get_str("report") {
+/// The file of this name, where one is given.
+fn file_of(alloc: Global, own: &ArgMatches<'_>, name: &str) -> Result<Option<String>, AllocError> {
+    match own.get_str(name) {
         Some(file) => Ok(Some(String::from_str(alloc, file)?)),
         None => Ok(None),
     }
@@ -216,7 +218,7 @@ fn storm(alloc: Global, own: &ArgMatches<'_>) -> Result<Request, AllocError>
             acquires,
             transactions,
         },
-        report: report(alloc, own)?,
+        report: file_of(alloc, own, "report")?,
         verbose: own.get_flag("verbose"),
     })
 }
@@ -274,7 +276,7 @@ fn request_to_explain(alloc: Global, own: &ArgMatches<'_>) -> Result<Request, Al
     ensures { IfOk result (λ request. runs request ≡ true) }
 {
     Ok(Request::Explain {
-        file: file_of(alloc, own)?,
+        file: file_of(alloc, own, "FILE")?,
         options: options_of(own),
     })
 }
@@ -290,13 +292,8 @@ fn are_limits(transactions: u32, names: u32, name_bytes: u32) -> bool
 
 /// An error, which shows the usage and no more of the help.
 fn wrong(alloc: Global, text: &str) -> Result<Request, AllocError> {
-    let error = usage_with(command(alloc, "")?, text)?;
-    Ok(Request::Wrong(error))
-}
-
-/// The usage of this command, with this text.
-fn usage_with(mut command: Command<'_>, text: &str) -> Result<Error, AllocError> {
+    let mut command = command(alloc, "")?;
     let error = command.error(ErrorKind::InvalidValue, text);
     drop(command);
-    error
+    Ok(Request::Wrong(error?))
 }
