@@ -2,7 +2,7 @@
 //!
 //! - `program`: the words that there are.
 //! - `explain`: those of `explain`.
-//! - `arguments`: a subcommand's arguments.
+//! - `arguments`: how clap is given the arguments of a subcommand.
 //! - `options`: the numbers of a generated workload, and those of a lock service.
 ghost use Rattle.std.specs.Prelude.{◌≡◌, ◌≢◌, ◌↔◌, List, [], IfOk, IfSome, IsSome, IsTrue, Some, codes, false, true, map};
 ghost use Rattle.clap.specs.Words.{FailsBy, HasMatchesOf, Text, fault_of, found_of, one_of, rows_of, subcommand_name_of, subcommand_rows_of};
@@ -89,28 +89,16 @@ pub fn request_of<S: AsStr>(alloc: Global, words: &[S]) -> Request
     ensures taken { fault_of program (map S.text words.now) ≡ [] → IsRun result }
     ensures wrong { fault_of program (map S.text words.now) ≢ [] → IsByFault (fault_of program (map S.text words.now)) result }
 {
-    match locks_after(alloc) {
-        Ok(locks_after) => request_with(alloc, locks_after.as_str(), words),
-        Err(_) => Request::Memory,
-    }
-}
-
-/// The same. The help on `locks` ends with this text.
-fn request_with<S: AsStr>(alloc: Global, locks_after: &str, words: &[S]) -> Request
-    ensures script { AsksForScript (map S.text words.now) → IsScript result }
-    ensures verbose { AsksForVerboseScript (map S.text words.now) → IsVerboseScript result }
-    ensures help { AsksForHelp (map S.text words.now) → IsHelp result }
-    ensures version { AsksForVersion (map S.text words.now) → IsHelp result }
-    ensures faultless { runs result ≡ true → fault_of program (map S.text words.now) ≡ [] }
-    ensures taken { fault_of program (map S.text words.now) ≡ [] → IsRun result }
-    ensures wrong { fault_of program (map S.text words.now) ≢ [] → IsByFault (fault_of program (map S.text words.now)) result }
-{
-    match parsed(alloc, locks_after, words) {
+    let Ok(locks_after) = locks_after(alloc) else {
+        return Request::Memory;
+    };
+    match parsed(alloc, locks_after.as_str(), words) {
         Ok(matches) => by_matches(alloc, &matches),
         Err(error) => by_error(error),
     }
 }
 
+/// What clap finds in the words. The help on `locks` ends with this text.
 fn parsed<'a, S: AsStr>(
     alloc: Global,
     locks_after: &'a str,

@@ -47,6 +47,7 @@ pub fn with_arguments<'a>(
     Ok(command)
 }
 
+/// An argument as clap takes it.
 fn arg_of<'a>(alloc: Global, argument: &Argument) -> Arg<'a>
     ensures rule { rule_of result ≡ rule_by argument.now }
     ensures local { result.global ≡ false }
@@ -58,6 +59,7 @@ fn arg_of<'a>(alloc: Global, argument: &Argument) -> Arg<'a>
     }
 }
 
+/// The same, without what help says of it.
 fn without_help<'a>(alloc: Global, name: &'static str, kind: ArgumentKind) -> Arg<'a>
     ensures rule { rule_of result ≡ rule_of_kind name.now kind }
     ensures local { result.global ≡ false }

@@ -138,6 +138,7 @@ pub fn command<'a>(alloc: Global, locks_after: &'a str) -> Result<Command<'a>, A
     )
 }
 
+/// The program's name and version, and what help says of it.
 fn without_subcommands<'a>(alloc: Global) -> Result<Command<'a>, AllocError>
     ensures { IfOk result (λ made. app_of made ≡ versioned_app (codes "mmdetect")) }
 {
@@ -214,6 +215,7 @@ fn with_subcommands<'a>(
     Ok(program)
 }
 
+/// A subcommand as clap takes it.
 fn command_of<'a>(alloc: Global, subcommand: &Subcommand<'a>) -> Result<Command<'a>, AllocError>
     ensures { IfOk result (λ made. IsLocal made (app_by subcommand.now)) }
 {
