@@ -1,10 +1,11 @@
 //! What an accepted call came to, beside what it changed of transactions.
 
 use crate::cycle::explain_cycle;
-use crate::sheet::{INDENT, Part, Sheet};
-use crate::view::{View, standing_of};
+use crate::sheet::{INDENT, Sheet, Value};
+use crate::view::View;
+use mm_graph::edge_of;
 use mm_script::{Call, Reply};
-use mm_table::{Detected, Key, Mode, Refusal, Settled, State, Table, Transmitted};
+use mm_table::{Acquired, Detected, Key, Label, Mode, Refusal, Settled, State, Table, Transmitted};
 
 /// Adds whose the resources are that a call handed over.
 pub fn explain_hand_over(sheet: &mut Sheet, table: &Table, view: &View, call: Call) {
@@ -18,7 +19,9 @@ pub fn explain_hand_over(sheet: &mut Sheet, table: &Table, view: &View, call: Ca
 /// Adds what else a call came to.
 pub fn explain_call(sheet: &mut Sheet, table: &Table, view: &mut View, call: Call, reply: &Reply) {
     match call {
-        Call::Acquire { key, resource } => explain_acquire(sheet, table, view, key, resource),
+        Call::Acquire { key, resource } => explain_acquire(
+            sheet, table, view, key, resource, reply,
+        ),
         Call::Transmit(key) => explain_transmit(sheet, table, key, reply),
         Call::Detect(key) => explain_detect(sheet, table, key, reply),
         Call::Settle => explain_settle(sheet, reply),
@@ -38,44 +41,44 @@ pub fn explain_refusal(sheet: &mut Sheet, refusal: Refusal) {
 
 fn explain_table(sheet: &mut Sheet, table: &Table) {
     let config = table.config();
-    sheet.line(&[
-        Part::Text("processes "),
-        Part::Number(u64::from(config.processes)),
-        Part::Text(", resources "),
-        Part::Number(u64::from(config.resources)),
-        Part::Text(", label limit "),
-        Part::Number(config.label_limit),
-        Part::Text(", generation limit "),
-        Part::Number(u64::from(config.generation_limit)),
-    ]);
+    sheet.line(
+        "processes {}, resources {}, label limit {}, generation limit {}",
+        &[
+            Value::Number(config.processes),
+            Value::Number(config.resources),
+            Value::Limit(config.label_limit),
+            Value::Number(config.generation_limit),
+        ],
+    );
 }
 
 /// Adds that the transaction owns the resource, or the cycle that its wait for it closed.
-fn explain_acquire(sheet: &mut Sheet, table: &Table, view: &mut View, key: Key, resource: u32) {
-    if table.owner(resource) == Ok(Some(key)) {
-        sheet.line(&[
-            Part::Key(key),
-            Part::Text(" owns resource "),
-            Part::Number(u64::from(resource)),
-            Part::Text(" now"),
-        ]);
+fn explain_acquire(
+    sheet: &mut Sheet,
+    table: &Table,
+    view: &mut View,
+    key: Key,
+    resource: u32,
+    reply: &Reply,
+) {
+    if let Reply::Acquired(Acquired::Granted) = reply {
+        sheet.line(
+            "{} owns resource {} now",
+            &[Value::Key(key), Value::Number(resource)],
+        );
     } else {
-        explain_cycle(sheet, table, view, key, "this closes the cycle ");
+        explain_cycle(sheet, table, view, key, "this closes the cycle {}");
     }
 }
 
 /// Adds whose a resource is that was given back.
 fn explain_owner(sheet: &mut Sheet, table: &Table, resource: u32) {
-    let number = Part::Number(u64::from(resource));
     match table.owner(resource) {
-        Ok(Some(owner)) => sheet.line(&[
-            Part::Text("resource "),
-            number,
-            Part::Text(" goes to "),
-            Part::Key(owner),
-            Part::Text(", which waited the longest for it"),
-        ]),
-        _ => sheet.line(&[Part::Text("resource "), number, Part::Text(" is free")]),
+        Ok(Some(owner)) => sheet.line(
+            "resource {} goes to {}, which waited the longest for it",
+            &[Value::Number(resource), Value::Key(owner)],
+        ),
+        _ => sheet.line("resource {} is free", &[Value::Number(resource)]),
     }
 }
 
@@ -87,62 +90,59 @@ fn explain_owners(sheet: &mut Sheet, table: &Table, resources: &[u32]) {
 
 /// Adds why no label was transmitted, where none was.
 fn explain_transmit(sheet: &mut Sheet, table: &Table, key: Key, reply: &Reply) {
-    if !matches!(reply, Reply::Transmitted(Transmitted::Still)) {
-        return;
+    if let Reply::Transmitted(Transmitted::Still) = reply {
+        explain_still(sheet, table, key);
     }
-    let Some((own, holder, shown)) = public_labels(table, key) else {
-        return;
-    };
-    sheet.line(&[
-        Part::Text("its holder "),
-        Part::Key(holder),
-        Part::Text(" shows "),
-        Part::Label(shown.public),
-        Part::Text(", which is not greater than "),
-        Part::Label(own.public),
-    ]);
+}
+
+fn explain_still(sheet: &mut Sheet, table: &Table, key: Key) {
+    if let Some((own, holder, shown)) = labels_of_wait(table, key) {
+        sheet.line(
+            "its holder {} shows {}, which is not greater than {}",
+            &[
+                Value::Key(holder),
+                Value::Label(shown),
+                Value::Label(own.public),
+            ],
+        );
+    }
 }
 
 /// Adds why no verdict was given, where none was.
 fn explain_detect(sheet: &mut Sheet, table: &Table, key: Key, reply: &Reply) {
     match reply {
         Reply::Detected(Detected::Clear) => explain_clear(sheet, table, key),
-        Reply::Detected(Detected::Standing) => {
-            sheet.line(&[Part::Text("it has its verdict already")]);
-        }
+        Reply::Detected(Detected::Standing) => sheet.line("it has its verdict already", &[]),
         _ => {}
     }
 }
 
 fn explain_clear(sheet: &mut Sheet, table: &Table, key: Key) {
-    let Some((own, holder, shown)) = public_labels(table, key) else {
-        return;
-    };
-    if own.private == own.public {
-        sheet.line(&[
-            Part::Text("no verdict: its label is "),
-            Part::Label(own.private),
-            Part::Text(", and its holder "),
-            Part::Key(holder),
-            Part::Text(" shows "),
-            Part::Label(shown.public),
-        ]);
-    } else {
-        sheet.line(&[
-            Part::Text("no verdict: its public label "),
-            Part::Label(own.public),
-            Part::Text(" is another's, its private one is "),
-            Part::Label(own.private),
-        ]);
+    if let Some((own, holder, shown)) = labels_of_wait(table, key) {
+        if own.private == own.public {
+            sheet.line(
+                "no verdict: its label is {}, and its holder {} shows {}",
+                &[
+                    Value::Label(own.private),
+                    Value::Key(holder),
+                    Value::Label(shown),
+                ],
+            );
+        } else {
+            sheet.line(
+                "no verdict: its public label {} is another's, its private one is {}",
+                &[Value::Label(own.public), Value::Label(own.private)],
+            );
+        }
     }
 }
 
-/// What the table shows of a waiting transaction, its holder, and what it shows of that.
-fn public_labels(table: &Table, key: Key) -> Option<(State, Key, State)> {
-    let own = standing_of(table, key.process)?;
-    let holder = own.wait?.holder;
-    let shown = standing_of(table, holder.process)?;
-    Some((own.state, holder, shown.state))
+/// What the table shows of a waiting transaction, its holder, and the public label of that.
+fn labels_of_wait(table: &Table, key: Key) -> Option<(State, Key, Label)> {
+    let own = table.state(key).ok()?;
+    let holder = edge_of(table, key.process)?.holder;
+    let shown = table.state(holder).ok()?;
+    Some((own, holder, shown.public))
 }
 
 /// Adds that a settle found nothing to do, where it found nothing.
@@ -154,7 +154,7 @@ fn explain_settle(sheet: &mut Sheet, reply: &Reply) {
         },
     ) = reply
     {
-        sheet.line(&[Part::Text("no label to raise, and no verdict to give")]);
+        sheet.line("no label to raise, and no verdict to give", &[]);
     }
 }
 
@@ -162,23 +162,19 @@ fn explain_state(sheet: &mut Sheet, key: Key, reply: &Reply) {
     let Reply::Read(state) = reply else {
         return;
     };
-    sheet.parts(&[Part::Text(INDENT), Part::Key(key)]);
+    let (private, public) = (Value::Label(state.private), Value::Label(state.public));
     match state.mode {
-        Mode::Active => sheet.text(" waits for nothing"),
-        Mode::Waiting(resource) => sheet.parts(&[
-            Part::Text(" waits, for resource "),
-            Part::Number(u64::from(resource)),
-        ]),
-        Mode::Convicted(resource) => sheet.parts(&[
-            Part::Text(" waits under a verdict, for resource "),
-            Part::Number(u64::from(resource)),
-        ]),
+        Mode::Active => sheet.line(
+            "{} waits for nothing; private label {}, public label {}",
+            &[Value::Key(key), private, public],
+        ),
+        Mode::Waiting(resource) => sheet.line(
+            "{} waits, for resource {}; private label {}, public label {}",
+            &[Value::Key(key), Value::Number(resource), private, public],
+        ),
+        Mode::Convicted(resource) => sheet.line(
+            "{} waits under a verdict, for resource {}; private label {}, public label {}",
+            &[Value::Key(key), Value::Number(resource), private, public],
+        ),
     }
-    sheet.parts(&[
-        Part::Text("; private label "),
-        Part::Label(state.private),
-        Part::Text(", public label "),
-        Part::Label(state.public),
-    ]);
-    sheet.newline();
 }

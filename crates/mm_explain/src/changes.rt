@@ -1,7 +1,7 @@
 //! What a line changed: who waits for whom, which labels rose, and who was convicted.
 
 use crate::cycle::explain_cycle;
-use crate::sheet::{INDENT, Paint, Part, Sheet};
+use crate::sheet::{Paint, Sheet, Value};
 use crate::view::{Standing, View, standing_of};
 use mm_table::Table;
 use std::alloc::AllocError;
@@ -34,29 +34,46 @@ fn explain_change(
 ) {
     match (before, now) {
         (None, Some(now)) => explain_begun(sheet, &now),
-        (Some(before), None) => sheet.line(&[
-            Part::Key(before.key),
-            Part::Text(" ends, and its process is free"),
-        ]),
-        (Some(before), Some(now)) => {
-            explain_wait(sheet, &before, &now);
-            explain_labels(sheet, &before, &now);
-            if now.is_convicted() && !before.is_convicted() {
-                explain_verdict(sheet, table, view, &now);
-            }
-        }
+        (Some(before), None) => sheet.line(
+            "{} ends, and its process is free",
+            &[Value::Key(before.key)],
+        ),
+        (Some(before), Some(now)) => explain_kept(sheet, table, view, &before, &now),
         (None, None) => {}
     }
 }
 
+/// Adds what is shown of a transaction now and was not before.
+fn explain_kept(
+    sheet: &mut Sheet,
+    table: &Table,
+    view: &mut View,
+    before: &Standing,
+    now: &Standing,
+) {
+    explain_wait(sheet, before, now);
+    explain_labels(sheet, before, now);
+    if now.is_convicted() && !before.is_convicted() {
+        explain_verdict(sheet, now);
+        explain_cycle(
+            sheet,
+            table,
+            view,
+            now.key,
+            "so it has gone round the cycle {}",
+        );
+    }
+}
+
 fn explain_begun(sheet: &mut Sheet, now: &Standing) {
-    sheet.line(&[
-        Part::Key(now.key),
-        Part::Text(" begins, with the labels of its process: private "),
-        Part::Label(now.state.private),
-        Part::Text(", public "),
-        Part::Label(now.state.public),
-    ]);
+    sheet.line(
+        "{} begins, with the labels of its process: private {}, public {}",
+        &[
+            Value::Key(now.key),
+            Value::Label(now.state.private),
+            Value::Label(now.state.public),
+        ],
+    );
 }
 
 /// Adds for what the transaction waits now, where that is another wait than before.
@@ -65,22 +82,22 @@ fn explain_wait(sheet: &mut Sheet, before: &Standing, now: &Standing) {
         return;
     }
     let Some(wait) = now.wait else {
-        sheet.line(&[Part::Key(now.key), Part::Text(" waits no longer")]);
+        sheet.line("{} waits no longer", &[Value::Key(now.key)]);
         return;
     };
-    let (waits, owns) = if before.wait.is_none() {
-        (" waits for resource ", " owns")
+    let text = if before.wait.is_none() {
+        "{} waits for resource {}, which {} owns"
     } else {
-        (" waits on for resource ", " owns now")
+        "{} waits on for resource {}, which {} owns now"
     };
-    sheet.line(&[
-        Part::Key(now.key),
-        Part::Text(waits),
-        Part::Number(u64::from(wait.resource)),
-        Part::Text(", which "),
-        Part::Key(wait.holder),
-        Part::Text(owns),
-    ]);
+    sheet.line(
+        text,
+        &[
+            Value::Key(now.key),
+            Value::Number(wait.resource),
+            Value::Key(wait.holder),
+        ],
+    );
 }
 
 /// Adds the labels of the transaction that are others than before. A fresh label is its private and its public one; one that is passed on
@@ -88,16 +105,15 @@ fn explain_wait(sheet: &mut Sheet, before: &Standing, now: &Standing) {
 fn explain_labels(sheet: &mut Sheet, before: &Standing, now: &Standing) {
     let (old, new) = (before.state, now.state);
     if new.private != old.private {
-        sheet.line(&[
-            Part::Key(now.key),
-            Part::Text(" makes the label "),
-            Part::Label(new.private),
-            Part::Text(", private and public (before: private "),
-            Part::Label(old.private),
-            Part::Text(", public "),
-            Part::Label(old.public),
-            Part::Text(")"),
-        ]);
+        sheet.line(
+            "{} makes the label {}, private and public (before: private {}, public {})",
+            &[
+                Value::Key(now.key),
+                Value::Label(new.private),
+                Value::Label(old.private),
+                Value::Label(old.public),
+            ],
+        );
     } else if new.public != old.public {
         explain_raise(sheet, before, now);
     }
@@ -105,43 +121,33 @@ fn explain_labels(sheet: &mut Sheet, before: &Standing, now: &Standing) {
 
 /// Adds from whom the transaction has its public label.
 fn explain_raise(sheet: &mut Sheet, before: &Standing, now: &Standing) {
-    sheet.parts(&[
-        Part::Text(INDENT),
-        Part::Key(now.key),
-        Part::Text(" raises its public label from "),
-        Part::Label(before.state.public),
-        Part::Text(" to "),
-        Part::Label(now.state.public),
-    ]);
-    if let Some(wait) = now.wait {
-        sheet.parts(&[
-            Part::Text(", the public label of its holder "),
-            Part::Key(wait.holder),
-        ]);
-    }
+    sheet.begin(
+        "{} raises its public label from {} to {}",
+        &[
+            Value::Key(now.key),
+            Value::Label(before.state.public),
+            Value::Label(now.state.public),
+        ],
+    );
+    add_holder(sheet, ", the public label of its holder {}", now);
     sheet.newline();
 }
 
 /// Adds why the transaction was convicted.
-fn explain_verdict(sheet: &mut Sheet, table: &Table, view: &mut View, now: &Standing) {
+fn explain_verdict(sheet: &mut Sheet, now: &Standing) {
     sheet.paint(Paint::Alarm);
-    sheet.parts(&[
-        Part::Text(INDENT),
-        Part::Key(now.key),
-        Part::Text(" is convicted: "),
-        Part::Label(now.state.private),
-        Part::Text(" is its private label, its public one"),
-    ]);
-    if let Some(wait) = now.wait {
-        sheet.parts(&[Part::Text(", and that of "), Part::Key(wait.holder)]);
-    }
+    sheet.begin(
+        "{} is convicted: {} is its private label, its public one",
+        &[Value::Key(now.key), Value::Label(now.state.private)],
+    );
+    add_holder(sheet, ", and that of {}", now);
     sheet.paint(Paint::Plain);
     sheet.newline();
-    explain_cycle(
-        sheet,
-        table,
-        view,
-        now.key,
-        "so it has gone round the cycle ",
-    );
+}
+
+/// Adds this text with the holder for which the transaction waits, if it waits.
+fn add_holder(sheet: &mut Sheet, text: &str, now: &Standing) {
+    if let Some(wait) = now.wait {
+        sheet.fill(text, &[Value::Key(wait.holder)]);
+    }
 }

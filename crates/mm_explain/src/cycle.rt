@@ -1,29 +1,35 @@
 //! The cycle of waits that a transaction is on.
 
-use crate::sheet::{INDENT, Part, Sheet};
+use crate::sheet::{Sheet, Value};
 use crate::view::View;
 use mm_table::{Key, Label, Table};
 
-/// Adds the cycle of waits that the transaction is on, behind `lead`, and which private label is the greatest on it; nothing where it is on
-/// none.
+/// Adds the cycle of waits that the transaction is on, which `lead` begins with its key, and which private label is the greatest on it; nothing
+/// where it is on none.
 pub fn explain_cycle(sheet: &mut Sheet, table: &Table, view: &mut View, key: Key, lead: &str) {
     if !view.has_cycle(table, key.process) {
         return;
     }
-    sheet.parts(&[Part::Text(INDENT), Part::Text(lead), Part::Key(key)]);
-    for member in view.members.iter() {
+    sheet.begin(lead, &[Value::Key(key)]);
+    explain_members(sheet, table, &view.members);
+    explain_greatest(sheet, table, &view.members);
+}
+
+fn explain_members(sheet: &mut Sheet, table: &Table, members: &[u32]) {
+    for member in members {
         if let Some(member) = table.tenant(*member) {
-            sheet.parts(&[Part::Text(" -> "), Part::Key(member)]);
+            sheet.fill(" -> {}", &[Value::Key(member)]);
         }
     }
     sheet.newline();
-    if let Some((owner, label)) = greatest_private(table, &view.members) {
-        sheet.line(&[
-            Part::Text("the greatest private label on it is "),
-            Part::Label(label),
-            Part::Text(", that of "),
-            Part::Key(owner),
-        ]);
+}
+
+fn explain_greatest(sheet: &mut Sheet, table: &Table, members: &[u32]) {
+    if let Some((owner, label)) = greatest_private(table, members) {
+        sheet.line(
+            "the greatest private label on it is {}, that of {}",
+            &[Value::Label(label), Value::Key(owner)],
+        );
     }
 }
 

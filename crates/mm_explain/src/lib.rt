@@ -70,7 +70,7 @@ pub fn explain<R: Read, W: Write>(
     outcome
 }
 
-/// Explains a script from its first byte on.
+/// Explains a script from its first byte on, as far as it is wanted.
 fn explain_all<R: Read, W: Write>(
     input: &mut Input,
     session: &mut Session,
@@ -79,35 +79,15 @@ fn explain_all<R: Read, W: Write>(
 ) -> Result<u64, ExplainFault>
     requires { IsReady input.old }
 {
-    read_all(input, session, reader, writer)?;
-    let malformed = session.finish()?;
-    session.write(writer)?;
-    match writer.flush() {
-        Ok(()) => Ok(malformed),
-        Err(_) => Err(ExplainFault::Lines(Fault::Write)),
-    }
-}
-
-/// Explains the lines of a script, as far as they are wanted.
-fn read_all<R: Read, W: Write>(
-    input: &mut Input,
-    session: &mut Session,
-    reader: &mut R,
-    writer: &mut W,
-) -> Result<(), ExplainFault>
-    requires { IsReady input.old }
-{
     while input.read(reader)? {
-        let count = session.explain_lines(input.within_limit())?;
-        session.write(writer)?;
+        let count = session.explain_piece(input.within_limit(), writer)?;
         if session.is_over() {
-            return Ok(());
+            break;
         }
         if input.is_past_limit() {
             return Err(ExplainFault::Lines(Fault::TooLong));
         }
         input.drop_front(count);
     }
-    session.explain_open(input.within_limit())?;
-    session.write(writer)
+    session.finish(input.within_limit(), writer)
 }

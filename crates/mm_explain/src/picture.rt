@@ -1,7 +1,7 @@
 //! The wait-for graph of a table, as Mermaid and as Graphviz read it.
 ghost use Rattle.std.specs.Prelude.{◌≡◌, ◌≤◌, vec_capacity};
 
-use crate::sheet::{Part, Sheet};
+use crate::sheet::{Sheet, Value};
 use crate::view::{Standing, standing_of};
 use mm_graph::{Edge, cycle_through, edges_of};
 use mm_table::{Key, Table};
@@ -74,16 +74,9 @@ fn draw_table(
     format: Format,
     all: bool,
 ) -> Result<(), AllocError> {
-    let processes = table.config().processes as usize;
-    let mut edges = Vec::with_capacity(alloc, processes)?;
-    let mut members = Vec::with_capacity(alloc, processes)?;
+    let mut members = Vec::with_capacity(alloc, table.config().processes as usize)?;
     draw_transactions(sheet, table, format, &mut members);
-    edges_of(table, &mut edges);
-    draw_edges(sheet, &edges, format);
-    if all {
-        draw_resources(sheet, alloc, table, &edges, format)?;
-    }
-    Ok(())
+    draw_waits(sheet, alloc, table, format, all)
 }
 
 fn draw_transactions(sheet: &mut Sheet, table: &Table, format: Format, members: &mut Vec<u32>)
@@ -108,71 +101,61 @@ fn mark_of(standing: &Standing, on_cycle: bool) -> Mark {
 }
 
 fn draw_transaction(sheet: &mut Sheet, standing: &Standing, mark: Mark, format: Format) {
-    match format {
-        Format::Mermaid => {
-            draw_name(sheet, standing.key, format);
-            sheet.text("[\"");
-            draw_labels(sheet, standing, mark, "<br/>");
-            sheet.text("\"]");
-            sheet.text(match mark {
-                Mark::Plain => "",
-                Mark::OnCycle => ":::cycle",
-                Mark::Victim => ":::victim",
-            });
-        }
-        Format::Dot => {
-            draw_name(sheet, standing.key, format);
-            sheet.text(" [label=\"");
-            draw_labels(sheet, standing, mark, "\\n");
-            sheet.text("\"");
-            sheet.text(match mark {
-                Mark::Plain => "];",
-                Mark::OnCycle => ", color=\"#c00000\", penwidth=3];",
-                Mark::Victim => {
-                    ", color=\"#c00000\", penwidth=3, style=filled, fillcolor=\"#ffd0d0\"];"
-                }
-            });
-        }
-    }
+    sheet.fill(
+        text_of(mark, format),
+        &[
+            node_of(standing.key, format),
+            Value::Key(standing.key),
+            Value::Label(standing.state.private),
+            Value::Label(standing.state.public),
+        ],
+    );
     sheet.newline();
 }
 
-/// Adds what stands in the node of a transaction, with `between` its lines.
-fn draw_labels(sheet: &mut Sheet, standing: &Standing, mark: Mark, between: &str) {
-    sheet.key(standing.key);
-    match mark {
-        Mark::Plain => {}
-        Mark::OnCycle => sheet.text(" on a cycle"),
-        Mark::Victim => sheet.text(" victim"),
+/// What is drawn of a transaction: its node, its key and its two labels.
+fn text_of(mark: Mark, format: Format) -> &'static str {
+    match (format, mark) {
+        (Format::Mermaid, Mark::Plain) => "    {}[\"{}<br/>private {}<br/>public {}\"]",
+        (Format::Mermaid, Mark::OnCycle) => {
+            "    {}[\"{} on a cycle<br/>private {}<br/>public {}\"]:::cycle"
+        }
+        (Format::Mermaid, Mark::Victim) => {
+            "    {}[\"{} victim<br/>private {}<br/>public {}\"]:::victim"
+        }
+        (Format::Dot, Mark::Plain) => { "    \"{}\" [label=\"{}\\nprivate {}\\npublic {}\"];" }
+        (Format::Dot, Mark::OnCycle) => {
+            "    \"{}\" [label=\"{} on a cycle\\nprivate {}\\npublic {}\", color=\"#c00000\", penwidth=3];"
+        }
+        (Format::Dot, Mark::Victim) => {
+            "    \"{}\" [label=\"{} victim\\nprivate {}\\npublic {}\", color=\"#c00000\", penwidth=3, style=filled, fillcolor=\"#ffd0d0\"];"
+        }
     }
-    sheet.text(between);
-    sheet.text("private ");
-    sheet.label(standing.state.private);
-    sheet.text(between);
-    sheet.text("public ");
-    sheet.label(standing.state.public);
 }
 
-/// Adds the name of a transaction, at the start of a line.
-fn draw_name(sheet: &mut Sheet, key: Key, format: Format) {
-    sheet.text("    ");
-    draw_end(sheet, key, format);
-}
-
-/// Adds the name of a transaction.
-fn draw_end(sheet: &mut Sheet, key: Key, format: Format) {
+/// The name of a transaction's node.
+fn node_of(key: Key, format: Format) -> Value {
     match format {
-        Format::Mermaid => {
-            sheet.text("t");
-            sheet.number(u64::from(key.process));
-            sheet.text("_");
-            sheet.number(u64::from(key.generation));
-        }
-        Format::Dot => {
-            sheet.text("\"");
-            sheet.key(key);
-            sheet.text("\"");
-        }
+        Format::Mermaid => Value::Node(key),
+        Format::Dot => Value::Key(key),
+    }
+}
+
+/// Adds who waits for whom, and the resources that nobody waits for where all are wanted.
+fn draw_waits(
+    sheet: &mut Sheet,
+    alloc: Global,
+    table: &Table,
+    format: Format,
+    all: bool,
+) -> Result<(), AllocError> {
+    let mut edges = Vec::with_capacity(alloc, table.config().processes as usize)?;
+    edges_of(table, &mut edges);
+    draw_edges(sheet, &edges, format);
+    if all {
+        draw_resources(sheet, alloc, table, &edges, format)
+    } else {
+        Ok(())
     }
 }
 
@@ -183,21 +166,23 @@ fn draw_edges(sheet: &mut Sheet, edges: &[Edge], format: Format) {
 }
 
 fn draw_edge(sheet: &mut Sheet, edge: &Edge, format: Format) {
-    draw_name(sheet, edge.waiter, format);
     match format {
-        Format::Mermaid => {
-            sheet.text(" -->|\"resource ");
-            sheet.number(u64::from(edge.resource));
-            sheet.text("\"| ");
-            draw_end(sheet, edge.holder, format);
-        }
-        Format::Dot => {
-            sheet.text(" -> ");
-            draw_end(sheet, edge.holder, format);
-            sheet.text(" [label=\"resource ");
-            sheet.number(u64::from(edge.resource));
-            sheet.text("\"];");
-        }
+        Format::Mermaid => sheet.fill(
+            "    {} -->|\"resource {}\"| {}",
+            &[
+                Value::Node(edge.waiter),
+                Value::Number(edge.resource),
+                Value::Node(edge.holder),
+            ],
+        ),
+        Format::Dot => sheet.fill(
+            "    \"{}\" -> \"{}\" [label=\"resource {}\"];",
+            &[
+                Value::Key(edge.waiter),
+                Value::Key(edge.holder),
+                Value::Number(edge.resource),
+            ],
+        ),
     }
     sheet.newline();
 }
@@ -211,17 +196,25 @@ fn draw_resources(
     format: Format,
 ) -> Result<(), AllocError> {
     let mut waited = vec![in alloc; false; table.config().resources as usize]?;
+    mark_waited(&mut waited, edges);
+    draw_unwaited(sheet, table, &waited, format);
+    Ok(())
+}
+
+fn mark_waited(waited: &mut [bool], edges: &[Edge]) {
     for edge in edges {
         if let Some(place) = waited.get_mut(edge.resource as usize) {
             *place = true;
         }
     }
+}
+
+fn draw_unwaited(sheet: &mut Sheet, table: &Table, waited: &[bool], format: Format) {
     for resource in 0..table.config().resources {
-        if waited.get(resource as usize) == Some(&false) {
+        if let Some(false) = waited.get(resource as usize) {
             draw_resource(sheet, table, resource, format);
         }
     }
-    Ok(())
 }
 
 fn draw_resource(sheet: &mut Sheet, table: &Table, resource: u32, format: Format) {
@@ -233,37 +226,26 @@ fn draw_resource(sheet: &mut Sheet, table: &Table, resource: u32, format: Format
 }
 
 fn draw_free(sheet: &mut Sheet, resource: u32, format: Format) {
-    let (before, between, after) = match format {
-        Format::Mermaid => ("    r", "([\"resource ", " free\"])"),
-        Format::Dot => (
-            "    \"resource ",
-            "\" [shape=ellipse, label=\"resource ",
-            " free\"];",
-        ),
+    let text = match format {
+        Format::Mermaid => "    r{}([\"resource {} free\"])",
+        Format::Dot => "    \"resource {}\" [shape=ellipse, label=\"resource {} free\"];",
     };
-    sheet.text(before);
-    sheet.number(u64::from(resource));
-    sheet.text(between);
-    sheet.number(u64::from(resource));
-    sheet.text(after);
+    sheet.fill(text, &[Value::Number(resource), Value::Number(resource)]);
 }
 
 fn draw_owned(sheet: &mut Sheet, resource: u32, owner: Key, format: Format) {
-    let (before, between, after) = match format {
-        Format::Mermaid => ("    r", "([\"resource ", "\"]) -.->|\"owned by\"| "),
-        Format::Dot => (
-            "    \"resource ",
-            "\" [shape=ellipse]; \"resource ",
-            "\" -> ",
-        ),
+    let text = match format {
+        Format::Mermaid => "    r{}([\"resource {}\"]) -.->|\"owned by\"| {}",
+        Format::Dot => {
+            "    \"resource {}\" [shape=ellipse]; \"resource {}\" -> \"{}\" [label=\"owned by\", style=dashed];"
+        }
     };
-    sheet.text(before);
-    sheet.number(u64::from(resource));
-    sheet.text(between);
-    sheet.number(u64::from(resource));
-    sheet.text(after);
-    draw_end(sheet, owner, format);
-    if let Format::Dot = format {
-        sheet.text(" [label=\"owned by\", style=dashed];");
-    }
+    sheet.fill(
+        text,
+        &[
+            Value::Number(resource),
+            Value::Number(resource),
+            node_of(owner, format),
+        ],
+    );
 }

@@ -10,9 +10,12 @@ use crate::view::View;
 use crate::{ExplainFault, Options};
 use mm_lines::{Fault, index_of};
 use mm_script::{Call, Line, Reply, line_of, make};
-use mm_table::Table;
+use mm_table::{Key, Table};
 use std::alloc::{AllocError, Global};
 use std::io::Write;
+
+/// How many columns a line of text has at most. A line of a picture may have more.
+const COLUMNS: usize = 100;
 
 /// A script as far as it is explained.
 #[derive(Drop)]
@@ -22,7 +25,7 @@ pub struct Session {
     /// The table that stands, if one does.
     table: Option<Table>,
     /// What that table showed before the line.
-    view: Option<View>,
+    view: View,
     /// What is not yet written.
     sheet: Sheet,
     /// How many lines were read.
@@ -34,12 +37,17 @@ pub struct Session {
 impl Session {
     /// No line is read yet.
     pub fn open(alloc: Global, options: Options) -> Result<Session, AllocError> {
-        let sheet = Sheet::open(alloc, options.has_colors)?;
+        let width = if options.mermaid || options.dot {
+            usize::MAX
+        } else {
+            COLUMNS
+        };
+        let sheet = Sheet::open(alloc, width, options.has_colors)?;
         Ok(Session {
             alloc,
             options,
             table: None,
-            view: None,
+            view: View::of_no_table(alloc),
             sheet,
             lines: 0,
             malformed: 0,
@@ -54,8 +62,21 @@ impl Session {
         }
     }
 
+    /// Explains the lines whose newline is among the bytes, as far as they are wanted, writes that, and returns how many bytes they have.
+    pub fn explain_piece<W: Write>(
+        &mut self,
+        bytes: &[u8],
+        writer: &mut W,
+    ) -> Result<usize, ExplainFault>
+        ensures { IfOk result (λ count. count ≤ length bytes.now) }
+    {
+        let count = self.explain_lines(bytes)?;
+        self.write(writer)?;
+        Ok(count)
+    }
+
     /// Explains the lines whose newline is among the bytes, as far as they are wanted, and returns how many bytes they have.
-    pub fn explain_lines(&mut self, bytes: &[u8]) -> Result<usize, AllocError>
+    fn explain_lines(&mut self, bytes: &[u8]) -> Result<usize, AllocError>
         ensures { IfOk result (λ count. count ≤ length bytes.now) }
     {
         let mut count = 0;
@@ -72,7 +93,7 @@ impl Session {
     }
 
     /// Explains the line that no newline ends, unless it is empty or not wanted.
-    pub fn explain_open(&mut self, line: &[u8]) -> Result<(), AllocError> {
+    fn explain_open(&mut self, line: &[u8]) -> Result<(), AllocError> {
         if line.is_empty() || self.is_over() {
             return Ok(());
         }
@@ -82,18 +103,11 @@ impl Session {
     /// Runs a line, and explains it where it is wanted.
     fn explain_line(&mut self, line: &[u8]) -> Result<(), AllocError> {
         self.lines = self.lines.saturating_add(1);
-        match line_of(line) {
-            Line::Silent => add_heading(&mut self.sheet, self.lines, line, None),
-            Line::Malformed => {
-                self.malformed = self.malformed.saturating_add(1);
-                add_heading(&mut self.sheet, self.lines, line, Some(&Reply::Malformed));
-            }
-            Line::Call(call) => self.explain_call(line, call)?,
-        }
+        let outcome = self.answer(line);
         if !self.is_wanted() {
             self.sheet.clear();
         }
-        Ok(())
+        outcome
     }
 
     /// Whether the text of the last line is printed.
@@ -101,14 +115,26 @@ impl Session {
         !self.options.mermaid && !self.options.dot && (self.options.at.is_none() || self.is_over())
     }
 
+    /// Runs a line, and explains it.
+    fn answer(&mut self, line: &[u8]) -> Result<(), AllocError> {
+        match line_of(line) {
+            Line::Silent => {
+                add_heading(&mut self.sheet, self.lines, line, None);
+                Ok(())
+            }
+            Line::Malformed => {
+                self.malformed = self.malformed.saturating_add(1);
+                add_heading(&mut self.sheet, self.lines, line, Some(&Reply::Malformed));
+                Ok(())
+            }
+            Line::Call(call) => self.explain_call(line, call),
+        }
+    }
+
     /// Makes a call, and explains it.
     fn explain_call(&mut self, line: &[u8], call: Call) -> Result<(), AllocError> {
-        if let (Some(table), Some(view), Some(key)) = (
-            &self.table,
-            &mut self.view,
-            ending_key(call),
-        ) {
-            view.list_owned(table, key);
+        if let Some(key) = ending_key(call) {
+            self.list_owned(key);
         }
         let reply = make(&mut self.table, self.alloc, call);
         add_heading(&mut self.sheet, self.lines, line, Some(&reply));
@@ -119,24 +145,32 @@ impl Session {
         self.explain_reply(call, &reply)
     }
 
+    /// Lists what the key owns.
+    fn list_owned(&mut self, key: Key) {
+        if let Some(table) = &self.table {
+            self.view.list_owned(table, key);
+        }
+    }
+
     /// Explains a call that was not refused.
     fn explain_reply(&mut self, call: Call, reply: &Reply) -> Result<(), AllocError> {
-        let Some(table) = &self.table else {
-            return Ok(());
-        };
-        if self.view.is_none() {
-            self.view = Some(View::open(self.alloc, table.config())?);
+        match &self.table {
+            Some(table) => {
+                explain_accepted(
+                    &mut self.sheet,
+                    self.alloc,
+                    table,
+                    &mut self.view,
+                    call,
+                    reply,
+                )
+            }
+            None => Ok(()),
         }
-        if let Some(view) = &mut self.view {
-            explain_hand_over(&mut self.sheet, table, view, call);
-            explain_changes(&mut self.sheet, table, view)?;
-            explain_call(&mut self.sheet, table, view, call, reply);
-        }
-        Ok(())
     }
 
     /// Writes what is explained.
-    pub fn write<W: Write>(&mut self, writer: &mut W) -> Result<(), ExplainFault> {
+    fn write<W: Write>(&mut self, writer: &mut W) -> Result<(), ExplainFault> {
         if self.sheet.is_short {
             return Err(ExplainFault::Memory);
         }
@@ -147,8 +181,20 @@ impl Session {
         Ok(())
     }
 
-    /// Adds the pictures that are wanted, and returns how many lines were malformed.
-    pub fn finish(&mut self) -> Result<u64, ExplainFault> {
+    /// Explains the line that no newline ends, adds the pictures that are wanted, writes all, and returns how many lines were malformed.
+    pub fn finish<W: Write>(&mut self, line: &[u8], writer: &mut W) -> Result<u64, ExplainFault> {
+        self.explain_open(line)?;
+        self.write(writer)?;
+        self.draw_wanted()?;
+        self.write(writer)?;
+        match writer.flush() {
+            Ok(()) => Ok(self.malformed),
+            Err(_) => Err(ExplainFault::Lines(Fault::Write)),
+        }
+    }
+
+    /// Adds the pictures that are wanted.
+    fn draw_wanted(&mut self) -> Result<(), ExplainFault> {
         if self.options.at.is_some() && !self.is_over() {
             return Err(ExplainFault::NoLine(self.lines));
         }
@@ -158,7 +204,7 @@ impl Session {
         if self.options.dot {
             self.draw(Format::Dot)?;
         }
-        Ok(self.malformed)
+        Ok(())
     }
 
     /// Adds the picture of this format.
@@ -173,8 +219,24 @@ impl Session {
     }
 }
 
+/// Explains a call that the table accepted.
+fn explain_accepted(
+    sheet: &mut Sheet,
+    alloc: Global,
+    table: &Table,
+    view: &mut View,
+    call: Call,
+    reply: &Reply,
+) -> Result<(), AllocError> {
+    view.turn_to(alloc, table.config())?;
+    explain_hand_over(sheet, table, view, call);
+    explain_changes(sheet, table, view)?;
+    explain_call(sheet, table, view, call, reply);
+    Ok(())
+}
+
 /// The key of a call that ends its transaction.
-fn ending_key(call: Call) -> Option<mm_table::Key> {
+fn ending_key(call: Call) -> Option<Key> {
     match call {
         Call::Finish(key) | Call::Abort(key) => Some(key),
         _ => None,

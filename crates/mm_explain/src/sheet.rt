@@ -7,19 +7,18 @@ use mm_table::{Key, Label, Refusal};
 use std::alloc::{AllocError, Global};
 use std::io::Write;
 
-/// How many columns a line of text has at most, where its parts are not longer.
-const COLUMNS: usize = 100;
-
 /// Where the explanation of a line begins.
 pub const INDENT: &str = "         ";
 
-/// A part of a line of text.
+/// A value that stands in a line of text.
 #[derive(Clone, Copy)]
-pub enum Part<'a> {
-    Text(&'a str),
-    Number(u64),
+pub enum Value {
+    Number(u32),
+    Limit(u64),
     Key(Key),
     Label(Label),
+    /// A key as Mermaid names its node.
+    Node(Key),
 }
 
 /// How text is shown on a terminal.
@@ -40,17 +39,20 @@ pub struct Sheet {
     pub is_short: bool,
     /// How many bytes of the last line are shown.
     pub column: usize,
+    /// How many columns a line has at most, where its parts are not longer.
+    width: usize,
     /// Paint is shown.
     pub has_colors: bool,
 }
 
 impl Sheet {
     /// No text.
-    pub fn open(alloc: Global, has_colors: bool) -> Result<Sheet, AllocError> {
+    pub fn open(alloc: Global, width: usize, has_colors: bool) -> Result<Sheet, AllocError> {
         Ok(Sheet {
             bytes: Vec::with_capacity(alloc, 4096)?,
             is_short: false,
             column: 0,
+            width,
             has_colors,
         })
     }
@@ -141,41 +143,70 @@ impl Sheet {
         }
     }
 
-    /// Adds a part, on a line of its own where it does not fit on this one.
-    pub fn part(&mut self, part: &Part<'_>) {
-        if self.column.saturating_add(length_of(part)) > COLUMNS {
-            self.newline();
-            self.text(INDENT);
+    /// Adds a text with a value at each `{}` of it. A part that does not fit on this line begins the next one.
+    pub fn fill(&mut self, text: &str, values: &[Value]) {
+        let mut rest = text;
+        for value in values {
+            let Some((before, after)) = rest.split_once("{}") else {
+                return;
+            };
+            self.part(before);
+            self.value(value);
+            rest = after;
         }
-        match part {
-            Part::Text(text) => self.text(text),
-            Part::Number(number) => self.number(*number),
-            Part::Key(key) => self.key(*key),
-            Part::Label(label) => self.label(*label),
-        }
+        self.part(rest);
     }
 
-    /// Adds parts, one after another.
-    pub fn parts(&mut self, parts: &[Part<'_>]) {
-        for part in parts {
-            self.part(part);
-        }
+    /// Begins a line of an explanation.
+    pub fn begin(&mut self, text: &str, values: &[Value]) {
+        self.text(INDENT);
+        self.fill(text, values);
     }
 
     /// Adds a line of an explanation.
-    pub fn line(&mut self, parts: &[Part<'_>]) {
-        self.text(INDENT);
-        self.parts(parts);
+    pub fn line(&mut self, text: &str, values: &[Value]) {
+        self.begin(text, values);
         self.newline();
+    }
+
+    fn part(&mut self, text: &str) {
+        if !text.is_empty() {
+            self.make_room(text.len());
+            self.text(text);
+        }
+    }
+
+    fn value(&mut self, value: &Value) {
+        self.make_room(columns_of(value));
+        match value {
+            Value::Number(number) => self.number(u64::from(*number)),
+            Value::Limit(limit) => self.number(*limit),
+            Value::Key(key) => self.key(*key),
+            Value::Label(label) => self.label(*label),
+            Value::Node(key) => self.node(*key),
+        }
+    }
+
+    fn node(&mut self, key: Key) {
+        self.text("t");
+        self.number(u64::from(key.process));
+        self.text("_");
+        self.number(u64::from(key.generation));
+    }
+
+    /// Begins the next line where so many columns do not fit on this one.
+    fn make_room(&mut self, columns: usize) {
+        if self.column.saturating_add(columns) > self.width {
+            self.newline();
+            self.text(INDENT);
+        }
     }
 }
 
-/// How many columns a part takes, or a number of which it takes fewer.
-fn length_of(part: &Part<'_>) -> usize {
-    match part {
-        Part::Text(text) => text.len(),
-        Part::Number(_) => 5,
-        Part::Key(_) => 7,
-        Part::Label(_) => 7,
+/// How many columns a value takes, or a number of which it takes fewer.
+fn columns_of(value: &Value) -> usize {
+    match value {
+        Value::Number(_) | Value::Limit(_) => 5,
+        _ => 7,
     }
 }

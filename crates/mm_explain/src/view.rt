@@ -45,8 +45,31 @@ pub struct View {
 }
 
 impl View {
+    /// A view before there is a table.
+    pub fn of_no_table(alloc: Global) -> View {
+        View {
+            config: Config {
+                processes: 0,
+                resources: 0,
+                label_limit: 0,
+                generation_limit: 0,
+            },
+            standings: Vec::new(alloc),
+            owned: Vec::new(alloc),
+            members: Vec::new(alloc),
+        }
+    }
+
+    /// Is a view of a table of this configuration from now on. It is a new one where it was of another.
+    pub fn turn_to(&mut self, alloc: Global, config: Config) -> Result<(), AllocError> {
+        if self.config != config {
+            *self = View::open(alloc, config)?;
+        }
+        Ok(())
+    }
+
     /// A view of a table that was just opened.
-    pub fn open(alloc: Global, config: Config) -> Result<View, AllocError> {
+    fn open(alloc: Global, config: Config) -> Result<View, AllocError> {
         let owned = Vec::with_capacity(alloc, config.resources as usize)?;
         let members = Vec::with_capacity(alloc, config.processes as usize)?;
         Ok(View {

@@ -1,6 +1,6 @@
 use Rattle.std.proofs.Common.{◌+◌, ◌-◌}
 use Rattle.mm_lines.specs.Input.{IsReady}
-use Rattle.mm_explain.proofs.read_all.Given as goal
+use Rattle.mm_explain.proofs.explain_all.Given as goal
 
 abbrev pub invariant-loop-session : goal.invariant-loop-session
 invariant-loop-session g l = IsReady l.input
