@@ -4,8 +4,8 @@ use crate::sheet::{Sheet, Value};
 use crate::view::View;
 use mm_table::{Key, Label, Table};
 
-/// Adds the cycle of waits that the transaction is on, which `lead` begins with its key, and which private label is the greatest on it; nothing
-/// where it is on none.
+/// Adds the cycle of waits that the transaction is on, and which private label is the greatest on it; nothing where it is on none. `lead`
+/// is the text that begins the line, with a place for the key.
 pub fn explain_cycle(sheet: &mut Sheet, table: &Table, view: &mut View, key: Key, lead: &str) {
     if !view.has_cycle(table, key.process) {
         return;

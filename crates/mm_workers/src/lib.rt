@@ -4,7 +4,8 @@
 //! - `desk`: `Desk`, a shared table with a pass, as the workers of `mm_clients` call it.
 //! - `divisible`: a table of which each worker has a part.
 //! - `job`: what a worker's thread takes along, and what it gives back.
-//! - `run`: `run_threads`, all workers of a workload at once. `jobs` makes a job for each, which `mm_jobs` runs, and `gather` joins their passes.
+//! - `run`: `run_threads`, all workers of a workload at once. `jobs` makes a job for each, which `mm_jobs` runs, and `gather` joins their
+//!   parts of the table.
 #![tactic(auto)]
 
 mod desk;

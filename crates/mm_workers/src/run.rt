@@ -21,7 +21,8 @@ use std::sync::ledger::Ledger;
 use std::thread::Threads;
 
 /// Runs all clients and transmitters of a workload at once, each on a thread of its own, on a table that is opened for them, and waits
-/// until all have ended. A client makes its transactions one after another. There is one gate for each worker: those of the clients, in their order, and then those of the transmitters.
+/// until all have ended. A client makes its transactions one after another. There is one gate for each worker: those of the clients, in
+/// their order, and then those of the transmitters.
 ///
 /// Refused as `BadConfig` or `Memory`, as `Table::open` is; then no worker starts. Also refused as `Memory` where other memory is refused
 /// or a thread cannot be started; those that run have ended then. Takes memory: `O(processes + resources + steps + workers)`.
