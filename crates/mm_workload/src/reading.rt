@@ -19,6 +19,9 @@ use mm_rules::Config;
 use serde_json::{Error, Value};
 use std::alloc::Global;
 
+/// The greatest number of 32 bits.
+const MAX_U32: u64 = u32::MAX as u64;
+
 /// The workload that these bytes say.
 pub(crate) fn read(alloc: Global, bytes: &[u8]) -> Result<Workload, WorkFault>
     ensures ok { IfOk result (λ w. Says bytes.now w) }
@@ -61,11 +64,10 @@ fn work(alloc: Global, value: &Value) -> Result<Workload, WorkFault>
 fn config(value: &Value) -> Result<Config, Place>
     ensures { MatchResult result (λ c. SaysConfig (view value.now) c) (λ _. (c : Config) → ¬ SaysConfig (view value.now) c) }
 {
-    let most = u64::from(u32::MAX);
-    let processes = number(value, "processes", 0, most)?;
-    let resources = number(value, "resources", 0, most)?;
+    let processes = number(value, "processes", 0, MAX_U32)?;
+    let resources = number(value, "resources", 0, MAX_U32)?;
     let label_limit = number(value, "label_limit", 0, u64::MAX)?;
-    let generation_limit = number(value, "generation_limit", 0, most)?;
+    let generation_limit = number(value, "generation_limit", 0, MAX_U32)?;
     Ok(Config {
         processes: processes as u32,
         resources: resources as u32,

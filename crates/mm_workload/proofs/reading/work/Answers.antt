@@ -1,4 +1,5 @@
-use Rattle.std.proofs.Common.{◌≡◌, Option, Some, None, Result, Ok, Err, IfErr}
+use Rattle.std.proofs.Common.{arith, rules, ◌≡◌, Option, Some, None, Result, Ok, Err, IfErr}
+use Rattle.std.proofs.lemmas.List.{length-map}
 use Rattle.serde_json.specs.Data.{Data}
 use Rattle.serde_json.specs.View.{view}
 use Rattle.mm_workload.specs.Work.{Work}
@@ -25,3 +26,13 @@ returns-in_err-transmitters-clause-malformed c =
 pub returns-in_err-turns-clause-malformed : goal.returns-in_err-turns-clause-malformed
 returns-in_err-turns-clause-malformed c =
     says_none c.from_residual-in_err-turns.result (view c.args.value.now) (λ w says. never _ w.turns c.in_err-turns.ensures says.turns)
+
+pub of-requires : goal.of-requires
+of-requires c = record {
+  transmitters = search rules;
+  some_turns = search rules;
+  turns = search rules;
+  some_clients = omega (arith, length-map c.in_ok-clients.clients.items (λ k. k.items), c.in_ok-clients.ensures.few.0);
+  clients = omega (arith, length-map c.in_ok-clients.clients.items (λ k. k.items), c.in_ok-clients.ensures.few.1);
+  steps = c.in_ok-clients.ensures.short;
+}
