@@ -57,10 +57,10 @@ impl Names {
         ensures names { (result ≡ Err OpenError.Names) ↔ IsNamesOut config }
         ensures name_bytes { (result ≡ Err OpenError.NameBytes) ↔ (¬ IsNamesOut config × IsNameBytesOut config) }
     {
-        if !(1..=NamesConfig::MAX_NAMES).contains(&config.names) {
+        if config.names == 0 || config.names > NamesConfig::MAX_NAMES {
             return Err(OpenError::Names);
         }
-        if !(1..=NamesConfig::MAX_NAME_BYTES).contains(&config.name_bytes) {
+        if config.name_bytes == 0 || config.name_bytes > NamesConfig::MAX_NAME_BYTES {
             return Err(OpenError::NameBytes);
         }
         Ok(no_names(alloc, config)?)
