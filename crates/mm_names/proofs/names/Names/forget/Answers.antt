@@ -1,4 +1,5 @@
 use Rattle.std.proofs.Common.{rules, ◌≡◌, None, is_some, true, length, ap, ◌∙◌, arith, length-set}
+use Rattle.std.proofs.lemmas.Grind.{common_steps}
 use Rattle.mm_names.specs.Names.{NameTable, name_of}
 use Rattle.mm_names.proofs.Lemmas.Index.{AreIndexed-taken, some_in_range, few_free}
 use Rattle.mm_names.proofs.names.Names.forget.Goals as goal
@@ -17,3 +18,9 @@ invariant_of-self c =
           (AreIndexed-taken n.places n.index n.spots n.free.items c.self.invariant.0 c.args.number (some_in_range n.places c.args.number named) named),
       omega (arith, c.self.invariant.1, c.push_reserved.ensures.capacity, ap (λ (t : NameTable). length t.names) c.clear.ensures, length-set n.places.names c.args.number None),
     )
+
+pub remove-requires : goal.remove-requires
+remove-requires c = grind (arith, common_steps)
+
+pub clear-requires : goal.clear-requires
+clear-requires c = grind (arith, common_steps)
