@@ -1,4 +1,4 @@
-use Rattle.std.proofs.Common.{◌≡◌, ◌∙◌, ◌+◌, ◌++◌, ◌∷◌, [], drop, subst, sym, ap, rules, arith, ◌≤◌, length, map, Some, None, codes, option_and_then}
+use Rattle.std.proofs.Common.{◌≡◌, ◌∙◌, ◌+◌, drop, subst, sym, ap, rules, arith, ◌≤◌, length, map, Some, None, codes, option_and_then}
 use Rattle.serde_json.specs.View.{view, items_view}
 use Rattle.serde_json.specs.Find.{as_array, get}
 use Rattle.std.specs.List.{All}
