@@ -124,27 +124,31 @@ run threads "$work/workload" --report "$work/report" --verbose > "$work/out" 2> 
 status=$?
 ends 1 "malformed workload" "$work/workload: the file is not a JSON object" "$status"
 
-# A storm of another shape: what it acquires is computed by tests/storm_table anew.
-while read -r seed resources acquires transactions; do
-  case_is "the calls of a storm of $resources resources, $acquires acquires and $transactions transactions"
+# Storms of other shapes: what they acquire is computed by tests/storm_table anew. No two clients of one storm acquire one resource, so none
+# waits, and just so many calls are accepted: each transaction begins, acquires and finishes.
+while read -r seed resources acquires transactions clients; do
+  case_is "the calls of a storm of $resources resources, $acquires acquires, $transactions transactions and $clients clients"
   rm -f "$work/report"
-  run storm --clients 1 --transmitters 0 --seed "$seed" --resources "$resources" --acquires "$acquires" --transactions "$transactions" --report "$work/report" > "$work/out" 2> "$work/err"
+  run storm --clients "$clients" --transmitters 0 --seed "$seed" --resources "$resources" --acquires "$acquires" --transactions "$transactions" --report "$work/report" > "$work/out" 2> "$work/err"
   status=$?
   ends 0 "$(cat "$work/out")" "" "$status"
-  told "totals['accepted'] == 2 * $transactions + $(tests/storm_table "$seed" "$resources" "$acquires" "$transactions")"
+  told "totals['accepted'] == 2 * $transactions * $clients + $(tests/storm_table "$seed" "$resources" "$acquires" "$transactions" "$clients")"
 done << 'ROWS'
-1 8 4 1
-1 8 256 1
-2 1 256 1
-3 65536 256 1
-4 100 17 1
-5 2 1 1
-6 65536 1 1
-18446744073709551615 3 2 1
-1 8 4 2
-2 1 256 3
-3 65536 256 10
-18446744073709551615 3 2 1000
+1 8 4 1 1
+1 8 256 1 1
+2 1 256 1 1
+3 65536 256 1 1
+4 100 17 1 1
+5 2 1 1 1
+6 65536 1 1 1
+18446744073709551615 3 2 1 1
+1 8 4 2 1
+2 1 256 3 1
+3 65536 256 10 1
+18446744073709551615 3 2 1000 1
+1 65536 16 4 4
+2 65536 8 10 3
+9 65536 4 3 8
 ROWS
 case_is "a storm without options is that of the usual numbers"
 run storm --verbose --clients 1 --transmitters 0 > "$work/out" 2> "$work/err"
