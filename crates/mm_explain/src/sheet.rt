@@ -203,7 +203,7 @@ impl Sheet {
     }
 }
 
-/// How many columns a value takes, or a number of which it takes fewer.
+/// How many columns of a line are kept for a value. A long number takes more.
 fn columns_of(value: &Value) -> usize {
     match value {
         Value::Number(_) | Value::Limit(_) => 5,

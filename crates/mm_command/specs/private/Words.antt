@@ -19,6 +19,7 @@ rule_of_kind name FileOption = record (new_rule name) { long = Some name; value_
 rule_of_kind name (Number least most) = free_number_rule name least most
 rule_of_kind name (NumberOr least most default) = number_rule name least most default.now
 
+-- the rule of an argument
 abbrev pub rule_by : Argument → Rule
 rule_by argument = rule_of_kind argument.name.now argument.kind
 
@@ -26,6 +27,7 @@ rule_by argument = rule_of_kind argument.name.now argument.kind
 abbrev pub with_rules : App → List Argument → App
 with_rules app arguments = fold (λ so_far argument. with_rule so_far (rule_by argument)) app arguments
 
+-- the command of a subcommand, with its arguments
 abbrev pub app_by : Subcommand → App
 app_by subcommand = with_rules (new_app subcommand.name.now) subcommand.arguments.now
 
