@@ -102,8 +102,9 @@ pashkure_result pashkure_begin(pashkure_connection *connection, pashkure_transac
  * waits for a transaction of its own waits for ever: use pashkure_ask there. */
 pashkure_result pashkure_lock(pashkure_connection *connection, const pashkure_transaction *transaction, const char *name);
 
-/* As pashkure_lock, and PASHKURE_TIMED_OUT where the name was not granted in time. The time is a lower bound: while the service answers
- * that the wait cannot be taken back now, the call asks again after pauses of 1 to 100 milliseconds, and may return PASHKURE_OK then. */
+/* As pashkure_lock, and PASHKURE_TIMED_OUT if the name was not granted in time. While a transaction for which this one waits was told of a
+ * deadlock and has yet to be aborted, the wait cannot be taken back: the call asks again after pauses of 1 to 100 milliseconds, and may
+ * return PASHKURE_OK then. */
 pashkure_result pashkure_lock_for(
     pashkure_connection *connection, const pashkure_transaction *transaction, const char *name, unsigned milliseconds);
 

@@ -215,14 +215,47 @@ def names(locks: Locks) -> None:
         for name in tx.holds():
             tx.unlock(name)
         same(tx.holds(), [])
-        for name in "", "a b", "a\n", "\x7f", "a\0", b"\r", "\t":
-            raises(ValueError, tx.lock, name)
-            raises(ValueError, locks.owner, name)
+        for same_name in bytearray(b"a"), memoryview(b"a"), b"a":
+            tx.lock(same_name)
+            same(locks.owner(same_name), tx.key)
+        tx.unlock("a")
         for call in tx.lock, tx.try_lock, tx.unlock:
             raises(NameTooLong, call, "x" * 21)
             raises(NameTooLong, call, "ä" * 2000)
             raises(NameTooLong, call, "x" * 100_000)
         tx.lock("after")
+
+
+NO_BYTES = [*range(0x21), 0x7F]
+NO_NAMES = ["", b"", "a b", "\ud800", *(f"a{chr(byte)}b" for byte in NO_BYTES), *(bytes([byte]) for byte in NO_BYTES), bytearray(b"a\n"),
+            memoryview(b"a\nb")]  # fmt: skip
+NO_TEXTS = [None, 3, 10**20, True, 1.5, [97, 98], (97,), object(), Locks]
+NO_KEYS = ["", "0", "0.", ".1", "0.1.1", "-0.1", "+0.1", "0.1 ", " 0.1", "0.1\n", "0.1\ntry 0.1 x", "0.1\r", "0,1", "ü", "0.1ü", "a.b", "٠.١",
+           "².1", "4294967296.1", "0.4294967296", "1" * 21 + ".1", "0." + "0" * 21, "1_0.1", "\ud800"]  # fmt: skip
+
+
+def no_names(locks: Locks) -> None:
+    """What is no name and no key raises `ValueError`, and what is no text `TypeError`, before a byte is sent"""
+    tx = locks.transaction()
+    sent: List[bytes] = []
+    stream: Any = locks._channel._stream
+    write = stream.write
+    stream.write = sent.append
+    for call in tx.lock, tx.try_lock, tx.unlock, locks.owner:
+        for name in NO_NAMES:
+            raises(ValueError, call, name)
+        for no_text in NO_TEXTS:
+            raises(TypeError, call, no_text)
+    for call in locks.status, locks.holds:
+        for key in NO_KEYS:
+            raises(ValueError, call, key)
+        for no_text in [*NO_TEXTS, tx, b"0.1"]:
+            raises(TypeError, call, no_text)
+    same(sent, [])
+    stream.write = write
+    for zeros in f"00{tx.key}", tx.key.zfill(20), tx.key:
+        same(locks.status(zeros).state, "active")
+    raises(NoTransaction, locks.status, "4294967295.4294967295")
 
 
 def full(locks: Locks) -> None:
@@ -242,7 +275,7 @@ def full(locks: Locks) -> None:
     same(locks.totals(), Totals(4, 1, 3, 0))
 
 
-CASES = [calls, deadlock, blocks, timeouts, abort_of_another, runs, names, full]
+CASES = [calls, deadlock, blocks, timeouts, abort_of_another, runs, names, no_names, full]
 OPTIONS = {names: {"name_bytes": 20}, full: {"transactions": 4, "names": 4}}
 
 

@@ -1,6 +1,7 @@
 """How a server starts and ends, and what its clients are told."""
 from __future__ import annotations
 
+import asyncio
 import os
 import signal
 import socket
@@ -13,7 +14,7 @@ from .calls import Apart, waits
 from .cases import raises, same, until
 from .world import Wire, World, answers, environment
 
-from pashkure import Closed, Locks  # noqa: E402
+from pashkure import Closed, Locks, aio  # noqa: E402
 
 
 class Clients:
@@ -129,13 +130,52 @@ def child_ends(world: World) -> None:
     until(lambda: not os.path.exists(f"/proc/{pid}"), "the program ends")
 
 
+def quiet_ends(world: World) -> None:
+    """A program that is ended while replies of it are due has no write fault, over pipes, with asyncio, and behind a server"""
+    statuses = world.file("statuses")
+    program = world.script(f'"{world.program}" "$@" 2>> "{statuses}"\necho $? >> "{statuses}"')
+
+    def asks(locks: Locks) -> None:
+        while True:
+            locks.totals()
+
+    async def cancels() -> None:
+        async with aio.Locks(program) as locks:
+            tasks = [asyncio.ensure_future(_begins(locks)) for _ in range(50)]
+            await asyncio.sleep(0)
+            for task in tasks:
+                task.cancel()
+
+    for _ in range(5):
+        with Locks(program) as locks:
+            threads = [Apart(asks, locks) for _ in range(4)]
+            locks.totals()
+        same({type(thread.ends()) for thread in threads}, {Closed})
+        asyncio.run(cancels())
+        with world.server(program=program) as server:
+            wires = [Wire(server.path) for _ in range(4)]
+            for wire in wires:
+                wire.send(b"totals\n" * 1000)
+            same(wires[0].lines(1), [b"totals 0 0 0 0"])
+            same((server.close(), server.stderr()), (0, ""))
+            for wire in wires:
+                wire.close()
+    with open(statuses) as file:
+        same(file.read(), "0\n" * 15)
+
+
+async def _begins(locks: aio.Locks) -> None:
+    async with locks.transaction():
+        pass
+
+
 def socket_file(world: World) -> None:
     """The socket has the rights that were asked for, 0600 if none were, and replaces nothing that is in use"""
     with world.server() as server:
         same(stat.S_IMODE(os.stat(server.path).st_mode), 0o600)
         with world.server(path=server.path) as second:
             same(second.process.wait(), 1)
-            same(second.stderr(), f"pashkure: another server answers at {server.path}\n")
+            same(second.stderr(), f"pashkure: {server.path}.lock: another server is at {server.path}, and holds it\n")
         same(answers(server.path), True)
     with world.server("--mode", "0660") as server:
         same(stat.S_IMODE(os.stat(server.path).st_mode), 0o660)
@@ -158,6 +198,52 @@ def stale_file(world: World) -> None:
     with world.server(path=path), Locks(socket=path) as locks:
         same(locks.totals().begun, 0)
     same(os.path.exists(path), False)
+
+
+def pairs(world: World) -> str:
+    """Of two servers that start together at one path exactly one serves. The other starts no program, and names the path"""
+    count = 25
+    path, starts = world.file("socket"), world.file("starts")
+    program = world.script(f'echo started >> "{starts}"\nexec "{world.program}" "$@"')
+    command = [sys.executable, "-m", "pashkure", "serve", "--socket", path, "--program", program]
+    locked = []
+    for _ in range(count):
+        both = [subprocess.Popen(command, env=environment(), stderr=subprocess.PIPE, text=True) for _ in range(2)]
+        until(lambda: any(each.poll() is not None for each in both), "one of both ends")
+        both.sort(key=lambda each: each.poll() is None)
+        told = f"pashkure: {path}.lock: another server is at {path}, and holds it\n"
+        same((both[0].communicate()[1], both[0].returncode), (told, 1))
+        until(lambda: both[1].poll() is not None or answers(path), "the other one answers")
+        with Locks(socket=path) as locks:
+            same(locks.totals().begun, 0)
+        both[1].send_signal(signal.SIGTERM)
+        same((both[1].communicate()[1], both[1].returncode), ("", 0))
+        same(os.path.exists(path), False)
+        locked.append(os.stat(path + ".lock"))
+    same({(status.st_ino, stat.S_IMODE(status.st_mode)) for status in locked}, {(locked[0].st_ino, 0o600)})
+    with open(starts) as file:
+        same(file.read(), "started\n" * count)
+    return f"{count} pairs"
+
+
+def lock_file(world: World) -> None:
+    """PATH.lock is held by the server alone: not by its program, which may outlive it; a link at its place is not followed"""
+    with world.server() as server:
+        pid = server.program_pid()
+        os.kill(pid, signal.SIGSTOP)  # so that it does not end with the server
+        try:
+            server.process.kill()
+            server.process.wait()
+            with world.server(path=server.path), Locks(socket=server.path) as locks:
+                same(locks.totals().begun, 0)
+        finally:
+            os.kill(pid, signal.SIGKILL)
+    path, target = world.file("socket"), world.file("target")
+    os.symlink(target, path + ".lock")
+    with world.server(path=path) as server:
+        same(server.process.wait(), 1)
+        assert path in server.stderr() and server.stderr().count("\n") == 1, server.stderr()
+    same((os.path.exists(target), os.path.exists(path)), (False, False))
 
 
 def wrong_words(world: World) -> None:
@@ -187,7 +273,19 @@ def wrong_use(world: World) -> None:
         raises(Closed, locks.transaction)
 
 
+def seeds(world: World) -> None:
+    """The program is given a seed if the user gave one, and else draws its own: no list of processes shows it"""
+    words = world.file("words")
+    program = world.script(f'echo "$*" > "{words}"\nexec "{world.program}" "$@"')
+    for seed, wanted in (None, "locks\n"), (7, "locks --seed 7\n"):
+        with Locks(program, seed=seed) as locks:
+            locks.totals()
+        with open(words) as file:
+            same(file.read(), wanted)
+        with world.server(*([] if seed is None else ["--seed", str(seed)]), program=program):
+            with open(words) as file:
+                same(file.read(), wanted)
 
 
-CASES = [program_killed, program_nonsense, server_killed, ended_by_signal, child_killed, child_ends, socket_file, stale_file,
-         wrong_words, wrong_use]  # fmt: skip
+CASES = [program_killed, program_nonsense, server_killed, ended_by_signal, child_killed, child_ends, quiet_ends, socket_file, stale_file,
+         pairs, lock_file, wrong_words, wrong_use, seeds]  # fmt: skip

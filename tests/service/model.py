@@ -1,8 +1,8 @@
 """A lock service that searches the wait-for graph for each deadlock. It has no labels.
 
 The tests compare the real service with it, and it can stand in for the real one (stand_in). The rules are those of the protocol alone.
-Two things the protocol leaves open, and a model asks its `Oracle` for them: whether a transaction that waits may stop waiting now, and in
-which order a transaction that ends hands over its names.
+Two things the protocol leaves open, and a model asks its `Oracle` for them: whether a transaction that waits behind a victim may stop
+waiting now, and in which order a transaction that ends hands over its names.
 """
 from __future__ import annotations
 
@@ -16,7 +16,7 @@ class Oracle:
     """Decides what the protocol leaves open. This one lets each transaction stop waiting, and hands over names in the order of locking."""
 
     def carries(self, key: bytes) -> bool:
-        """Whether the transaction, which waits, may not stop waiting now."""
+        """Whether the transaction, which waits behind a victim, may not stop waiting now."""
         return False
 
     def order(self, names: List[bytes], heirs: Dict[bytes, bytes]) -> List[bytes]:
@@ -191,8 +191,16 @@ class Model:
         return b"cancelled"
 
     def stays(self, transaction: Transaction) -> bool:
-        """Whether the transaction waits and may not stop waiting now. A victim may."""
-        return transaction.awaited is not None and not transaction.is_victim and self.oracle.carries(transaction.key)
+        """Whether the transaction waits and may not stop waiting now: only if a victim is ahead, and it is none itself."""
+        return not transaction.is_victim and self.is_behind_victim(transaction) and self.oracle.carries(transaction.key)
+
+    def is_behind_victim(self, transaction: Transaction) -> bool:
+        """Whether the transaction waits, directly or over others, for a victim. Each cycle of waits has one."""
+        while transaction.awaited is not None:
+            transaction = self.owners[transaction.awaited]
+            if transaction.is_victim:
+                return True
+        return False
 
     def leave_queue(self, transaction: Transaction) -> None:
         if transaction.awaited is not None:

@@ -7,7 +7,9 @@ import signal
 import time
 from typing import Any, Awaitable, Callable, List
 
+from .calls import NO_KEYS, NO_NAMES, NO_TEXTS
 from .cases import same
+from .trouble import BAD_GRAPHS
 from .world import World
 
 from pashkure import (  # noqa: E402
@@ -141,6 +143,69 @@ async def cancelled(locks: Locks) -> None:
     same(await locks.owner("a"), None)
 
 
+async def none_is_left(locks: Locks, count: int) -> None:
+    """Returns when each of so many transactions has ended."""
+    totals = await locks.totals()
+    while totals.begun != totals.committed + totals.aborted:
+        await asyncio.sleep(0)
+        totals = await locks.totals()
+    same((totals.begun, totals.committed), (count, 0))
+
+
+async def begins(locks: Locks) -> None:
+    async with locks.transaction():
+        await asyncio.Event().wait()
+
+
+async def is_cancelled(task: "asyncio.Future[Any]") -> None:
+    """Cancels the task, and waits for its end."""
+    task.cancel()
+    try:
+        await task
+    except asyncio.CancelledError:
+        return
+    raise AssertionError("the task has an end of its own")
+
+
+async def cancelled_begins(locks: Locks) -> None:
+    """asyncio: a `begin` that is cancelled leaves no transaction, whenever that comes, also if its reply has come"""
+    for turns in range(1, 100):  # the reply comes in one of these turns of the loop, or later
+        task = asyncio.ensure_future(begins(locks))
+        for _ in range(turns % 20):
+            await asyncio.sleep(0)
+        await is_cancelled(task)
+    begun = (await locks.totals()).begun
+    assert begun > 0, "no task came as far as its `begin`"
+    await none_is_left(locks, begun)
+    with_timeout = asyncio.wait_for(begins(locks), 0)  # ends the task before it has sent anything
+    await raises(asyncio.TimeoutError, with_timeout)
+    if hasattr(asyncio, "timeout"):  # since Python 3.11; the task has sent `begin` when it ends
+        try:
+            async with asyncio.timeout(0):
+                await begins(locks)
+        except TimeoutError:
+            begun += 1
+    await none_is_left(locks, begun)
+
+    def cancels(data: bytes) -> None:
+        """Takes the reply, and cancels the task before it runs on."""
+        takes(data)
+        channel.data_received = takes
+        task.cancel()
+
+    channel: Any = locks._channel
+    takes = channel.data_received
+    task = asyncio.ensure_future(begins(locks))
+    await asyncio.sleep(0)  # it has sent `begin`
+    channel.data_received = cancels
+    try:
+        await task
+    except asyncio.CancelledError:
+        await none_is_left(locks, begun + 1)
+        return
+    raise AssertionError("the task has an end of its own")
+
+
 async def crowd(locks: Locks) -> str:
     """asyncio: two hundred tasks change counters by `run`, and no change is lost"""
     counters = [0] * 5
@@ -159,6 +224,30 @@ async def crowd(locks: Locks) -> str:
     totals = await locks.totals()
     same((totals.committed, totals.deadlocks), (200, totals.aborted))
     return f"{totals.deadlocks} deadlocks"
+
+
+async def no_names(locks: Locks) -> None:
+    """asyncio: what is no name and no key raises `ValueError`, and what is no text `TypeError`, before a byte is sent"""
+    tx = await locks.transaction()
+    sent: List[Any] = []
+    channel: Any = locks._channel
+    send = channel.send
+    channel.send = lambda *request: sent.append(request)
+    for call in tx.lock, tx.try_lock, tx.unlock, locks.owner:
+        for name in NO_NAMES:
+            await raises(ValueError, call(name))
+        for no_text in NO_TEXTS:
+            await raises(TypeError, call(no_text))
+    for call in locks.status, locks.holds:
+        for key in NO_KEYS:
+            await raises(ValueError, call(key))
+        for no_text in [*NO_TEXTS, tx, b"0.1"]:
+            await raises(TypeError, call(no_text))
+    same(sent, [])
+    channel.send = send
+    await tx.lock(bytearray(b"a"))
+    same(await locks.owner(memoryview(b"a")), tx.key)
+    same(await locks.holds("00" + tx.key), ["a"])
 
 
 async def full(locks: Locks) -> None:
@@ -186,7 +275,7 @@ async def closing(locks: Locks) -> None:
     await raises(Closed, _awaited(locks.transaction()))
 
 
-CASES = [calls, deadlock, timeouts, cancelled, crowd, full, closing]
+CASES = [calls, deadlock, timeouts, cancelled, cancelled_begins, crowd, no_names, full, closing]
 
 
 def over_pipes(world: World, case: Callable[[Locks], Awaitable[Any]]) -> Any:
@@ -217,6 +306,19 @@ async def told_closed(locks: Locks, pid: int) -> None:
     for task in tasks:
         await raises(Closed, task)
     await raises(Closed, locks.totals())
+
+
+def bad_graphs(world: World) -> None:
+    """asyncio: a reply to `graph` that no service writes ends the connection, and each call with it"""
+
+    async def over_pipes(program: str) -> None:
+        async with Locks(program) as locks:
+            told = await asyncio.gather(locks.graph(), locks.graph(), return_exceptions=True)
+            same([(type(error), str(error)) for error in told], [(Closed, "the service was not understood")] * 2, program)
+            await raises(Closed, locks.totals())
+
+    for reply in BAD_GRAPHS:
+        asyncio.run(over_pipes(world.script(f"read line; printf '{reply}\\n'; cat > /dev/null")))
 
 
 def killed(world: World) -> None:

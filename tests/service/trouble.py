@@ -11,28 +11,29 @@ from .calls import Apart, waits
 from .cases import raises, same, until
 from .world import World
 
-from pashkure import Aborted, Closed, Locks, Malformed, Totals  # noqa: E402
+from pashkure import Aborted, Closed, Deadlock, Locks, Malformed, Totals  # noqa: E402
 
 
 def carried(world: World) -> None:
-    """A request that cannot be taken back now waits on after its timeout, and is granted"""
+    """A request behind a victim, which cannot be taken back now, waits on after its timeout, and is granted"""
     with Locks(world.refusing()) as locks:
-        one, two = locks.transaction(), locks.transaction()
+        one, two, victim = locks.transaction(), locks.transaction(), locks.transaction()
         one.lock("a")
+        victim.lock("z")
+        ahead = Apart(one.lock, "z")
+        waits(locks, one)
+        raises(Deadlock, victim.lock, "a")
         thread = Apart(two.lock, "a", timeout=0.01)
         waits(locks, two)
         time.sleep(0.1)
         same(thread.is_alive(), True)
-        one.commit()
+        one.abort()
+        same(one.status().aborting, True)
+        victim.abort()
+        same(type(ahead.ends()), Aborted)
         same(thread.ends(), None)
-        three = locks.transaction()
-        thread = Apart(three.lock, "a")
-        waits(locks, three)
-        three.abort()
-        same(three.status().aborting, True)
         two.commit()
-        same(type(thread.ends()), Aborted)
-        same(locks.totals(), Totals(3, 2, 1, 0))
+        same(locks.totals(), Totals(3, 1, 2, 1))
 
 
 def threads(locks: Locks) -> str:
@@ -148,6 +149,19 @@ def not_understood(world: World) -> None:
         raises(Closed, locks.transaction)
     with Locks(world.script("exit 3")) as locks:
         raises(Closed, locks.transaction)
+
+
+BAD_GRAPHS = ["graph x", "graph -1", "graph ", "graph 1 2", "graph 1_0", "graph 01", "graph 1\\n* 0.1 a", "graph 1\\n* 0.1 a b c",
+              "graph 2\\n* 0.1 a 1.1\\ngranted"]  # fmt: skip
+
+
+def bad_graphs(world: World) -> None:
+    """A reply to `graph` that no service writes ends the connection, and each call with it"""
+    for reply in BAD_GRAPHS:
+        with Locks(world.script(f"read line; printf '{reply}\\n'; cat > /dev/null")) as locks:
+            for error in [thread.ends() for thread in [Apart(locks.graph), Apart(locks.graph)]]:
+                same((type(error), str(error)), (Closed, "the service was not understood"), reply)
+            raises(Closed, locks.totals)
 
 
 CASES = [threads, interrupted, closing, forks]

@@ -6,10 +6,11 @@ import socket
 import time
 from typing import List
 
+from .calls import Apart, waits
 from .cases import raises, same, until
 from .world import Server, Wire, World
 
-from pashkure import Locks, NoTransaction  # noqa: E402
+from pashkure import Deadlock, Locks, NoTransaction  # noqa: E402
 
 
 def half_lines(world: World) -> None:
@@ -33,13 +34,16 @@ def half_lines(world: World) -> None:
 
 def long_lines(world: World) -> str:
     """A line longer than any request is malformed once, however long, and is not kept"""
-    with world.server("--name-bytes", "1024") as server, Wire(server.path) as wire:
+    with world.server("--name-bytes", "1024") as server, Wire(server.path) as wire, Wire(server.path) as other:
         same(wire.ask(b"begin"), b"begun 0.1")
         same(wire.ask(b"lock 0.1 " + b"x" * 1024), b"granted")
         same(wire.ask(b"status 0.1"), b"active")
         longest = b"unlock 0.1 " + b" " * (1048 - 11 - 1024) + b"x" * 1024
         same(wire.ask(longest), b"unlocked")
-        same(wire.ask(longest.replace(b"unlock", b"lock") + b"\r"), b"granted")
+        wire.send(longest.replace(b"unlock", b"lock") + b"\r")
+        same(other.ask(b"totals"), b"totals 1 0 0 0")  # the server has read the line without its newline
+        wire.send(b"\n")
+        same(wire.lines(1), [b"granted"])
         same(wire.ask(longest + b" \r"), b"malformed")
         wire.send(b"#" * 1048 + b"\n")
         for length in 1_049, 5_000, 65_536, 1_000_000:
@@ -208,23 +212,57 @@ def in_deadlock(world: World) -> None:
 
 
 def hang_up_later(world: World) -> None:
-    """Who hangs up and may not stop waiting yet is aborted as soon as its wait ends"""
+    """Who hangs up behind a victim, and may not stop waiting yet, is aborted as soon as its wait ends"""
     with world.server(program=world.refusing()) as server, Locks(socket=server.path) as locks:
-        tx, last = locks.transaction(), locks.transaction()
+        tx, victim, last = locks.transaction(), locks.transaction(), locks.transaction()
         tx.lock("x")
+        victim.lock("z")
+        thread = Apart(tx.lock, "z")
+        waits(locks, tx)
+        raises(Deadlock, victim.lock, "x")
         with Wire(server.path) as wire:
             key = wire.ask(b"begin")[6:].decode()
             same(wire.ask(b"lock %b y" % key.encode()), b"granted")
             same(wire.ask(b"lock %b x" % key.encode()), b"waits 0.1")
         until(lambda: locks.status(key).aborting, "its abort is due")
         same(last.try_lock("y"), False)
+        victim.abort()
+        same(thread.ends(), None)
         tx.commit()
         until(lambda: last.try_lock("y"), "what it owned is free")
         raises(NoTransaction, locks.status, key)
         last.commit()
-        same(locks.totals(), (3, 2, 1, 0))
+        same(locks.totals(), (4, 2, 2, 1))
         with Wire(server.path) as wire:  # the server has forgotten the key
             same(wire.ask(b"abort " + key.encode()), b"refused no-transaction")
+
+
+def gone_while_owed(world: World) -> None:
+    """Who hangs up while the server waits for it to read has its transactions aborted"""
+    with world.server() as server, Locks(socket=server.path) as locks:
+        with Wire(server.path) as wire:
+            same(wire.ask(b"begin"), b"begun 0.1")
+            same(wire.ask(b"lock 0.1 a"), b"granted")
+            fills(wire, b"totals\n" * 1000)
+            same(locks.owner("a"), "0.1")
+        until(lambda: locks.owner("a") is None, "its lock is free")
+        same(locks.totals().aborted, 1)
+
+
+def many_ends(world: World) -> str:
+    """A connection on which many transactions begin and end leaves nothing of them in the server"""
+    count, rounds = 1000, 60
+    with world.server() as server, Wire(server.path) as wire:
+        for number in range(rounds):
+            wire.send(b"begin\n" * count)
+            keys = [reply[6:] for reply in wire.lines(count)]
+            wire.send(b"".join(b"commit %b\n" % key for key in keys))
+            same(wire.lines(count), [b"committed"] * count)
+            if number == 5:
+                before = server.memory()
+        grown = server.memory() - before
+        assert grown < 4_000_000, f"the server has grown by {grown} bytes"
+    return f"{count * rounds} transactions, the server grew by {max(0, grown) >> 10} KiB"
 
 
 def many_connections(world: World, count: int) -> str:
@@ -276,4 +314,4 @@ def at_once(world: World) -> str:
 
 
 CASES = [half_lines, long_lines, no_requests, keys_of_others, slow_reader, large_replies, half_closed, hang_ups, in_deadlock,
-         hang_up_later, at_once]  # fmt: skip
+         gone_while_owed, many_ends, hang_up_later, at_once]  # fmt: skip

@@ -99,7 +99,7 @@ class World:
         return path
 
     def refusing(self) -> str:
-        """A service that refuses each try to stop a wait: the stand-in."""
+        """A service that refuses each try to stop a wait behind a victim: the stand-in."""
         return self.script(f'exec "{STAND_IN}" "$@" --carries 100')
 
     def close(self) -> None:

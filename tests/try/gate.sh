@@ -8,7 +8,8 @@ printf 'mm_low:\nmm_detect: mm_low # the program\n' > "$gate/top/crates.txt"
 echo '#[test]' > "$gate/top/crates/mm_low/src/lib.rt"
 touch "$gate/top/crates/mm_low/must-fail/one.edit" "$gate/top/crates/mm_low/must-fail/two.edit"
 mkdir -p "$gate/top/docs" "$gate/top/clients/c/test"
-for script in tests/no_lock tests/no_loops docs/contracts docs/citations docs/commands docs/make_tour tests/try_program tests/refuse_memory tests/try_service tests/try_explain clients/c/test/run; do
+for script in tests/no_lock tests/no_loops docs/contracts docs/citations docs/commands docs/make_tour tests/try_program \
+  tests/refuse_memory tests/try_service tests/fuzz_server tests/try_pages tests/try_install tests/try_explain clients/c/test/run; do
   printf '#!/bin/sh\necho "1 passed, 0 failed"\n' > "$gate/top/$script"
 done
 
@@ -86,6 +87,9 @@ gated ./run_tests
 ends 0 "$(sed 's/^4 passed/rt ci: &/' "$gate/log")
 tests/try_program --built: 1 passed, 0 failed
 tests/try_service crates/mm_detect/out/mm_detect: 1 passed, 0 failed
+tests/fuzz_server python3 -m pashkure serve --program crates/mm_detect/out/mm_detect crates/mm_detect/out/mm_detect locks: 1 passed, 0 failed
+tests/try_pages crates/mm_detect/out/mm_detect: 1 passed, 0 failed
+tests/try_install crates/mm_detect/out/mm_detect: 1 passed, 0 failed
 tests/try_explain crates/mm_detect/out/mm_detect: 1 passed, 0 failed
 tests/refuse_memory: 1 passed, 0 failed
 clients/c/test/run python3 -m pashkure serve --program ./mmdetect: 1 passed, 0 failed
@@ -96,7 +100,7 @@ tests/no_loops: 1 passed, 0 failed
 tests/no_loops --self-test: 1 passed, 0 failed
 docs/contracts: 1 passed, 0 failed
 docs/citations: 1 passed, 0 failed
-16 passed, 0 failed" "" $?
+19 passed, 0 failed" "" $?
 gated ./run_tests --times
 same status 0 $?
 says "The last run: commit unknown, begun 20"
@@ -117,7 +121,7 @@ echo 0 > "$gate/takes"
 printf '#!/bin/sh\nexit 3\n' > "$gate/top/tests/gate/watch"
 gated ./run_tests
 same status 0 $?
-same "the last line" "16 passed, 0 failed" "$(tail -n 1 "$work/out")"
+same "the last line" "19 passed, 0 failed" "$(tail -n 1 "$work/out")"
 cp tests/gate/watch "$gate/top/tests/gate/watch"
 
 # watch_of RUN: the process that watches this run

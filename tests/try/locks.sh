@@ -28,14 +28,24 @@ answers "who waits may cancel and abort, and nothing else" \
   $'begin\nbegin\nlock 0.1 a\nlock 1.1 a\nlock 1.1 b\ntry 1.1 b\nunlock 1.1 a\ncommit 1.1\ncancel 1.1\nstatus 1.1\ncancel 1.1\nlock 1.1 a\nabort 1.1\nabort 1.1' \
   $'begun 0.1\nbegun 1.1\ngranted\nwaits 0.1\nrefused waiting\nrefused waiting\nrefused waiting\nrefused waiting\ncancelled\nactive\nrefused not-waiting\nwaits 0.1\naborted\nrefused no-transaction'
 
-# 0.1 shows the label of 1.1, which waited after it did: its wait cannot be taken back.
-carried=$'begin\nbegin\nbegin\nlock 1.1 b\nlock 2.1 c\nlock 0.1 b\nlock 1.1 c'
-carried_replies=$'begun 0.1\nbegun 1.1\nbegun 2.1\ngranted\ngranted\nwaits 1.1\nwaits 2.1'
-answers "an abort that comes due by a grant" "$carried"$'\ncancel 0.1\nabort 0.1\nabort 0.1\nstatus 0.1\ncommit 2.1\ncommit 1.1\nstatus 0.1\nowner b\ntotals' \
-  "$carried_replies"$'\ncarried\nlater\nlater\nwaiting b 1.1 aborting\ncommitted\n* granted 1.1 c\ncommitted\n* aborted 0.1\nrefused no-transaction\nfree\ntotals 3 2 1 0'
+# 0.1 shows the label of 1.1, which waited after it did. No victim is ahead, so its wait can be taken back, and 1.1 gets a new label.
+chain=$'begin\nbegin\nbegin\nlock 1.1 b\nlock 2.1 c\nlock 0.1 b\nlock 1.1 c'
+chain_replies=$'begun 0.1\nbegun 1.1\nbegun 2.1\ngranted\ngranted\nwaits 1.1\nwaits 2.1'
+answers "a wait behind another one is taken back" "$chain"$'\ncancel 0.1\nstatus 0.1\nstatus 1.1\nunlock 2.1 c\nunlock 1.1 b\nowner b' \
+  "$chain_replies"$'\ncancelled\nactive\nwaiting c 2.1\nunlocked\n* granted 1.1 c\nunlocked\nfree'
+answers "who waits behind another one is aborted at once" "$chain"$'\nabort 0.1\nstatus 0.1\nlock 2.1 b\nabort 2.1\ntotals' \
+  "$chain_replies"$'\naborted\nrefused no-transaction\ndeadlock 1.1\naborted\n* granted 1.1 c\ntotals 3 0 2 1'
+
+# 2.1 waits for 0.1, and 0.1 for 1.1, which closed the cycle and has yet to abort: the wait of 2.1 cannot be taken back before that.
+carried=$'begin\nbegin\nbegin\nlock 0.1 a\nlock 1.1 b\nlock 2.1 a\nlock 0.1 b\nlock 1.1 a'
+carried_replies=$'begun 0.1\nbegun 1.1\nbegun 2.1\ngranted\ngranted\nwaits 0.1\nwaits 1.1\ndeadlock 0.1'
+answers "a cancel behind a victim, and after its abort" "$carried"$'\ncancel 2.1\ncancel 0.1\nabort 1.1\ncancel 2.1\nstatus 2.1\nholds 0.1' \
+  "$carried_replies"$'\ncarried\ncarried\naborted\n* granted 0.1 b\ncancelled\nactive\nholds a b'
+answers "an abort that comes due by a grant" "$carried"$'\ncancel 2.1\nabort 2.1\nabort 2.1\nstatus 2.1\nabort 1.1\ncommit 0.1\nstatus 2.1\nowner a\ntotals' \
+  "$carried_replies"$'\ncarried\nlater\nlater\nwaiting a 0.1 aborting\naborted\n* granted 0.1 b\ncommitted\n* aborted 2.1\nrefused no-transaction\nfree\ntotals 3 1 2 1'
 answers "what one whose abort comes due owned goes on" \
-  $'begin\nbegin\nbegin\nbegin\nlock 0.1 z\nlock 3.1 z\nlock 1.1 b\nlock 2.1 c\nlock 0.1 b\nlock 1.1 c\nabort 0.1\ncommit 2.1\nunlock 1.1 b' \
-  $'begun 0.1\nbegun 1.1\nbegun 2.1\nbegun 3.1\ngranted\nwaits 0.1\ngranted\ngranted\nwaits 1.1\nwaits 2.1\nlater\ncommitted\n* granted 1.1 c\nunlocked\n* aborted 0.1\n* granted 3.1 z'
+  $'begin\nbegin\nbegin\nbegin\nlock 2.1 z\nlock 3.1 z\nlock 0.1 a\nlock 1.1 b\nlock 2.1 a\nlock 0.1 b\nlock 1.1 a\nabort 2.1\nabort 1.1\nunlock 0.1 a' \
+  $'begun 0.1\nbegun 1.1\nbegun 2.1\nbegun 3.1\ngranted\nwaits 2.1\ngranted\ngranted\nwaits 0.1\nwaits 1.1\ndeadlock 0.1\nlater\naborted\n* granted 0.1 b\nunlocked\n* aborted 2.1\n* granted 3.1 z'
 
 answers "names are listed in the order of their bytes" $'begin\nlock 0.1 b\nlock 0.1 a\nlock 0.1 ab\nlock 0.1 B\nlock 0.1 é\nholds 0.1\nunlock 0.1 ab\nholds 0.1\nholds 0.2' \
   $'begun 0.1\ngranted\ngranted\ngranted\ngranted\ngranted\nholds B a ab b é\nunlocked\nholds B a b é\nrefused no-transaction'

@@ -104,6 +104,34 @@ $work|a folder
 /dev/full|a full device
 ROWS
 
+# A report that would replace the workload is refused before anything runs: by the same name, another name, and links of both kinds.
+mkdir "$work/folder"
+cp examples/workloads/crosswise.json "$work/folder/mine.json"
+ln -s folder/mine.json "$work/link"
+ln "$work/folder/mine.json" "$work/second"
+while read -r file report; do
+  case_is "a report of $file to $report"
+  run threads "$work/$file" --report "$work/$report" > "$work/out" 2> "$work/err"
+  status=$?
+  ends 2 "" "$work/$report: the report would replace the workload" "$status"
+  cmp -s examples/workloads/crosswise.json "$work/folder/mine.json" || fails "the workload is another one"
+done << 'ROWS'
+folder/mine.json folder/mine.json
+folder/mine.json folder/../folder//mine.json
+folder/mine.json link
+link folder/mine.json
+link link
+folder/mine.json second
+second link
+ROWS
+# (a link to nothing is no file yet)
+case_is "a report to a link to a file that is not there"
+ln -s folder/new.json "$work/to_new"
+run threads "$work/folder/mine.json" --report "$work/to_new" > "$work/out" 2> "$work/err"
+status=$?
+ends 0 "$crosswise_lines" "" "$status"
+[ -s "$work/folder/new.json" ] || fails "there is no report"
+
 # Where nothing runs there is no report.
 printf '[]' > "$work/workload"
 printf '%s' '{"processes":0,"resources":1,"label_limit":9,"generation_limit":9,"transmitters":0,"turns":1,"clients":[[]]}' > "$work/refused"

@@ -170,7 +170,7 @@ static void raise_label(key *transaction)
     waits *= 4;
 }
 
-/* Who owns x and who owns z. Where the first one waits for z, those who wait for x carry its label. */
+/* Who owns x and who owns z. The label of the second one passes all others when it waits. */
 struct chain {
     key owner, last;
 };
@@ -184,44 +184,65 @@ static struct chain chained(void)
     return chain;
 }
 
-static void end_chain(struct chain *chain)
+/* The last one closes a cycle. Until its abort nobody can take a wait for x back that began before. */
+static void close_cycle(struct chain *chain)
 {
-    GIVES(OK, pashkure_commit(&two, &chain->last));
+    GIVES(WAITS, pashkure_ask(&one, &chain->owner, "z"));
+    GIVES(DEADLOCK, pashkure_ask(&two, &chain->last, "x"));
+}
+
+static void end_owner(struct chain *chain)
+{
     GIVES(OK, pashkure_wait(&one, &chain->owner));
     GIVES(OK, pashkure_commit(&one, &chain->owner));
 }
 
-/* Its time is up while it carries a label: it waits on, and is granted the name. */
+/* Its time is up behind a victim: it waits on. By the abort of the victim the owner is aborted too, and it is granted the name. */
 static void test_granted_late(void)
 {
     struct chain chain = chained();
     struct asker asker;
     start(&asker, "x", 300);
     until_waiting(1);
-    GIVES(WAITS, pashkure_ask(&one, &chain.owner, "z"));
+    close_cycle(&chain);
     rest(500);
-    until_waiting(2);
-    end_chain(&chain);
+    until_waiting(3);
+    GIVES(LATER, pashkure_abort(&one, &chain.owner));
+    GIVES(OK, pashkure_abort(&two, &chain.last));
     GIVES(OK, joined(&asker));
+    GIVES(NO_TRANSACTION, pashkure_wait(&one, &chain.owner));
     pashkure_close(&asker.connection);
 }
 
-/* The name is handed over to another one, by which the asker gets a label of its own: now its wait can be taken back. */
+/* Its time is up behind a victim, and its wait is taken back after the abort of that one. */
 static void test_timed_out_late(void)
 {
     struct chain chain = chained();
-    struct asker asker, ahead;
-    start(&ahead, "x", 0);
-    until_waiting(1);
+    struct asker asker;
     start(&asker, "x", 300);
-    until_waiting(2);
-    GIVES(WAITS, pashkure_ask(&one, &chain.owner, "z"));
+    until_waiting(1);
+    close_cycle(&chain);
     rest(500);
     until_waiting(3);
-    end_chain(&chain);
-    GIVES(OK, joined(&ahead));
+    GIVES(OK, pashkure_abort(&two, &chain.last));
     GIVES(TIMED_OUT, joined(&asker));
-    pashkure_close(&ahead.connection);
+    end_owner(&chain);
+    pashkure_close(&asker.connection);
+}
+
+/* Its time is up behind another one that waits, whose label it shows: its wait is taken back at once. */
+static void test_timed_out_behind(void)
+{
+    struct chain chain = chained();
+    struct asker asker;
+    start(&asker, "x", 300);
+    until_waiting(1);
+    GIVES(WAITS, pashkure_ask(&one, &chain.owner, "z"));
+    until_waiting(2);
+    GIVES(TIMED_OUT, joined(&asker));
+    until_waiting(1);
+    GIVES(OK, pashkure_commit(&two, &chain.last));
+    end_owner(&chain);
     pashkure_close(&asker.connection);
 }
 
@@ -231,12 +252,13 @@ static void test_aborted_later(void)
     key waiter = begun(&two);
     pashkure_status status;
     GIVES(WAITS, pashkure_ask(&two, &waiter, "x"));
-    GIVES(WAITS, pashkure_ask(&one, &chain.owner, "z"));
+    close_cycle(&chain);
     GIVES(CARRIED, pashkure_cancel(&two, &waiter));
     GIVES(LATER, pashkure_abort(&two, &waiter));
     GIVES(OK, pashkure_status_of(&two, &waiter, &status));
     CHECK(status.mode == PASHKURE_IS_WAITING && status.is_aborting);
-    end_chain(&chain);
+    GIVES(OK, pashkure_abort(&two, &chain.last));
+    end_owner(&chain);
     GIVES(NO_TRANSACTION, pashkure_wait(&two, &waiter));
 }
 
@@ -322,7 +344,7 @@ static void test_totals(void)
 {
     pashkure_counts counts;
     GIVES(OK, pashkure_totals(&one, &counts));
-    CHECK(counts.begun == counts.committed + counts.aborted && counts.deadlocks == 1);
+    CHECK(counts.begun == counts.committed + counts.aborted && counts.deadlocks == 4);
 }
 
 static int wait_for_ever(void)
@@ -356,6 +378,7 @@ int main(int count, char *words[])
     test_one_connection();
     test_granted_late();
     test_timed_out_late();
+    test_timed_out_behind();
     test_aborted_later();
     test_hang_up();
     test_limits();

@@ -150,10 +150,15 @@ class Locks:
         self.tell_granted(grants)
         return [one for one, _ in grants]
 
-    def give_up(self, one):
-        if one.private != one.public:
+    def take_back(self, one):
+        """Ends the wait of one, if it may. It may not while the one whose label it shows has yet to abort; else that one gets new labels."""
+        shown = [other for other in self.live.values() if other is not one and other.waits_for and other.private == one.public]
+        if any(other.is_doomed for other in shown):
             return False
+        for other in shown:
+            self.give_labels(other)
         self.leave_queue(one)
+        self.pass_labels()
         return True
 
     # the requests, each of which returns its reply
@@ -219,7 +224,7 @@ class Locks:
         one = self.live_one(key)
         if one.is_doomed:
             self.leave_queue(one)
-        elif one.waits_for and not self.give_up(one):
+        elif one.waits_for and not self.take_back(one):
             one.is_due = True
             return b"later"
         self.counts[2] += 1
@@ -232,7 +237,7 @@ class Locks:
             raise Refused("must-abort")
         if not one.waits_for:
             raise Refused("not-waiting")
-        if not self.give_up(one):
+        if not self.take_back(one):
             return b"carried"
         self.end_each([one])
         return b"cancelled"

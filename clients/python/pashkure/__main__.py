@@ -27,7 +27,7 @@ def arguments(words: Optional[List[str]] = None) -> argparse.Namespace:
     serves.add_argument("--transactions", type=int, metavar="N", help="how many transactions can be live at once")
     serves.add_argument("--names", type=int, metavar="N", help="how many names can be owned at once")
     serves.add_argument("--name-bytes", type=int, metavar="N", help="how many bytes a name may have")
-    serves.add_argument("--seed", type=int, metavar="N", help="of the hash of names (one that nobody knows if missing)")
+    serves.add_argument("--seed", type=int, metavar="N", help="of the hash of names (the program draws one if missing)")
     return parser.parse_args(words)
 
 

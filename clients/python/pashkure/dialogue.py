@@ -62,12 +62,15 @@ class Dialogue(Generic[C]):
         return over
 
     def _reply(self, line: bytes, over: List[C]) -> None:
+        if self._graph is not None:
+            raise ValueError("a reply before the end of a graph")
         call = self.pending.popleft()
         if call.is_lock and line.startswith(b"waits "):
             self.waiting[call.key] = call
             return
         if line.startswith(b"graph ") and line != b"graph 0":
-            self._graph, self._left, self._graph_lines = call, int(line[6:]), [line]
+            self._graph, self._graph_lines = call, [line]  # before the count is read, so that `close` ends this call too
+            self._left = _count(line[6:])
             return
         call.reply = line
         over.append(call)
@@ -84,6 +87,8 @@ class Dialogue(Generic[C]):
         self._end_wait(words[2], words[1], over)
 
     def _graph_line(self, call: C, line: bytes, over: List[C]) -> None:
+        if line.count(b" ") != 3:
+            raise ValueError("a wait is `* K NAME H`")
         self._graph_lines.append(line)
         self._left -= 1
         if self._left == 0:
@@ -97,3 +102,10 @@ class Dialogue(Generic[C]):
         if waiter is not None:
             waiter.reply = b"aborted" if waiter.is_due else reply
             over.append(waiter)
+
+
+def _count(word: bytes) -> int:
+    """How many lines follow `graph`: at least one."""
+    if not word.isdigit() or word.startswith(b"0"):
+        raise ValueError("a count is digits")
+    return int(word)

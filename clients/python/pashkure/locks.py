@@ -9,7 +9,7 @@ from typing import Callable, List, Optional, Type, TypeVar, Union
 from . import replies
 from .channel import Channel
 from .errors import Deadlock
-from .names import Name, encoded
+from .names import Name, encoded, encoded_key
 from .pauses import after_deadlock
 from .program import Program, command
 from .replies import Status, Totals, Wait
@@ -34,7 +34,7 @@ class Locks:
     - `program`: its path, or a list of the path and words; the variable PASHKURE_PROGRAM of the environment where this is missing;
     - `transactions`, `names`: how many transactions can be live, and how many names owned, at once;
     - `name_bytes`: how many bytes a name may have;
-    - `seed`: of the hash of names; one that nobody knows where this is missing.
+    - `seed`: of the hash of names; the program draws one where this is missing.
 
     `Locks(socket=PATH)` reaches a server that runs already (`python3 -m pashkure serve`), which many processes can share.
 
@@ -87,11 +87,11 @@ class Locks:
 
     def status(self, key: str) -> Status:
         """What the transaction with this key does, of whichever connection."""
-        return replies.status(self._channel.ask(b"status %b\n" % key.encode("ascii")))
+        return replies.status(self._channel.ask(b"status %b\n" % encoded_key(key)))
 
     def holds(self, key: str) -> List[str]:
         """The names that the transaction with this key owns, of whichever connection."""
-        return replies.holds(self._channel.ask(b"holds %b\n" % key.encode("ascii")))
+        return replies.holds(self._channel.ask(b"holds %b\n" % encoded_key(key)))
 
     def graph(self) -> List[Wait]:
         """Each transaction that waits, what for, and who owns that."""

@@ -8,7 +8,7 @@ import subprocess
 import time
 from typing import List
 
-from .program import ended, started
+from .program import closed, started
 
 SIZE = 65536
 LONGEST_POLL = 1e9  # milliseconds; poll takes no more than 31 bits
@@ -84,8 +84,7 @@ class Pipes(Stream):
         self._stdin.close()
 
     def close(self) -> None:
-        self.drop()
-        ended(self._child)
+        closed(self._child)
 
     def drop(self) -> None:
         self._stdin.close()

@@ -40,10 +40,9 @@ class Transaction:
 
         Raises `Deadlock` at once where the request would close a cycle of waits. A request that waits is never told of a deadlock later.
 
-        With a timeout, in seconds, this gives up as `Timeout`, and the transaction goes on with what it owns. The timeout is the least
-        time, not the greatest: while other transactions rely on this wait to find deadlocks, the request cannot be taken back. Then it
-        is tried again after short pauses, until the name is granted or the request is taken back. So this returns at the latest when
-        those before it have ended.
+        With a timeout, in seconds, this gives up as `Timeout` after that time, and the transaction goes on with what it owns. If a
+        transaction for which it waits, directly or over others, was told of a deadlock and has yet to be aborted, the request cannot be
+        taken back. Then this is tried again after short pauses, until that one is aborted or the name is granted.
         """
         data = encoded(name)
         deadline = None if timeout is None else time.monotonic() + timeout

@@ -3,7 +3,7 @@ from __future__ import annotations
 
 import asyncio
 import subprocess
-from typing import List, Optional, Tuple, cast
+from typing import List, Optional, cast
 
 from ..dialogue import GONE, Call, Dialogue
 from ..errors import Closed
@@ -12,6 +12,8 @@ from ..program import ended, started
 
 class Awaited(Call):
     """A call, and the future that is set when its reply is there."""
+
+    is_abandoned = False  # it was a `begin`, and its task was cancelled
 
     def __init__(self, key: bytes = b"", is_lock: bool = False) -> None:
         super().__init__(key, is_lock)
@@ -42,12 +44,17 @@ class Channel(asyncio.Protocol):
         self._writer, _ = await loop.connect_write_pipe(asyncio.BaseProtocol, self._child.stdin)
 
     def data_received(self, data: bytes) -> None:
+        if self._reason is not None:
+            return
         over: List[Awaited] = []
         try:
             self._dialogue.feed(data, over)
         except (LookupError, ValueError):
             self._end("the service was not understood")
         _set(over)
+        for call in over:
+            if call.is_abandoned:
+                self._abort_begun(call)
 
     def connection_lost(self, error: Optional[Exception]) -> None:
         self._end("the service has ended")
@@ -70,6 +77,23 @@ class Channel(asyncio.Protocol):
         await call.future
         return call
 
+    async def begin(self) -> bytes:
+        """The reply to `begin`. Where the task is cancelled meanwhile, the transaction is aborted as soon as its key is known."""
+        call = Awaited()
+        self.send(b"begin\n", call)
+        try:
+            await call.future
+        except asyncio.CancelledError:
+            call.is_abandoned = True
+            self._abort_begun(call)  # the reply may have come before the cancellation
+            raise
+        return self.reply(call)
+
+    def _abort_begun(self, call: Awaited) -> None:
+        """Aborts the transaction of a `begin` that nobody awaits, where it has begun."""
+        if call.reply is not None and call.reply.startswith(b"begun ") and self._reason is None:
+            self.send(b"abort %b\n" % call.reply[6:], Awaited())
+
     async def wait(self, call: Awaited, timeout: Optional[float]) -> bool:
         """Waits until the reply is there, or for so many seconds. Whether it is there."""
         if timeout is None:
@@ -86,21 +110,27 @@ class Channel(asyncio.Protocol):
 
     async def close(self) -> None:
         """As `pashkure.channel.Channel.close`."""
-        self._end("it was closed")
-        if self._child is not None:
-            child, self._child = self._child, None
-            await asyncio.get_running_loop().run_in_executor(None, ended, child)
+        self._stop("it was closed")
+        child, self._child = self._child, None
+        try:
+            if child is not None:  # what it writes meanwhile is read and dropped, so that it reports no write fault
+                await asyncio.get_running_loop().run_in_executor(None, ended, child)
+        finally:
+            self._end("it was closed")
 
     def _end(self, reason: str) -> None:
+        """Closes the connection, or both pipes."""
+        self._stop(reason)
+        if self._reader is not None:
+            self._reader.close()
+
+    def _stop(self, reason: str) -> None:
+        """Says that nothing more is sent. All calls that wait for a reply end."""
         if self._reason is None:
             self._reason = reason
-        for transport in self._transports():
-            if transport is not None:
-                transport.close()
+        if self._writer is not None:
+            self._writer.close()
         _set(self._dialogue.close())
-
-    def _transports(self) -> Tuple[Optional[asyncio.BaseTransport], ...]:
-        return self._writer, self._reader
 
 
 def _set(calls: List[Awaited]) -> None:

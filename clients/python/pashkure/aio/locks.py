@@ -9,7 +9,7 @@ from typing import Any, Awaitable, Callable, Generator, List, Optional, Type, Ty
 from .. import replies
 from ..errors import Deadlock
 from ..locks import Path, check_options
-from ..names import Name, encoded
+from ..names import Name, encoded, encoded_key
 from ..pauses import after_deadlock
 from ..program import Program, command
 from ..replies import Status, Totals, Wait
@@ -27,8 +27,7 @@ class Begin:
         self._transaction: Optional[Transaction] = None
 
     async def _begin(self) -> Transaction:
-        reply = await self._channel.ask(b"begin\n")
-        return Transaction(self._channel, replies.key_of_begin(reply))
+        return Transaction(self._channel, replies.key_of_begin(await self._channel.begin()))
 
     def __await__(self) -> Generator[Any, None, Transaction]:
         return self._begin().__await__()
@@ -120,11 +119,11 @@ class Locks:
 
     async def status(self, key: str) -> Status:
         """As `pashkure.Locks.status`."""
-        return replies.status(await self._channel.ask(b"status %b\n" % key.encode("ascii")))
+        return replies.status(await self._channel.ask(b"status %b\n" % encoded_key(key)))
 
     async def holds(self, key: str) -> List[str]:
         """As `pashkure.Locks.holds`."""
-        return replies.holds(await self._channel.ask(b"holds %b\n" % key.encode("ascii")))
+        return replies.holds(await self._channel.ask(b"holds %b\n" % encoded_key(key)))
 
     async def graph(self) -> List[Wait]:
         """As `pashkure.Locks.graph`."""

@@ -5,7 +5,7 @@ import os
 import select
 from typing import Callable, List
 
-from ..program import ended, started
+from ..program import closed, started
 
 SIZE = 262144
 
@@ -20,8 +20,7 @@ class Child:
     def __init__(self, words: List[str]) -> None:
         self._process = started(words)
         assert self._process.stdin is not None and self._process.stdout is not None
-        self._stdin, self._stdout = self._process.stdin, self._process.stdout
-        self.stdin, self.stdout = self._stdin.fileno(), self._stdout.fileno()
+        self.stdin, self.stdout = self._process.stdin.fileno(), self._process.stdout.fileno()
         self._greet()
         os.set_blocking(self.stdin, False)
         os.set_blocking(self.stdout, False)
@@ -73,6 +72,4 @@ class Child:
 
     def close(self) -> int:
         """Ends the program. Returns its status."""
-        self._stdin.close()
-        self._stdout.close()
-        return ended(self._process)
+        return closed(self._process)

@@ -1,6 +1,7 @@
-"""The file of the server's socket."""
+"""The file of the server's socket, and the file that keeps a second server from it."""
 from __future__ import annotations
 
+import fcntl
 import os
 import socket
 import stat
@@ -9,6 +10,27 @@ from typing import Optional, Tuple
 
 class InUse(Exception):
     """There is a file of this name that may not be replaced."""
+
+
+class Lock:
+    """PATH.lock, which a server at PATH holds as long as it lives. The file stays, so that all servers lock the same one."""
+
+    def __init__(self, path: str) -> None:
+        name = path + ".lock"
+        self._file = os.open(name, os.O_RDWR | os.O_CREAT | os.O_NOFOLLOW | os.O_CLOEXEC, 0o600)
+        try:
+            fcntl.flock(self._file, fcntl.LOCK_EX | fcntl.LOCK_NB)
+            os.fchmod(self._file, 0o600)
+        except OSError as error:
+            os.close(self._file)
+            why = f"another server is at {path}, and holds it" if isinstance(error, BlockingIOError) else error.strerror
+            raise InUse(f"{name}: {why}") from None
+
+    def __enter__(self) -> "Lock":
+        return self
+
+    def __exit__(self, *error: object) -> None:
+        os.close(self._file)
 
 
 class Listener:
@@ -22,11 +44,11 @@ class Listener:
         before = os.umask(0o777 & ~mode)  # so that the file never has other rights, not even at first
         try:
             self.socket.bind(path)
+            self.socket.listen(1024)  # at once, since who sees the file connects
         finally:
             os.umask(before)
         os.chmod(path, mode)
         self._file = _identity(path)
-        self.socket.listen(1024)
 
     def close(self) -> None:
         """Removes the file, unless it is another one by now."""

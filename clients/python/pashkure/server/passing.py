@@ -13,6 +13,10 @@ ENDS = frozenset([b"commit", b"abort", b"cancel"])
 LARGEST = 4_294_967_295
 NOBODY = b"0.0"
 """A key that no transaction ever has, since generations start at 1."""
+MALFORMED = b"malformed"
+"""A line that is none of the requests: the program answers it so when its turn comes."""
+IS_CONTROL = bytes(byte < 0x20 or byte == 0x7F for byte in range(256))
+"""For `translate`: 1 for each byte that no word has, and 0 for those from 21 to 7e and from 80 to ff, and for the space."""
 
 
 class Passing:
@@ -24,50 +28,38 @@ class Passing:
         self.requests: List[bytes] = []
 
     def add(self, line: bytes, entry: Entry) -> None:
-        """Passes on a request."""
+        """Passes on a request, which has exactly one reply."""
         self.requests.append(line)
         self.pending.append(entry)
 
     def take(self, connection: Connection, lines: Iterator[bytes]) -> None:
-        """Passes on the lines. After a request with a large reply the others are held until the reply has come."""
-        owners, requests, pending, plain = self.owners, self.requests, self.pending, connection.plain
+        """Passes on the lines that have a reply. After a request with a large reply the others are held until the reply has come.
+
+        The program never sees a line itself, only words with one space between. So it reads what was read here.
+        """
         for line in lines:
-            words = line.split(b" ", 2)
-            if len(words) == 3:
-                if words[0] in CHANGES and owners.get(words[1]) is connection and len(line) <= LIMIT:
-                    requests.append(line)
-                    pending.append(plain)
-                    continue
-            elif len(words) == 2 and words[0] in ENDS and owners.get(words[1]) is connection:
-                requests.append(line)
-                pending.append((connection, words[1]))
-                continue
-            self._other(connection, line)
-            if connection.is_large:
-                connection.held = lines
-                return
+            words = _words(line)
+            if words:
+                entry = self._entry(connection, words)  # which may change the key
+                self.add(b" ".join(words), entry)
+                if connection.is_large:
+                    connection.held = lines
+                    return
         connection.held = None
 
-    def _other(self, connection: Connection, line: bytes) -> None:
-        """Passes on a line of which it is not sure what it is. Empty lines and comments have no reply, so they are dropped."""
-        line = _without_return(line)
-        if len(line) > LIMIT:
-            self.add(b"malformed", connection.plain)  # which it is: the program says so when its turn comes
-            return
-        words = [word for word in line.split(b" ") if word]
-        if not words or words[0].startswith(b"#"):
-            return
-        entry = connection.plain
-        if len(words) > 1 and (words[0] in CHANGES or words[0] in ENDS):
-            words[1] = self._own(connection, words[1])
-            if words[0] in ENDS:
-                entry = (connection, words[1])
-        elif words[0] == b"begin":
-            entry = connection.begin
-        elif words[0] == b"graph" or words[0] == b"holds":
+    def _entry(self, connection: Connection, words: List[bytes]) -> Entry:
+        """What is to be noted when the reply comes. A key that is of no live transaction of this client becomes that of nobody."""
+        kind = words[0]
+        if len(words) > 1 and (kind in CHANGES or kind in ENDS):
+            if self.owners.get(words[1]) is not connection:
+                words[1] = self._own(connection, words[1])
+            return (connection, words[1]) if kind in ENDS else connection.plain
+        if kind == b"begin":
+            return connection.begin
+        if kind == b"graph" or kind == b"holds":
             connection.is_large = True
-            entry = (connection, GRAPH if words[0] == b"graph" else LARGE)
-        self.add(b" ".join(words), entry)
+            return (connection, GRAPH if kind == b"graph" else LARGE)
+        return connection.plain
 
     def _own(self, connection: Connection, word: bytes) -> bytes:
         """The key that a word says, or that of nobody where it is of no live transaction of this client.
@@ -84,5 +76,15 @@ class Passing:
         return key if self.owners.get(key) is connection else NOBODY
 
 
-def _without_return(line: bytes) -> bytes:
-    return line[:-1] if line.endswith(b"\r") else line
+def _words(line: bytes) -> List[bytes]:
+    """The words of a line. There are none where it has no reply, and `malformed` stands for those that no request has."""
+    if line.endswith(b"\r"):
+        line = line[:-1]
+    if len(line) > LIMIT:
+        return [MALFORMED]
+    words = line.split(b" ")
+    if b"" in words:
+        words = [word for word in words if word]
+    if not words or words[0].startswith(b"#"):
+        return []
+    return [MALFORMED] if 1 in line.translate(IS_CONTROL) else words

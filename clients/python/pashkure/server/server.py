@@ -10,7 +10,7 @@ from typing import List, Optional, Set
 
 from .child import Child, Ended
 from .connection import FAREWELL, Connection
-from .listening import InUse, Listener
+from .listening import InUse, Listener, Lock
 from .passing import Passing
 from .replying import Replying
 
@@ -182,6 +182,14 @@ class Server:
 
 def serve(words: List[str], path: str, mode: int) -> Optional[str]:
     """Serves until a signal comes. Returns what went wrong, if anything did."""
+    try:
+        with Lock(path):
+            return _serve_locked(words, path, mode)
+    except (InUse, OSError) as error:
+        return str(error)
+
+
+def _serve_locked(words: List[str], path: str, mode: int) -> Optional[str]:
     most = resource.getrlimit(resource.RLIMIT_NOFILE)[1]
     resource.setrlimit(resource.RLIMIT_NOFILE, (most, most))
     try:
@@ -192,8 +200,6 @@ def serve(words: List[str], path: str, mode: int) -> Optional[str]:
         return f"{words[0]} did not start"
     try:
         _serve_at(child, path, mode)
-    except (InUse, OSError) as error:
-        return str(error)
     except Ended as error:
         status = child.close()
         return f"{words[0]} {error}" if error.args else f"{words[0]} ended with status {status}"
