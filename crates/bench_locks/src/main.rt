@@ -6,8 +6,12 @@
 //! - `crowd`: one to six locks, as by `one` or as by `all`, and each looks whether it is the only owner of its names.
 //! - `sleep`: one owns a name until the end, and all others wait for it.
 //!
+//! `bench_locks late LENGTH`: a chain of so many transactions, the front of which blocks anew while each other one waits for the one before it
+//! with a time of 20 milliseconds. It prints for each of these how many nanoseconds after its time it came back, one a line.
+//!
 //! The modules:
 //!
+//! - `late`: a chain of transactions that wait with a time.
 //! - `names`: the names, and which of them a transaction locks.
 //! - `shared`: what all threads share, and what each has done.
 //! - `transfers`: transactions of four locks.
@@ -16,11 +20,13 @@
 #![tactic(auto)]
 
 mod crowd;
+mod late;
 mod names;
 mod shared;
 mod threads;
 mod transfers;
 
+use late::late;
 use mm_blocking::{Locks, ManagerConfig};
 use names::{Name, all_names};
 use shared::{Done, Way};
@@ -80,11 +86,35 @@ fn run<R: Threads + Wait + Clock + Sync>(
     done.map(Some)
 }
 
+/// The longest chain.
+const MAX_CHAIN: u32 = 64;
+
+/// Prints for each of a chain that waits with a time how long after its time it came back.
+fn print_late<R: Print + Threads + Wait + Clock + Sync>(
+    rt: &R,
+    alloc: Global,
+    length: u32,
+) -> io::Result<()> {
+    let transactions = length.clamp(2, MAX_CHAIN) as u8;
+    for nanoseconds in late(rt, alloc, transactions)?.as_slice() {
+        if let Some(nanoseconds) = nanoseconds {
+            println!(rt; "{nanoseconds}")?;
+        }
+    }
+    Ok(())
+}
+
 fn main(rt: HostRuntime) -> io::Result<()> {
     let mut words = env::args(&rt)?;
     let _ = words.next();
     // Without words it prints nothing, so that its run can be compared.
-    let Some(way) = words.next().and_then(|name| Way::named(name.as_str())) else {
+    let Some(word) = words.next() else {
+        return Ok(());
+    };
+    if word.as_str() == "late" {
+        return print_late(&rt, rt.alloc(), number(words.next()));
+    }
+    let Some(way) = Way::named(word.as_str()) else {
         return Ok(());
     };
     let threads = number(words.next()).clamp(1, MAX_THREADS);

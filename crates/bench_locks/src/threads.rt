@@ -20,7 +20,7 @@ const NANOSECONDS: u64 = 1_000_000_000;
 const BED: &[u8] = b"bed";
 
 /// The nanoseconds since then; 0 where the clock cannot be read.
-fn nanoseconds_since<R: Clock>(rt: &R, start: Option<Instant>) -> u64 {
+pub fn nanoseconds_since<R: Clock>(rt: &R, start: Option<Instant>) -> u64 {
     match start.and_then(|start| start.elapsed(rt).ok()) {
         Some(took) => took
             .as_secs()

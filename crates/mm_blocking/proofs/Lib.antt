@@ -1,4 +1,5 @@
 mod Attempts
 mod Each
 mod Keys
+mod Moving
 mod Noting

@@ -2,19 +2,18 @@
 use Rattle.std.specs.Prelude.{◌≡◌, ◌≢◌, ◌⊎◌, ℕ, Bool, true, false, List, [], ◌∷◌, Option, Some, None, Result, Ok, Err, map, drop}
 use Rattle.std.specs.Borrow.{Bor}
 use Rattle.mm_arena.specs.declared.key.Key.{Key}
-use Rattle.mm_rules.specs.Victims.{IsOnCycle}
-use Rattle.mm_manager.specs.LockState.{LockState, Owns, untold}
-use Rattle.mm_manager.specs.Calls.{Begins, Gets, Queues, UnlocksName, Commits, Aborts, Cancels}
+use Rattle.mm_manager.specs.LockState.{LockState, Owns}
 use Rattle.mm_manager.specs.Reads.{HasStatus}
-use Rattle.mm_manager.specs.Permit.{may_ask}
-use Rattle.mm_manager.specs.Refused.{TryRefused, LockRefused}
 use Rattle.mm_manager.specs.declared.refusal.Refusal.{Refusal}
 use Rattle.mm_manager.specs.declared.reply.Abort.{Abort}
 use Rattle.mm_manager.specs.declared.reply.Cancel.{Cancel}
 use Rattle.mm_manager.specs.declared.reply.Cancel.TheVariants as cancel
+use Rattle.mm_manager.specs.declared.reply.Lock.TheVariants as lock
 use Rattle.mm_manager.specs.declared.reply.Status.{Status}
 use Rattle.mm_manager.specs.declared.reply.Status.TheVariants as status
+use Rattle.mm_manager.specs.declared.reply.TryLock.TheVariants as tried
 use Rattle.mm_blocking.specs.Errors.{Because}
+use Rattle.mm_manager.specs.Made.{Begun, Locked, Tried, Unlocked, Committed, Aborted, Cancelled}
 use Rattle.mm_blocking.specs.declared.desk.Asked.{Asked}
 use Rattle.mm_blocking.specs.declared.desk.Asked.TheVariants as asked
 use Rattle.mm_blocking.specs.declared.desk.tokens.Granted.{Granted}
@@ -24,22 +23,19 @@ use Rattle.mm_blocking.specs.declared.error.LockError.TheVariants.{Deadlock, Tim
 
 -- a transaction starts, or that is refused
 abbrev pub Starts : LockState → Result Key LockError → LockState → Type 0
-Starts old (Ok key) new = Begins old (Ok key) new
-Starts old (Err error) new = Because (λ refusal. Begins old (Err refusal) new) error
-
--- the manager refuses the request, and nothing changes
-abbrev pub IsRefused : LockState → Key → List ℕ → LockError → LockState → Type 0
-IsRefused old k name error new = (new ≡ untold old) × Because (LockRefused old k name) error
+Starts old (Ok key) new = Begun old (Ok key) new
+Starts old (Err error) new = Because (λ refusal. Begun old (Err refusal) new) error
 
 -- a request by which k owns the name: it gets it, or owned it already
 abbrev pub Receives : LockState → Key → List ℕ → LockState → Type 0
-Receives old k name new = Gets old k name new ⊎ (Owns old k name × (new ≡ untold old))
+Receives old k name new = Locked old k name (Ok lock.Granted) new ⊎ Locked old k name (Ok lock.Held) new
 
 -- a request: k owns the name; or it waits, on no cycle of waits; or it closed a cycle, or is refused
 abbrev pub Asks : LockState → Key → List ℕ → Result Asked LockError → LockState → Type 0
 Asks old k name (Ok (asked.Owns granted)) new = Receives old k name new
-Asks old k name (Ok asked.Waits) new = (h : Key) × Queues old k name h new × ¬ IsOnCycle new.table k.process
-Asks old k name (Err error) new = ((error ≡ Deadlock) × ((h : Key) × Queues old k name h new × IsOnCycle new.table k.process)) ⊎ IsRefused old k name error new
+Asks old k name (Ok asked.Waits) new = (h : Key) × Locked old k name (Ok (lock.Waits h)) new
+Asks old k name (Err error) new =
+    ((error ≡ Deadlock) × ((h : Key) × Locked old k name (Ok (lock.Deadlock h)) new)) ⊎ Because (λ refusal. Locked old k name (Err refusal) new) error
 
 -- what a request has come to by what the transaction does, where it does not own the name
 abbrev pub found_by : Result Status Refusal → Result Asked LockError
@@ -99,26 +95,26 @@ with_left (Err error) = Err error
 
 -- a try: k owns the name, or another one does, or it is refused
 abbrev pub Tries : LockState → Key → List ℕ → Result (Option Granted) LockError → LockState → Type 0
-Tries old k name (Ok (Some granted)) new = Receives old k name new
-Tries old k name (Ok None) new = ((h : Key) × Owns old h name × (h ≢ k)) × (new ≡ untold old)
-Tries old k name (Err error) new = (new ≡ untold old) × Because (TryRefused old k name) error
+Tries old k name (Ok (Some granted)) new = Tried old k name (Ok tried.Granted) new ⊎ Tried old k name (Ok tried.Held) new
+Tries old k name (Ok None) new = (h : Key) × Tried old k name (Ok (tried.Busy h)) new
+Tries old k name (Err error) new = Because (λ refusal. Tried old k name (Err refusal) new) error
 
--- the request of k is taken back; or it is not, since k carries another's label or does not wait any more, and this is what it has come to
+-- the request of k is taken back; or the manager does not do that now, or k does not wait any more, and this is what the request has come to
 abbrev pub TimesOut : LockState → Key → List ℕ → Result Asked LockError → LockState → Type 0
 TimesOut old k name found new =
-    ((found ≡ Err TimedOut) × Cancels old k (Ok cancel.Withdrawn) new)
-    ⊎ (((answer : Result Cancel Refusal) × (answer ≢ Ok cancel.Withdrawn) × Cancels old k answer new) × Finds new k name found)
+    ((found ≡ Err TimedOut) × Cancelled old k (Ok cancel.Withdrawn) new)
+    ⊎ (((answer : Result Cancel Refusal) × (answer ≢ Ok cancel.Withdrawn) × Cancelled old k answer new) × Finds new k name found)
 
 -- k gives the name back, or that is refused
 abbrev pub GivesBack : LockState → Key → List ℕ → Result (Unit {0}) LockError → LockState → Type 0
-GivesBack old k name (Ok done) new = UnlocksName old k name (Ok tt) new
-GivesBack old k name (Err error) new = Because (λ refusal. UnlocksName old k name (Err refusal) new) error
+GivesBack old k name (Ok done) new = Unlocked old k name (Ok tt) new
+GivesBack old k name (Err error) new = Because (λ refusal. Unlocked old k name (Err refusal) new) error
 
 -- k is aborted; only who is not live is refused that
 abbrev pub RollsBack : LockState → Key → LockState → Type 0
-RollsBack old k new = (answer : Result Abort Refusal) × Aborts old k answer new
+RollsBack old k new = (answer : Result Abort Refusal) × Aborted old k answer new
 
 -- k ends; or that is refused, and it is rolled back
 abbrev pub Ends : LockState → Key → Result (Unit {0}) LockError → LockState → Type 0
-Ends old k (Ok done) new = Commits old k (Ok tt) new
-Ends old k (Err error) new = Because (λ refusal. may_ask old.table k ≡ Err refusal) error × RollsBack (untold old) k new
+Ends old k (Ok done) new = Committed old k (Ok tt) new
+Ends old k (Err error) new = (mid : LockState) × Because (λ refusal. Committed old k (Err refusal) mid) error × RollsBack mid k new

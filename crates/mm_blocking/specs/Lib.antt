@@ -2,6 +2,8 @@
 pub mod Errors
 -- whom a call is to wake
 pub mod Wakes
+-- who is overdue
+pub mod Overdue
 -- what is given out where a name is owned
 pub mod Granted
 -- what the calls do behind the lock

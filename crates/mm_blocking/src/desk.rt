@@ -1,15 +1,15 @@
 //! The manager behind the lock.
 ghost use Rattle.std.specs.Prelude.{◌≡◌, ◌⊎◌, ◌↔◌, [], ℕ, IfErr, IfOk, IfSome, IsTrue, true, Result};
 ghost use Rattle.mm_manager.specs.LockState.{Owns};
-ghost use Rattle.mm_manager.specs.Calls.{Aborts, Cancels};
 ghost use Rattle.mm_manager.specs.Reads.{HasStatus};
 ghost use Rattle.mm_manager.specs.declared.refusal.Refusal.{Refusal as RefusalValue};
-ghost use Rattle.mm_manager.specs.declared.reply.Abort.{Abort as AbortValue};
 ghost use Rattle.mm_manager.specs.declared.reply.Status.{Status as StatusValue};
-ghost use Rattle.mm_blocking.specs.Calls.{Starts, StartsWith, Asks, AsksEach, GoesOn, Tries, Finds, TimesOut, GivesBack, Ends, bytes_of, rest, left, with_left, is_deadlock};
+ghost use Rattle.mm_blocking.specs.Calls.{Starts, StartsWith, Asks, AsksEach, GoesOn, Tries, Finds, TimesOut, GivesBack, RollsBack, Ends, bytes_of, rest, left, with_left, is_deadlock};
 ghost use Rattle.mm_blocking.specs.Errors.{of_begin, of_lock, of_try, of_unlock, of_commit};
+ghost use Rattle.mm_manager.specs.Made.{Aborted};
 ghost use Rattle.mm_blocking.specs.Granted.{IsFor, OwnsFor, IsAmong};
-ghost use Rattle.mm_blocking.specs.Wakes.{IsToWake, Notes, told};
+ghost use Rattle.mm_blocking.specs.Wakes.{IsToWake};
+ghost use Rattle.mm_blocking.specs.Overdue.{NotesEnd, NotesTold, NotesTry};
 
 mod tokens;
 
@@ -18,7 +18,7 @@ use crate::wakes::{Unwoken, Wakes};
 use mm_manager::{Abort, Cancel, Key, Lock, LockManager, Refusal, Status, Totals, TryLock};
 pub use tokens::{Granted, GrantedUpTo};
 
-/// A manager, and those who are to be woken and whom nobody has taken to wake.
+/// A manager, and those who are to be woken and whom nobody has taken to wake, with those that are overdue.
 #[derive(Drop)]
 pub struct Desk {
     manager: LockManager,
@@ -43,6 +43,7 @@ impl Desk {
     pub fn begin(&mut self) -> Result<Key, LockError>
         ensures starts { Starts self.old.manager result self.new.manager }
         ensures refused { IfErr result (λ error. of_begin error ≡ true) }
+        ensures kept { self.new.unwoken ≡ self.old.unwoken }
     {
         self.manager.begin().map_err(LockError::of_refusal)
     }
@@ -56,6 +57,7 @@ impl Desk {
         ensures granted { IfOk result (λ started. IfOk started.1 (IsAmong started.0 names.now)) }
         ensures begun { IfErr result (λ error. of_begin error ≡ true) }
         ensures asked { IfOk result (λ started. IfErr started.1 (λ error. of_lock error ≡ true)) }
+        ensures kept { self.new.unwoken ≡ self.old.unwoken }
     {
         let key = self.begin()?;
         let granted = self.lock_each(GrantedUpTo::none(key, names));
@@ -69,6 +71,7 @@ impl Desk {
         ensures asks { Asks self.old.manager key name.now result self.new.manager }
         ensures granted { IfOk result (OwnsFor key name.now) }
         ensures refused { IfErr result (λ error. of_lock error ≡ true) }
+        ensures kept { self.new.unwoken ≡ self.old.unwoken }
     {
         match self.manager.lock(key, name) {
             Ok(Lock::Granted | Lock::Held) => Ok(Asked::Owns(self.granted(key, name))),
@@ -84,6 +87,7 @@ impl Desk {
         ensures asks { AsksEach self.old.manager so_far.entry.key (rest so_far.entry) (left result) self.new.manager }
         ensures granted { IfOk result (IsAmong so_far.entry.key so_far.entry.names.now) }
         ensures refused { IfErr result (λ error. of_lock error ≡ true) }
+        ensures kept { self.new.unwoken ≡ self.old.unwoken }
     {
         let mut granted = so_far;
         while let Some(name) = granted.next() {
@@ -101,6 +105,7 @@ impl Desk {
         ensures goes_on { GoesOn self.old.manager so_far.entry.key (rest so_far.entry) (left result) self.new.manager }
         ensures granted { IfOk result (IsAmong so_far.entry.key so_far.entry.names.now) }
         ensures refused { IfErr result (λ error. of_lock error ≡ true) }
+        ensures kept { self.new.unwoken ≡ self.old.unwoken }
     {
         let Some(name) = so_far.next() else {
             return Ok(so_far);
@@ -120,6 +125,7 @@ impl Desk {
         ensures tries { Tries self.old.manager key name.now result self.new.manager }
         ensures granted { IfOk result (λ tried. IfSome tried (IsFor key name.now)) }
         ensures refused { IfErr result (λ error. of_try error ≡ true) }
+        ensures kept { self.new.unwoken ≡ self.old.unwoken }
     {
         match self.manager.try_lock(key, name) {
             Ok(TryLock::Granted | TryLock::Held) => Ok(Some(self.granted(key, name))),
@@ -164,8 +170,8 @@ impl Desk {
         }
     }
 
-    /// Takes back the request of one that waits: `TimedOut` where that is done. Else it owns the name, or waits on, since it carries
-    /// another's label.
+    /// Takes back the request of one that waits: `TimedOut` where that is done. Else it owns the name; or it waits on, since a transaction
+    /// ahead was told of a deadlock and has yet to abort, and is overdue from now on.
     pub fn take_back<'n>(
         &mut self,
         key: Key,
@@ -175,28 +181,27 @@ impl Desk {
         ensures times_out { TimesOut self.old.manager key name.now result self.new.manager }
         ensures granted { IfOk result (OwnsFor key name.now) }
         ensures refused { IfErr result (λ error. (error ≡ LockError.TimedOut) ⊎ (of_lock error ≡ true)) }
-        ensures noted { Notes (told self.new.manager) wakes.old.processes.items self.old.unwoken.set wakes.new.processes.items self.new.unwoken.set }
-    {
-        if let Ok(Cancel::Withdrawn) = self.cancel(key, wakes) {
-            return Err(LockError::TimedOut);
-        }
-        self.asked(key, name)
-    }
-
-    /// `LockManager::cancel`.
-    fn cancel(&mut self, key: Key, wakes: &mut Wakes) -> Result<Cancel, Refusal>
-        ensures cancels { Cancels self.old.manager key result self.new.manager }
-        ensures noted { Notes (told self.new.manager) wakes.old.processes.items self.old.unwoken.set wakes.new.processes.items self.new.unwoken.set }
+        ensures noted { NotesTry self.new.manager key result wakes.old self.old.unwoken wakes.new self.new.unwoken }
     {
         let answer = self.manager.cancel(key);
-        self.note(wakes);
-        answer
+        self.note_told(wakes);
+        if let Ok(Cancel::Withdrawn) = answer {
+            self.unwoken.note_overdue(wakes);
+            return Err(LockError::TimedOut);
+        }
+        match self.asked(key, name)? {
+            Asked::Owns(granted) => Ok(Asked::Owns(granted)),
+            Asked::Waits => {
+                self.unwoken.add_overdue(key.process);
+                Ok(Asked::Waits)
+            }
+        }
     }
 
     /// Gives a name back.
     pub fn unlock(&mut self, key: Key, name: &[u8], wakes: &mut Wakes) -> Result<(), LockError>
         ensures unlocks { GivesBack self.old.manager key name.now result self.new.manager }
-        ensures noted { Notes (told self.new.manager) wakes.old.processes.items self.old.unwoken.set wakes.new.processes.items self.new.unwoken.set }
+        ensures noted { NotesEnd self.new.manager wakes.old self.old.unwoken wakes.new self.new.unwoken }
         ensures refused { IfErr result (λ error. of_unlock error ≡ true) }
     {
         let answer = self.manager.unlock(key, name);
@@ -207,7 +212,7 @@ impl Desk {
     /// Ends a transaction. One whose end is refused is rolled back.
     pub fn commit(&mut self, key: Key, wakes: &mut Wakes) -> Result<(), LockError>
         ensures ends { Ends self.old.manager key result self.new.manager }
-        ensures noted { Notes (told self.new.manager) wakes.old.processes.items self.old.unwoken.set wakes.new.processes.items self.new.unwoken.set }
+        ensures noted { NotesEnd self.new.manager wakes.old self.old.unwoken wakes.new self.new.unwoken }
         ensures refused { IfErr result (λ error. of_commit error ≡ true) }
     {
         match self.manager.commit(key) {
@@ -224,8 +229,8 @@ impl Desk {
 
     /// `LockManager::abort`.
     fn abort(&mut self, key: Key, wakes: &mut Wakes) -> Result<Abort, Refusal>
-        ensures aborts { Aborts self.old.manager key result self.new.manager }
-        ensures noted { Notes (told self.new.manager) wakes.old.processes.items self.old.unwoken.set wakes.new.processes.items self.new.unwoken.set }
+        ensures aborts { Aborted self.old.manager key result self.new.manager }
+        ensures noted { NotesEnd self.new.manager wakes.old self.old.unwoken wakes.new self.new.unwoken }
     {
         let answer = self.manager.abort(key);
         self.note(wakes);
@@ -235,8 +240,8 @@ impl Desk {
     /// Ends a transaction, be it in a deadlock or not. Returns whether it was in one.
     pub fn roll_back(&mut self, key: Key, wakes: &mut Wakes) -> bool
         ensures was { (does : Result StatusValue RefusalValue) × HasStatus self.old.manager key does × (result ≡ is_deadlock does) }
-        ensures aborts { (answer : Result AbortValue RefusalValue) × Aborts self.old.manager key answer self.new.manager }
-        ensures noted { Notes (told self.new.manager) wakes.old.processes.items self.old.unwoken.set wakes.new.processes.items self.new.unwoken.set }
+        ensures aborts { RollsBack self.old.manager key self.new.manager }
+        ensures noted { NotesEnd self.new.manager wakes.old self.old.unwoken wakes.new self.new.unwoken }
     {
         let was_in_deadlock = self.is_in_deadlock(key);
         let _ = self.abort(key, wakes);
@@ -256,8 +261,8 @@ impl Desk {
     }
 
     /// Notes whom the last call told something: those for whom there is no room in `wakes`, here.
-    fn note(&mut self, wakes: &mut Wakes)
-        ensures noted { Notes (told self.old.manager) wakes.old.processes.items self.old.unwoken.set wakes.new.processes.items self.new.unwoken.set }
+    fn note_told(&mut self, wakes: &mut Wakes)
+        ensures noted { NotesTold self.old.manager self.old.unwoken.overdue wakes.old self.old.unwoken wakes.new self.new.unwoken }
         ensures manager { self.new.manager ≡ self.old.manager }
     {
         let Desk { manager, unwoken } = self;
@@ -265,9 +270,20 @@ impl Desk {
         unwoken.note_aborted(wakes, manager.aborted());
     }
 
+    /// Notes whom the last call told something, and those that are overdue: that call may have ended what they wait behind.
+    fn note(&mut self, wakes: &mut Wakes)
+        ensures noted { NotesEnd self.old.manager wakes.old self.old.unwoken wakes.new self.new.unwoken }
+        ensures manager { self.new.manager ≡ self.old.manager }
+    {
+        self.note_told(wakes);
+        self.unwoken.note_overdue(wakes);
+    }
+
     /// Takes some of those that are to be woken.
     pub fn take_unwoken(&mut self) -> Wakes
-        ensures { (p : ℕ) → IsToWake [] self.old.unwoken.set p ↔ IsToWake result.processes.items self.new.unwoken.set p }
+        ensures taken { (p : ℕ) → IsToWake [] self.old.unwoken.set p ↔ IsToWake result.processes.items self.new.unwoken.set p }
+        ensures overdue { self.new.unwoken.overdue ≡ self.old.unwoken.overdue }
+        ensures manager { self.new.manager ≡ self.old.manager }
     {
         self.unwoken.take()
     }

@@ -17,8 +17,9 @@ use std::sync::Wait;
 /// A lock manager that threads share by reference: a `LockManager` behind one lock, and beside it a place to sleep for each transaction.
 ///
 /// Each call takes the lock, makes one call of the manager, lets go, and wakes exactly those whom that call granted a name, or whose abort
-/// came due in it. So a call may wait for the lock, and `Transaction::lock` for a name too, but nobody sleeps under the lock. What the
-/// manager promises holds of whatever stands behind the lock at any time (`LockManager::keeps_laws`). No call but `open` takes memory.
+/// came due in it. A call that may have ended something also wakes those whose time is up and who try again. So a call may wait for the
+/// lock, and `Transaction::lock` for a name too, but nobody sleeps under the lock. What the manager promises holds of whatever stands
+/// behind the lock at any time (`LockManager::keeps_laws`). No call but `open` takes memory.
 pub struct Locks {
     parkers: Parkers,
     desk: Lock<Desk>,
@@ -55,7 +56,7 @@ impl Locks {
     ///
     /// Refused as `LockManager::open` is: as `Transactions`, `Names` or `NameBytes` exactly where that number is out of its range and those
     /// before it are not, and as `Memory` only where a request for memory was refused. This is the one call that takes memory: what
-    /// `LockManager::open` takes, and for each transaction a cache line, in which its thread sleeps, and a bit.
+    /// `LockManager::open` takes, and for each transaction a cache line, in which its thread sleeps, and two bits.
     pub fn open(alloc: Global, config: ManagerConfig) -> Result<Locks, OpenError>
         ensures transactions { (result ≡ Err OpenError.Transactions) ↔ IsTransactionsOut config }
         ensures names { (result ≡ Err OpenError.Names) ↔ (¬ IsTransactionsOut config × IsNamesOut config) }

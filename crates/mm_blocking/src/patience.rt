@@ -23,23 +23,3 @@ impl Patience {
         self.limit.checked_sub(took)
     }
 }
-
-/// The pauses of one whose time is up and that may not take back its request yet: from one millisecond on, each twice the one
-/// before, up to a tenth of a second.
-#[derive(Clone, Copy)]
-pub struct Pause {
-    milliseconds: u64,
-}
-
-impl Pause {
-    pub fn first() -> Pause {
-        Pause { milliseconds: 1 }
-    }
-
-    /// The pause that comes next.
-    pub fn next(&mut self) -> Duration {
-        let pause = self.milliseconds;
-        self.milliseconds = pause.saturating_mul(2).min(100);
-        Duration::from_millis(pause)
-    }
-}

@@ -6,7 +6,7 @@ ghost use Rattle.mm_blocking.specs.Granted.{IsFor, IsForAll};
 use crate::desk::{Asked, Granted, GrantedUpTo};
 use crate::error::LockError;
 use crate::locks::Locks;
-use crate::patience::{Patience, Pause};
+use crate::patience::Patience;
 use mm_lock::stay_away;
 use mm_manager::Key;
 use std::sync::Wait;
@@ -214,9 +214,10 @@ impl<'m, R: Wait> Transaction<'m, R> {
 impl<'m, R: Wait + Clock> Transaction<'m, R> {
     /// `lock` that gives up: `TimedOut` where the name was not granted in this time. The transaction then goes on, and keeps what it owns.
     ///
-    /// The time is a lower bound. A transaction that carries another's label may not take its request back as yet:
-    /// it then asks for that again, first after a millisecond, and after pauses that grow to a tenth of a second, until it may, or is
-    /// granted the name. A clock that cannot be read counts as a time that is up. Else refused as `lock` is.
+    /// It returns after the time and a scheduling delay at most, but while a transaction ahead was told of a deadlock and has yet to abort:
+    /// the request can then not be taken back. The thread sleeps on and tries again after each end, until it may take the request back, or
+    /// is granted the name. It never gives up before the time. A clock that cannot be read counts as a time that is up. Else refused as
+    /// `lock` is.
     pub fn lock_for(&mut self, name: &[u8], limit: Duration) -> Result<(), LockError>
         ensures refused { IfErr result (λ error. (error ≡ LockError.TimedOut) ⊎ (of_lock error ≡ true)) }
     {
@@ -259,16 +260,15 @@ impl<'m, R: Wait + Clock> Transaction<'m, R> {
         unreachable!()
     }
 
-    /// Takes the request back as soon as that is allowed.
+    /// Takes the request back as soon as that is allowed. After each refusal it sleeps until the next end: only an end can make it possible.
     fn take_back<'n>(&self, name: &'n [u8]) -> Result<Granted<'n>, LockError>
         ensures granted { IfOk result (IsFor self.now.key name.now) }
         ensures refused { IfErr result (λ error. (error ≡ LockError.TimedOut) ⊎ (of_lock error ≡ true)) }
     {
-        let mut pause = Pause::first();
         for _ in self.rt.forever() {
             match self.locks.take_back(self.rt, self.key, name)? {
                 Asked::Owns(granted) => return Ok(granted),
-                Asked::Waits => self.parker.park_timeout(self.rt, pause.next()),
+                Asked::Waits => self.parker.park(self.rt),
             }
         }
         unreachable!()

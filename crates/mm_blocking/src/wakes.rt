@@ -1,5 +1,6 @@
 //! Whom a call is to wake.
-ghost use Rattle.std.specs.Prelude.{◌≡◌, ◌≤◌, ◌<◌, ◌↔◌, [], ◌∷◌, ◌++◌, ℕ, true, false, length, map};
+ghost use Rattle.std.specs.Prelude.{◌≡◌, ◌≤◌, ◌<◌, ◌↔◌, [], ◌∷◌, ◌++◌, ℕ, true, false, length, map, slice_set};
+ghost use Rattle.mm_bit_set.specs.BitSet.{HasNoneFrom, members};
 ghost use Rattle.mm_blocking.specs.Wakes.{IsToWake, Notes};
 
 use arrayvec::ArrayVec;
@@ -44,26 +45,33 @@ impl Wakes {
     }
 }
 
-/// Processes whose threads are to be woken, and that nobody has taken to wake.
+/// Processes whose threads are to be woken, and that nobody has taken to wake; and those that are overdue.
 #[derive(Drop)]
 pub struct Unwoken {
     set: BitSet,
+    /// Processes whose time is up, and whose requests could not be taken back. They are to be woken after the next end, to try again.
+    overdue: BitSet,
     bound: u32,
     ghost sized: { length set ≡ bound },
+    ghost overdue_sized: { length overdue ≡ bound },
 }
 
 impl Unwoken {
     /// No process of those below `bound`. This takes memory.
     pub fn open(alloc: Global, bound: u32) -> Result<Unwoken, AllocError> {
+        let set = BitSet::new(alloc, bound)?;
+        let overdue = BitSet::new(alloc, bound)?;
         Ok(Unwoken {
-            set: BitSet::new(alloc, bound)?,
+            set,
+            overdue,
             bound,
         })
     }
 
     /// Notes one that is to be woken: in `wakes`, or here where there is no room. At the bound and above nobody sleeps.
     fn note(&mut self, wakes: &mut Wakes, process: u32)
-        ensures { Notes (process ∷ []) wakes.old.processes.items self.old.set wakes.new.processes.items self.new.set }
+        ensures noted { Notes (process ∷ []) wakes.old.processes.items self.old.set wakes.new.processes.items self.new.set }
+        ensures overdue { self.new.overdue ≡ self.old.overdue }
     {
         if wakes.add(process) {
             return;
@@ -75,7 +83,8 @@ impl Unwoken {
 
     /// Notes all who were granted something.
     pub fn note_granted(&mut self, wakes: &mut Wakes, granted: &[Grant])
-        ensures { Notes (map (λ g. g.key.process) granted.now) wakes.old.processes.items self.old.set wakes.new.processes.items self.new.set }
+        ensures noted { Notes (map (λ g. g.key.process) granted.now) wakes.old.processes.items self.old.set wakes.new.processes.items self.new.set }
+        ensures overdue { self.new.overdue ≡ self.old.overdue }
     {
         for grant in granted {
             self.note(wakes, grant.key.process);
@@ -84,16 +93,42 @@ impl Unwoken {
 
     /// Notes all who were aborted.
     pub fn note_aborted(&mut self, wakes: &mut Wakes, aborted: &[Key])
-        ensures { Notes (map (λ k. k.process) aborted.now) wakes.old.processes.items self.old.set wakes.new.processes.items self.new.set }
+        ensures noted { Notes (map (λ k. k.process) aborted.now) wakes.old.processes.items self.old.set wakes.new.processes.items self.new.set }
+        ensures overdue { self.new.overdue ≡ self.old.overdue }
     {
         for key in aborted {
             self.note(wakes, key.process);
         }
     }
 
+    /// Adds a process to those that are overdue. At the bound and above nobody sleeps.
+    pub fn add_overdue(&mut self, process: u32)
+        ensures added { self.new.overdue ≡ slice_set self.old.overdue process true }
+        ensures set { self.new.set ≡ self.old.set }
+    {
+        if process < self.bound {
+            self.overdue.add(process);
+        }
+    }
+
+    /// Notes all that are overdue: they are to be woken, and nobody is overdue from now on. One comparison where nobody was overdue since
+    /// the last call.
+    #[inline]
+    pub fn note_overdue(&mut self, wakes: &mut Wakes)
+        ensures noted { Notes (members self.old.overdue) wakes.old.processes.items self.old.set wakes.new.processes.items self.new.set }
+        ensures none { HasNoneFrom self.new.overdue 0 }
+    {
+        let mut from = 0;
+        while let Some(process) = self.overdue.take_next(from) {
+            self.note(wakes, process);
+            from = process + 1;
+        }
+    }
+
     /// Takes out as many as can be woken at a time.
     pub fn take(&mut self) -> Wakes
-        ensures { (p : ℕ) → IsToWake [] self.old.set p ↔ IsToWake result.processes.items self.new.set p }
+        ensures taken { (p : ℕ) → IsToWake [] self.old.set p ↔ IsToWake result.processes.items self.new.set p }
+        ensures overdue { self.new.overdue ≡ self.old.overdue }
     {
         let mut wakes = Wakes::new();
         for _ in 0..MAX_WAKES {

@@ -1,8 +1,8 @@
 //! A run of the lock service, on any reader and writer.
-ghost use Rattle.mm_runs.specs.Answer.{EndsService};
+ghost use Rattle.mm_detect.specs.Answer.{EndsService};
 
+use crate::ending::{Ending, print_no_memory};
 use mm_command::LocksOptions;
-use mm_runs::{Ending, print_no_memory};
 use mm_service::{LockService, ManagerConfig};
 use std::alloc::Global;
 use std::io;

@@ -25,7 +25,7 @@ pub mod Cleared
 -- a manager that was just opened
 pub mod Opening
 -- a wait that is taken back
-pub mod GivesUp
+pub mod TakesBack
 -- what an abort does
 pub mod Aborted
 -- what a hand-over leaves of names

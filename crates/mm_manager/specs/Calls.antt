@@ -1,15 +1,16 @@
 -- What the calls do, in terms of names.
-use Rattle.std.specs.Prelude.{◌≡◌, ◌≢◌, ◌⊎◌, ◌↔◌, ℕ, true, false, List, [], ◌∷◌, ◌++◌, Some, Result, Ok, Err, slice_set}
+use Rattle.std.specs.Prelude.{◌≡◌, ◌≢◌, ◌⊎◌, ◌↔◌, ℕ, Bool, true, false, List, [], ◌∷◌, ◌++◌, length, Some, Result, Ok, Err, slice_set}
 use Rattle.mm_arena.specs.declared.key.Key.{Key}
 use Rattle.mm_list_lemmas.specs.Members.{Among}
 use Rattle.mm_bit_set.specs.BitSet.{has}
 use Rattle.mm_names.specs.Names.{NameTable, name_of, Interns}
 use Rattle.mm_rules.specs.declared.reply.Released.{Released}
-use Rattle.mm_rules.specs.TableState.{TableState, is_live, owner_of}
+use Rattle.mm_rules.specs.TableState.{TableState, is_live, has_verdict, owner_of}
 use Rattle.mm_rules.specs.Victims.{IsOnCycle}
-use Rattle.mm_rules.specs.Event.{Event, Begin, Release, Finish, Answer, Step, Abort, GiveUp}
+use Rattle.mm_rules.specs.Event.{Event, Begin, Release, Finish, Answer, Step, Abort}
+use Rattle.mm_rules.specs.Withdraw.{IsBehindVictim, Withdraws}
 use Rattle.mm_rules.specs.declared.refusal.Refusal.TheVariants.{Carried}
-use Rattle.mm_settled.specs.Calls.{Locks, Made, OthersKeepVerdicts}
+use Rattle.mm_settled.specs.Calls.{Locks, Made, MadeWithdrawal, OthersKeepVerdicts}
 use Rattle.mm_settled.specs.Grants.{grants}
 use Rattle.mm_settled.specs.declared.reply.Grant.{Grant}
 use Rattle.mm_settled.specs.declared.reply.Locked.{Locked}
@@ -114,7 +115,8 @@ pub record AbortsDue (old new : LockState) : Type 0 where
 abbrev pub IsGranted : LockState → LockState → Key → List ℕ → Type 0
 IsGranted old new h name = (g : Grant) × Among g new.granted × (g.key ≡ h) × (name_of old.names g.resource ≡ Some name)
 
--- what a call of k does to all: who loses a name does not own it afterwards; `granted` are the waits that ended, but for that of k; nobody else gets or loses a verdict; all else stays
+-- what a call of k does to all: who loses a name does not own it afterwards; `granted` are the waits that ended, but for that of k; nobody else gets or loses a verdict; all else stays,
+-- also how many names there can be and how many bytes each may have
 pub record Passes (old : LockState) (k : Key) (Loses : Key → List ℕ → Type 0) (new : LockState) : Type 0 where
   pub keeps : (h : Key) (name : List ℕ) → Owns old h name → ¬ Loses h name → Owns new h name
   pub gains : (h : Key) (name : List ℕ) → Owns new h name → ¬ Loses h name × (Owns old h name ⊎ IsGranted old new h name)
@@ -125,6 +127,8 @@ pub record Passes (old : LockState) (k : Key) (Loses : Key → List ℕ → Type
       → Waits new h name ⊎ ((g : Key) × (g.process ≡ h.process) × IsGranted old new g name)
   pub verdicts : OthersKeepVerdicts old.table new.table k.process
   pub config : new.table.config ≡ old.table.config
+  pub numbers : length new.names.names ≡ length old.names.names
+  pub name_bytes : new.names.name_bytes ≡ old.names.name_bytes
 
 -- ---- unlock, commit
 
@@ -162,31 +166,38 @@ abbrev pub Commits : LockState → Key → Result (Unit {0}) Refusal → LockSta
 Commits old k (Ok done) new = EndsBy (Finish k) old tt k new
 Commits old k (Err refusal) new = (new ≡ untold old) × (may_ask old.table k ≡ Err refusal)
 
--- ---- abort
+-- ---- a wait that is taken back
 
--- the wait of k is taken back, and its abort is due no longer; nothing else changes
-abbrev pub GivesUp : LockState → Key → LockState → Type 0
-GivesUp old k new = Step (GiveUp k) old.table (Ok tt) new.table × (new ≡ record (untold old) { table = new.table; due = slice_set old.due k.process false })
+-- k waits for nothing from now on, and owns what it owned; these are the marks then; all else stays, and nobody is told of
+pub record TakesBack (old : LockState) (k : Key) (due : List Bool) (new : LockState) : Type 0 where
+  pub made : MadeWithdrawal k old.table new.table
+  pub idle : (name : List ℕ) → ¬ Waits new k name
+  pub owners : (h : Key) (name : List ℕ) → Owns new h name ↔ Owns old h name
+  pub others : (h : Key) (name : List ℕ) → h.process ≢ k.process → Waits new h name ↔ Waits old h name
+  pub verdicts : (v : ℕ) → has_verdict new.table v ≡ has_verdict old.table v
+  pub state : new ≡ record (untold old) { table = new.table; due = due }
+
+-- the table refuses the withdrawal of k as `Carried`: k waits, directly or over others, for a victim, which has yet to abort
+abbrev pub IsCarried : TableState → Key → Type 0
+IsCarried s k = Withdraws k s (Err Carried) s × IsBehindVictim s k.process
+
+-- ---- abort
 
 -- k ended: it was active, or in a deadlock, or its wait was taken back first
 abbrev pub IsEnded : LockState → Key → LockState → Type 0
-IsEnded old k new = EndsBy (Finish k) old tt k new ⊎ EndsBy (Abort k) old tt k new ⊎ ((mid : LockState) × GivesUp old k mid × EndsBy (Finish k) mid tt k new)
+IsEnded old k new = EndsBy (Finish k) old tt k new ⊎ EndsBy (Abort k) old tt k new ⊎ ((mid : LockState) × TakesBack old k (slice_set old.due k.process false) mid × EndsBy (Finish k) mid tt k new)
 
--- what an abort does, by its answer: only who waits in no deadlock can be told `Later`, and only who is not live is refused
+-- what an abort does, by its answer: only who waits behind a victim, and is none itself, can be told `Later`, and only who is not live is refused
 abbrev pub Aborts : LockState → Key → Result abort.Abort Refusal → LockState → Type 0
 Aborts old k (Ok aborts.Done) new = IsEnded old k new
-Aborts old k (Ok aborts.Later) new = (may_cancel old.table k ≡ Ok tt) × Step (GiveUp k) old.table (Err Carried) old.table × (new ≡ record (untold old) { due = slice_set old.due k.process true })
+Aborts old k (Ok aborts.Later) new = (may_cancel old.table k ≡ Ok tt) × IsCarried old.table k × (new ≡ record (untold old) { due = slice_set old.due k.process true })
 Aborts old k (Err refusal) new = (new ≡ untold old) × (is_live old.table k ≡ false) × (refusal ≡ NoTransaction)
 
 -- ---- cancel
 
--- the wait of k is taken back, and nothing else changes
-abbrev pub TakesBack : LockState → Key → LockState → Type 0
-TakesBack old k new = Step (GiveUp k) old.table (Ok tt) new.table × (new ≡ record (untold old) { table = new.table })
-
 -- what a cancel does, by its answer: that of one whose abort is due is an abort
 abbrev pub Cancels : LockState → Key → Result cancel.Cancel Refusal → LockState → Type 0
 Cancels old k (Ok cancels.Withdrawn) new =
-    ((has old.due k.process ≡ false) × TakesBack old k new) ⊎ ((has old.due k.process ≡ true) × Aborts old k (Ok aborts.Done) new)
-Cancels old k (Ok cancels.Carried) new = Step (GiveUp k) old.table (Err Carried) old.table × (new ≡ untold old)
+    ((has old.due k.process ≡ false) × TakesBack old k old.due new) ⊎ ((has old.due k.process ≡ true) × Aborts old k (Ok aborts.Done) new)
+Cancels old k (Ok cancels.Carried) new = IsCarried old.table k × (new ≡ untold old)
 Cancels old k (Err refusal) new = (new ≡ untold old) × (may_cancel old.table k ≡ Err refusal)

@@ -10,6 +10,8 @@ pub mod Refused
 pub mod Calls
 -- what each call adds to the counts
 pub mod Totals
+-- all that the contract of each call says, in one record a call, for the specs of crates above
+pub mod Made
 -- what the reads answer
 pub mod Reads
 -- private: what private functions' contracts cite; no public clause cites these

@@ -1,5 +1,5 @@
 -- What a contract sees of a lock manager, and who owns and who waits for which name. A name is a list of bytes.
-use Rattle.std.specs.Prelude.{◌≡◌, ◌≢◌, ◌↔◌, ◌≤◌, ℕ, Bool, true, false, List, [], Some, None, is_some, if◌then◌else◌}
+use Rattle.std.specs.Prelude.{◌≡◌, ◌≢◌, ◌↔◌, ◌≤◌, ℕ, Bool, true, false, List, [], length, Some, None, is_some, if◌then◌else◌}
 use Rattle.mm_arena.specs.declared.key.Key.{Key}
 use Rattle.mm_bit_set.specs.BitSet.{has}
 use Rattle.mm_names.specs.Names.{NameTable, name_of, IsLawful as IsLawfulNames}
@@ -33,9 +33,11 @@ IsUnowned m name = (k : Key) → ¬ Owns m k name
 abbrev pub untold : LockState → LockState
 untold m = record m { granted = []; aborted = [] }
 
--- a number that is owned keeps its name, and no other one has one
-abbrev pub KeepOwned : NameTable → TableState → NameTable → Type 0
-KeepOwned old table new = (n : ℕ) → name_of new n ≡ (if is_some (owner_of table n) then name_of old n else None)
+-- a number that is owned keeps its name, and no other one has one; how many numbers there are and how many bytes a name may have stays
+pub record KeepOwned (old : NameTable) (table : TableState) (new : NameTable) : Type 0 where
+  pub named : (n : ℕ) → name_of new n ≡ (if is_some (owner_of table n) then name_of old n else None)
+  pub numbers : length new.names ≡ length old.names
+  pub name_bytes : new.name_bytes ≡ old.name_bytes
 
 -- what holds of any manager that a caller can hold
 pub record IsLawful (m : LockState) : Type 0 where

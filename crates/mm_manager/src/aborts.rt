@@ -1,7 +1,7 @@
 //! The ends of transactions that wait.
 ghost use Rattle.std.specs.Prelude.{◌≡◌, [], Ok, length};
 ghost use Rattle.mm_manager.specs.Permit.{may_cancel};
-ghost use Rattle.mm_manager.specs.private.Aborts.{AbortsWaiting, GaveUp, seen};
+ghost use Rattle.mm_manager.specs.private.Aborts.{AbortsWaiting, TookBack, seen};
 ghost use Rattle.mm_manager.specs.Calls.{Aborts};
 ghost use Rattle.mm_manager.specs.Totals.{after_abort};
 ghost use Rattle.mm_manager.specs.declared.totals.Totals.{Totals as TotalsValue};
@@ -16,7 +16,7 @@ use mm_names::Names;
 use mm_settled::{EndKind, SettledTable};
 use mm_table::Mode;
 
-/// Ends a transaction that waits in no deadlock: at once where its wait can be taken back, and else as soon as its wait ends.
+/// Ends a transaction that waits in no deadlock: at once if its wait can be taken back, and else as soon as its wait ends.
 pub fn abort_waiting(
     table: &mut SettledTable,
     names: &mut Names,
@@ -31,7 +31,7 @@ pub fn abort_waiting(
     ensures parts { AreParts table.new.table names.new lists.new }
 {
     table.is_at_rest();
-    match give_up(table, key) {
+    match take_back(table, key) {
         Cancel::Withdrawn => {
             lists.due[key.process as usize] = false;
             end(table, names, lists, EndKind::Finish, key);
@@ -44,15 +44,16 @@ pub fn abort_waiting(
     }
 }
 
-/// Takes back the wait of a transaction that waits in no deadlock, unless it carries another's label.
-pub fn give_up(table: &mut SettledTable, key: Key) -> Cancel
+/// Takes back the wait of a transaction that waits in no deadlock, unless the table refuses that: then a victim is ahead, which has yet
+/// to abort.
+pub fn take_back(table: &mut SettledTable, key: Key) -> Cancel
     requires may { may_cancel table.old.table key ≡ Ok tt }
     requires left { HasReserve table.old.table }
-    ensures gave_up { GaveUp table.old.table key result table.new.table }
+    ensures took_back { TookBack table.old.table key result table.new.table }
     ensures left { HasReserve table.new.table }
 {
     table.is_at_rest();
-    match table.give_up(key) {
+    match table.withdraw(key) {
         Ok(()) => Cancel::Withdrawn,
         Err(_) => Cancel::Carried,
     }

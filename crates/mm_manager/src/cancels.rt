@@ -5,10 +5,10 @@ ghost use Rattle.mm_manager.specs.Calls.{Cancels};
 ghost use Rattle.mm_manager.specs.Permit.{may_cancel};
 ghost use Rattle.mm_manager.specs.Totals.{after_cancel};
 ghost use Rattle.mm_manager.specs.declared.totals.Totals.{Totals as TotalsValue};
-ghost use Rattle.mm_manager.specs.private.Aborts.{GaveUp, cancel_of, seen};
+ghost use Rattle.mm_manager.specs.private.Aborts.{TookBack, cancel_of, seen};
 ghost use Rattle.mm_manager.specs.private.Handed.{AreParts};
 
-use crate::aborts::{abort_waiting, give_up};
+use crate::aborts::{abort_waiting, take_back};
 use crate::lists::Lists;
 use crate::permit::may_cancel;
 use crate::{Abort, Cancel, Key, Refusal};
@@ -40,10 +40,10 @@ fn cancel_waiting(table: &mut SettledTable, names: &Names, lists: &Lists, key: K
     requires parts { AreParts table.old.table names.now lists.now }
     requires may { may_cancel table.old.table key ≡ Ok tt }
     requires not_due { has lists.now.due.items key.process ≡ false }
-    ensures gave_up { GaveUp table.old.table key result table.new.table }
+    ensures took_back { TookBack table.old.table key result table.new.table }
     ensures parts { AreParts table.new.table names.now lists.now }
 {
-    give_up(table, key)
+    take_back(table, key)
 }
 
 /// Whether the abort of the transaction in this key's process is due.

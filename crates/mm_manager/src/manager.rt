@@ -4,6 +4,7 @@ ghost use Rattle.mm_arena.specs.declared.key.Key.{Key as KeyValue};
 ghost use Rattle.mm_bit_set.specs.BitSet.{has};
 ghost use Rattle.mm_list_lemmas.specs.Members.{Among, NoRepeat};
 ghost use Rattle.mm_names.specs.Names.{name_of};
+ghost use Rattle.mm_rules.specs.TableState.{owner_of};
 ghost use Rattle.mm_settled.specs.Calls.{OthersKeepVerdicts};
 ghost use Rattle.mm_manager.specs.LockState.{Owns, IsLawful};
 ghost use Rattle.mm_manager.specs.Permit.{may_request};
@@ -189,10 +190,11 @@ impl LockManager {
     /// Ends any live transaction: what it waited for is withdrawn, and all that it owns is handed over, as by `commit`.
     ///
     /// - `Done`: it ended, and so did those whose abort is due by that, as after `unlock`.
-    /// - `Later`: it waits, and carries another's label, which may stand on no other path. Its abort is due: it ends in the call that ends
-    ///   its wait, and that call lists it in `aborted`. Nothing else changes.
+    /// - `Later`: it waits, directly or over others, for a victim that has yet to abort, and its wait cannot be taken back before that. Its
+    ///   abort is due: it ends in the call that ends its wait, and that call lists it in `aborted`. Nothing else changes. With no victim
+    ///   among the transactions no abort is answered so.
     ///
-    /// Refused only as `NoTransaction`, where the transaction is not live. It costs what `commit` costs.
+    /// Refused only as `NoTransaction`, if the transaction is not live. It costs what `commit` costs, and what `cancel` costs if it waits.
     pub fn abort(&mut self, key: Key) -> Result<Abort, Refusal>
         ensures aborts { Aborts self.old key result self.new }
         ensures totals { self.new.totals ≡ after_abort self.old.totals result (length self.new.aborted) }
@@ -202,12 +204,15 @@ impl LockManager {
         answer
     }
 
-    /// Takes back the wait of a transaction, which is active from now on and keeps what it owns.
+    /// Takes back the wait of a transaction.
     ///
-    /// - `Withdrawn`: so it is; where its abort was due, that is done now, as by `abort`.
-    /// - `Carried`: it carries another's label and waits on; nothing changes.
+    /// - `Withdrawn`: it is active from now on, and keeps what it owns. Nobody is granted anything, and all else stays. If its abort was
+    ///   due, it ends now, as by `abort`.
+    /// - `Carried`: it waits, directly or over others, for a victim that has yet to abort, and waits on; nothing changes. A later try can
+    ///   succeed. With no victim among the transactions no cancel is answered so.
     ///
-    /// Refused as `NoTransaction`, `MustAbort` or `NotWaiting`. Constant time where no abort is due.
+    /// Refused as `NoTransaction`, `MustAbort` or `NotWaiting`. If no abort is due, it costs constant time, and one settle if another
+    /// transaction got a new label by it, which raises those that wait behind that one.
     pub fn cancel(&mut self, key: Key) -> Result<Cancel, Refusal>
         ensures cancels { Cancels self.old key result self.new }
         ensures totals { self.new.totals ≡ after_cancel self.old.totals result (has self.old.due key.process) (length self.new.aborted) }
@@ -256,6 +261,7 @@ impl LockManager {
     pub fn holds(&self, key: Key, numbers: &mut Vec<u32>)
         requires { self.now.table.config.resources ≤ vec_capacity numbers.old }
         ensures holds { (name : List ℕ) → Owns self.now key name ↔ ((n : ℕ) × Among n numbers.new.items × (name_of self.now.names n ≡ Some name)) }
+        ensures owned { (n : ℕ) → Among n numbers.new.items ↔ (owner_of self.now.table n ≡ Some key) }
         ensures once { NoRepeat numbers.new.items }
         ensures room { vec_capacity numbers.new ≡ vec_capacity numbers.old }
     {

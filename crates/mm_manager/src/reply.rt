@@ -30,16 +30,16 @@ pub enum TryLock {
 pub enum Abort {
     /// The transaction ended.
     Done,
-    /// The transaction waits and carries another's label. It is aborted in the call that ends its wait.
+    /// The transaction waits, directly or over others, for a victim that has yet to abort. It is aborted in the call that ends its wait.
     Later,
 }
 
 /// What a cancel is told.
 #[derive(Clone, Copy, Debug, PartialEq, Eq)]
 pub enum Cancel {
-    /// The wait is taken back: the transaction is active, and keeps what it owns. Where its abort was due, it ended.
+    /// The wait is taken back: the transaction is active, and keeps what it owns. If its abort was due, it ended.
     Withdrawn,
-    /// The transaction carries another's label, and waits on.
+    /// The transaction waits, directly or over others, for a victim that has yet to abort, and waits on.
     Carried,
 }
 

@@ -4,9 +4,10 @@ use mm_workload::MAX_BYTES;
 use std::alloc::Global;
 use std::fmt::Display;
 use std::fs::File;
-use std::io;
 use std::io::{Eprint, ErrorKind, Read};
+use std::os::unix::fs::MetadataExt;
 use std::rt::Files;
+use std::{fs, io};
 
 /// How many bytes of a file are read: one more than a workload may have, so that a longer file is told from one of the greatest length.
 const BYTES_READ: u64 = MAX_BYTES as u64 + 1;
@@ -42,6 +43,15 @@ fn fault(error: io::Error) -> Taken {
         Taken::Memory
     } else {
         Taken::Fault(error)
+    }
+}
+
+/// Returns whether both paths lead to one file, links followed. It is `false` if either leads to no file, or to one of which the system
+/// tells nothing.
+pub fn is_same_file(rt: &impl Files, path: &str, other: &str) -> bool {
+    match (fs::metadata(rt, path), fs::metadata(rt, other)) {
+        (Ok(one), Ok(two)) => one.dev() == two.dev() && one.ino() == two.ino(),
+        _ => false,
     }
 }
 

@@ -13,7 +13,7 @@ mod source;
 mod telling;
 mod work_end;
 
-pub use file::{Taken, taken_from, tell};
+pub use file::{Taken, is_same_file, taken_from, tell};
 pub use progress::{print_outcome, print_workload};
 pub use report::{Ends, Numbers, RunReport, Totals, report_of, text_of};
 pub use source::Source;

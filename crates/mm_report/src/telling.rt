@@ -25,12 +25,23 @@ pub struct Told<'a> {
 }
 
 impl<'a> Told<'a> {
+    /// Nothing but the two lines.
+    pub const NOTHING: Told<'static> = Told {
+        report: None,
+        verbose: false,
+    };
+
     /// What the words of the command line ask for.
     pub fn new(report: &'a Option<String>, verbose: bool) -> Told<'a> {
         Told {
             report: report.as_ref(),
             verbose,
         }
+    }
+
+    /// Whether nothing is told but the two lines.
+    pub fn is_nothing(&self) -> bool {
+        self.report.is_none() && !self.verbose
     }
 }
 

@@ -16,6 +16,8 @@ pub mod LabelReturned
 -- a graph with one process changed, and a whole hand-over
 pub mod Update
 pub mod HandOver
+-- a waiting process gets a new label
+pub mod Renew
 -- raises until none applies: what then holds, how many there are, and that sweeps come to their end
 pub mod IsSettled
 pub mod IsGreatest

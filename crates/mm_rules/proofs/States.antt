@@ -64,3 +64,7 @@ pub mod EventsCloseNone
 pub mod NoVictim
 pub mod Victims
 pub mod Rest
+-- a withdrawal from rest
+pub mod Renew
+pub mod Withdraw
+pub mod WithdrawLaws

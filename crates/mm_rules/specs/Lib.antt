@@ -6,5 +6,6 @@ pub mod Event
 pub mod Laws
 pub mod Victims
 pub mod Rest
+pub mod Withdraw
 -- what a table is between the parts of an event, for the contracts of whoever keeps a table; no public clause cites these
 pub mod Stages

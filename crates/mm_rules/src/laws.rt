@@ -2,6 +2,7 @@
 ghost use Rattle.mm_rules.specs.Laws.{CountsAreExact, EventsKeepLaws, KeysAreFresh, KeysNeverReturn, LawsAreNotEmpty, OpeningIsLawful, PublicLabelsNeverFall, QuietHasNoCycle, RaisesAreBounded, ReachedIsLawful, SettleEnds, SettleGivesRest, StepsAreDetermined, VerdictsAreSound};
 ghost use Rattle.mm_rules.specs.Rest.{OpeningIsAtRest, RestStays};
 ghost use Rattle.mm_rules.specs.Victims.{CloserIsVictim, NewestCloserIsVictim, OnlyWaitsCloseCycles, OthersHaveNoVictim, VictimIsNewest};
+ghost use Rattle.mm_rules.specs.Withdraw.{CarriedIsBehindVictim, GiveUpIsWithdraw, NoVictimNoCarried, RenewKeepsLaws, WithdrawCounts, WithdrawHasNoVictim, WithdrawKeepsLaws, WithdrawLowersNone, WithdrawStaysAtRest};
 
 /// The state of a table that was just opened keeps all laws, whatever its configuration, as long as that is in range.
 pub fn opening_is_lawful()
@@ -110,4 +111,49 @@ pub fn opening_is_at_rest()
 /// A table stays at rest by each event after which whoever is waited for shows the label that it showed before.
 pub fn rest_stays()
     ensures { RestStays }
+{}
+
+/// A process that waits without a verdict, and shows its own label, may get a new one, in any state.
+pub fn renew_keeps_laws()
+    ensures { RenewKeepsLaws }
+{}
+
+/// A withdrawal from rest keeps all laws.
+pub fn withdraw_keeps_laws()
+    ensures { WithdrawKeepsLaws }
+{}
+
+/// A withdrawal from rest lowers no public label.
+pub fn withdraw_lowers_none()
+    ensures { WithdrawLowersNone }
+{}
+
+/// A settle after a withdrawal gives no verdict. The table is then lawful and at rest, so a request that closes a cycle next makes its own transaction the victim (`closer_is_victim`).
+pub fn withdraw_has_no_victim()
+    ensures { WithdrawHasNoVictim }
+{}
+
+/// After it the table is at rest without a settle if each holder shows the label that it showed before.
+pub fn withdraw_stays_at_rest()
+    ensures { WithdrawStaysAtRest }
+{}
+
+/// A withdrawal is counted as a give-up is, and gives or takes no verdict.
+pub fn withdraw_counts()
+    ensures { WithdrawCounts }
+{}
+
+/// If a give-up is accepted, a withdrawal has the same reply and the same new state.
+pub fn give_up_is_withdraw()
+    ensures { GiveUpIsWithdraw }
+{}
+
+/// A withdrawal is refused as `Carried` only to a transaction that waits, directly or over others, for a victim, which has yet to abort.
+pub fn carried_is_behind_victim()
+    ensures { CarriedIsBehindVictim }
+{}
+
+/// In a table without victims no withdrawal is refused as `Carried`.
+pub fn no_victim_no_carried()
+    ensures { NoVictimNoCarried }
 {}

@@ -4,8 +4,6 @@ pub mod Forms
 pub mod Line
 -- how replies are printed
 pub mod Reply
--- what a call of a lock manager does, by its answer
-pub mod Made
 -- what a service is answered
 pub mod Text
 -- what a run of a service reads and writes

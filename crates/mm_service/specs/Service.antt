@@ -10,13 +10,14 @@ use Rattle.mm_service.specs.Text.{Text}
 abbrev pub input_limit : ℕ
 input_limit = 18446744073709551614
 
--- these are the replies to the lines, or where not `whole` to some at the front
-abbrev pub AreReplies : Bool → LockState → List (List ℕ) → List ℕ → Type 0
-AreReplies whole m lines out = (malformed : ℕ) × Text whole m lines out malformed
+-- these are the replies to the lines, or where not `whole` to some at the front, and this is the manager after those lines
+abbrev pub AreReplies : Bool → LockState → List (List ℕ) → List ℕ → LockState → Type 0
+AreReplies whole m lines out last = (malformed : ℕ) × Text whole m lines out malformed last
 
--- a run from this manager that ended so read these bytes and wrote those
-abbrev pub Ends : LockState → Result ℕ Fault → List ℕ → List ℕ → Type 0
-Ends m (Ok malformed) read written = Text true m (lines_of read) written malformed
-Ends m (Err Read) read written = AreReplies true m (whole_lines read) written
-Ends m (Err Write) read written = (lost : List ℕ) × AreReplies false m (lines_of read) (written ++ lost)
-Ends m (Err TooLong) read written = (allowed : List ℕ) × (last : ℕ) × (read ≡ allowed ++ last ∷ []) × (length allowed ≡ input_limit) × AreReplies true m (whole_lines allowed) written
+-- a run from this manager that ended so read these bytes, wrote those, and left that manager
+abbrev pub Ends : LockState → Result ℕ Fault → List ℕ → List ℕ → LockState → Type 0
+Ends m (Ok malformed) read written last = Text true m (lines_of read) written malformed last
+Ends m (Err Read) read written last = AreReplies true m (whole_lines read) written last
+Ends m (Err Write) read written last = (lost : List ℕ) × AreReplies false m (lines_of read) (written ++ lost) last
+Ends m (Err TooLong) read written last = (allowed : List ℕ) × (last_byte : ℕ) × (read ≡ allowed ++ last_byte ∷ []) × (length allowed ≡ input_limit)
+    × AreReplies true m (whole_lines allowed) written last

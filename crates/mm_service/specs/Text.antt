@@ -6,9 +6,9 @@ use Rattle.std.specs.Ordering.{nat_cmp}
 use Rattle.mm_arena.specs.declared.key.Key.{Key}
 use Rattle.mm_list_lemmas.specs.Members.{Among, NoRepeat}
 use Rattle.mm_names.specs.Names.{name_of}
-use Rattle.mm_rules.specs.TableState.{is_live}
+use Rattle.mm_rules.specs.TableState.{is_live, owner_of}
 use Rattle.mm_settled.specs.declared.reply.Grant.{Grant}
-use Rattle.mm_manager.specs.LockState.{LockState, Owns}
+use Rattle.mm_manager.specs.LockState.{LockState, Owns, IsLawful}
 use Rattle.mm_manager.specs.Reads.{HasStatus, waits_of}
 use Rattle.mm_manager.specs.declared.refusal.Refusal.{Refusal}
 use Rattle.mm_manager.specs.declared.refusal.Refusal.TheVariants.{NoTransaction}
@@ -20,7 +20,7 @@ use Rattle.mm_manager.specs.declared.reply.Status.{Status}
 use Rattle.mm_manager.specs.declared.reply.TryLock.{TryLock}
 use Rattle.mm_manager.specs.declared.reply.Wait.{Wait}
 use Rattle.mm_service.specs.Line.{line_of}
-use Rattle.mm_service.specs.Made.{Begun, Locked, Tried, Unlocked, Committed, Aborted, Cancelled}
+use Rattle.mm_manager.specs.Made.{Begun, Locked, Tried, Unlocked, Committed, Aborted, Cancelled}
 use Rattle.mm_service.specs.Reply.{line_text, refusal_word, answer_text, begun_text, lock_text, try_text, unlocked_text, committed_text, abort_text, cancel_text, owner_text, totals_text, status_text, granted_text, aborted_text, edge_text, name_at}
 use Rattle.mm_requests.specs.declared.form.KeyRequest.{KeyRequest}
 use Rattle.mm_requests.specs.declared.form.KeyRequest.TheVariants as of_key
@@ -57,6 +57,7 @@ due_line m k (Err refusal) = []
 pub record AreHeld (m : LockState) (k : Key) (numbers : List ℕ) : Type 0 where
   pub held : List ℕ
   pub holds : (name : List ℕ) → Owns m k name ↔ ((n : ℕ) × Among n held × (name_of m.names n ≡ Some name))
+  pub owned : (n : ℕ) → Among n held ↔ (owner_of m.table n ≡ Some k)
   pub once : NoRepeat held
   pub same : IsPermutation held numbers
   pub sorted : IsSortedByKey (name_at m) (slice_cmp nat_cmp) numbers
@@ -109,25 +110,27 @@ AnswersRequest requests.Owner name old out new = OwnerText old name out × (new 
 AnswersRequest requests.Graph name old out new = (out ≡ graph_text old) × (new ≡ old)
 AnswersRequest requests.Totals name old out new = (out ≡ line_text (totals_text old.totals)) × (new ≡ old)
 
--- the bytes that a line is answered, 1 if it is malformed, and the manager after it
+-- the bytes that a line is answered, 1 if it is malformed, and the manager after it; before and after a request all holds that holds of any manager that a
+-- caller can hold
 abbrev pub AnswersLine : Line → List ℕ → LockState → List ℕ → ℕ → LockState → Type 0
 AnswersLine kind.Silent name old out malformed new = (out ≡ []) × (malformed ≡ 0) × (new ≡ old)
 AnswersLine kind.Malformed name old out malformed new = (out ≡ line_text (codes "malformed")) × (malformed ≡ 1) × (new ≡ old)
-AnswersLine (kind.Request request) name old out malformed new = AnswersRequest request name old out new × (malformed ≡ 0)
+AnswersLine (kind.Request request) name old out malformed new = IsLawful old × AnswersRequest request name old out new × IsLawful new × (malformed ≡ 0)
 
 -- the same of the bytes of a line
 abbrev pub Answers : LockState → List ℕ → List ℕ → ℕ → LockState → Type 0
 Answers old line out malformed new = AnswersLine (line_of line).line (line_of line).name old out malformed new
 
--- the bytes that lines are answered, and how many of them are malformed: all lines where `whole` holds, and else perhaps only some at the front
-abbrev pub Text : Bool → LockState → List (List ℕ) → List ℕ → ℕ → Type 0
-Text whole m [] out malformed = (out ≡ []) × (malformed ≡ 0)
-Text true m (line ∷ lines) out malformed =
+-- the bytes that lines are answered, how many of them are malformed, and the manager after them: all lines where `whole` holds, and else perhaps only some at
+-- the front
+abbrev pub Text : Bool → LockState → List (List ℕ) → List ℕ → ℕ → LockState → Type 0
+Text whole m [] out malformed last = (out ≡ []) × (malformed ≡ 0) × (last ≡ m)
+Text true m (line ∷ lines) out malformed last =
     (next : LockState) × (reply : List ℕ) × (rest : List ℕ) × (one : ℕ) × (more : ℕ)
-    × Answers m line reply one next × Text true next lines rest more
+    × Answers m line reply one next × Text true next lines rest more last
     × (out ≡ reply ++ rest) × (malformed ≡ one + more)
-Text false m (line ∷ lines) out malformed =
-    ((out ≡ []) × (malformed ≡ 0))
+Text false m (line ∷ lines) out malformed last =
+    ((out ≡ []) × (malformed ≡ 0) × (last ≡ m))
     ⊎ ((next : LockState) × (reply : List ℕ) × (rest : List ℕ) × (one : ℕ) × (more : ℕ)
-    × Answers m line reply one next × Text false next lines rest more
+    × Answers m line reply one next × Text false next lines rest more last
     × (out ≡ reply ++ rest) × (malformed ≡ one + more))

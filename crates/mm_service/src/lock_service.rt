@@ -59,6 +59,8 @@ impl LockService {
     /// - `TooLong`: a byte past 2 to the 64, less two, was read, which is no case in practice.
     /// - `Write`: a write or the flush failed, or a write took no byte. A part of the replies from the front on is written.
     ///
+    /// After a fault too the manager is the one after the lines that were answered, also where their replies are lost.
+    ///
     /// O(bytes) time beside that of the manager's calls. It takes no memory; input and replies take about 100 KiB of the stack.
     pub fn run<R: Read, W: Write>(
         &mut self,
@@ -66,7 +68,7 @@ impl LockService {
         writer: &mut W,
     ) -> Result<u64, ServiceFault>
         ensures ends { (read : List ℕ) × (written : List ℕ) × Consumes (R.remaining reader.old) (R.remaining reader.new) read
-            × Appends (W.contents writer.old) (W.contents writer.new) written × Ends self.old result read written }
+            × Appends (W.contents writer.old) (W.contents writer.new) written × Ends self.old result read written self.new }
         ensures end { OnOk result (IsAtEnd (R.remaining reader.new)) }
     {
         let mut input = Input::new(Limits {
@@ -91,7 +93,7 @@ fn answer_all<R: Read, W: Write>(
     requires malformed { service.old.malformed ≡ 0 }
     requires output { service.old.output.items ≡ [] }
     ensures ends { (read : List ℕ) × (written : List ℕ) × Consumes (R.remaining reader.old) (R.remaining reader.new) read
-        × Appends (W.contents writer.old) (W.contents writer.new) written × Ends service.old.manager result read written }
+        × Appends (W.contents writer.old) (W.contents writer.new) written × Ends service.old.manager result read written service.new.manager }
     ensures end { OnOk result (IsAtEnd (R.remaining reader.new)) }
 {
     while input.read(reader)? {

@@ -66,14 +66,19 @@ impl Service {
                 print_line(&mut self.output, b"malformed");
                 Ok(())
             }
-            Line::Request(request) => make(
-                &mut self.manager,
-                &mut self.numbers,
-                &mut self.output,
-                request,
-                named.name,
-                writer,
-            ),
+            Line::Request(request) => {
+                self.manager.keeps_laws();
+                let outcome = make(
+                    &mut self.manager,
+                    &mut self.numbers,
+                    &mut self.output,
+                    request,
+                    named.name,
+                    writer,
+                );
+                self.manager.keeps_laws();
+                outcome
+            }
         }
     }
 
@@ -116,7 +121,7 @@ impl Service {
         requires open { IsOpen line.now }
         requires output { self.old.output.items ≡ [] }
         requires count { self.old.malformed < u64.MAX }
-        ensures finished { (out : List ℕ) × (lost : List ℕ) × (count : ℕ) × Text true self.old.manager (lines_of line.now) out count
+        ensures finished { (out : List ℕ) × (lost : List ℕ) × (count : ℕ) × Text true self.old.manager (lines_of line.now) out count self.new.manager
             × Writes (W.contents writer.old) (W.contents writer.new) out lost
             × IfOk result (λ malformed. (malformed ≡ self.old.malformed + count) × (lost ≡ [])) }
         ensures fault { IsOkUnless result Fault.Write }
@@ -134,7 +139,7 @@ impl Service {
         requires open { IsOpen line.now }
         requires output { self.old.output.items ≡ [] }
         requires count { self.old.malformed < u64.MAX }
-        ensures answered { (out : List ℕ) × (lost : List ℕ) × (count : ℕ) × Text true self.old.manager (lines_of line.now) out count
+        ensures answered { (out : List ℕ) × (lost : List ℕ) × (count : ℕ) × Text true self.old.manager (lines_of line.now) out count self.new.manager
             × Writes (W.contents writer.old) (W.contents writer.new) out lost
             × (self.new.malformed ≡ self.old.malformed + count) × OnOk result (lost ≡ self.new.output.items) }
         ensures fault { IsOkUnless result Fault.Write }

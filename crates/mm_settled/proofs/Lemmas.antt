@@ -14,6 +14,7 @@ pub mod Fits
 pub mod Quiet
 pub mod Refused
 pub mod Rest
+pub mod Withdrawn
 pub mod EndsAs
 pub mod EitherEnd
 pub mod Lock

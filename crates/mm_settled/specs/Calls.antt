@@ -1,15 +1,18 @@
 -- What the calls of a settled table do.
-use Rattle.std.specs.Prelude.{ℕ, ◌≡◌, ◌≢◌, ◌⊎◌, ◌+◌, ◌^◌, ◌&&◌, Bool, true, false, [], Result, Ok, Err, IsTrue, MatchBool, nat_lt}
+use Rattle.std.specs.Prelude.{ℕ, ◌≡◌, ◌≢◌, ◌⊎◌, ◌↔◌, ◌+◌, ◌^◌, ◌&&◌, Bool, true, false, List, [], None, Result, Ok, Err, IsTrue, MatchBool, nat_lt}
 use Rattle.mm_arena.specs.declared.key.Key.{Key}
 use Rattle.mm_label.specs.Label.{Label}
+use Rattle.mm_list_lemmas.specs.Members.{Among}
 use Rattle.mm_rules.specs.declared.config.Config.{Config}
 use Rattle.mm_rules.specs.declared.refusal.Refusal.{Refusal}
 use Rattle.mm_rules.specs.declared.refusal.Refusal.TheVariants.{CountsExhausted}
 use Rattle.mm_rules.specs.declared.reply.Acquired.TheVariants as acquired
 use Rattle.mm_rules.specs.declared.reply.Settled.{Settled}
-use Rattle.mm_rules.specs.TableState.{TableState, has_verdict}
+use Rattle.mm_rules.specs.TableState.{TableState, has_verdict, wait_of}
 use Rattle.mm_rules.specs.Event.{Event, Acquire, Finish, Abort, Settle, Answer, Step, Opens}
 use Rattle.mm_rules.specs.Victims.{IsOnCycle}
+use Rattle.mm_rules.specs.Withdraw.{Withdraws}
+use Rattle.mm_settle.specs.Touched.{changed_processes}
 use Rattle.mm_settled.specs.SettledState.{SettledState}
 use Rattle.mm_settled.specs.declared.reply.EndKind.{EndKind}
 use Rattle.mm_settled.specs.declared.reply.EndKind.TheVariants as way
@@ -28,12 +31,17 @@ Refuses e old refusal new = (new ≡ old) × MatchBool (has_room old) (Step e ol
 abbrev pub Rests : TableState → TableState → Type 0
 Rests mid new = (new ≡ mid) ⊎ ((answer : Settled) × Step Settle mid (Ok answer) new)
 
--- the event is accepted, the table is then at rest or settled, and that gives no verdict
+-- none of these waits
+abbrev pub NoneWaits : TableState → List ℕ → Type 0
+NoneWaits s ns = (n : ℕ) → Among n ns → wait_of s n ≡ None
+
+-- the event is accepted; nothing follows exactly if none of those that it changed waits then, else a settle does; what follows gives no verdict
 pub record Made (e : Event) (old : TableState) (answer : Answer e) (new : TableState) : Type 0 where
   pub room : IsTrue (has_room old)
   pub mid : TableState
   pub event : Step e old (Ok answer) mid
   pub rests : Rests mid new
+  pub quiet : (new ≡ mid) ↔ NoneWaits mid (changed_processes old mid)
   pub verdicts : (v : ℕ) → has_verdict new v ≡ has_verdict mid v
 
 -- a call that makes this event
@@ -45,6 +53,20 @@ Makes e old (Err refusal) new = Refuses e old refusal new
 abbrev pub MakesEnd : EndKind → Key → TableState → Result (Unit {0}) Refusal → TableState → Type 0
 MakesEnd way.Finish k old reply new = Makes (Finish k) old reply new
 MakesEnd way.Abort k old reply new = Makes (Abort k) old reply new
+
+-- k withdraws; nothing follows exactly if none of those that it changed waits then, else a settle does; what follows gives no verdict
+pub record MadeWithdrawal (k : Key) (old new : TableState) : Type 0 where
+  pub room : IsTrue (has_room old)
+  pub mid : TableState
+  pub event : Withdraws k old (Ok tt) mid
+  pub rests : Rests mid new
+  pub quiet : (new ≡ mid) ↔ NoneWaits mid (changed_processes old mid)
+  pub verdicts : (v : ℕ) → has_verdict new v ≡ has_verdict mid v
+
+-- a withdrawal of k; a refused one changes nothing: there is no room to count it with a settle, or the table refuses it
+abbrev pub MakesWithdrawal : Key → TableState → Result (Unit {0}) Refusal → TableState → Type 0
+MakesWithdrawal k old (Ok _) new = MadeWithdrawal k old new
+MakesWithdrawal k old (Err refusal) new = (new ≡ old) × MatchBool (has_room old) (Withdraws k old (Err refusal) old) (refusal ≡ CountsExhausted)
 
 -- nobody but n, the process of the caller, gets or loses a verdict
 abbrev pub OthersKeepVerdicts : TableState → TableState → ℕ → Type 0

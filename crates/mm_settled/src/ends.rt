@@ -1,6 +1,6 @@
 //! The calls by which resources are handed over: a release, and the end of a transaction.
 ghost use Rattle.std.specs.Prelude.{◌≡◌, ◌↔◌, ◌≤◌, Some, OnOk, IfOk, ℕ, vec_capacity};
-ghost use Rattle.mm_list_lemmas.specs.Members.{Among};
+ghost use Rattle.mm_list_lemmas.specs.Members.{Among, NoRepeat};
 ghost use Rattle.mm_rules.specs.Event.{Step, Release};
 ghost use Rattle.mm_rules.specs.Laws.{AtRest, Laws};
 ghost use Rattle.mm_rules.specs.TableState.{owner_of};
@@ -50,6 +50,7 @@ pub fn end(
     ensures makes { MakesEnd kind key table.old result table.new }
     ensures ends { Ends table.old table.new key.process lists.new }
     ensures owned { OnOk result ((r : ℕ) → Among r owned.new.items ↔ (owner_of table.old r ≡ Some key)) }
+    ensures once { OnOk result (NoRepeat owned.new.items) }
     ensures room { vec_capacity owned.new ≡ vec_capacity owned.old }
 {
     table.keeps_laws();
@@ -99,6 +100,7 @@ fn end_listing(
     ensures told { TellsOf table.old table.new lists.new }
     ensures fits { Fits table.old.config lists.new }
     ensures owned { OnOk result ((r : ℕ) → Among r owned.new.items ↔ (owner_of table.old r ≡ Some key)) }
+    ensures once { OnOk result (NoRepeat owned.new.items) }
     ensures room { vec_capacity owned.new ≡ vec_capacity owned.old }
 {
     lists.granted.clear();

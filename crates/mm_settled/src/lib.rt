@@ -3,18 +3,18 @@
 //!
 //! - `settled`: `SettledTable`, with one method for each call.
 //! - `reply`: what a request is told, what a grant is, and how a call ends a transaction.
-//! - `lock`, `give_up`, `ends`: the calls, over a table and the lists of what a call told.
+//! - `lock`, `withdraw`, `ends`: the calls, over a table and the lists of what a call told.
 //! - `lists`: whom a call granted what, and whom it changed; how both are found.
 //! - `settle`: a settle that is not refused, and when one is needed.
 #![tactic(auto)]
 
 mod ends;
-mod give_up;
 mod lists;
 mod lock;
 mod reply;
 mod settle;
 mod settled;
+mod withdraw;
 
 pub use mm_table::{Config, Key, Refusal, Released, Table};
 pub use reply::{EndKind, Grant, Locked};

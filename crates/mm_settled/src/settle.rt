@@ -1,10 +1,10 @@
 //! A settle that is not refused, and when one is needed.
-ghost use Rattle.std.specs.Prelude.{◌≡◌, ◌≤◌, ◌<◌, false, length, replicate, vec_capacity, IsFalse};
+ghost use Rattle.std.specs.Prelude.{◌≡◌, ◌≤◌, ◌<◌, ◌↔◌, false, length, replicate, vec_capacity, IsFalse};
 ghost use Rattle.std.specs.List.{AllByRecursion};
 ghost use Rattle.mm_rules.specs.Event.{Step, Settle, counts_exhausted};
 ghost use Rattle.mm_settle.specs.Touched.{changed_processes};
-ghost use Rattle.mm_settled.specs.Calls.{has_room};
-ghost use Rattle.mm_settled.specs.private.Lists.{joined, NoneWaits, ComesToRest};
+ghost use Rattle.mm_settled.specs.Calls.{has_room, NoneWaits};
+ghost use Rattle.mm_settled.specs.private.Lists.{joined, ComesToRest};
 
 use crate::Table;
 use crate::lists::add_all;
@@ -75,7 +75,7 @@ pub fn come_to_rest(table: &mut Table, changed: &mut Vec<u32>, set: &mut BitSet)
 
 /// Whether one of these processes waits.
 fn any_waits(table: &Table, processes: &[u32]) -> bool
-    ensures { IsFalse result → NoneWaits table.now processes.now }
+    ensures { IsFalse result ↔ NoneWaits table.now processes.now }
 {
     for process in processes {
         if table.holder(*process).is_some() {

@@ -1,16 +1,17 @@
-ghost use Rattle.std.specs.Prelude.{◌≡◌, ◌↔◌, ◌≤◌, ℕ, List, [], Some, IsTrue, OnOk, vec_capacity};
-ghost use Rattle.mm_rules.specs.Event.{Step, Begin, GiveUp, Release, Finish, Abort};
-ghost use Rattle.mm_list_lemmas.specs.Members.{Among};
+ghost use Rattle.std.specs.Prelude.{◌≡◌, ◌↔◌, ◌≤◌, ℕ, List, [], Some, Err, IsTrue, OnOk, vec_capacity};
+ghost use Rattle.mm_rules.specs.Event.{Step, Begin, Release, Finish, Abort};
+ghost use Rattle.mm_list_lemmas.specs.Members.{Among, NoRepeat};
 ghost use Rattle.mm_rules.specs.TableState.{has_verdict, owner_of};
 ghost use Rattle.mm_rules.specs.Laws.{Laws, AtRest};
 ghost use Rattle.mm_rules.specs.Victims.{IsOnCycle};
-ghost use Rattle.mm_settled.specs.Calls.{OpensSettled, Locks, IsDeadlock, Makes, MakesEnd, OthersKeepVerdicts};
+ghost use Rattle.mm_rules.specs.Withdraw.{IsBehindVictim};
+ghost use Rattle.mm_settled.specs.Calls.{OpensSettled, Locks, IsDeadlock, Makes, MakesEnd, MakesWithdrawal, OthersKeepVerdicts};
 ghost use Rattle.mm_settled.specs.Grants.{Tells, EndsWaits};
 
 use crate::ends::{end, release};
-use crate::give_up::give_up;
 use crate::lists::{Lists, is_told, list};
 use crate::lock::lock;
+use crate::withdraw::withdraw;
 use crate::{Config, EndKind, Grant, Key, Locked, Refusal, Released, Table};
 use std::alloc::Global;
 use std::marker::Model;
@@ -180,8 +181,8 @@ impl SettledTable {
         answer
     }
 
-    /// `finish` of an active transaction or `abort` of a victim, which also lists what the transaction owned, in no order that is promised,
-    /// in place of what `owned` held.
+    /// `finish` of an active transaction or `abort` of a victim, which also lists what the transaction owned, each resource once, in no
+    /// order that is promised, in place of what `owned` held.
     ///
     /// `owned` has room for each resource, and no memory is taken. Where the call is refused, what `owned` has means nothing. It is
     /// refused as `finish` or `abort` is, and costs what that costs.
@@ -197,6 +198,7 @@ impl SettledTable {
         ensures told { Tells self.old.table self.new }
         ensures ended { EndsWaits self.old.table self.new.table key.process self.new.granted }
         ensures owned { OnOk result ((r : ℕ) → Among r owned.new.items ↔ (owner_of self.old.table r ≡ Some key)) }
+        ensures once { OnOk result (NoRepeat owned.new.items) }
         ensures room { vec_capacity owned.new ≡ vec_capacity owned.old }
     {
         let answer = end(&mut self.table, &mut self.lists, owned, kind, key);
@@ -204,16 +206,21 @@ impl SettledTable {
         answer
     }
 
-    /// Takes back the wait of a transaction that has no verdict and whose two labels are equal: it is active from now on, and keeps what
-    /// it owns. Nobody is granted anything, and nobody gets a verdict.
+    /// Takes back the wait of a transaction that has no verdict, whatever label it shows: it is active from now on, and keeps what it
+    /// owns. Nobody is granted anything, and nobody gets a verdict. If it shows the label with which another transaction waits, that one
+    /// gets a new label, keeps its place in the queue, and the table is settled.
     ///
-    /// Refused as `Table::give_up` is: `CountsExhausted`, `Stale`, `NotWaiting`, `UnderVerdict` or `Carried`. Constant time.
-    pub fn give_up(&mut self, key: Key) -> Result<(), Refusal>
-        ensures step { Step (GiveUp key) self.old.table result self.new.table }
+    /// Refused as `CountsExhausted` if an event and a settle can no longer be counted, and else as `Table::withdraw_waking` is: `Stale`,
+    /// `NotWaiting`, `UnderVerdict`, `Carried` or `LabelsExhausted`. `Carried` means that it waits, directly or over others, for a victim,
+    /// which has yet to abort: with no victim in the table nobody is refused so. Constant time, and one settle if another transaction got
+    /// a new label, which raises those that wait behind that one.
+    pub fn withdraw(&mut self, key: Key) -> Result<(), Refusal>
+        ensures makes { MakesWithdrawal key self.old.table result self.new.table }
+        ensures carried { (result ≡ Err Refusal.Carried) → IsBehindVictim self.old.table key.process }
         ensures others { (v : ℕ) → has_verdict self.new.table v ≡ has_verdict self.old.table v }
         ensures told { Tells self.old.table self.new }
     {
-        let answer = give_up(&mut self.table, &mut self.lists, key);
+        let answer = withdraw(&mut self.table, &mut self.lists, key);
         self.told_at = self.table.totals().accepted;
         answer
     }

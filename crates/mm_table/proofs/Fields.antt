@@ -14,3 +14,5 @@ pub mod HandOver
 pub mod Gives
 -- tables, by any event
 pub mod Table
+-- a withdrawal
+pub mod Withdraw

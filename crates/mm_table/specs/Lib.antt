@@ -7,6 +7,7 @@ pub use Rattle.mm_rules.specs.Event
 pub use Rattle.mm_rules.specs.Laws
 pub use Rattle.mm_rules.specs.Victims
 pub use Rattle.mm_rules.specs.Rest
+pub use Rattle.mm_rules.specs.Withdraw
 pub use Rattle.mm_settle.specs.Touched
 pub use Rattle.mm_settle.specs.Shown
 pub use Rattle.mm_rules.specs.declared.config

@@ -8,3 +8,5 @@ pub mod Table
 pub mod Labels
 -- labels that are shown, and the label limit
 pub mod LabelLimit
+-- a label that a waiting process gets anew
+pub mod Renewal

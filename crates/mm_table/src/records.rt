@@ -30,6 +30,7 @@ mod settle;
 mod sweep;
 mod transmit;
 mod waiters;
+mod withdraw;
 
 /// How a table is kept. Each event is one step by its definition. Most events ask for the laws of the state before; that they hold after
 /// it is for `Table` to say.

@@ -3,7 +3,8 @@ ghost use Rattle.mm_list_lemmas.specs.Members.{Among, NoRepeat};
 ghost use Rattle.mm_bit_set.specs.BitSet.{has, members};
 ghost use Rattle.mm_rules.specs.TableState.{owner_of, public_of, holder_of, wait_of};
 ghost use Rattle.mm_rules.specs.Event.{Opens, Step, Begin, Acquire, Release, Finish, Transmit, Detect, Abort, GiveUp, Settle, state_of, owner_told, tenant_of};
-ghost use Rattle.mm_rules.specs.Laws.{Laws, HasSoundVerdicts};
+ghost use Rattle.mm_rules.specs.Laws.{Laws, AtRest, HasSoundVerdicts};
+ghost use Rattle.mm_rules.specs.Withdraw.{Withdraws};
 ghost use Rattle.mm_settle.specs.Touched.{changed_processes};
 
 use crate::records::Records;
@@ -202,6 +203,26 @@ impl Table {
         ensures { Step (GiveUp key) self.old result self.new }
     {
         self.records.give_up(key, &mut self.sets.changed)
+    }
+
+    /// Takes back the wait of a transaction that has no verdict, whatever label it shows: it is active from then on, and keeps what it owns
+    /// and both its labels. If it shows the label with which another transaction waits, that one gets a new label, as if it began to wait
+    /// then; it keeps its place in the queue. The table has to be at rest. It also lists whom to wake, as `release_waking` does: the process
+    /// whose wait ended, and the one that got a new label.
+    ///
+    /// Refused as `CountsExhausted`, `Stale`, `NotWaiting`, `UnderVerdict`, `Carried` or `LabelsExhausted`, which are tested in this order.
+    /// `Carried` means that the transaction waits, over one or more others, for one that has a verdict. Constant time. This rule is not
+    /// of the algorithm: `give_up` refuses each transaction that shows another label than its own.
+    pub fn withdraw_waking(&mut self, key: Key, wake: &mut Vec<u32>) -> Result<(), Refusal>
+        requires rest { AtRest self.old }
+        requires room { self.old.config.processes ≤ vec_capacity wake.old }
+        ensures step { Withdraws key self.old result self.new }
+        ensures woken { wake.new.items ≡ changed_processes self.old self.new }
+        ensures room { vec_capacity wake.new ≡ vec_capacity wake.old }
+    {
+        let answer = self.records.withdraw(key, &mut self.sets.touched);
+        self.sets.touched.move_all(&mut self.sets.changed, wake);
+        answer
     }
 
     /// Each waiting transaction in turn, by rising process number, transmits where it can; this is done again until a whole sweep

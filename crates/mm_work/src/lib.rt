@@ -1,7 +1,16 @@
-//! What the program does for its user, under one name: scripts (`mm_script`), workloads (`mm_workload`), and the workers that run them
-//! on threads (`mm_workers`). It has no code of its own.
+//! What the program runs for its user: scripts, and workloads on threads. Their names stand here in one place.
+//!
+//! - `script`: runs of scripts, as the program makes them. `run_script` itself is in `mm_script`.
+//! - `work`: runs of workloads, those of a file and generated ones. `generate`: the workload that is generated.
+//! - `threads`: the workers of a run, each on a thread of its own, and perhaps one thread more, which tells how far they are.
 #![tactic(auto)]
 
+mod generate;
+mod script;
+mod threads;
+mod work;
+
+pub use generate::{has_usual_shape, usual_options};
 pub use mm_script::{ScriptFault, run_script};
 pub use mm_workers::{
     Client, ClientEnds, Counts, Desk, Earlier, End, EndCounts, Gate, Hint, HintKind, Outcome,
@@ -12,3 +21,5 @@ pub use mm_workload::{
     Coming, Config, Place, StepFault, StormShape, WorkFault, WorkStep, Workload, shaped_storm,
     storm,
 };
+pub use script::{run_plain_script, run_verbose_script};
+pub use work::{run_bytes, run_storm};

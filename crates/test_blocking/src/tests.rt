@@ -2,7 +2,7 @@
 //!
 //! - `cases`: the cases by name, each with its locks and threads, and the tests that go through them.
 //! - `scripts`: threads whose calls have one answer each, and `steps`: how they are made.
-//! - `again`, `asleep`, `crosswise`, `crowd`, `many`, `tokens`: threads that do more than a script can say.
+//! - `again`, `asleep`, `crosswise`, `crowd`, `many`, `patience`, `tokens`: threads that do more than a script can say.
 
 mod again;
 mod asleep;
@@ -11,6 +11,7 @@ mod crosswise;
 mod crowd;
 mod helpers;
 mod many;
+mod patience;
 mod scripts;
 mod steps;
 mod tokens;

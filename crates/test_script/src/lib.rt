@@ -1,4 +1,4 @@
-//! Tests of the script engine and of the reader of workloads, by what their callers can call.
+//! Tests of the script engine, of runs of a lock service and of the reader of workloads, by what their callers can call.
 #![tactic(auto)]
 
 #[cfg(test)]

@@ -4,7 +4,7 @@
 //! - `alone`: one client on a table that nobody shares.
 //! - `gates`: what workers ask of their gates, and what a run reports. `lines`: the two lines that say what came of a workload.
 //! - `transmitters`: one transmitter, call by call.
-//! - `threads`: workloads by threads.
+//! - `threads`: workloads by threads. `ends`: the order of the ends of clients.
 //! - `storms`: workloads from seeds by threads.
 //! - `watch`: a run of a workload, with a look at its gate.
 //! - `passes`: the end of a test.
@@ -12,6 +12,7 @@
 
 mod alone;
 mod client;
+mod ends;
 mod gates;
 mod lines;
 mod open_gate;

@@ -8,7 +8,7 @@ use Rattle.mm_lines.proofs.Lemmas.Leads.{leads_none, leads_then, leads_line}
 use Rattle.mm_lines.proofs.Lemmas.Output.{writes_none, writes_then, writes_added}
 
 -- no line is answered
-pub answered_none : {S : Type 0} (text : Bool → S → List (List ℕ) → List ℕ → ℕ → Type 0) (IsLawful : S → Type 0) (at : Option (List ℕ)) (s : S) (malformed : ℕ) (kept bytes : List ℕ)
+pub answered_none : {S : Type 0} (text : Bool → S → List (List ℕ) → List ℕ → ℕ → S → Type 0) (IsLawful : S → Type 0) (at : Option (List ℕ)) (s : S) (malformed : ℕ) (kept bytes : List ℕ)
     → Answered text IsLawful at at s malformed kept bytes s malformed bytes kept
 answered_none text IsLawful at s malformed kept bytes = record {
   replies = [];
@@ -20,7 +20,7 @@ answered_none text IsLawful at s malformed kept bytes = record {
   lawful = λ lawful. lawful;
 }
 
-module _ {S : Type 0} {text : Bool → S → List (List ℕ) → List ℕ → ℕ → Type 0} {IsLawful : S → Type 0} {before mid after : Option (List ℕ)} {s t : S} {m n : ℕ} {kept bytes rest : List ℕ} where
+module _ {S : Type 0} {text : Bool → S → List (List ℕ) → List ℕ → ℕ → S → Type 0} {IsLawful : S → Type 0} {before mid after : Option (List ℕ)} {s t : S} {m n : ℕ} {kept bytes rest : List ℕ} where
   -- what was kept is written, or lost
   pub answered_written : (now lost : List ℕ) → Answered text IsLawful before mid s m kept bytes t n rest now → Writes mid after now lost → Answered text IsLawful before after s m kept bytes t n rest lost
   answered_written now lost so_far written = record {

@@ -10,7 +10,7 @@ use Rattle.mm_lines.proofs.Lemmas.Leads.{leads_none, leads_then, leads_more, lea
 use Rattle.mm_lines.proofs.Lemmas.Lines.{open_part}
 
 -- these bytes were read, and some past the limit; from `start` the lines at their front are answered, to `state`, and the rest is left; replies are written but for those that are lost
-pub record Reached {S : Type 0} (text : Bool → S → List (List ℕ) → List ℕ → ℕ → Type 0) (IsLawful : S → Type 0) (start : S) (reader_before reader_after writer_before writer_after : Option (List ℕ))
+pub record Reached {S : Type 0} (text : Bool → S → List (List ℕ) → List ℕ → ℕ → S → Type 0) (IsLawful : S → Type 0) (start : S) (reader_before reader_after writer_before writer_after : Option (List ℕ))
     (taken malformed : ℕ) (state : S) (allowed past rest lost : List ℕ) : Type 0 where
   pub written : List ℕ
   pub replies : List ℕ
@@ -23,7 +23,7 @@ pub record Reached {S : Type 0} (text : Bool → S → List (List ℕ) → List 
   pub lawful : IsLawful state
 
 -- before each read all replies are written, and an open line is left
-pub record Progress {S : Type 0} (text : Bool → S → List (List ℕ) → List ℕ → ℕ → Type 0) (IsLawful : S → Type 0) (start : S) (reader_before reader_after writer_before writer_after : Option (List ℕ))
+pub record Progress {S : Type 0} (text : Bool → S → List (List ℕ) → List ℕ → ℕ → S → Type 0) (IsLawful : S → Type 0) (start : S) (reader_before reader_after writer_before writer_after : Option (List ℕ))
     (input : InputState) (malformed : ℕ) (state : S) (kept : List ℕ) : Type 0 where
   pub allowed : List ℕ
   pub reached : Reached text IsLawful start reader_before reader_after writer_before writer_after input.taken malformed state allowed [] input.held []
@@ -32,7 +32,7 @@ pub record Progress {S : Type 0} (text : Bool → S → List (List ℕ) → List
   pub open_line : IsOpen input.held
 
 -- a piece is read and its lines are answered
-pub record PieceAnswered {S : Type 0} (text : Bool → S → List (List ℕ) → List ℕ → ℕ → Type 0) (IsLawful : S → Type 0) (start : S) (reader_before reader_after writer_before writer_after : Option (List ℕ))
+pub record PieceAnswered {S : Type 0} (text : Bool → S → List (List ℕ) → List ℕ → ℕ → S → Type 0) (IsLawful : S → Type 0) (start : S) (reader_before reader_after writer_before writer_after : Option (List ℕ))
     (input : InputState) (malformed : ℕ) (state : S) (rest lost : List ℕ) : Type 0 where
   pub allowed : List ℕ
   pub past : List ℕ
@@ -70,7 +70,7 @@ pub none_of : (l : List ℕ) → length l ≡ 0 → l ≡ []
 none_of [] h = refl
 none_of (x ∷ l) h = absurd (omega arith)
 
-module _ {S : Type 0} {text : Bool → S → List (List ℕ) → List ℕ → ℕ → Type 0} {IsLawful : S → Type 0} {start : S} {rb ra wb wa : Option (List ℕ)} {malformed : ℕ} {state : S} where
+module _ {S : Type 0} {text : Bool → S → List (List ℕ) → List ℕ → ℕ → S → Type 0} {IsLawful : S → Type 0} {start : S} {rb ra wb wa : Option (List ℕ)} {malformed : ℕ} {state : S} where
   -- a piece came; what is past the limit is not answered
   pub reached_read : (after : Option (List ℕ)) (t taken : ℕ) (allowed rest front past : List ℕ) → Reached text IsLawful start rb ra wb wa t malformed state allowed [] rest [] → Consumes ra after (front ++ past)
       → taken ≡ t + length (front ++ past) → Reached text IsLawful start rb after wb wa taken malformed state (allowed ++ front) past (rest ++ front) []
@@ -108,7 +108,7 @@ module _ {S : Type 0} {text : Bool → S → List (List ℕ) → List ℕ → �
         lawful = answered.lawful so_far.lawful;
       }
 
-module _ {S : Type 0} {text : Bool → S → List (List ℕ) → List ℕ → ℕ → Type 0} {IsLawful : S → Type 0} {start : S} {rb ra wb wa : Option (List ℕ)} {malformed : ℕ} {state : S} where
+module _ {S : Type 0} {text : Bool → S → List (List ℕ) → List ℕ → ℕ → S → Type 0} {IsLawful : S → Type 0} {start : S} {rb ra wb wa : Option (List ℕ)} {malformed : ℕ} {state : S} where
   -- a piece is read, and its lines are answered
   pub piece_answered : (ra2 wa2 : Option (List ℕ)) (input read : InputState) (now : ℕ) (next : S) (kept : List ℕ) (some : Bool) (rest lost : List ℕ)
       → Progress text IsLawful start rb ra wb wa input malformed state kept → Reads ra ra2 input read some
@@ -126,7 +126,7 @@ module _ {S : Type 0} {text : Bool → S → List (List ℕ) → List ℕ → �
       }
 
 -- nothing is read yet
-pub progress_first : {S : Type 0} (text : Bool → S → List (List ℕ) → List ℕ → ℕ → Type 0) (IsLawful : S → Type 0) (rb wb : Option (List ℕ)) (input : InputState) (start : S) (kept : List ℕ) → input.held ≡ [] → input.taken ≡ 0
+pub progress_first : {S : Type 0} (text : Bool → S → List (List ℕ) → List ℕ → ℕ → S → Type 0) (IsLawful : S → Type 0) (rb wb : Option (List ℕ)) (input : InputState) (start : S) (kept : List ℕ) → input.held ≡ [] → input.taken ≡ 0
     → IsReady input → IsLawful start → kept ≡ [] → Progress text IsLawful start rb rb wb wb input 0 start kept
 progress_first text IsLawful rb wb input start kept none taken ready lawful none_kept = record {
   allowed = [];
@@ -147,7 +147,7 @@ progress_first text IsLawful rb wb input start kept none taken ready lawful none
 }
 
 -- a line that is too long is cut short
-module _ {S : Type 0} {answers : S → List ℕ → List ℕ → ℕ → S → Type 0} {longest : ℕ} {text : Bool → S → List (List ℕ) → List ℕ → ℕ → Type 0} (rules : IsText answers longest text) where
+module _ {S : Type 0} {answers : S → List ℕ → List ℕ → ℕ → S → Type 0} {longest : ℕ} {text : Bool → S → List (List ℕ) → List ℕ → ℕ → S → Type 0} (rules : IsText answers longest text) where
   pub progress_next : (IsLawful : S → Type 0) (rb ra wb wa : Option (List ℕ)) (read : InputState) (malformed count : ℕ) (start state : S) (kept rest : List ℕ)
       → PieceAnswered text IsLawful start rb ra wb wa read malformed state rest [] → IsOpen rest → kept ≡ [] → read.limits.line ≡ longest
       → read.taken ≤ read.limits.input → rest ≡ drop count read.held → Progress text IsLawful start rb ra wb wa (without_front read count) malformed state kept

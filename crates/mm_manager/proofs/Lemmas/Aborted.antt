@@ -20,9 +20,10 @@ use Rattle.mm_manager.specs.declared.reply.Abort as reply
 use Rattle.mm_manager.specs.declared.reply.Cancel as reply_to_cancel
 use Rattle.mm_manager.specs.declared.reply.Cancel.TheVariants as cancels
 use Rattle.mm_manager.specs.declared.reply.Abort.TheVariants.{Done, Later}
-use Rattle.mm_manager.specs.private.Aborts.{AbortsWaiting, GaveUp, seen, cancel_of}
+use Rattle.mm_manager.specs.private.Aborts.{AbortsWaiting, TookBack, seen, cancel_of}
 use Rattle.mm_manager.specs.private.Handed.{Handed, IsUntouched}
 use Rattle.mm_manager.specs.private.HandsDown.{IsEnding, IsReleased}
+use Rattle.mm_manager.proofs.Lemmas.TakesBack.{takes_back}
 use Rattle.mm_manager.proofs.Lemmas.Told.{released_unlocks, ended_by}
 
 -- l are the lists before the call, and those that it cleared have the same marks; so much was counted before and after it
@@ -65,36 +66,36 @@ module _ (s u : TableState) (t named : NameTable) (l cleared m : Lists) (before 
   convicted_aborts handed = inr (inl (ended (Abort k) tt handed))
 
   pub waiting_aborts : may_cancel s k ≡ Ok tt → (answer : reply.Abort) (came_due : ℕ) → after ≡ after_abort before (Ok answer) came_due → AbortsWaiting s t cleared k answer u named m → Aborts old k (Ok answer) new
-  waiting_aborts may Done came_due totals (mid, step, handed) =
+  waiting_aborts may Done came_due totals (mid, made, handed) =
       let between : LockState = record (untold old) { table = mid; due = slice_set l.due.items k.process false } in
       inr (inr (
         between,
-        (step, refl),
+        takes_back old between k (slice_set l.due.items k.process false) made refl,
         ended_by between new k m refl refl refl (Finish k) tt
             (subst (λ ds. Handed (Finish k) mid t (slice_set ds k.process false) tt k.process (IsEnding k) u named m) marks handed),
       ))
-  waiting_aborts may Later came_due totals (step, table, names, due, nobody) =
+  waiting_aborts may Later came_due totals (carried, table, names, due, nobody) =
       let marked = due ∙ ap (λ ds. slice_set ds k.process true) marks in
-      (may, step, λ i. record { table = table i; names = names i; due = marked i; granted = nobody.granted i; aborted = nobody.aborted i; totals = totals i })
+      (may, carried, λ i. record { table = table i; names = names i; due = marked i; granted = nobody.granted i; aborted = nobody.aborted i; totals = totals i })
 
   -- ---- a cancel
 
   pub due_cancels : may_cancel s k ≡ Ok tt → (answer : reply.Abort) (came_due : ℕ) → after ≡ after_cancel before (Ok (cancel_of answer)) (has l.due.items k.process) came_due → has l.due.items k.process ≡ true → AbortsWaiting s t cleared k answer u named m → Cancels old k (Ok (cancel_of answer)) new
   due_cancels may Done came_due totals is_due aborts = inr (is_due, waiting_aborts may Done came_due (totals ∙ ap (λ b. after_cancel before (Ok cancels.Withdrawn) b came_due) is_due) aborts)
-  due_cancels may Later came_due totals is_due (step, table, names, due, nobody) =
+  due_cancels may Later came_due totals is_due (carried, table, names, due, nobody) =
       let still = due ∙ ap (λ ds. slice_set ds k.process true) marks ∙ ap (slice_set l.due.items k.process) (sym is_due) ∙ set-get_or l.due.items k.process false in
-      (step, λ i. record { table = table i; names = names i; due = still i; granted = nobody.granted i; aborted = nobody.aborted i; totals = totals i })
+      (carried, λ i. record { table = table i; names = names i; due = still i; granted = nobody.granted i; aborted = nobody.aborted i; totals = totals i })
 
   -- the wait of a transaction whose abort is not due is taken back
-  pub waiting_cancels : (answer : reply_to_cancel.Cancel) (came_due : ℕ) → after ≡ after_cancel before (Ok answer) (has l.due.items k.process) came_due → has l.due.items k.process ≡ false → GaveUp s k answer u → named ≡ t
+  pub waiting_cancels : (answer : reply_to_cancel.Cancel) (came_due : ℕ) → after ≡ after_cancel before (Ok answer) (has l.due.items k.process) came_due → has l.due.items k.process ≡ false → TookBack s k answer u → named ≡ t
       → m.due.items ≡ cleared.due.items → m.granted.items ≡ [] → m.aborted.items ≡ [] → Cancels old k (Ok answer) new
-  waiting_cancels cancels.Withdrawn came_due totals not_due step names due granted aborted =
+  waiting_cancels cancels.Withdrawn came_due totals not_due made names due granted aborted =
       let still = due ∙ marks in
       let counted = totals ∙ ap (λ b. after_cancel before (Ok cancels.Withdrawn) b came_due) not_due in
-      inl (not_due, (step, λ i. record { table = u; names = names i; due = still i; granted = granted i; aborted = aborted i; totals = counted i }))
-  waiting_cancels cancels.Carried came_due totals not_due (step, table) names due granted aborted =
+      inl (not_due, takes_back old new k l.due.items made (λ i. record { table = u; names = names i; due = still i; granted = granted i; aborted = aborted i; totals = counted i }))
+  waiting_cancels cancels.Carried came_due totals not_due (carried, table) names due granted aborted =
       let still = due ∙ marks in
-      (step, λ i. record { table = table i; names = names i; due = still i; granted = granted i; aborted = aborted i; totals = totals i })
+      (carried, λ i. record { table = table i; names = names i; due = still i; granted = granted i; aborted = aborted i; totals = totals i })
 
   pub refused_cancels : (answer : Result reply_to_cancel.Cancel Refusal) (refusal : Refusal) (is_due : Bool) (came_due : ℕ) → after ≡ after_cancel before answer is_due came_due → IsErr answer × IsErrAnd answer (λ x. x ≡ refusal)
       → may_cancel s k ≡ Err refusal → IsUntouched s t cleared u named m → Cancels old k answer new

@@ -6,9 +6,10 @@ use Rattle.mm_names.specs.Names.{NameTable, name_of}
 use Rattle.mm_rules.specs.declared.reply.Released.{Released}
 use Rattle.mm_rules.specs.declared.reply.Acquired.TheVariants as acquired
 use Rattle.mm_rules.specs.TableState.{TableState, owner_of}
-use Rattle.mm_rules.specs.Event.{Event, Begin, Acquire, Release, Finish, Abort, GiveUp, Settle, Answer, Step}
+use Rattle.mm_rules.specs.Event.{Event, Begin, Acquire, Release, Finish, Abort, Settle, Answer, Step}
 use Rattle.mm_rules.proofs.States.Counts.{event_counts}
-use Rattle.mm_settled.specs.Calls.{Made, Rests, WaitsFrom}
+use Rattle.mm_rules.proofs.States.WithdrawLaws.{withdraw_counts}
+use Rattle.mm_settled.specs.Calls.{Made, MadeWithdrawal, Rests, WaitsFrom}
 use Rattle.mm_settled.specs.declared.reply.Grant.{Grant}
 use Rattle.mm_manager.specs.Calls.{EndsAll, HandsOver, IsEnded, Aborts, TakesBack, Cancels, Requests, Tries}
 use Rattle.mm_manager.specs.LockState.{LockState}
@@ -37,6 +38,9 @@ rests_counted mid u (inr (answer, step)) = omega (arith, (event_counts Settle mi
 made_counted : (e : Event) (s u : TableState) (answer : Answer e) → Made e s answer u → s.totals.accepted + 1 ≤ u.totals.accepted
 made_counted e s u answer made = omega (arith, rests_counted made.mid u made.rests, (event_counts e s made.mid (Ok answer) made.event).0)
 
+withdrawal_counted : (s u : TableState) (k : Key) → MadeWithdrawal k s u → s.totals.accepted + 1 ≤ u.totals.accepted
+withdrawal_counted s u k made = omega (arith, rests_counted made.mid u made.rests, (withdraw_counts k s made.mid (Ok tt) made.event).0.0)
+
 ends_counted : (ks : List Key) (s u : TableState) (granted : List Grant) → EndsAll s ks granted u → s.totals.accepted + length ks ≤ u.totals.accepted
 ends_counted [] s u granted ends = omega (arith, ap (λ (t : TableState). t.totals.accepted) ends.0)
 ends_counted (k ∷ ks) s u granted (mid, later, made, are, rest) =
@@ -49,8 +53,8 @@ over_counted e old answer new over =
 ended_counted : (old : LockState) (k : Key) (new : LockState) → IsEnded old k new → old.table.totals.accepted + (1 + length new.aborted) ≤ new.table.totals.accepted
 ended_counted old k new (inl ended) = over_counted (Finish k) old tt new ended.over
 ended_counted old k new (inr (inl ended)) = over_counted (Abort k) old tt new ended.over
-ended_counted old k new (inr (inr (mid, gives, ended))) =
-    omega (arith, (event_counts (GiveUp k) old.table mid.table (Ok tt) gives.0).0, over_counted (Finish k) mid tt new ended.over)
+ended_counted old k new (inr (inr (mid, takes, ended))) =
+    omega (arith, withdrawal_counted old.table mid.table k takes.made, over_counted (Finish k) mid tt new ended.over)
 
 -- ---- a begin and a request
 
@@ -105,11 +109,11 @@ module _ (t : Totals) (old : LockState) (k : Key) (new : LockState) (below : all
   abort_counted (Ok Later) later = omega (arith, below, ap (λ (m : LockState). m.table.totals.accepted) later.2)
   abort_counted (Err e) refused = omega (arith, below, ap (λ (m : LockState). m.table.totals.accepted) refused.0)
 
-  withdrawn_counted : (b : Bool) → ((b ≡ false) × TakesBack old k new) ⊎ ((b ≡ true) × Aborts old k (Ok Done) new)
+  withdrawn_counted : (b : Bool) → ((b ≡ false) × TakesBack old k old.due new) ⊎ ((b ≡ true) × Aborts old k (Ok Done) new)
       → all_of (after_cancel t (Ok cancels.Withdrawn) b (length new.aborted)) ≤ new.table.totals.accepted
   withdrawn_counted true (inl takes) = (let never : true ≡ false = takes.0 in absurd (cc))
   withdrawn_counted true (inr ended) = omega (arith, below, ended_counted old k new ended.1)
-  withdrawn_counted false (inl takes) = omega (arith, below, (event_counts (GiveUp k) old.table new.table (Ok tt) takes.1.0).0)
+  withdrawn_counted false (inl takes) = omega (arith, below, withdrawal_counted old.table new.table k takes.1.made)
   withdrawn_counted false (inr ended) = (let never : false ≡ true = ended.0 in absurd (cc))
 
   pub cancel_counted : (answer : Result cancel.Cancel Refusal) → Cancels old k answer new

@@ -90,26 +90,26 @@ was_marked ds q p marked = elim (cases_Bool (has ds p)) [
 -- ---- names
 
 pub keep_same : (s : TableState) (t : NameTable) → AreNumbered s t → KeepOwned t s t
-keep_same s t numbered n = by_owner (owner_of s n) refl
+keep_same s t numbered = record { named = λ n. by_owner n (owner_of s n) refl; numbers = refl; name_bytes = refl }
   where
-    by_owner : (o : Option Key) → owner_of s n ≡ o → name_of t n ≡ (if is_some (owner_of s n) then name_of t n else None)
-    by_owner (Some k) is = sym (ap (λ o. if is_some o then name_of t n else None) is)
-    by_owner None is = (numbered.named n).1 is ∙ sym (ap (λ o. if is_some o then name_of t n else None) is)
+    by_owner : (n : ℕ) (o : Option Key) → owner_of s n ≡ o → name_of t n ≡ (if is_some (owner_of s n) then name_of t n else None)
+    by_owner n (Some k) is = sym (ap (λ o. if is_some o then name_of t n else None) is)
+    by_owner n None is = (numbered.named n).1 is ∙ sym (ap (λ o. if is_some o then name_of t n else None) is)
 
-module _ (u v : TableState) (t named after : NameTable) (first : KeepOwned t u named) (second : KeepOwned named v after) (numbered_u : AreNumbered u named) (numbered_v : AreNumbered v after) (n : ℕ) where
-  still : (k : Key) → owner_of v n ≡ Some k → name_of after n ≡ name_of named n
-  still k owned = second n ∙ ap (λ o. if is_some o then name_of named n else None) owned
+module _ (u v : TableState) (t named after : NameTable) (first : KeepOwned t u named) (second : KeepOwned named v after) (numbered_u : AreNumbered u named) (numbered_v : AreNumbered v after) where
+  still : (n : ℕ) (k : Key) → owner_of v n ≡ Some k → name_of after n ≡ name_of named n
+  still n k owned = second.named n ∙ ap (λ o. if is_some o then name_of named n else None) owned
 
-  before_by : (k : Key) → owner_of v n ≡ Some k → (o : Option Key) → owner_of u n ≡ o → name_of named n ≡ name_of t n
-  before_by k owned (Some h) is = first n ∙ ap (λ o. if is_some o then name_of t n else None) is
-  before_by k owned None is = absurd (some_not_none (owner_of v n) k owned ((numbered_v.named n).0 (still k owned ∙ (numbered_u.named n).1 is)))
+  before_by : (n : ℕ) (k : Key) → owner_of v n ≡ Some k → (o : Option Key) → owner_of u n ≡ o → name_of named n ≡ name_of t n
+  before_by n k owned (Some h) is = first.named n ∙ ap (λ o. if is_some o then name_of t n else None) is
+  before_by n k owned None is = absurd (some_not_none (owner_of v n) k owned ((numbered_v.named n).0 (still n k owned ∙ (numbered_u.named n).1 is)))
 
-  keep_by : (o : Option Key) → owner_of v n ≡ o → name_of after n ≡ (if is_some o then name_of t n else None)
-  keep_by (Some k) is = still k is ∙ before_by k is (owner_of u n) refl
-  keep_by None is = second n ∙ ap (λ o. if is_some o then name_of named n else None) is
+  keep_by : (n : ℕ) (o : Option Key) → owner_of v n ≡ o → name_of after n ≡ (if is_some o then name_of t n else None)
+  keep_by n (Some k) is = still n k is ∙ before_by n k is (owner_of u n) refl
+  keep_by n None is = second.named n ∙ ap (λ o. if is_some o then name_of named n else None) is
 
-  pub keep_then : name_of after n ≡ (if is_some (owner_of v n) then name_of t n else None)
-  keep_then = keep_by (owner_of v n) refl
+  pub keep_then : KeepOwned t v after
+  keep_then = record { named = λ n. keep_by n (owner_of v n) refl; numbers = second.numbers ∙ first.numbers; name_bytes = second.name_bytes ∙ first.name_bytes }
 
 -- ---- owners and waits
 

@@ -116,7 +116,7 @@ module _ (s : TableState) (t : NameTable) (first : List Grant) (marks : List Boo
     marked_before p marked = was_marked m.due.items g.key.process p (sym (ap (λ ds. has ds p) one.due) ∙ marked)
 
     kept : KeepOwned t v after
-    kept n = keep_then u v t named after so_far.names one.names so_far.numbered one.numbered n
+    kept = keep_then u v t named after so_far.names one.names so_far.numbered one.numbered
 
     -- the grants grow at their end
     module _ (more : List Grant) (are : o.granted.items ≡ m.granted.items ++ more) where

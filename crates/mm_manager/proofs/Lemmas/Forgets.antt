@@ -26,6 +26,10 @@ module _ (s : TableState) where
   length-forgotten t n None is = ap (λ v. length v.names) (forgotten_by t n None is) ∙ length-set t.names n None
   length-forgotten t n (Some k) is = ap (λ v. length v.names) (forgotten_by t n (Some k) is)
 
+  bytes-forgotten : (t : NameTable) (n : ℕ) (o : Option Key) → owner_of s n ≡ o → (forgotten s t n).name_bytes ≡ t.name_bytes
+  bytes-forgotten t n None is = ap (λ v. v.name_bytes) (forgotten_by t n None is)
+  bytes-forgotten t n (Some k) is = ap (λ v. v.name_bytes) (forgotten_by t n (Some k) is)
+
   forgotten_apart : (t : NameTable) (n q : ℕ) (o : Option Key) → owner_of s n ≡ o → q ≢ n → name_of (forgotten s t n) q ≡ name_of t q
   forgotten_apart t n q None is apart = ap (λ v. name_of v q) (forgotten_by t n None is) ∙ get_or-set_other t.names n q None None apart
   forgotten_apart t n q (Some k) is apart = ap (λ v. name_of v q) (forgotten_by t n (Some k) is)
@@ -67,6 +71,10 @@ module _ (s : TableState) where
   length-each [] t = refl
   length-each (n ∷ ns) t = length-each ns (forgotten s t n) ∙ length-forgotten t n (owner_of s n) refl
 
+  bytes-each : (ns : List ℕ) (t : NameTable) → (fold (forgotten s) t ns).name_bytes ≡ t.name_bytes
+  bytes-each [] t = refl
+  bytes-each (n ∷ ns) t = bytes-each ns (forgotten s t n) ∙ bytes-forgotten t n (owner_of s n) refl
+
 -- from s to u the numbers ns, which were owned, got other owners or none, and no other one did
 module _ (s u : TableState) (t : NameTable) (numbered : AreNumbered s t) (config : u.config ≡ s.config) (ns : List ℕ)
     (owned : (q : ℕ) → Among q ns → ¬ (owner_of s q ≡ None)) (others : (q : ℕ) → ¬ Among q ns → owner_of u q ≡ owner_of s q) where
@@ -78,7 +86,7 @@ module _ (s u : TableState) (t : NameTable) (numbered : AreNumbered s t) (config
   ]
 
   pub each_keeps_owned : KeepOwned t u (fold (forgotten u) t ns)
-  each_keeps_owned n = kept_by n (owner_of u n) refl
+  each_keeps_owned = record { named = λ n. kept_by n (owner_of u n) refl; numbers = length-each u ns t; name_bytes = bytes-each u ns t }
 
   owned_before : (n : ℕ) (h : Key) → owner_of u n ≡ Some h → ¬ (owner_of s n ≡ None)
   owned_before n h held none = elim (among_or_not n ns) [
@@ -113,7 +121,7 @@ released_names s u t named n numbered has leaves is =
     ] in
     let others : (q : ℕ) → ¬ Among q (n ∷ []) → owner_of u q ≡ owner_of s q = λ q absent. leaves.others q (λ same. absent (inl same)) in
     record {
-      kept = λ q. ap (λ v. name_of v q) is ∙ each_keeps_owned s u t numbered leaves.config (n ∷ []) owned others q;
+      kept = subst (KeepOwned t u) (sym is) (each_keeps_owned s u t numbered leaves.config (n ∷ []) owned others);
       numbered = subst (AreNumbered u) (sym is) (numbered_each s u t numbered leaves.config (n ∷ []) owned others);
     }
 
@@ -124,6 +132,6 @@ ended_names s u t named k ns numbered listed leaves is =
     let owned : (q : ℕ) → Among q ns → ¬ (owner_of s q ≡ None) = λ q among. some_not_none (owner_of s q) k ((listed q).0 among) in
     let others : (q : ℕ) → ¬ Among q ns → owner_of u q ≡ owner_of s q = λ q absent. leaves.others q (λ mine. absent ((listed q).1 mine)) in
     record {
-      kept = λ q. ap (λ v. name_of v q) is ∙ each_keeps_owned s u t numbered leaves.config ns owned others q;
+      kept = subst (KeepOwned t u) (sym is) (each_keeps_owned s u t numbered leaves.config ns owned others);
       numbered = subst (AreNumbered u) (sym is) (numbered_each s u t numbered leaves.config ns owned others);
     }

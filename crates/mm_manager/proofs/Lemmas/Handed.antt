@@ -103,7 +103,7 @@ module _ (e : Event) (s : TableState) (t : NameTable) (due : List Bool) (answer 
     granted = ends.granted;
     ends = ends.ends;
     down = all_down;
-    names = λ q. keep_then mid u t t1 named names ends.names numbered ends.numbered q;
+    names = keep_then mid u t t1 named names ends.names numbered ends.numbered;
     parts = record { numbered = ends.numbered; fits = ends.fits; due = due_wait; room = ends.room };
     was_due = λ k among. (let was = ends.was_due k among in (was.0, was.2));
     all = λ g among marked. ends.all g (among_all g among) marked;

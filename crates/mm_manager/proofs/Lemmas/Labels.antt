@@ -16,13 +16,13 @@ use Rattle.mm_manager.specs.private.Room.{LabelsWithin}
 -- ---- blocks
 
 -- the label that n gets is that by which it waits, or nothing changes
-block_here : (s : TableState) (n h : ℕ) → (public_of (block s n h) n).counter ≤ (label_against s n h).counter
+pub block_here : (s : TableState) (n h : ℕ) → (public_of (block s n h) n).counter ≤ (label_against s n h).counter
 block_here s n h = elim (cases_lt n (length s.public)) [
   | inl within ↦ omega (arith, ap (λ (l : Label). l.counter) (get_or-set_same s.public n (label_against s n h) (opening_label n) within))
   | inr past ↦ omega (arith, ap (λ (l : Label). l.counter) (get_or_past (slice_set s.public n (label_against s n h)) n (opening_label n) (omega (arith, past, length-set s.public n (label_against s n h)))))
 ]
 
-block_else : (s : TableState) (n h k : ℕ) → k ≢ n → (public_of (block s n h) k).counter ≡ (public_of s k).counter
+pub block_else : (s : TableState) (n h k : ℕ) → k ≢ n → (public_of (block s n h) k).counter ≡ (public_of s k).counter
 block_else s n h k apart = ap (λ (l : Label). l.counter) (other_labels s n h k apart).public
 
 -- several block on h, whose own label stays: no counter passes the greatest by more than one

@@ -2,7 +2,7 @@
 use Rattle.std.proofs.Common.{◌≡◌, ◌≤◌, ◌<◌, ◌+◌, ◌*◌, ◌^◌, ◌∷◌, ℕ, Bool, true, false, not, List, [], Option, Some, None, is_some, length, count_by, nat_eq, nat_le, Result, Ok, Err, MatchBool, inl, inr, refl, sym, ap, subst, ◌∙◌, arith}
 use Rattle.std.specs.List.{AllByRecursion}
 use Rattle.std.specs.Option.{option_map_or}
-use Rattle.std.proofs.lemmas.Bool.{eq-eqb, lt-leb, le-leb, lt-ltb}
+use Rattle.std.proofs.lemmas.Bool.{and_parts, eq-eqb, lt-leb, le-leb, lt-ltb}
 use Rattle.std.proofs.lemmas.List.Sums.{count_by-le-length}
 use Rattle.mm_arena.specs.declared.key.Key.{Key}
 use Rattle.mm_list_lemmas.specs.Members.{Among}
@@ -10,12 +10,14 @@ use Rattle.mm_list_lemmas.proofs.Lemmas.Among.{list_all_from}
 use Rattle.mm_list_lemmas.proofs.Lemmas.Filter.{filter_gives}
 use Rattle.mm_rules.specs.declared.refusal.Refusal.{Refusal}
 use Rattle.mm_rules.specs.declared.refusal.Refusal.TheVariants.{CountsExhausted, Carried}
-use Rattle.mm_rules.specs.TableState.{TableState, Wait, is_live, is_waiting, has_verdict, owner_of, owns, resources_of, wait_of, waiters_of}
-use Rattle.mm_rules.specs.Change.{activate, label_against, block_fits, give_to_fits, hand_over, hand_over_fits, vacate, vacate_fits, abort}
-use Rattle.mm_rules.specs.Event.{Tests, Release, Finish, Abort, GiveUp, Gives, Step, allowed, counts_exhausted, decided, outcome, acquire_tests, acquire_answer, acquire_change, release_tests, release_answer, finish_tests, abort_tests, give_up_tests}
+use Rattle.mm_rules.specs.TableState.{TableState, Wait, is_live, is_waiting, has_verdict, holder_of, owner_of, owns, resources_of, wait_of, waiters_of}
+use Rattle.mm_rules.specs.Change.{label_against, block_fits, give_to_fits, hand_over, hand_over_fits, vacate, vacate_fits, abort}
+use Rattle.mm_rules.specs.Event.{Tests, Release, Finish, Abort, Gives, Step, allowed, counts_exhausted, decided, outcome, acquire_tests, acquire_answer, acquire_change, release_tests, release_answer, finish_tests, abort_tests}
 use Rattle.mm_rules.specs.Laws.{Laws}
+use Rattle.mm_rules.specs.Withdraw.{renew_fits, shown_process, shows_waiting, withdraw, withdraw_tests, Withdraws}
+use Rattle.mm_rules.proofs.States.Lookups.{waits_here}
 use Rattle.mm_rules.proofs.States.Vacate.{live_process}
-use Rattle.mm_settled.specs.Calls.{Locks, MakesEnd, Refuses, has_room}
+use Rattle.mm_settled.specs.Calls.{Locks, MakesEnd, MakesWithdrawal, Refuses, has_room}
 use Rattle.mm_settled.specs.declared.reply.EndKind.{EndKind}
 use Rattle.mm_settled.specs.declared.reply.EndKind.TheVariants as way
 use Rattle.mm_settled.proofs.Lemmas.Ends.{owner_in_range}
@@ -85,6 +87,13 @@ asked_can_count s laws room below = can_count_by s laws room.aborts (omega (arit
 module _ (s : TableState) (labels : LabelsWithin s s.config.label_limit) where
   block_has_room : (n h : ℕ) → 1 ≤ length s.waits → block_fits s n h ≡ true
   block_has_room n h some = le-leb (label_against s n h).counter s.config.label_limit (omega (arith, labels n, labels h, some))
+
+  pub renew_has_room : (m : ℕ) → 1 ≤ length s.waits → renew_fits s m ≡ true
+  renew_has_room m some = by (holder_of s m)
+    where
+      by : (o : Option ℕ) → option_map_or (λ h. block_fits s m h) o true ≡ true
+      by None = refl
+      by (Some h) = block_has_room m h some
 
   some_wait : (w : Wait) (ws : List Wait) → Among w ws → 1 ≤ length ws
   some_wait w [] among = absurd among
@@ -170,11 +179,35 @@ module _ (s : TableState) (k : Key) (laws : Laws s) (room : HasReserve s) (live 
   abbrev IsCarried : Refusal → Type 0
   IsCarried e = e ≡ Carried
 
-  pub give_up_carried : is_waiting s k.process ≡ true → has_verdict s k.process ≡ false → (u : TableState) (e : Refusal) → Step (GiveUp k) s (Err e) u → e ≡ Carried
-  give_up_carried waits free u e step =
-      each_true IsCarried (give_up_tests s k) e
-      ((λ is. not_counted is), ((λ is. not_stale is), ((λ is. never_true (not (is_waiting s k.process)) (ap not waits) is), ((λ is. never_true (has_verdict s k.process) free is), ((λ is. refl), tt)))))
-      (refused_tests (give_up_tests s k) s tt (activate s k.process) e u step)
+  -- the new label of a withdrawal fits, so only the test for `Carried` can refuse it
+  pub withdraw_carried : (r : ℕ) → wait_of s k.process ≡ Some r → has_verdict s k.process ≡ false → (u : TableState) (e : Refusal) → MakesWithdrawal k s (Err e) u → (e ≡ Carried) × Withdraws k s (Err Carried) s
+  withdraw_carried r waits free u e refuses =
+      let n = k.process in
+      let m = shown_process s n in
+      let here = waits_here s n r waits in
+      let some : 1 ≤ length s.waits = some_wait s room.labels here.wait s.waits here.among in
+      let step : Withdraws k s (Err e) s = by_room (has_room s) (Withdraws k s (Err e) s) (e ≡ CountsExhausted) can.room refuses.1 in
+      let carried : e ≡ Carried = each_true IsCarried (withdraw_tests s k) e (
+        (λ is. not_counted is),
+        (
+          (λ is. not_stale is),
+          (
+            (λ is. never_true (not (is_waiting s n)) (ap (λ o. not (is_some o)) waits) is),
+            (
+              (λ is. never_true (has_verdict s n) free is),
+              (
+                (λ is. refl),
+                (
+                  (λ is. never_true (not (renew_fits s m)) (not_of (renew_fits s m) (renew_has_room s room.labels m some)) (and_parts (shows_waiting s n) (not (renew_fits s m)) is).1),
+                  tt,
+                ),
+              ),
+            ),
+          ),
+        ),
+      )
+      (refused_tests (withdraw_tests s k) s tt (withdraw s n) e s step) in
+      (carried, subst (λ x. Withdraws k s (Err x) s) carried step)
 
 -- ---- a request
 

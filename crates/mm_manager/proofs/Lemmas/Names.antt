@@ -19,11 +19,11 @@ waited_is_owned s laws m q waits =
     (holder.0, ap (owner_of s) (sym here.resource) ∙ holder.1)
 
 kept_name : (t : NameTable) (u : TableState) (named : NameTable) → KeepOwned t u named → (q : ℕ) (k : Key) → owner_of u q ≡ Some k → name_of named q ≡ name_of t q
-kept_name t u named keep q k owned = keep q ∙ ap (λ o. if is_some o then name_of t q else None) owned
+kept_name t u named keep q k owned = keep.named q ∙ ap (λ o. if is_some o then name_of t q else None) owned
 
 name_before_by : (t : NameTable) (u : TableState) (named : NameTable) → KeepOwned t u named → (q : ℕ) (name : List ℕ) (o : Option Key) → owner_of u q ≡ o → name_of named q ≡ Some name → name_of t q ≡ Some name
 name_before_by t u named keep q name (Some k) is has = sym (kept_name t u named keep q k is) ∙ has
-name_before_by t u named keep q name None is has = absurd (some_not_none (name_of named q) name has (keep q ∙ ap (λ o. if is_some o then name_of t q else None) is))
+name_before_by t u named keep q name None is has = absurd (some_not_none (name_of named q) name has (keep.named q ∙ ap (λ o. if is_some o then name_of t q else None) is))
 
 -- a name that is there was there before, of the same number
 pub name_before : (t : NameTable) (u : TableState) (named : NameTable) → KeepOwned t u named → (q : ℕ) (name : List ℕ) → name_of named q ≡ Some name → name_of t q ≡ Some name
@@ -63,4 +63,6 @@ module _ (old new : LockState) (k : Key) (Loses : ℕ → Key → Type 0) (Loses
     ];
     verdicts = down.verdicts;
     config = down.config;
+    numbers = keep.numbers;
+    name_bytes = keep.name_bytes;
   }

@@ -1,8 +1,7 @@
 -- What is left for the ends of transactions stays: no end takes from it, and a request is made only where there is enough after it.
-use Rattle.std.proofs.Common.{◌≡◌, ◌≤◌, ◌<◌, ◌+◌, ◌*◌, ℕ, zero, suc, Bool, true, false, not, List, [], ◌∷◌, length, map, fold, count_by, Option, Some, None, is_some, Ok, MatchBool, inl, inr, refl, sym, ap, subst, ◌∙◌, arith, drop, slice_set, slice_index, slice_index_or}
+use Rattle.std.proofs.Common.{◌≡◌, ◌≤◌, ◌<◌, ◌+◌, ◌*◌, ℕ, Bool, true, false, not, if◌then◌else◌, length, map, fold, count_by, Option, Some, None, is_some, Ok, MatchBool, inl, inr, refl, sym, ap, subst, ◌∙◌, arith, drop, slice_set, slice_index, slice_index_or}
 use Rattle.std.specs.Option.{option_map_or}
-use Rattle.std.proofs.lemmas.Bool.{cases_Bool, not-false}
-use Rattle.mm_label.specs.Label.{Label}
+use Rattle.std.proofs.lemmas.Bool.{cases_eq, not-false}
 use Rattle.mm_arena.specs.declared.key.Key.{Key}
 use Rattle.mm_list_lemmas.specs.Members.{NoRepeat}
 use Rattle.mm_list_lemmas.proofs.Lemmas.NoRepeat.{no_repeat_filter}
@@ -11,58 +10,45 @@ use Rattle.mm_rules.specs.declared.reply.Acquired.{Acquired}
 use Rattle.mm_rules.specs.declared.reply.Released.{Released}
 use Rattle.mm_rules.specs.declared.reply.Settled.{Settled}
 use Rattle.mm_rules.specs.declared.config.Config.{Config}
-use Rattle.mm_rules.specs.TableState.{TableState, is_live, is_of, is_waiting, key_of, owner_of, resources_of, wait_of, waiters_of, waiting_processes}
-use Rattle.mm_rules.specs.Change.{activate, hand_over, vacate, take_back, abort, greater_label, transmit, can_detect, detect, swept, total_raises}
-use Rattle.mm_rules.specs.Event.{Event, Begin, Acquire, Release, Finish, Abort, Settle, GiveUp, Answer, Step, Gives, Settles, settled, counts_exhausted, settle_tests, begin_tests, acquire_tests, acquire_answer, acquire_change, release_tests, release_answer, finish_tests, abort_tests, give_up_tests}
+use Rattle.mm_rules.specs.TableState.{TableState, is_live, is_of, is_waiting, key_of, holder_of, owner_of, public_of, resources_of, wait_of, waiters_of, waiting_processes}
+use Rattle.mm_rules.specs.Change.{activate, block, hand_over, vacate, take_back, abort, can_detect, detect, swept, total_raises}
+use Rattle.mm_rules.specs.Event.{Event, Begin, Acquire, Release, Finish, Abort, Settle, Answer, Step, Gives, Settles, settled, counts_exhausted, settle_tests, begin_tests, acquire_tests, acquire_answer, acquire_change, release_tests, release_answer, finish_tests, abort_tests}
 use Rattle.mm_rules.specs.Laws.{Laws}
+use Rattle.mm_rules.specs.Withdraw.{shown_process, shows_waiting, withdraw, withdraw_tests}
 use Rattle.mm_rules.proofs.States.Block.{process_of}
 use Rattle.mm_rules.proofs.States.Config.{event_config}
 use Rattle.mm_rules.proofs.States.Counts.{event_counts}
+use Rattle.mm_rules.proofs.States.Keys.{settle_same}
+use Rattle.mm_rules.proofs.States.Lookups.{waits_here}
 use Rattle.mm_rules.proofs.States.SettleKeeps.{settle_keeps}
+use Rattle.mm_rules.proofs.States.SpentKeys.{SameKeys}
 use Rattle.mm_rules.proofs.States.Vacate.{live_process}
-use Rattle.mm_settled.specs.Calls.{Made, MakesEnd, Rests, WaitsFrom}
+use Rattle.mm_rules.proofs.States.WithdrawLaws.{withdraw_counts, withdraw_leaves}
+use Rattle.mm_settled.specs.Calls.{Made, MadeWithdrawal, MakesEnd, Rests, WaitsFrom}
 use Rattle.mm_settled.specs.declared.reply.EndKind.{EndKind}
 use Rattle.mm_settled.specs.declared.reply.EndKind.TheVariants as way
 use Rattle.mm_settled.proofs.Lemmas.Accepted.{IsAccepted, accepted}
 use Rattle.mm_settled.proofs.Lemmas.Ends.{owner_in_range}
 use Rattle.mm_manager.specs.Permit.{event_limit}
 use Rattle.mm_manager.specs.private.Room.{LabelsWithin, to_end, HasReserve}
-use Rattle.mm_manager.proofs.Lemmas.Labels.{hand_over_keeps_labels, vacate_within, activate_within, settled_within, waits_within}
+use Rattle.mm_manager.proofs.Lemmas.Labels.{activate_fewer, block_else, block_here, hand_over_keeps_labels, vacate_within, activate_within, settled_within, waits_within}
 use Rattle.mm_manager.proofs.Lemmas.Fewer.{hand_over_less, hand_over_live, vacate_less, activate_held, activate_less, few_to_end}
 
 -- ---- what follows an event
 
 -- from mid to u no label passes what there was, and as many are live, wait and are owned
-record RestsWithin (mid u : TableState) : Type 0 where
+pub record RestsWithin (mid u : TableState) : Type 0 where
   config : u.config ≡ mid.config
   labels : (most : ℕ) → LabelsWithin mid most → LabelsWithin u most
   to_end : to_end u ≡ to_end mid
+  pub keys : SameKeys mid u
   more : mid.totals.accepted ≤ u.totals.accepted
   few : u.totals.accepted ≤ mid.totals.accepted + 1
   aborts : u.totals.aborts ≡ mid.totals.aborts
 
-transmit_live : (s : TableState) (o : Option Label) (n : ℕ) → (option_map_or (λ l. record s { public = slice_set s.public n l }) o s).live ≡ s.live
-transmit_live s None n = refl
-transmit_live s (Some l) n = refl
-
-transmits_live : (s : TableState) (ns : List ℕ) → (fold transmit s ns).live ≡ s.live
-transmits_live s [] = refl
-transmits_live s (n ∷ ns) = transmits_live (transmit s n) ns ∙ transmit_live s (greater_label s n) n
-
-swept_live : (s : TableState) (n : ℕ) → (swept s n).live ≡ s.live
-swept_live s zero = refl
-swept_live s (suc n) = transmits_live (swept s n) (waiting_processes (swept s n)) ∙ swept_live s n
-
-detect_live : (s : TableState) (n : ℕ) → (detect s n).live ≡ s.live
-detect_live s n = elim (cases_Bool (can_detect s n)) [ inl can ↦ rw can refl | inr no_detect ↦ rw no_detect refl ]
-
-detects_live : (s : TableState) (ns : List ℕ) → (fold detect s ns).live ≡ s.live
-detects_live s [] = refl
-detects_live s (n ∷ ns) = detects_live (detect s n) ns ∙ detect_live s n
-
 record SettledWithin (mid u : TableState) : Type 0 where
   labels : (most : ℕ) → LabelsWithin mid most → LabelsWithin u most
-  live : u.live ≡ mid.live
+  keys : SameKeys mid u
 
 settled_gives : (mid u : TableState) (n : ℕ) (answer : Settled) → Gives (settled mid n) (Ok answer) u → SettledWithin mid u
 settled_gives mid u n answer gives =
@@ -70,17 +56,18 @@ settled_gives mid u n answer gives =
     let new = fold detect t (waiting_processes t) in
     let made : Settled = record { raises = total_raises mid n; verdicts = count_by (can_detect t) (waiting_processes t) } in
     let done : IsAccepted Settled (settle_tests mid) made new answer u = accepted (settle_tests mid) mid made new answer u gives in
+    let same : SameKeys mid new = settle_same mid n in
     record {
       labels = λ most labels. subst (λ v. LabelsWithin v most) (sym done.state) (settled_within mid most n labels);
-      live = ap (λ (v : TableState). v.live) done.state ∙ detects_live t (waiting_processes t) ∙ swept_live mid n;
+      keys = subst (λ v. SameKeys mid v) (sym done.state) record { generations = same.generations; live = same.live; free = same.free };
     }
 
 settle_within : (mid u : TableState) (answer : Settled) (b : Bool) → MatchBool b (Gives (settled mid 0) (Ok answer) u) ((n : ℕ) × Settles mid n × Gives (settled mid n) (Ok answer) u) → SettledWithin mid u
 settle_within mid u answer true gives = settled_gives mid u 0 answer gives
 settle_within mid u answer false (n, settles, gives) = settled_gives mid u n answer gives
 
-rests_within : (mid u : TableState) → Rests mid u → RestsWithin mid u
-rests_within mid u (inl same) = subst (λ v. RestsWithin mid v) (sym same) record { config = refl; labels = λ most labels. labels; to_end = refl; more = omega arith; few = omega arith; aborts = refl }
+pub rests_within : (mid u : TableState) → Rests mid u → RestsWithin mid u
+rests_within mid u (inl same) = subst (λ v. RestsWithin mid v) (sym same) record { config = refl; labels = λ most labels. labels; to_end = refl; keys = record { generations = refl; live = refl; free = refl }; more = omega arith; few = omega arith; aborts = refl }
 rests_within mid u (inr (answer, step)) =
     let within = settle_within mid u answer (counts_exhausted mid) step in
     let keeps = settle_keeps mid u (Ok answer) step in
@@ -88,7 +75,8 @@ rests_within mid u (inr (answer, step)) =
     record {
       config = keeps.config;
       labels = within.labels;
-      to_end = omega (arith, ap length keeps.waits, ap (count_by is_some) keeps.owners, ap (count_by (λ b. b)) within.live);
+      to_end = omega (arith, ap length keeps.waits, ap (count_by is_some) keeps.owners, ap (count_by (λ b. b)) within.keys.live);
+      keys = within.keys;
       more = omega (arith, counts.0);
       few = omega (arith, counts.0);
       aborts = omega (arith, counts.2);
@@ -162,16 +150,36 @@ some_of_waiting s n waits = by_wait (wait_of s n) refl
     by_wait (Some r) is = (r, is)
     by_wait None is = absurd (let never : true ≡ false = sym waits ∙ ap is_some is in cc)
 
-pub give_up_room : (s u : TableState) (k : Key) → HasReserve s → Step (GiveUp k) s (Ok tt) u → HasReserve u
-give_up_room s u k room step =
+-- a withdrawal ends a wait, and one new label takes no more than that leaves room for
+withdraw_within : (s : TableState) (n m most : ℕ) (b : Bool) (o : Option ℕ) → length (activate s n).waits + 1 ≤ length s.waits → LabelsWithin s most
+    → LabelsWithin (activate (if b then option_map_or (λ h. block s m h) o s else s) n) most
+withdraw_within s n m most false o fewer labels p = omega (arith, labels p, fewer)
+withdraw_within s n m most true None fewer labels p = omega (arith, labels p, fewer)
+withdraw_within s n m most true (Some h) fewer labels p = elim (cases_eq p m) [
+  | inl same ↦ omega (arith, block_here s m h, labels m, labels h, fewer, ap (λ q. (public_of (block s m h) q).counter) same)
+  | inr apart ↦ omega (arith, block_else s m h p apart, labels p, fewer)
+]
+
+withdraw_to_end : (s : TableState) (n m : ℕ) (b : Bool) (o : Option ℕ) → to_end (activate (if b then option_map_or (λ h. block s m h) o s else s) n) ≡ to_end (activate s n)
+withdraw_to_end s n m false o = refl
+withdraw_to_end s n m true None = refl
+withdraw_to_end s n m true (Some h) = refl
+
+pub withdraw_room : (s u : TableState) (k : Key) → HasReserve s → MadeWithdrawal k s u → HasReserve u
+withdraw_room s u k room made =
     let n = k.process in
-    let done : IsAccepted (Unit {0}) (give_up_tests s k) tt (activate s n) tt u = accepted (give_up_tests s k) s tt (activate s n) tt u step in
+    let m = shown_process s n in
+    let b = shows_waiting s n in
+    let mid = made.mid in
+    let done : IsAccepted (Unit {0}) (withdraw_tests s k) tt (withdraw s n) tt mid = accepted (withdraw_tests s k) s tt (withdraw s n) tt mid made.event in
     let waits = some_of_waiting s n (not-false (is_waiting s n) done.passed.1.1.0) in
-    room_by s u u room (event_config (GiveUp k) s u (Ok tt) step) record {
-      labels = λ most labels. subst (λ t. LabelsWithin t most) (sym done.state) (activate_within s n most labels);
-      fewer = omega (arith, activate_less s n waits.0 waits.1, ap to_end done.state);
-    } (event_counts (GiveUp k) s u (Ok tt) step).0 (omega (arith, (event_counts (GiveUp k) s u (Ok tt) step).2))
-    record { config = refl; labels = λ most labels. labels; to_end = refl; more = omega arith; few = omega arith; aborts = refl }
+    let here = waits_here s n waits.0 waits.1 in
+    let fewer : length (activate s n).waits + 1 ≤ length s.waits = subst (λ p. length (activate s p).waits + 1 ≤ length s.waits) here.process (activate_fewer s here.wait here.among) in
+    let counts = (withdraw_counts k s mid (Ok tt) made.event).0 in
+    room_by s mid u room (withdraw_leaves k s mid (Ok tt) made.event).config record {
+      labels = λ most labels. subst (λ t. LabelsWithin t most) (sym done.state) (withdraw_within s n m most b (holder_of s m) fewer labels);
+      fewer = omega (arith, activate_less s n waits.0 waits.1, withdraw_to_end s n m b (holder_of s m), ap to_end done.state);
+    } counts.0 (omega (arith, counts.2)) (rests_within mid u made.rests)
 
 -- ---- a request
 

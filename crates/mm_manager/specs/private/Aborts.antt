@@ -1,10 +1,11 @@
 -- An abort of a transaction that waits in no deadlock, by its parts.
-use Rattle.std.specs.Prelude.{◌≡◌, true, false, [], Ok, Err, slice_set}
+use Rattle.std.specs.Prelude.{◌≡◌, true, false, [], slice_set}
 use Rattle.mm_arena.specs.declared.key.Key.{Key}
 use Rattle.mm_names.specs.Names.{NameTable}
-use Rattle.mm_rules.specs.declared.refusal.Refusal.TheVariants.{Carried}
 use Rattle.mm_rules.specs.TableState.{TableState}
-use Rattle.mm_rules.specs.Event.{Finish, GiveUp, Step}
+use Rattle.mm_rules.specs.Event.{Finish}
+use Rattle.mm_settled.specs.Calls.{MadeWithdrawal}
+use Rattle.mm_manager.specs.Calls.{IsCarried}
 use Rattle.mm_manager.specs.LockState.{LockState}
 use Rattle.mm_manager.specs.declared.lists.Lists.{Lists}
 use Rattle.mm_manager.specs.declared.totals.Totals.{Totals}
@@ -22,8 +23,8 @@ pub record TellNobody (m : Lists) : Type 0 where
 
 abbrev pub AbortsWaiting : TableState → NameTable → Lists → Key → Abort → TableState → NameTable → Lists → Type 0
 AbortsWaiting s t l k Done u named m =
-    (mid : TableState) × Step (GiveUp k) s (Ok tt) mid × Handed (Finish k) mid t (slice_set l.due.items k.process false) tt k.process (IsEnding k) u named m
-AbortsWaiting s t l k Later u named m = Step (GiveUp k) s (Err Carried) s × (u ≡ s) × (named ≡ t) × (m.due.items ≡ slice_set l.due.items k.process true) × TellNobody m
+    (mid : TableState) × MadeWithdrawal k s mid × Handed (Finish k) mid t (slice_set l.due.items k.process false) tt k.process (IsEnding k) u named m
+AbortsWaiting s t l k Later u named m = IsCarried s k × (u ≡ s) × (named ≡ t) × (m.due.items ≡ slice_set l.due.items k.process true) × TellNobody m
 
 -- what a contract sees of these parts
 abbrev pub seen : TableState → NameTable → Lists → Totals → LockState
@@ -35,6 +36,6 @@ cancel_of Done = cancels.Withdrawn
 cancel_of Later = cancels.Carried
 
 -- a wait is taken back, by the answer
-abbrev pub GaveUp : TableState → Key → cancel.Cancel → TableState → Type 0
-GaveUp s k cancels.Withdrawn u = Step (GiveUp k) s (Ok tt) u
-GaveUp s k cancels.Carried u = Step (GiveUp k) s (Err Carried) s × (u ≡ s)
+abbrev pub TookBack : TableState → Key → cancel.Cancel → TableState → Type 0
+TookBack s k cancels.Withdrawn u = MadeWithdrawal k s u
+TookBack s k cancels.Carried u = IsCarried s k × (u ≡ s)

@@ -1,10 +1,10 @@
 -- An activation keeps the laws: the process that becomes active stands before the end of no walk that relays a label, and tops what it ended.
-use Rattle.std.specs.Prelude.{ℕ, ◌≡◌, ◌≢◌, ◌≤◌, List, [], ◌∷◌}
+use Rattle.std.specs.Prelude.{ℕ, ◌≡◌, ◌≢◌, ◌≤◌, ◌⊎◌, List, [], ◌∷◌}
 use Rattle.std.proofs.Common.{inl, inr, arith, sym, ◌∙◌, refl}
 use Rattle.std.proofs.Math.Decide.{ℕ_discrete}
 use Rattle.mm_rules.specs.Graph.{Graph, WaitsFor, IsWaiting, Walk, Path, Relays, Propagated, Tops, Topped, RisingLaw, PropagatedLaw, ToppedLaw}
 use Rattle.mm_rules.proofs.Graph.Laws.{OrderedLaw, OwnLaw, WithinLaw, ApartLaw, IsLawful}
-use Rattle.mm_rules.proofs.Graph.Change.{Activates}
+use Rattle.mm_rules.proofs.Graph.Change.{Loose, Activates}
 use Rattle.mm_rules.proofs.Graph.Walks.{one_holder, active_waits_not, begins_waiting, OnTheWay}
 
 -- along the waits from k, k included, stands a process that tops M
@@ -13,6 +13,10 @@ record ToppedBy (g : Graph) (M k : ℕ) : Type 0 where
   places : List ℕ
   along : Path g k places top
   tops : Tops g M top
+
+-- k shows at most M, or its own label
+abbrev IsLow : Graph → ℕ → ℕ → Type 0
+IsLow g M k = (g.public k ≤ M) ⊎ (g.public k ≡ g.private k)
 
 module _ (g new : Graph) (n h : ℕ) (a : Activates g n h new) where
   -- who waits now is another than n, and waited before
@@ -39,31 +43,50 @@ module _ (g new : Graph) (n h : ℕ) (a : Activates g n h new) where
     | inr up ↦ inr (omega (arith, a.publics k, a.publics j))
   ]
 
-  -- n leaves no walk to a process that waits: its holder is active, or it shows its own label and so relays none
-  leaves_no_walk : (M m j : ℕ) (places : List ℕ) → IsWaiting g m → WaitsFor g n j → Relays g M n → Walk g (OnTheWay g M m) j places m → ⊥
-  leaves_no_walk M m j places waiting waits relays rest = elim a.may [
+  -- n leaves no walk to a process that waits: its holder is active, or it shows its own label and so relays none, or it shows one that no waiting process has as its own
+  leaves_no_walk : (m j : ℕ) (places : List ℕ) → IsWaiting g m → WaitsFor g n j → Relays g (g.private m) n → (Loose g n → IsLow g (g.private m) n)
+      → Walk g (OnTheWay g (g.private m) m) j places m → ⊥
+  leaves_no_walk m j places waiting waits relays low rest = elim a.may [
     | inl active ↦
-        let begins : IsWaiting g j = begins_waiting g (OnTheWay g M m) j places m rest waiting in
+        let begins : IsWaiting g j = begins_waiting g (OnTheWay g (g.private m) m) j places m rest waiting in
         active_waits_not g j (rw (one_holder g n j h waits a.waited) active) begins
-    | inr own ↦ omega arith
+    | inr more ↦ elim more [
+      | inl own ↦ omega (arith, relays.older, relays.shown)
+      | inr loose ↦ elim (low loose) [
+        | inl shown ↦ loose.unowned m waiting (omega (arith, relays.shown))
+        | inr own ↦ omega (arith, relays.older, relays.shown)
+      ]
+    ]
   ]
 
-  activate_keeps_walk : (M m : ℕ) → IsWaiting g m → (k : ℕ) (places : List ℕ)
-      → Walk g (OnTheWay g M m) k places m → Walk new (OnTheWay new M m) k places m
-  activate_keeps_walk M m waiting k [] end = end
-  activate_keeps_walk M m waiting k (j ∷ places) ((apart, relays), waits, rest) =
-      let here : k ≢ n = λ e. leaves_no_walk M m j places waiting (rw e at waits) (rw e at relays) rest in
-      let still : Relays new M k = record { older = omega (arith, a.privates k); shown = omega (arith, a.publics k) } in
-      ((apart, still), a.holders k here ∙ waits, activate_keeps_walk M m waiting j places rest)
+  -- who relays a label, and shows none above it, is followed by one that does not either, or shows its own
+  low_next : (M k j : ℕ) → WaitsFor g k j → Relays g M k → Loose g n → IsLow g M k → IsLow g M j
+  low_next M k j waits relays loose low = elim (loose.falls k j waits) [
+    | inr own ↦ inr own
+    | inl down ↦ elim low [
+      | inl shown ↦ inl (omega arith)
+      | inr own ↦ absurd (omega (arith, relays.older, relays.shown))
+    ]
+  ]
+
+  activate_keeps_walk : (m : ℕ) → IsWaiting g m → (k : ℕ) (places : List ℕ) → (Loose g n → IsLow g (g.private m) k)
+      → Walk g (OnTheWay g (g.private m) m) k places m → Walk new (OnTheWay new (g.private m) m) k places m
+  activate_keeps_walk m waiting k [] low end = end
+  activate_keeps_walk m waiting k (j ∷ places) low ((apart, relays), waits, rest) =
+      let here : k ≢ n = λ e. leaves_no_walk m j places waiting (rw e at waits) (rw e at relays) (rw e at low) rest in
+      let still : Relays new (g.private m) k = record { older = omega (arith, a.privates k); shown = omega (arith, a.publics k) } in
+      let next : Loose g n → IsLow g (g.private m) j = λ loose. low_next (g.private m) k j waits relays loose (low loose) in
+      ((apart, still), a.holders k here ∙ waits, activate_keeps_walk m waiting j places next rest)
 
   activate_keeps_propagated : PropagatedLaw g → PropagatedLaw new
   activate_keeps_propagated law m j k waits k_in apart meets =
       let before : WaitsFor g m j = (waits_before m j waits).1 in
-      let was : Propagated g (g.private m) k m = law m j k before (omega arith) apart (sym (a.publics k) ∙ meets ∙ a.privates m) in
+      let shows : g.public k ≡ g.private m = sym (a.publics k) ∙ meets ∙ a.privates m in
+      let was : Propagated g (g.private m) k m = law m j k before (omega arith) apart shows in
       rw (a.privates m) record {
         apart = apart;
         places = was.places;
-        along = activate_keeps_walk (g.private m) m (j, before) k was.places was.along;
+        along = activate_keeps_walk m (j, before) k was.places (λ loose. inl (omega arith)) was.along;
       }
 
   -- who is not n tops a label still, and n tops what it shows

@@ -1,7 +1,7 @@
 -- The three changes of the wait-for graph of which each event consists.
-use Rattle.std.specs.Prelude.{ℕ, ◌≡◌, ◌≢◌, ◌<◌, ◌⊎◌}
+use Rattle.std.specs.Prelude.{ℕ, ◌≡◌, ◌≢◌, ◌≤◌, ◌<◌, ◌⊎◌}
 use Rattle.std.proofs.Common.{sym, ◌∙◌}
-use Rattle.mm_rules.specs.Graph.{Graph, WaitsFor, IsActive}
+use Rattle.mm_rules.specs.Graph.{Graph, WaitsFor, IsActive, IsWaiting}
 
 -- k waits for the same and has the same labels in both graphs
 pub record SameAt (g new : Graph) (k : ℕ) : Type 0 where
@@ -32,10 +32,19 @@ pub record Raises (g : Graph) (n h : ℕ) (new : Graph) : Type 0 where
   pub privates : (k : ℕ) → new.private k ≡ g.private k
   pub publics : (k : ℕ) → k ≢ n → new.public k ≡ g.public k
 
--- n, which waited for h, waits no more: h is active, or n shows its own label
+-- n shows no waiting process's own label, and whoever is waited for shows no greater label than who waits for it, or its own
+pub record Loose (g : Graph) (n : ℕ) : Type 0 where
+  pub unowned : (m : ℕ) → IsWaiting g m → g.private m ≢ g.public n
+  pub falls : (k h : ℕ) → WaitsFor g k h → (g.public h ≤ g.public k) ⊎ (g.public h ≡ g.private h)
+
+-- why a process may stop to wait for h: h is active, or n shows its own label, or none that a waiting process can get back
+abbrev pub MayActivate : Graph → ℕ → ℕ → Type 0
+MayActivate g n h = IsActive g h ⊎ ((g.public n ≡ g.private n) ⊎ Loose g n)
+
+-- n, which waited for h, waits no more
 pub record Activates (g : Graph) (n h : ℕ) (new : Graph) : Type 0 where
   pub waited : WaitsFor g n h
-  pub may : IsActive g h ⊎ (g.public n ≡ g.private n)
+  pub may : MayActivate g n h
   pub processes : new.processes ≡ g.processes
   pub now_active : IsActive new n
   pub holders : (k : ℕ) → k ≢ n → new.holder k ≡ g.holder k

@@ -5,7 +5,7 @@ use Rattle.std.proofs.Math.Decide.{ℕ_discrete}
 use Rattle.mm_list_lemmas.specs.Members.{Among, NoRepeat}
 use Rattle.mm_rules.specs.Graph.{Graph, WaitsFor, IsActive, LabelReturned}
 use Rattle.mm_rules.proofs.Graph.Laws.{IsLawful, HasLabelMakers}
-use Rattle.mm_rules.proofs.Graph.Change.{SameAt, Blocks, Activates, same_then, same_back}
+use Rattle.mm_rules.proofs.Graph.Change.{SameAt, Blocks, Activates, MayActivate, same_then, same_back}
 use Rattle.mm_rules.proofs.Graph.Walks.{active_waits_not, one_holder}
 use Rattle.mm_rules.proofs.Graph.Block.{block_keeps_laws}
 use Rattle.mm_rules.proofs.Graph.Activate.{activate_keeps_laws}
@@ -53,7 +53,7 @@ activate_keeps_all number g new n o a active laws makers = record {
   returned = λ v h returned. activate_keeps_returned g new n o v h a (returned_elsewhere g o n v h laws active a.waited returned) returned;
 }
 
-block_keeps_all : (number : ℕ → ℕ) (g new : Graph) (n h L : ℕ) → Blocks g n h L new → number L ≡ n
+pub block_keeps_all : (number : ℕ → ℕ) (g new : Graph) (n h L : ℕ) → Blocks g n h L new → number L ≡ n
     → IsLawful g → HasLabelMakers number g → KeepsAll number g new
 block_keeps_all number g new n h L b named laws makers = record {
   lawful = block_keeps_laws g new n h L b laws;
@@ -62,15 +62,15 @@ block_keeps_all number g new n h L b named laws makers = record {
 }
 
 -- a process whose wait alone went
-update_activates : (g new : Graph) (n o : ℕ) → WaitsFor g n o → IsActive g o → IsUpdate g n None (g.private n) (g.public n) new → Activates g n o new
-update_activates g new n o waits active now =
+pub update_activates : (g new : Graph) (n o : ℕ) → WaitsFor g n o → MayActivate g n o → IsUpdate g n None (g.private n) (g.public n) new → Activates g n o new
+update_activates g new n o waits may now =
     let same : (k : ℕ) → (new.private k ≡ g.private k) × (new.public k ≡ g.public k) = λ k. elim (ℕ_discrete k n) [
       | yes e ↦ rw e (now.private, now.public)
       | no apart ↦ ((now.others k apart).private, (now.others k apart).public)
     ] in
     record {
       waited = waits;
-      may = inl active;
+      may = may;
       processes = now.processes;
       now_active = now.holder;
       holders = λ k apart. (now.others k apart).holder;
@@ -81,7 +81,7 @@ update_activates g new n o waits active now =
 module _ (number : ℕ → ℕ) (g : Graph) (o f : ℕ) (label : ℕ → ℕ) where
   -- with no one else waiting, a hand-over is one activation
   first_activates : (new : Graph) → HandsOver number g o f [] label new → Activates g f o new
-  first_activates new over = update_activates g new f o over.first over.giver record {
+  first_activates new over = update_activates g new f o over.first (inl over.giver) record {
     processes = over.processes;
     holder = over.first_now.0;
     private = over.first_now.1;
@@ -149,7 +149,7 @@ module _ (number : ℕ → ℕ) (g : Graph) (o f : ℕ) (label : ℕ → ℕ) wh
   last_keeps_all k rest mid free new over back now laws kept =
       let waits : WaitsFor mid k o = back.holder ∙ over.waiting k (inl refl) in
       let giver : IsActive mid o = giver_stays rest mid (hands_over_without k rest mid new over back) in
-      let goes : Activates mid k o free = update_activates mid free k o waits giver now in
+      let goes : Activates mid k o free = update_activates mid free k o waits (inl giver) now in
       let frees : KeepsAll number mid free = activate_keeps_all number mid free k o goes giver kept.lawful kept.makers in
       let named : number (label k) ≡ k = over.named k (inl refl) in
       let comes : Blocks free k f (label k) new = last_blocks k rest mid free new over back now laws frees.lawful frees.makers in

@@ -1,8 +1,7 @@
--- A process waits no longer: what the waits are then, and the laws stay where its two labels are equal.
-use Rattle.std.proofs.Common.{◌≡◌, ◌≢◌, ◌+◌, ℕ, List, length, Bool, true, false, not, slice_index_or, None, is_some, option_map, option_and_then, IsTrue, inr, refl, sym, ap, ◌∙◌}
+-- A process waits no longer: what the waits are then, and the laws stay where the graph lets it go.
+use Rattle.std.proofs.Common.{◌≡◌, ◌≢◌, ◌+◌, ℕ, List, length, Bool, true, false, not, slice_index_or, None, is_some, option_map, option_and_then, IsTrue, refl, sym, ap, ◌∙◌}
 use Rattle.std.specs.List.{count_by}
 use Rattle.std.proofs.lemmas.Bool.{eqb-false, ne_eqb, eqb-true, not-true, not_from_false}
-use Rattle.mm_label.specs.Label.{word_of}
 use Rattle.mm_arena.specs.declared.key.Key.{Key}
 use Rattle.mm_list_lemmas.specs.Members.{Among}
 use Rattle.mm_list_lemmas.proofs.Lemmas.Filter.{filter_all, filter_gives}
@@ -10,11 +9,11 @@ use Rattle.mm_list_lemmas.proofs.Lemmas.Find.{find_filter, none_found}
 use Rattle.mm_list_lemmas.proofs.Lemmas.NoRepeat.{no_repeat_filter}
 use Rattle.mm_rules.specs.declared.reply.Totals.{Totals}
 use Rattle.mm_rules.specs.Graph.{WaitsFor}
-use Rattle.mm_rules.specs.TableState.{TableState, Wait, is_of, is_live, wait_of, owner_of, has_verdict, private_of, public_of, graph_of}
+use Rattle.mm_rules.specs.TableState.{TableState, Wait, is_of, is_live, wait_of, owner_of, has_verdict, public_of, graph_of}
 use Rattle.mm_rules.specs.Change.{activate}
 use Rattle.mm_rules.specs.Laws.{IsHeld, Laws}
 use Rattle.mm_rules.proofs.States.IsSized.{same_lengths}
-use Rattle.mm_rules.proofs.Graph.Change.{Activates}
+use Rattle.mm_rules.proofs.Graph.Change.{Activates, MayActivate}
 use Rattle.mm_rules.proofs.Graph.Activate.{activate_keeps_laws}
 use Rattle.mm_rules.proofs.Graph.LabelReturned.{activate_keeps_returned}
 use Rattle.mm_rules.proofs.States.LabelOrder.{label_le_same}
@@ -42,12 +41,12 @@ module _ (s : TableState) (n : ℕ) where
 abbrev pub activated_with : TableState → ℕ → List Bool → Totals → TableState
 activated_with s n verdicts totals = record (activate s n) { verdicts = verdicts; totals = totals }
 
-module _ (s : TableState) (n h : ℕ) (verdicts : List Bool) (totals : Totals) (laws : Laws s) (waits : WaitsFor (graph_of s) n h) (own : private_of s n ≡ public_of s n)
+module _ (s : TableState) (n h : ℕ) (verdicts : List Bool) (totals : Totals) (laws : Laws s) (waits : WaitsFor (graph_of s) n h) (may : MayActivate (graph_of s) n h)
     (before : (v : ℕ) → slice_index_or verdicts v false ≡ true → (v ≢ n) × IsTrue (has_verdict s v)) where
   activated_with_graph : Activates (graph_of s) n h (graph_of (activated_with s n verdicts totals))
   activated_with_graph = record {
     waited = waits;
-    may = inr (ap word_of (sym own));
+    may = may;
     processes = refl;
     now_active = no_holder (activated_with s n verdicts totals) n (waits_no_longer s n);
     holders = λ k apart. ap (λ o. option_map (λ (k : Key). k.process) (option_and_then (owner_of s) o)) (waits_else s n k apart);

@@ -54,12 +54,12 @@ detects_verdicts s (n ∷ ns) once =
 
 -- ---- what a change adds, before the event itself is counted
 
-record Adds (old new : TableState) (v a : ℕ) : Type 0 where
+pub record Adds (old new : TableState) (v a : ℕ) : Type 0 where
   accepted : new.totals.accepted ≡ old.totals.accepted
   verdicts : new.totals.verdicts ≡ old.totals.verdicts + v
   aborts : new.totals.aborts ≡ old.totals.aborts + a
 
-adds_nothing : (old new : TableState) → new.totals ≡ old.totals → Adds old new 0 0
+pub adds_nothing : (old new : TableState) → new.totals ≡ old.totals → Adds old new 0 0
 adds_nothing old new same = record {
   accepted = ap (λ t. t.accepted) same;
   verdicts = omega (arith, ap (λ t. t.verdicts) same);
@@ -99,12 +99,12 @@ settle_adds s n =
 
 -- ---- events
 
-decided_counts : (e : Event) (old : TableState) (answer : Answer e) (new : TableState) (r : Result (Unit {0}) Refusal)
+pub decided_counts : (e : Event) (old : TableState) (answer : Answer e) (new : TableState) (r : Result (Unit {0}) Refusal)
     → Adds old new (verdicts_made e answer) (aborts_made e) → Counts e (decided r old answer new).reply old.totals (decided r old answer new).state.totals
 decided_counts e old answer new (Err refusal) adds = refl
 decided_counts e old answer new (Ok u) adds = (ap (λ n. n + 1) adds.accepted, adds.verdicts, adds.aborts)
 
-gives_counts : (e : Event) (old new : TableState) (reply : Result (Answer e) Refusal) (o : Outcome (Answer e)) → Gives o reply new → Counts e o.reply old.totals o.state.totals
+pub gives_counts : (e : Event) (old new : TableState) (reply : Result (Answer e) Refusal) (o : Outcome (Answer e)) → Gives o reply new → Counts e o.reply old.totals o.state.totals
     → Counts e reply old.totals new.totals
 gives_counts e old new reply o gives counts = rw (gives.0, gives.1) counts
 

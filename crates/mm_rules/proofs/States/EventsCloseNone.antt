@@ -39,7 +39,7 @@ left_closes_none : (s t : TableState) → SettleKeeps s t → ClosesNone s t
 left_closes_none s t keeps = same_holders_close_none s t (same_holders s t keeps) keeps.verdicts
 
 -- n waits no longer, and every other verdict stands
-activated_closes_none : (s : TableState) (n : ℕ) (verdicts : List Bool) (totals : Totals)
+pub activated_closes_none : (s : TableState) (n : ℕ) (verdicts : List Bool) (totals : Totals)
     → ((v : ℕ) → v ≢ n → IsTrue (has_verdict s v) → slice_index_or verdicts v false ≡ true) → ClosesNone s (activated_with s n verdicts totals)
 activated_closes_none s n verdicts totals stand =
     let new = activated_with s n verdicts totals in

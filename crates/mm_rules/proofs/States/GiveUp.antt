@@ -3,7 +3,7 @@ use Rattle.std.proofs.Common.{◌≡◌, ◌≢◌, ◌+◌, ℕ, ◌<◌, slice
 use Rattle.std.specs.List.{count_by}
 use Rattle.std.proofs.lemmas.Bool.{cases_eq, not-false}
 use Rattle.std.proofs.lemmas.List.Sums.{sum_by-set}
-use Rattle.mm_label.specs.Label.{label_eq}
+use Rattle.mm_label.specs.Label.{label_eq, word_of}
 use Rattle.mm_arena.specs.declared.key.Key.{Key}
 use Rattle.mm_rules.specs.Graph.{WaitsFor, IsWaiting}
 use Rattle.mm_rules.specs.TableState.{TableState, is_waiting, has_verdict, private_of, public_of, graph_of}
@@ -21,7 +21,7 @@ give_up_change_keeps s n laws waiting none own =
     let waits : IsWaiting (graph_of s) n = waiting_has_holder s laws.lawful.well_formed n waiting in
     let before : (v : ℕ) → slice_index_or s.verdicts v false ≡ true → (v ≢ n) × IsTrue (has_verdict s v)
     = λ v verdict. (λ e. (let never : true ≡ false = sym verdict ∙ ap (has_verdict s) e ∙ none in absurd (cc)), verdict) in
-    activated_with_keeps s n waits.0 s.verdicts s.totals laws waits.1 own before refl laws.lawful.counted
+    activated_with_keeps s n waits.0 s.verdicts s.totals laws waits.1 (inr (inl (ap word_of (sym own)))) before refl laws.lawful.counted
 
 pub given_up_keeps : (s : TableState) (k : Key) → Laws s → KeepsLaws s (given_up s k).state
 given_up_keeps s k laws = outcome_keeps_laws s tt (activate s k.process) (give_up_tests s k) laws (λ passed.
@@ -56,5 +56,5 @@ module _ (s : TableState) (n : ℕ) (laws : Laws s) (verdict : IsTrue (has_verdi
       omega (arith, rw verdict at less, laws.lawful.counted)
 
   pub take_back_keeps : KeepsLaws s (take_back s n)
-  take_back_keeps = activated_with_keeps s n (laws.convicted n verdict).0 (slice_set s.verdicts n false) (record s.totals { aborts = s.totals.aborts + 1 }) laws convicted_waits convicted_own
+  take_back_keeps = activated_with_keeps s n (laws.convicted n verdict).0 (slice_set s.verdicts n false) (record s.totals { aborts = s.totals.aborts + 1 }) laws convicted_waits (inr (inl (ap word_of (sym convicted_own))))
       verdict_before (length-set s.verdicts n false) counted

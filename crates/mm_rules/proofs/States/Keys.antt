@@ -73,7 +73,7 @@ swept_same : (s : TableState) (n : ℕ) → SameKeys s (swept s n)
 swept_same s zero = unchanged s
 swept_same s (suc n) = same_keys_then s (swept s n) (swept s (suc n)) (swept_same s n) (transmits_same (swept s n) (waiting_processes (swept s n)))
 
-settle_same : (s : TableState) (n : ℕ) → SameKeys s (fold detect (swept s n) (waiting_processes (swept s n)))
+pub settle_same : (s : TableState) (n : ℕ) → SameKeys s (fold detect (swept s n) (waiting_processes (swept s n)))
 settle_same s n = same_keys_then s (swept s n) (fold detect (swept s n) (waiting_processes (swept s n))) (swept_same s n) (detects_same (swept s n) (waiting_processes (swept s n)))
 
 -- ---- vacate and begin

@@ -10,7 +10,7 @@ word_process w = w % process_range
 pub word_process_is : (l : Label) → l.process < process_range → word_process (word_of l) ≡ l.process
 word_process_is l inside = omega arith
 
-same_label : (a b : Label) → a.counter ≡ b.counter → a.process ≡ b.process → a ≡ b
+pub same_label : (a b : Label) → a.counter ≡ b.counter → a.process ≡ b.process → a ≡ b
 same_label a b counter process = λ i. record { counter = counter i; process = process i }
 
 pub label_eq_true : (a b : Label) → label_eq a b ≡ true → a ≡ b

@@ -90,15 +90,18 @@ count_one_more xs ys n sized same before after =
 
 -- ---- no verdict where each cycle has one
 
-pub others_have_no_victim : OthersHaveNoVictim
-others_have_no_victim e old mid new reply answer step none settle laws each =
-    let laws_mid : Laws mid = (event_keeps e old mid reply step laws).laws in
+pub settle_gives_none : (mid new : TableState) (answer : Settled) → Step Settle mid (Ok answer) new → Laws mid → EachCycleHasVerdict mid
+    → (answer.verdicts ≡ 0) × ((v : ℕ) → has_verdict new v ≡ has_verdict mid v)
+settle_gives_none mid new answer settle laws_mid now =
     let laws_new : Laws new = (event_keeps Settle mid new (Ok answer) settle laws_mid).laws in
     let keeps : SettleKeeps mid new = settle_keeps mid new (Ok answer) settle in
-    let now : EachCycleHasVerdict mid = only_waits_close_cycles e old mid reply step none laws each in
     let same : (v : ℕ) → has_verdict new v ≡ has_verdict mid v = λ v. same_bool (has_verdict new v) (has_verdict mid v)
     (λ verdict.
     let locked : Deadlocked (graph_of new) v = (laws_new.convicted v verdict).2 in
     verdict_before mid new laws_new keeps.verdicts v verdict (now v locked.places (cycle_left mid new keeps v locked.places locked.cycle)))
     (keeps.verdicts v) in
     (omega (arith, verdicts_given mid new answer settle laws_mid laws_new, count_alike mid.verdicts new.verdicts (sized_alike mid new laws_mid laws_new keeps) same), same)
+
+pub others_have_no_victim : OthersHaveNoVictim
+others_have_no_victim e old mid new reply answer step none settle laws each =
+    settle_gives_none mid new answer settle (event_keeps e old mid reply step laws).laws (only_waits_close_cycles e old mid reply step none laws each)

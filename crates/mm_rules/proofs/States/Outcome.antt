@@ -55,7 +55,7 @@ counting s n = record s { totals = record s.totals { accepted = n } }
 pub counting_keeps_laws : (s : TableState) (n : ℕ) → Laws s → Laws (counting s n)
 counting_keeps_laws s n laws = totals_keep_laws s (record s.totals { accepted = n }) laws.lawful.counted laws
 
-counting_keeps : (old new : TableState) (n : ℕ) → KeepsLaws old new → KeepsLaws old (counting new n)
+pub counting_keeps : (old new : TableState) (n : ℕ) → KeepsLaws old new → KeepsLaws old (counting new n)
 counting_keeps old new n keeps = record { laws = counting_keeps_laws new n keeps.laws; rise = keeps.rise }
 
 -- ---- refusals

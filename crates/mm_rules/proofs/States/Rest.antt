@@ -5,9 +5,9 @@ use Rattle.mm_label.specs.Label.{word_of}
 use Rattle.mm_rules.specs.declared.config.Config.{Config}
 use Rattle.mm_rules.specs.Graph.{WaitsFor, IsWaiting, LabelReturned, Deadlocked}
 use Rattle.mm_rules.specs.TableState.{TableState, opening, public_of, has_verdict, graph_of}
-use Rattle.mm_rules.specs.Laws.{Laws, HasOneVerdict}
+use Rattle.mm_rules.specs.Laws.{Laws, AtRest, HasOneVerdict}
 use Rattle.mm_rules.specs.Victims.{EachCycleHasVerdict}
-use Rattle.mm_rules.specs.Rest.{OpeningIsAtRest, RestStays}
+use Rattle.mm_rules.specs.Rest.{HoldersShowTheSame, OpeningIsAtRest, RestStays}
 use Rattle.mm_rules.proofs.Graph.Cycles.{start_on_cycle}
 use Rattle.mm_rules.proofs.Graph.IsSettled.{start_waits}
 use Rattle.mm_rules.proofs.Graph.Deadlocked.{returned_are_deadlocked}
@@ -41,10 +41,8 @@ none_to_detect s laws each v h returned =
       | no apart ↦ absurd (omega (arith, locked.greatest one.victim one.on_cycle apart, one.greatest v (start_on_cycle g v locked.places locked.cycle) (λ e. apart (sym e))))
     ]
 
-pub rest_stays : RestStays
-rest_stays e old new reply step laws rest same =
-    let after : KeepsLaws old new = event_keeps e old new reply step laws in
-    let closes : ClosesNone old new = event_closes_none e old new reply step laws (inr same) in
+pub closing_none_stays : (old new : TableState) → Laws old → KeepsLaws old new → ClosesNone old new → AtRest old → HoldersShowTheSame old new → AtRest new
+closing_none_stays old new laws after closes rest same =
     let each : EachCycleHasVerdict new = closing_none_keeps old new after.laws rest.cycles closes in
     record {
       transmitted = λ n h waits.
@@ -61,3 +59,7 @@ rest_stays e old new reply step laws rest same =
       detected = none_to_detect new after.laws each;
       cycles = each;
     }
+
+pub rest_stays : RestStays
+rest_stays e old new reply step laws rest same =
+    closing_none_stays old new laws (event_keeps e old new reply step laws) (event_closes_none e old new reply step laws (inr same)) rest same

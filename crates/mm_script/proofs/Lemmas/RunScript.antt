@@ -9,29 +9,29 @@ use Rattle.mm_lines.specs.Lines.{lines_of}
 use Rattle.mm_lines.proofs.Lemmas.Ended.{EndedByRead, EndedByLength, EndedByWrite, EndedByEnd}
 use Rattle.mm_lines.proofs.Lemmas.Reached as lines
 use Rattle.mm_script.specs.Script.{Ends, input_limit}
-use Rattle.mm_script.specs.private.Session.{IsLawful}
+use Rattle.mm_script.specs.private.Session.{IsLawful, TextToAny}
 use Rattle.mm_script.specs.Text.{Text}
 use Rattle.mm_script.proofs.Lemmas.Text.{text_total}
 
 -- before each read of a script all replies are written, and an open line is left
 abbrev pub Progress : Option (List ℕ) → Option (List ℕ) → Option (List ℕ) → Option (List ℕ) → InputState → ℕ → Option TableState → List ℕ → Type 0
-Progress rb ra wb wa input malformed table kept = lines.Progress (λ _. Text) IsLawful None rb ra wb wa input malformed table kept
+Progress rb ra wb wa input malformed table kept = lines.Progress TextToAny IsLawful None rb ra wb wa input malformed table kept
 
 -- a run that ended so
 abbrev pub Ran : Option (List ℕ) → Option (List ℕ) → Option (List ℕ) → Option (List ℕ) → Result ℕ Fault → Type 0
 Ran rb ra wb wa result = (read : List ℕ) × (written : List ℕ) × Consumes rb ra read × Appends wb wa written × Ends result read written
 
-module _ {rb ra wb wa : Option (List ℕ)} {malformed : ℕ} where
-  pub ran_read : EndedByRead (λ _. Text) None rb ra wb wa input_limit malformed → Ran rb ra wb wa (Err Read)
+module _ {rb ra wb wa : Option (List ℕ)} {malformed : ℕ} {table : Option TableState} where
+  pub ran_read : EndedByRead TextToAny None rb ra wb wa input_limit malformed table → Ran rb ra wb wa (Err Read)
   ran_read e = (e.read, e.written, e.moved.consumed, e.moved.appended, (e.short, (malformed, e.answered)))
 
-  pub ran_too_long : EndedByLength (λ _. Text) None rb ra wb wa input_limit malformed → Ran rb ra wb wa (Err TooLong)
+  pub ran_too_long : EndedByLength TextToAny None rb ra wb wa input_limit malformed table → Ran rb ra wb wa (Err TooLong)
   ran_too_long e = (_, e.written, e.moved.consumed, e.moved.appended, (e.allowed, e.last, refl, e.long, (malformed, e.answered)))
 
-  pub ran_write : EndedByWrite (λ _. Text) IsLawful None rb ra wb wa malformed → Ran rb ra wb wa (Err Write)
+  pub ran_write : EndedByWrite TextToAny IsLawful None rb ra wb wa malformed table → Ran rb ra wb wa (Err Write)
   ran_write e =
-      let more = text_total e.state e.lawful (lines_of e.rest) in
-      (e.read, e.written, e.moved.consumed, e.moved.appended, (e.lost ++ more.0, (malformed + more.1, e.texts true more.0 more.1 more.2)))
+      let more = text_total table e.lawful (lines_of e.rest) in
+      (e.read, e.written, e.moved.consumed, e.moved.appended, (e.lost ++ more.0, (malformed + more.1, e.texts true more.0 more.1 table more.2)))
 
 ends_by : (result : Result ℕ Fault) (read written lost : List ℕ) (count : ℕ) → length read ≤ input_limit → Text None (lines_of read) (written ++ lost) count
     → IfOk result (λ m. (m ≡ count) × (lost ≡ [])) → IfErr result (λ fault. fault ≡ Write) → Ends result read written
@@ -40,9 +40,9 @@ ends_by (Ok m) read written lost count h text ok err =
     (h, subst (Text None (lines_of read) written) (sym ok.0) (subst (λ r. Text None (lines_of read) r count) out text))
 ends_by (Err fault) read written lost count h text ok err = let P : Fault → Type 0 = λ f. Ends (Err f) read written in subst P (sym err) (lost, (count, text))
 
-pub ran_end : (rb ra wb wa : Option (List ℕ)) (result : Result ℕ Fault) (lost : List ℕ) (count : ℕ) → EndedByEnd (λ _. Text) None rb ra wb wa input_limit count lost
+pub ran_end : (rb ra wb wa : Option (List ℕ)) (result : Result ℕ Fault) (lost : List ℕ) (count : ℕ) (table : Option TableState) → EndedByEnd TextToAny None rb ra wb wa input_limit count table lost
     → IfOk result (λ m. (m ≡ count) × (lost ≡ [])) → IfErr result (λ fault. fault ≡ Write) → Ran rb ra wb wa result
-ran_end rb ra wb wa result lost count e ok err = (e.read, e.written, e.moved.consumed, e.moved.appended, ends_by result e.read e.written lost count e.short e.answered ok err)
+ran_end rb ra wb wa result lost count table e ok err = (e.read, e.written, e.moved.consumed, e.moved.appended, ends_by result e.read e.written lost count e.short e.answered ok err)
 
 -- where a read gave nothing the reader is at its end, whatever is answered then
 pub at_end : {T E : Type 0} (reply : Result T E) (ra after : Option (List ℕ)) (input read : InputState) → Reads ra after input read false → OnOk reply (IsAtEnd after)

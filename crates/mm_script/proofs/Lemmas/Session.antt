@@ -14,7 +14,7 @@ use Rattle.mm_script.specs.declared.line.Line.TheVariants as kind
 use Rattle.mm_script.specs.declared.engine.Session.{Session}
 use Rattle.mm_script.specs.Line.{line_of}
 use Rattle.mm_script.specs.Text.{Answers, Text}
-use Rattle.mm_script.specs.private.Session.{AnswersBytes, AnswersLine, AnswersLines, AnswersOpen}
+use Rattle.mm_script.specs.private.Session.{AnswersBytes, AnswersLine, AnswersLines, AnswersOpen, TextToAny}
 use Rattle.mm_script.proofs.Lemmas.Text.{answers_keep}
 
 line_of-long : (line : List ℕ) → 128 < length line → line_of line ≡ kind.Malformed
@@ -27,11 +27,11 @@ long_line t a b lines out m long_a long_b text =
     (text.0, text.1, text.2, text.3, text.4, subst (λ l. Answers l t text.1 text.3 text.0) same text.5, text.6, text.7, text.8)
 
 -- the text of a script is made line by line
-pub script_text : IsText AnswersBytes 128 (λ _. Text)
+pub script_text : IsText AnswersBytes 128 TextToAny
 script_text = record {
   none = λ whole s. (refl, refl);
-  next = λ whole s t line reply one lines out malformed answer text. (t, reply, out, one, malformed, answer, text, refl, refl);
-  long = λ whole. long_line;
+  next = λ whole s t u line reply one lines out malformed answer text. (t, reply, out, one, malformed, answer, text, refl, refl);
+  long = λ whole s t. long_line s;
 }
 
 pub answers_line : (old new : Session) (line : List ℕ) (kind : Line) (reply : List ℕ) (one : ℕ) → kind ≡ line_of line → Answers kind old.table reply one new.table

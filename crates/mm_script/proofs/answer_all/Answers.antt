@@ -6,8 +6,7 @@ use Rattle.mm_lines.specs.declared.fault.Fault.TheVariants.{Read, Write}
 use Rattle.mm_lines.specs.Input.{InputState, within_limit, Reads, IsReady}
 use Rattle.mm_lines.proofs.Lemmas.Ended.{ended_by_read, ended_by_length, ended_by_write, ended_by_end, bounded_before, bounded_read, within_all}
 use Rattle.mm_lines.proofs.Lemmas.Reached.{piece_answered, progress_first, progress_next}
-use Rattle.mm_script.specs.private.Session.{AnswersLines, IsLawful}
-use Rattle.mm_script.specs.Text.{Text}
+use Rattle.mm_script.specs.private.Session.{AnswersLines, IsLawful, TextToAny}
 use Rattle.mm_script.proofs.Lemmas.RunScript.{Ran, ran_read, ran_write, ran_too_long, ran_end, at_end}
 use Rattle.mm_script.proofs.Lemmas.Session.{script_text}
 use Rattle.mm_script.proofs.answer_all.Goals as goal
@@ -18,7 +17,7 @@ loop-session-init g c =
     let nothing = ap (λ (i : InputState). length i.held) c.requires.input in
     let none_taken = ap (λ (i : InputState). i.taken) c.requires.input in
     let ready : IsReady input = record { room = omega (arith, nothing); within_limit = omega (arith, none_taken) } in
-    let first = progress_first (λ _. Text) IsLawful (g.R.Read.remaining c.args.reader.now) (g.W.Write.contents c.args.writer.now) input None c.args.session.now.replies.items
+    let first = progress_first TextToAny IsLawful (g.R.Read.remaining c.args.reader.now) (g.W.Write.contents c.args.writer.now) input None c.args.session.now.replies.items
     (ap (λ (i : InputState). i.held) c.requires.input) none_taken ready tt c.requires.replies in
     record {
       so_far = rw (c.requires.malformed, c.requires.table) first;
@@ -73,8 +72,8 @@ pub returns-clause-ends : goal.returns-clause-ends
 returns-clause-ends g c =
     let finished = c.finish.ensures.finished in
     let ended = rw c.loop-session.invariant.limit at
-    (ended_by_end script_text _ _ c.read.new.self _ _ _ _ _ _ c.loop-session.invariant.so_far c.in_ok-read.ensures.ok c.if-branch.false c.within_limit-2.ensures finished.3 finished.4) in
-    ran_end _ _ _ _ _ _ _ ended finished.5 c.finish.ensures.fault
+    (ended_by_end script_text _ _ c.read.new.self _ _ _ _ _ _ c.finish.new.self.table c.loop-session.invariant.so_far c.in_ok-read.ensures.ok c.if-branch.false c.within_limit-2.ensures finished.3 finished.4) in
+    ran_end _ _ _ _ _ _ _ _ ended finished.5 c.finish.ensures.fault
 
 pub returns-clause-end : goal.returns-clause-end
 returns-clause-end g c =

@@ -1,5 +1,5 @@
 -- What the contracts of private functions say of a session. The contract of `run_script` needs none of it.
-use Rattle.std.specs.Prelude.{◌≡◌, ℕ, ◌+◌, ◌≤◌, List, ◌++◌, Option, Some, None, ⊤}
+use Rattle.std.specs.Prelude.{◌≡◌, Bool, ℕ, ◌+◌, ◌≤◌, List, ◌++◌, Option, Some, None, ⊤}
 use Rattle.mm_table.specs.TableState.{TableState}
 use Rattle.mm_table.specs.Laws.{Laws}
 use Rattle.mm_lines.specs.Answered.{Answered}
@@ -17,6 +17,10 @@ IsLawful (Some state) = Laws state
 abbrev pub AnswersBytes : Option TableState → List ℕ → List ℕ → ℕ → Option TableState → Type 0
 AnswersBytes old line out malformed new = Answers (line_of line) old out malformed new
 
+-- a text, whatever table the lines leave
+abbrev pub TextToAny : Bool → Option TableState → List (List ℕ) → List ℕ → ℕ → Option TableState → Type 0
+TextToAny whole table lines out malformed after = Text table lines out malformed
+
 -- the session answered a line
 pub record AnswersLine (old : Session) (line : List ℕ) (new : Session) : Type 0 where
   pub reply : List ℕ
@@ -28,7 +32,7 @@ pub record AnswersLine (old : Session) (line : List ℕ) (new : Session) : Type 
 
 -- the session answered the lines at the front of the bytes, wrote what it did not keep or lose, and the rest is left
 abbrev pub AnswersLines : Option (List ℕ) → Option (List ℕ) → Session → List ℕ → Session → List ℕ → List ℕ → Type 0
-AnswersLines before after old bytes new rest lost = Answered (λ _. Text) IsLawful before after old.table old.malformed old.replies.items bytes new.table new.malformed rest lost
+AnswersLines before after old bytes new rest lost = Answered TextToAny IsLawful before after old.table old.malformed old.replies.items bytes new.table new.malformed rest lost
 
 -- the session answered the line that no newline ends, if there is one
 pub record AnswersOpen (old : Session) (bytes : List ℕ) (new : Session) : Type 0 where

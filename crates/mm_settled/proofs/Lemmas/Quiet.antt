@@ -1,27 +1,25 @@
--- Events that need no settle: a begin, a request that is granted, a wait that is given up, and a refused event. Nobody is granted anything.
-use Rattle.std.proofs.Common.{◌≡◌, ◌≢◌, ◌⊎◌, ◌<◌, ◌+◌, ℕ, [], ◌∷◌, length, drop, Option, Some, None, is_some, Result, Ok, true, false, slice_set, slice_index, inl, inr, refl, sym, ap, subst, ◌∙◌, arith, length-set, get_or-set_same, get_or-set_other}
-use Rattle.std.proofs.lemmas.Bool.{cases_eq, cases_lt, not-false}
+-- Events that need no settle: a begin, a request that is granted, and a refused event. Nobody is granted anything.
+use Rattle.std.proofs.Common.{◌≡◌, ◌≢◌, ◌⊎◌, ◌+◌, ℕ, [], length, drop, Option, Some, None, Result, Ok, true, slice_set, slice_index, inl, inr, refl, sym, ap, subst, ◌∙◌, arith, length-set, get_or-set_same, get_or-set_other}
+use Rattle.std.proofs.lemmas.Bool.{cases_eq, cases_lt}
 use Rattle.std.proofs.lemmas.List.{get_or_past}
 use Rattle.mm_arena.specs.declared.key.Key.{Key}
 use Rattle.mm_rules.specs.declared.refusal.Refusal.{Refusal}
 use Rattle.mm_rules.specs.declared.reply.Acquired.{Acquired}
 use Rattle.mm_rules.specs.declared.reply.Acquired.TheVariants.{Granted}
-use Rattle.mm_rules.specs.TableState.{TableState, key_of, is_live, is_waiting, owner_of, wait_of, public_of, has_verdict, graph_of}
-use Rattle.mm_rules.specs.Change.{activate}
-use Rattle.mm_rules.specs.Event.{Event, Begin, Acquire, GiveUp, Answer, Step, begin_tests, acquire_tests, acquire_answer, acquire_change, give_up_tests}
+use Rattle.mm_rules.specs.TableState.{TableState, key_of, owner_of, wait_of, public_of, has_verdict, graph_of}
+use Rattle.mm_rules.specs.Event.{Event, Begin, Acquire, Answer, Step, begin_tests, acquire_tests, acquire_answer, acquire_change}
 use Rattle.mm_rules.specs.Laws.{Laws, AtRest}
 use Rattle.mm_rules.specs.Victims.{IsOnCycle}
 use Rattle.mm_rules.proofs.Graph.IsSettled.{start_waits}
 use Rattle.mm_rules.proofs.Graph.Walks.{active_waits_not}
-use Rattle.mm_rules.proofs.States.Activate.{waits_no_longer}
-use Rattle.mm_rules.proofs.States.Lookups.{none_of_is_some, no_holder, live_within, waits_here, held}
+use Rattle.mm_rules.proofs.States.Lookups.{none_of_is_some, no_holder, waits_here, held}
 use Rattle.mm_rules.proofs.States.Outcome.{counting}
 use Rattle.mm_rules.proofs.States.Rest.{rest_stays}
 use Rattle.mm_settle.specs.Touched.{IsUnchanged, changed_processes}
-use Rattle.mm_settle.proofs.Lemmas.Touched.{unchanged, activate_else, owner_else}
+use Rattle.mm_settle.proofs.Lemmas.Touched.{unchanged, owner_else}
 use Rattle.mm_settled.specs.Grants.{grants}
 use Rattle.mm_settled.proofs.Lemmas.Accepted.{IsAccepted, accepted, either}
-use Rattle.mm_settled.proofs.Lemmas.Changed.{changed_nobody, changed_one}
+use Rattle.mm_settled.proofs.Lemmas.Changed.{changed_nobody}
 use Rattle.mm_settled.proofs.Lemmas.Grants.{same_owners_grant_none, owner_or_idle_grants_none}
 
 -- from s to t nobody is granted anything, and no verdict and no public label changes
@@ -63,30 +61,6 @@ begin_quiet s t reply laws step =
       | inl same ↦ (same_is_quiet s t laws same, same_changes_nobody s t same)
       | inr is ↦ nobody_changed s t laws (ap (λ (u : TableState). u.owners) is) (λ m. subst (λ u. IsUnchanged s u m) (sym is) record { private = refl; public = refl; wait = refl; holder = refl; verdict = refl })
     ]
-
--- ---- a wait that is given up
-
-pub record GivesUp (s : TableState) (k : Key) (t : TableState) : Type 0 where
-  pub quiet : IsQuiet s t
-  pub changed : changed_processes s t ≡ k.process ∷ []
-
-pub give_up_quiet : (s t : TableState) (k : Key) → Laws s → Step (GiveUp k) s (Ok tt) t → GivesUp s k t
-give_up_quiet s t k laws step =
-    let n = k.process in
-    let done : IsAccepted (Unit {0}) (give_up_tests s k) tt (activate s n) tt t = accepted (give_up_tests s k) s tt (activate s n) tt t step in
-    let waits : is_waiting s n ≡ true = not-false (is_waiting s n) done.passed.1.1.0 in
-    let within : n < s.config.processes = live_within s k laws.lawful.well_formed.sizes (not-false (is_live s k) done.passed.1.0) in
-    let is = done.state in
-    record {
-      quiet = record {
-        granted = same_owners_grant_none s t laws (ap (λ (u : TableState). u.owners) is);
-        public = λ m. ap (λ u. public_of u m) is;
-        verdicts = λ m. ap (λ u. has_verdict u m) is;
-      };
-      changed = changed_one s t n within
-          (λ m apart. subst (λ u. IsUnchanged s u m) (sym is) (unchanged_counting s (activate s n) m ((activate s n).totals.accepted + 1) (activate_else s n m apart)))
-          (λ same. let never : true ≡ false = sym waits ∙ ap is_some (sym same.wait ∙ ap (λ u. wait_of u n) is ∙ waits_no_longer s n) in cc);
-    }
 
 -- ---- a request that is granted
 

@@ -1,5 +1,5 @@
 -- After a call by which resources are handed over the table is at rest again, and what it tells is true of the whole call.
-use Rattle.std.proofs.Common.{◌≡◌, ◌<◌, ◌+◌, ◌^◌, ℕ, Bool, true, false, List, None, Ok, slice_index_or, inl, inr, refl, sym, ap, subst, ◌∙◌, arith}
+use Rattle.std.proofs.Common.{◌≡◌, ◌↔◌, ◌<◌, ◌+◌, ◌^◌, ℕ, Bool, true, false, List, None, Ok, slice_index_or, inl, inr, refl, sym, ap, subst, ◌∙◌, arith}
 use Rattle.std.specs.Prelude.{nat_lt}
 use Rattle.std.proofs.lemmas.Bool.{cases_Bool, and_parts, ltb-true, lt-leb}
 use Rattle.mm_rules.specs.TableState.{TableState, owner_of, wait_of, waited_for, has_verdict}
@@ -18,10 +18,10 @@ use Rattle.mm_rules.proofs.States.SettleKeeps.{SettleKeeps, settle_keeps}
 use Rattle.mm_settle.specs.Touched.{is_changed, changed_processes}
 use Rattle.mm_settle.specs.Shown.{IdleShowTheSame}
 use Rattle.mm_settle.proofs.Lemmas.Told.{unchanged_is}
-use Rattle.mm_settled.specs.Calls.{has_room, Rests, Made, OthersKeepVerdicts}
+use Rattle.mm_settled.specs.Calls.{has_room, NoneWaits, Rests, Made, OthersKeepVerdicts}
 use Rattle.mm_settled.specs.Grants.{grants, EndsWaits}
 use Rattle.mm_settled.specs.declared.reply.Grant.{Grant}
-use Rattle.mm_settled.specs.private.Lists.{NoneWaits, ComesToRest, joined}
+use Rattle.mm_settled.specs.private.Lists.{ComesToRest, joined}
 use Rattle.mm_settled.proofs.Lemmas.Changed.{joined_is, listed_changed, settle_does_not_change_back}
 use Rattle.mm_settled.proofs.Lemmas.Ends.{HandsOn}
 use Rattle.mm_settled.proofs.Lemmas.Grants.{grants_alike, ends_waits}
@@ -94,6 +94,16 @@ module _ (e : Event) (old mid new : TableState) (answer : Answer e) (laws : Laws
     rests : Rests mid new
     rests = elim comes [ inl quiet ↦ inl quiet.1 | inr settled ↦ inr (settled.0, settled.1) ]
 
+    -- a settle is counted, so the table is another one after it
+    is_quiet : (new ≡ mid) ↔ NoneWaits mid (changed_processes old mid)
+    is_quiet = elim comes [
+      | inl quiet ↦ (λ same. subst (NoneWaits mid) tells quiet.0, λ none. quiet.1)
+      | inr settled ↦ (
+        λ same. absurd (omega (arith, ap (λ (t : TableState). t.totals.accepted) same, (event_counts Settle mid new (Ok settled.0) settled.1).0)),
+        λ none. absurd (settled.3 (subst (NoneWaits mid) (sym tells) none)),
+      )
+    ]
+
     laws_again : Laws new
     laws_again = elim comes [
       | inl quiet ↦ subst (λ (t : TableState). Laws t) (sym quiet.1) after.laws
@@ -130,7 +140,7 @@ module _ (e : Event) (old mid new : TableState) (answer : Answer e) (laws : Laws
     all_granted = sym (grants_alike old mid new kept.1)
 
     made : has_room old ≡ true → Made e old answer new
-    made room = record { room = room; mid = mid; event = event; rests = rests; verdicts = gives_none }
+    made room = record { room = room; mid = mid; event = event; rests = rests; quiet = is_quiet; verdicts = gives_none }
 
     module _ (n : ℕ) (p : ℕ → Bool) (on : HandsOn old n p mid) where
       on_again : HandsOn old n p new

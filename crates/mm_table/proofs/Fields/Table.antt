@@ -11,6 +11,7 @@ use Rattle.mm_rules.specs.contracts.refusal.RefusalPartialEq.TheImpl.{eq-value a
 use Rattle.mm_rules.specs.contracts.reply.SettledPartialEq.TheImpl.{eq-value as settled_eq}
 use Rattle.mm_rules.specs.TableState.{TableState, opening}
 use Rattle.mm_rules.specs.Event.{Event, Answer, Step, Settle, decided}
+use Rattle.mm_rules.specs.Laws.{Laws}
 use Rattle.mm_rules.proofs.States.EventsKeepLaws.{event_keeps}
 use Rattle.mm_rules.proofs.States.Config.{event_config}
 use Rattle.mm_settle.specs.Touched.{Touches, changed_processes}
@@ -48,40 +49,66 @@ opened_changed c set = none_changed (opening c) set (λ k. idle_transmits_not (o
 
 -- ---- events
 
-module _ (e : Event) (old : Inside) (new : TableState) (reply : Result (Answer e) Refusal) (step : Step e old.records reply new) (kept : IsLawfulTable old) where
-  processes : new.config.processes ≡ old.records.config.processes
-  processes = ap (λ c. c.processes) (event_config e old.records new reply step)
+-- whatever keeps the laws and the configuration
+module _ (old : Inside) (new : TableState) (laws : Laws new) (config : new.config ≡ old.records.config) (kept : IsLawfulTable old) where
+  lawful_processes : new.config.processes ≡ old.records.config.processes
+  lawful_processes = ap (λ c. c.processes) config
 
   -- whoever may transmit or newly detect afterwards is among these
-  pub step_keeps_table : (changed touched : List Bool) → AreChanged new changed → length changed ≡ length old.sets.changed → length touched ≡ length old.sets.touched → ((k : ℕ) → has touched k ≡ false)
+  laws_keep_table : (changed touched : List Bool) → AreChanged new changed → length changed ≡ length old.sets.changed → length touched ≡ length old.sets.touched → ((k : ℕ) → has touched k ≡ false)
       → IsLawfulTable (record { records = new; sets = record old.sets { changed = changed; touched = touched } })
-  step_keeps_table changed touched are changed_sized touched_sized none = record {
-    laws = (event_keeps e old.records new reply step kept.laws).laws;
+  laws_keep_table changed touched are changed_sized touched_sized none = record {
+    laws = laws;
     changed = are;
     sized = record {
-      changed_sized = changed_sized ∙ kept.sized.changed_sized ∙ sym processes;
-      pending_sized = kept.sized.pending_sized ∙ sym processes;
-      checks_sized = kept.sized.checks_sized ∙ sym processes;
+      changed_sized = changed_sized ∙ kept.sized.changed_sized ∙ sym lawful_processes;
+      pending_sized = kept.sized.pending_sized ∙ sym lawful_processes;
+      checks_sized = kept.sized.checks_sized ∙ sym lawful_processes;
     };
-    touched_sized = touched_sized ∙ kept.touched_sized ∙ sym processes;
+    touched_sized = touched_sized ∙ kept.touched_sized ∙ sym lawful_processes;
     touched_none = none;
   }
 
-  -- those that the event changed were added to the changed
-  pub touch_keeps_table : (changed : List Bool) → Touches old.records new old.sets.changed changed → IsLawfulTable (record { records = new; sets = record old.sets { changed = changed } })
-  touch_keeps_table changed touches =
-      step_keeps_table changed old.sets.touched (changes_keep old.records new old.sets.changed changed (touches_changes old.records new old.sets.changed changed touches) kept.changed) touches.sized refl kept.touched_none
+  -- those that it changed were added to the changed
+  pub touch_keeps_lawful : (changed : List Bool) → Touches old.records new old.sets.changed changed → IsLawfulTable (record { records = new; sets = record old.sets { changed = changed } })
+  touch_keeps_lawful changed touches =
+      laws_keep_table changed old.sets.touched (changes_keep old.records new old.sets.changed changed (touches_changes old.records new old.sets.changed changed touches) kept.changed) touches.sized refl kept.touched_none
 
   -- they were listed first
-  pub listing_keeps_table : (touched changed left : List Bool) → Touches old.records new old.sets.touched touched → ((k : ℕ) → has changed k ≡ (has old.sets.changed k || has touched k))
+  pub listing_keeps_lawful : (touched changed left : List Bool) → Touches old.records new old.sets.touched touched → ((k : ℕ) → has changed k ≡ (has old.sets.changed k || has touched k))
       → length changed ≡ length old.sets.changed → left ≡ replicate (length touched) false → IsLawfulTable (record { records = new; sets = record old.sets { changed = changed; touched = left } })
-  listing_keeps_table touched changed left touches union sized is =
-      step_keeps_table changed left (touches_union old.records new old.sets.touched touched old.sets.changed changed touches kept.changed union) sized
+  listing_keeps_lawful touched changed left touches union sized is =
+      laws_keep_table changed left (touches_union old.records new old.sets.touched touched old.sets.changed changed touches kept.changed union) sized
       (ap length is ∙ length-replicate (length touched) false ∙ touches.sized) (emptied left (length touched) is)
 
-  -- they are the list
+-- they are the list
+pub are_listed : (old : Inside) (new : TableState) → IsLawfulTable old → (touched : List Bool) (list : List ℕ) → Touches old.records new old.sets.touched touched → list ≡ members touched
+    → list ≡ changed_processes old.records new
+are_listed old new kept touched list touches is = is ∙ told old.records new old.sets.touched touched touches kept.touched_none kept.touched_sized
+
+module _ (e : Event) (old : Inside) (new : TableState) (reply : Result (Answer e) Refusal) (step : Step e old.records reply new) (kept : IsLawfulTable old) where
+  lawful : Laws new
+  lawful = (event_keeps e old.records new reply step kept.laws).laws
+
+  config_kept : new.config ≡ old.records.config
+  config_kept = event_config e old.records new reply step
+
+  processes : new.config.processes ≡ old.records.config.processes
+  processes = ap (λ c. c.processes) config_kept
+
+  pub step_keeps_table : (changed touched : List Bool) → AreChanged new changed → length changed ≡ length old.sets.changed → length touched ≡ length old.sets.touched → ((k : ℕ) → has touched k ≡ false)
+      → IsLawfulTable (record { records = new; sets = record old.sets { changed = changed; touched = touched } })
+  step_keeps_table = laws_keep_table old new lawful config_kept kept
+
+  pub touch_keeps_table : (changed : List Bool) → Touches old.records new old.sets.changed changed → IsLawfulTable (record { records = new; sets = record old.sets { changed = changed } })
+  touch_keeps_table = touch_keeps_lawful old new lawful config_kept kept
+
+  pub listing_keeps_table : (touched changed left : List Bool) → Touches old.records new old.sets.touched touched → ((k : ℕ) → has changed k ≡ (has old.sets.changed k || has touched k))
+      → length changed ≡ length old.sets.changed → left ≡ replicate (length touched) false → IsLawfulTable (record { records = new; sets = record old.sets { changed = changed; touched = left } })
+  listing_keeps_table = listing_keeps_lawful old new lawful config_kept kept
+
   pub listed : (touched : List Bool) (list : List ℕ) → Touches old.records new old.sets.touched touched → list ≡ members touched → list ≡ changed_processes old.records new
-  listed touched list touches is = is ∙ told old.records new old.sets.touched touched touches kept.touched_none kept.touched_sized
+  listed = are_listed old new kept
 
   -- a settle
   pub settled_keeps_table : (changed touched left pending checks : List Bool) → AreChanged new changed → SetsAreSized new changed pending checks → Touches old.records new old.sets.touched touched

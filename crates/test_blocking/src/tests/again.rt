@@ -7,7 +7,7 @@ use mm_blocking::{LockError, Locks, Transaction};
 use std::process::Abort;
 use std::sync::atomic::AtomicU64;
 use std::sync::{Barrier, Wait};
-use std::time::Clock;
+use std::time::{Clock, Instant};
 
 /// What the work of a test fails with.
 #[derive(Clone, Copy)]
@@ -176,23 +176,55 @@ pub fn cross_often<R: Wait + Abort>(
     again
 }
 
-const ATTEMPTS: u32 = 3;
+/// Stands in the way of so many attempts.
+fn stand_in_the_way<R: Wait + Clock + Abort>(rt: &R, locks: &Locks, gate: &Barrier, attempts: u32) {
+    for _ in 0..attempts {
+        take(rt, locks, gate, &STANDS_IN_THE_WAY, 0);
+    }
+}
 
-/// One of two stands in the way, and the other one closes a cycle in each attempt. Returns how many attempts that one made.
+/// One of two stands in the way, and the other one closes a cycle in each of at most so many attempts. Returns how many that one made.
 pub fn give_up<R: Wait + Clock + Abort>(
     rt: &R,
     locks: &Locks,
     gate: &Barrier,
     owners: &[AtomicU64],
     number: usize,
+    most: u32,
 ) -> u64 {
     let mut attempts: u32 = 0;
     if number == 0 {
-        take(rt, locks, gate, &STANDS_IN_THE_WAY, 0);
+        stand_in_the_way(rt, locks, gate, most);
     } else {
-        let outcome = Plan::Closes.run(rt, locks, gate, owners, ATTEMPTS, &mut attempts);
+        let outcome = Plan::Closes.run(rt, locks, gate, owners, most, &mut attempts);
         let is_told = matches!(outcome, Err(WorkError::Refused(LockError::Deadlock)));
         holds(rt, "the last error is a deadlock", is_told);
     }
     u64::from(attempts)
+}
+
+/// How many attempts are made whose time is measured.
+const LONG: u32 = 24;
+
+/// The time, in milliseconds, that the pauses between these take at the least. From the eleventh one on, thirteen pauses have random
+/// lengths below 33 milliseconds, and so 213 milliseconds together on the average: of 10^10 runs, less than one has less than this.
+pub const LEAST: u64 = 30;
+
+/// As `give_up`. Returns how long the attempts took the one who made them, in milliseconds. Threads sleep, so the clock is the system's.
+pub fn pause<R: Wait + Clock + Abort>(
+    rt: &R,
+    locks: &Locks,
+    gate: &Barrier,
+    owners: &[AtomicU64],
+    number: usize,
+) -> u64 {
+    let start = Instant::now(rt).expect(rt, "the clock can be read");
+    let attempts = give_up(rt, locks, gate, owners, number, LONG);
+    let took = start.elapsed(rt).expect(rt, "the clock can be read");
+    if attempts == 0 {
+        return 0;
+    }
+    took.as_secs()
+        .wrapping_mul(1_000)
+        .wrapping_add(u64::from(took.subsec_millis()))
 }

@@ -2,7 +2,7 @@
 
 use crate::tests::helpers::{holds, same};
 use crate::tests::steps::{END, Row, take};
-use crate::tests::{again, asleep, crosswise, crowd, many, tokens};
+use crate::tests::{again, asleep, crosswise, crowd, many, patience, tokens};
 use mm_blocking::{Locks, ManagerConfig};
 use std::alloc::{AllocError, Global};
 use std::process::Abort;
@@ -19,7 +19,11 @@ enum Work {
     Rows(&'static [Row]),
     Outcomes,
     BothCommit,
-    GiveUp,
+    /// One makes so many attempts, and gives up.
+    GiveUp(u32),
+    Pause,
+    Patience,
+    BehindVictim,
     Sleep,
     Crosswise,
     Crowd,
@@ -44,6 +48,8 @@ enum Ended {
     },
     /// The sum of the numbers is below this.
     Below(u64),
+    /// The sum of the numbers is this or above.
+    AtLeast(u64),
 }
 
 #[derive(Clone, Copy)]
@@ -88,7 +94,16 @@ impl Work {
                 0
             }
             Work::BothCommit => again::cross_often(rt, locks, gate, owners, number),
-            Work::GiveUp => again::give_up(rt, locks, gate, owners, number),
+            Work::GiveUp(attempts) => again::give_up(rt, locks, gate, owners, number, attempts),
+            Work::Pause => again::pause(rt, locks, gate, owners, number),
+            Work::Patience => {
+                patience::each_time_passes(rt, locks);
+                0
+            }
+            Work::BehindVictim => {
+                patience::behind_a_victim(rt, locks, gate, owners, number);
+                0
+            }
             Work::Sleep => asleep::one_of_nine(rt, locks, gate, number),
             Work::Crosswise => crosswise::cross_often(rt, locks, gate, number),
             Work::Crowd => crowd::client(rt, locks, owners, number),
@@ -129,6 +144,7 @@ impl Ended {
                 deadlocks_are(rt, locks, committed, sum);
             }
             Ended::Below(bound) => holds(rt, "the sum is below its bound", sum < bound),
+            Ended::AtLeast(bound) => holds(rt, "the sum is not below its bound", bound <= sum),
         }
     }
 }
@@ -177,7 +193,7 @@ fn on_locks<R: Threads + Wait + Clock + CpuClock + Abort + Sync>(
     drop(locks);
 }
 
-static CROWDS: [Case; 9] = [
+static CROWDS: [Case; 12] = [
     // What comes with a request that succeeds is of the names that were asked for.
     Case {
         name: "tokens",
@@ -223,12 +239,45 @@ static CROWDS: [Case; 9] = [
         seed: 11,
         owners: 0,
         threads: 2,
-        work: Work::GiveUp,
+        work: Work::GiveUp(3),
         ended: Ended::Deadlocks {
             committed: 3,
             least: 3,
             most: 3,
         },
+    },
+    // Between the attempts there are pauses.
+    Case {
+        name: "pauses_between_attempts",
+        transactions: 2,
+        names: 2,
+        seed: 11,
+        owners: 0,
+        threads: 2,
+        work: Work::Pause,
+        ended: Ended::AtLeast(again::LEAST),
+    },
+    // A request for a name that stays owned is not taken back before its time.
+    Case {
+        name: "waits_its_time",
+        transactions: 2,
+        names: 1,
+        seed: 11,
+        owners: 0,
+        threads: 1,
+        work: Work::Patience,
+        ended: Ended::Nothing,
+    },
+    // A request behind a victim whose time is up is taken back once the victim has aborted. The two numbers are its clock.
+    Case {
+        name: "behind_a_victim",
+        transactions: 4,
+        names: 2,
+        seed: 11,
+        owners: 2,
+        threads: 3,
+        work: Work::BehindVictim,
+        ended: Ended::Nothing,
     },
     // All who waited used so much processor time.
     Case {

@@ -336,9 +336,9 @@ fn a_commit_wakes_all(rt: HostRuntime) {
 }
 
 /// The first one waits for `b` for a time. The second one owns `b`, and waits for `a` once the first one waits: after three begins, two locks,
-/// and a wait. The third one owns `a` until the time of the first one is up. They begin one after the other, and all three end. The first
-/// one is granted `b`, or its time was up before the second one waited.
-static CARRIED: [Row; 23] = [
+/// and a wait. So the first one shows the label of the second one when its time is up. The third one owns `a` until the request of the first
+/// one is taken back, which counts two events, or one and then a commit if its time was up before the second one waited.
+static BEHIND_A_WAIT: [Row; 22] = [
     Row(0, Step::Begin),
     Row(0, MEET),
     Row(1, MEET),
@@ -353,11 +353,13 @@ static CARRIED: [Row; 23] = [
     Row(0, MEET),
     Row(1, MEET),
     Row(2, MEET),
-    Row(0, Step::Call(Call::LockForOrNot(B, 100), OWNS)),
+    Row(
+        0,
+        Step::Call(Call::LockFor(B, 100), Err(LockError::TimedOut)),
+    ),
     Row(1, Step::Act(Act::Await(3 + 2 + 2))),
     Row(1, Step::Call(Call::Lock(A), OWNS)),
-    Row(2, Step::Act(Act::Await(3 + 2 + 2 + 2))),
-    Row(2, Step::Act(Act::Sleep(150))),
+    Row(2, Step::Act(Act::Await(3 + 2 + 2 + 2 + 2))),
     Row(2, Step::Commit),
     Row(1, Step::Commit),
     Row(0, Step::Commit),
@@ -365,24 +367,12 @@ static CARRIED: [Row; 23] = [
 ];
 
 #[test]
-fn a_carried_wait_goes_on(rt: HostRuntime) {
-    on_rows(&rt, rt.alloc(), (3, 2, 3), &CARRIED);
+fn a_wait_behind_another_is_taken_back(rt: HostRuntime) {
+    on_rows(&rt, rt.alloc(), (3, 2, 3), &BEHIND_A_WAIT);
 }
 
-/// Owns `b` and waits for `a` before each of three attempts of another one closes the cycle.
-pub static STANDS_IN_THE_WAY: [Row; 18] = [
-    Row(0, Step::Begin),
-    Row(0, Step::Call(Call::Lock(B), OWNS)),
-    Row(0, MEET),
-    Row(0, MEET),
-    Row(0, Step::Call(Call::Lock(A), OWNS)),
-    Row(0, Step::Commit),
-    Row(0, Step::Begin),
-    Row(0, Step::Call(Call::Lock(B), OWNS)),
-    Row(0, MEET),
-    Row(0, MEET),
-    Row(0, Step::Call(Call::Lock(A), OWNS)),
-    Row(0, Step::Commit),
+/// Owns `b` and waits for `a` before an attempt of another one closes the cycle.
+pub static STANDS_IN_THE_WAY: [Row; 6] = [
     Row(0, Step::Begin),
     Row(0, Step::Call(Call::Lock(B), OWNS)),
     Row(0, MEET),

@@ -100,26 +100,7 @@ pub enum Call {
     TryLock(Name),
     /// A lock that gives up after so many milliseconds.
     LockFor(Name, u64),
-    /// The same; where the name was granted in time it is given back. The answer is that of a grant also where the time was up.
-    LockForOrNot(Name, u64),
     Unlock(Name),
-}
-
-/// Waits for a name for a time. Where its owner came to wait in time, the label of that one is carried, and the wait goes on until the
-/// grant.
-fn lock_or_not<R: Wait + Clock>(
-    transaction: &mut Transaction<'_, R>,
-    name: &[u8],
-    limit: Duration,
-) -> Answer {
-    let locked = transaction.lock_for(name, limit);
-    let unlocked = owns(transaction.unlock(name));
-    match (locked, unlocked) {
-        (Ok(()), Ok(true)) => Ok(true),
-        (Err(LockError::TimedOut), Err(LockError::NotOwner)) => Ok(true),
-        (Ok(()), _) => unlocked,
-        (Err(error), _) => Err(error),
-    }
 }
 
 /// Makes a call with one name.
@@ -132,9 +113,6 @@ fn call_with<R: Wait + Clock>(
         Call::Lock(_) | Call::LockAll(_) => owns(transaction.lock(name)),
         Call::TryLock(_) => transaction.try_lock(name),
         Call::LockFor(_, time) => owns(transaction.lock_for(name, Duration::from_millis(time))),
-        Call::LockForOrNot(_, time) => {
-            lock_or_not(transaction, name, Duration::from_millis(time))
-        }
         Call::Unlock(_) => owns(transaction.unlock(name)),
     }
 }
@@ -155,11 +133,8 @@ impl Call {
     fn made<R: Wait + Clock + Abort>(self, rt: &R, transaction: &mut Transaction<'_, R>) -> Answer {
         match self {
             Call::LockAll(list) => owns(transaction.lock_all(list.names(rt))),
-            Call::Lock(name)
-            | Call::TryLock(name)
-            | Call::LockFor(name, _)
-            | Call::LockForOrNot(name, _)
-            | Call::Unlock(name) => call_with(transaction, self, name.bytes(rt)),
+            Call::Lock(name) | Call::TryLock(name) | Call::LockFor(name, _) | Call::Unlock(name) =>
+                call_with(transaction, self, name.bytes(rt)),
         }
     }
 }

@@ -283,16 +283,17 @@ impl Both {
         self.end(key)
     }
 
-    /// Only labels tell whether one that waits ends at once or later.
+    /// Behind a victim only labels tell whether one that waits ends at once or later. Else it ends at once.
     fn abort(&mut self, rt: &impl Abort, key: Key) -> Result<(), AllocError> {
         let came = self.manager.abort(key);
         if !self.plain.is_live(key) {
             same(rt, came, Err(Refusal::NoTransaction));
             return Ok(());
         }
-        let waits = self.plain.awaited(key.process).is_some() && !self.plain.is_victim(key.process);
+        let may_wait = !self.plain.is_victim(key.process)
+            && self.plain.is_behind_victim(key.process);
         if came == Ok(Aborted::Later) {
-            same(rt, waits, true);
+            same(rt, may_wait, true);
             self.plain.set_due(key.process, true);
             return Ok(());
         }
@@ -300,7 +301,7 @@ impl Both {
         self.roll_back(key)
     }
 
-    /// Only labels tell whether one that waits is in the way of others.
+    /// Behind a victim only labels tell whether one may take its wait back. Else it may.
     fn cancel(&mut self, rt: &impl Abort, key: Key) -> Result<(), AllocError> {
         let came = self.manager.cancel(key);
         if let Some(refusal) = self.stays(key) {
@@ -308,6 +309,7 @@ impl Both {
             return Ok(());
         }
         if came == Ok(Cancel::Carried) {
+            same(rt, self.plain.is_behind_victim(key.process), true);
             return Ok(());
         }
         same(rt, came, Ok(Cancel::Withdrawn));

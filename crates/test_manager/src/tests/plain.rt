@@ -149,6 +149,21 @@ impl Plain {
         false
     }
 
+    /// Whether the transaction waits, directly or over others, for a victim.
+    pub fn is_behind_victim(&self, transaction: u32) -> bool {
+        let mut next = transaction;
+        for _ in 0..self.victims.len() {
+            let Some(owner) = self.awaited(next).and_then(|name| self.owner(name)) else {
+                return false;
+            };
+            if self.is_victim(owner) {
+                return true;
+            }
+            next = owner;
+        }
+        false
+    }
+
     /// A try for a name, which never waits.
     pub fn take(&mut self, transaction: u32, name: u32) -> Told {
         match self.owner(name) {

@@ -1,6 +1,6 @@
 //! What no clause says: which faults come, that nothing is read or written after one, and that a flush is made.
 
-mod faults;
+pub mod faults;
 mod ring;
 
 use crate::tests::passes::all_pass;

@@ -60,7 +60,7 @@ impl Tables {
         Ok(())
     }
 
-    /// How many acts a transaction has: it locks or releases a resource, ends, or gives up.
+    /// How many acts a transaction has: it locks or releases a resource, ends, or takes back its wait.
     fn kinds(&self) -> u32
         ensures { 0 < result }
     {
@@ -96,7 +96,7 @@ impl Tables {
         if kind % 2 == 0 {
             return self.end(rt, key);
         }
-        Ok(self.give_up(rt, key))
+        Ok(self.withdraw(rt, key))
     }
 
     fn lock(&mut self, rt: &impl Abort, key: Key, resource: u32) -> Result<Told, AllocError> {
@@ -143,14 +143,15 @@ impl Tables {
         self.plain.granted.clear();
     }
 
-    /// Only labels tell whether one that waits may give up; one that does not wait, or is a victim, may not.
-    fn give_up(&mut self, rt: &impl Abort, key: Key) -> Told {
+    /// One that waits may take its wait back, unless it is a victim. Behind a victim only labels tell whether it may.
+    fn withdraw(&mut self, rt: &impl Abort, key: Key) -> Told {
         let may = self.plain.awaited(key.process).is_some() && !self.plain.is_victim(key.process);
-        let came = told(self.settled.give_up(key));
+        let came = told(self.settled.withdraw(key));
         if came == Told::Done {
             same(rt, may, true);
-            self.plain.give_up(key.process);
+            self.plain.withdraw(key.process);
         } else {
+            same(rt, may && !self.plain.is_behind_victim(key.process), false);
             self.plain.granted.clear();
         }
         came

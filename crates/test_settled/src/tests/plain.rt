@@ -86,6 +86,24 @@ impl Plain {
         false
     }
 
+    /// Whether the transaction waits, over one or more others, for a victim.
+    pub fn is_behind_victim(&self, transaction: u32) -> bool {
+        let mut next = transaction;
+        for _ in 0..self.victims.len() {
+            let Some(awaited) = self.awaited(next) else {
+                return false;
+            };
+            let Some(owner) = self.owner(awaited) else {
+                return false;
+            };
+            if self.is_victim(owner) {
+                return true;
+            }
+            next = owner;
+        }
+        false
+    }
+
     pub fn lock(&mut self, transaction: u32, resource: u32) -> Result<Told, AllocError> {
         self.granted.clear();
         if self.awaited(transaction).is_some() {
@@ -140,7 +158,7 @@ impl Plain {
     }
 
     /// The transaction waits no longer.
-    pub fn give_up(&mut self, transaction: u32) {
+    pub fn withdraw(&mut self, transaction: u32) {
         self.granted.clear();
         self.end_wait(transaction);
     }

@@ -4,7 +4,7 @@
 //! - `caller`: one thread that makes calls of a table.
 //! - `team`: threads that are at work at once, each with a part of a pass.
 //! - `lockers`: threads that acquire two resources in each transaction.
-//! - `threads`, `old_key`, `deadlocks`, `labels`, `exhausted`, `retired`: the tests, one each.
+//! - `threads`, `old_key`, `deadlocks`, `labels`, `exhausted`, `retired`, `peeks`: the tests, one each.
 ghost use Rattle.std.specs.Prelude.{◌≡◌, ◌<◌};
 
 mod caller;
@@ -13,6 +13,7 @@ mod exhausted;
 mod labels;
 mod lockers;
 mod old_key;
+mod peeks;
 mod retired;
 mod team;
 mod threads;
@@ -43,6 +44,7 @@ pub enum Work {
     ReadLabels,
     AllLabels,
     AllSlots,
+    Peeks,
 }
 
 impl Work {
@@ -78,6 +80,7 @@ impl Work {
                 let jobs = [Job::Slots, Job::AfterSlots];
                 work_in_turn(rt, alloc, table, pass, retired::THREADS, jobs)
             }
+            Work::Peeks => work_all(rt, alloc, table, pass, peeks::THREADS, Job::PeeksBeside),
         }
     }
 
@@ -87,7 +90,7 @@ impl Work {
             Work::TwoThreads => return accepted(4000),
             Work::KeptKey => return accepted(3),
             Work::Deadlocks => deadlocks::are_broken(rt, made),
-            Work::ReadLabels => {}
+            Work::ReadLabels | Work::Peeks => {}
             Work::AllLabels => exhausted::are_used_up(rt, made),
             Work::AllSlots => return retired::are_given_once(rt, made),
         }

@@ -1,47 +1,47 @@
-use Rattle.std.proofs.Common.{Ok, false, refl, length-set, ◌∙◌}
-use Rattle.mm_rules.specs.Event.{GiveUp, Step}
+use Rattle.std.proofs.Common.{false, refl, length-set, ◌∙◌}
+use Rattle.mm_settled.specs.Calls.{MadeWithdrawal}
 use Rattle.mm_manager.specs.declared.reply.Cancel.TheVariants.{Carried}
-use Rattle.mm_manager.specs.private.Aborts.{GaveUp}
-use Rattle.mm_manager.proofs.Lemmas.GivesUp.{given_up_active, given_up_config, given_up_numbered, given_up_due}
+use Rattle.mm_manager.specs.private.Aborts.{TookBack}
+use Rattle.mm_manager.proofs.Lemmas.TakesBack.{taken_back_active, taken_back_config, taken_back_numbered, taken_back_due}
 use Rattle.mm_manager.proofs.Lemmas.May.{cancels}
 use Rattle.mm_manager.proofs.aborts.abort_waiting.Goals as goal
 
 pub end-requires-clause-parts : goal.end-requires-clause-parts
 end-requires-clause-parts c =
     let s = c.args.table.now.table in
-    let u = c.give_up.new.table.table in
-    let step : Step (GiveUp c.args.key) s (Ok tt) u = rw c.in-Withdrawn.is at c.give_up.ensures.gave_up in
+    let u = c.take_back.new.table.table in
+    let made : MadeWithdrawal c.args.key s u = rw c.in-Withdrawn.is at c.take_back.ensures.took_back in
     let was = c.requires.parts.fits in
     record {
-      numbered = given_up_numbered s u c.args.key step c.args.names.now c.requires.parts.numbered;
-      fits = rw (given_up_config s u c.args.key step) record { granted = was.granted; aborted = was.aborted; due = length-set c.args.lists.now.due.items c.args.key.process false ∙ was.due; owned = was.owned };
-      due = given_up_due s u c.args.key step c.args.lists.now.due.items c.requires.parts.due;
-      room = c.give_up.ensures.left;
+      numbered = taken_back_numbered s u c.args.key made c.args.names.now c.requires.parts.numbered;
+      fits = rw (taken_back_config s u c.args.key made) record { granted = was.granted; aborted = was.aborted; due = length-set c.args.lists.now.due.items c.args.key.process false ∙ was.due; owned = was.owned };
+      due = taken_back_due s u c.args.key made c.args.lists.now.due.items c.requires.parts.due;
+      room = c.take_back.ensures.left;
     }
 
 pub end-requires-clause-may : goal.end-requires-clause-may
 end-requires-clause-may c =
     let s = c.args.table.now.table in
-    let u = c.give_up.new.table.table in
-    let step : Step (GiveUp c.args.key) s (Ok tt) u = rw c.in-Withdrawn.is at c.give_up.ensures.gave_up in
-    (given_up_active s u c.args.key step (cancels s c.args.key c.requires.may).live).idle
+    let u = c.take_back.new.table.table in
+    let made : MadeWithdrawal c.args.key s u = rw c.in-Withdrawn.is at c.take_back.ensures.took_back in
+    (taken_back_active s u c.args.key made (cancels s c.args.key c.requires.may).live).idle
 
 pub end-requires-clause-live : goal.end-requires-clause-live
 end-requires-clause-live c =
     let s = c.args.table.now.table in
-    let u = c.give_up.new.table.table in
-    let step : Step (GiveUp c.args.key) s (Ok tt) u = rw c.in-Withdrawn.is at c.give_up.ensures.gave_up in
-    (given_up_active s u c.args.key step (cancels s c.args.key c.requires.may).live).live
+    let u = c.take_back.new.table.table in
+    let made : MadeWithdrawal c.args.key s u = rw c.in-Withdrawn.is at c.take_back.ensures.took_back in
+    (taken_back_active s u c.args.key made (cancels s c.args.key c.requires.may).live).live
 
 pub returns-in-Withdrawn-clause-aborts : goal.returns-in-Withdrawn-clause-aborts
 returns-in-Withdrawn-clause-aborts c =
-    let step : Step (GiveUp c.args.key) c.args.table.now.table (Ok tt) c.give_up.new.table.table = rw c.in-Withdrawn.is at c.give_up.ensures.gave_up in
-    (c.give_up.new.table.table, step, c.end.ensures)
+    let made : MadeWithdrawal c.args.key c.args.table.now.table c.take_back.new.table.table = rw c.in-Withdrawn.is at c.take_back.ensures.took_back in
+    (c.take_back.new.table.table, made, c.end.ensures)
 
 pub returns-in-Withdrawn-clause-parts : goal.returns-in-Withdrawn-clause-parts
 returns-in-Withdrawn-clause-parts c = c.end.ensures.parts
 
 pub returns-in-Carried-clause-aborts : goal.returns-in-Carried-clause-aborts
 returns-in-Carried-clause-aborts c =
-    let carried : GaveUp c.args.table.now.table c.args.key Carried c.give_up.new.table.table = rw c.in-Carried.is at c.give_up.ensures.gave_up in
+    let carried : TookBack c.args.table.now.table c.args.key Carried c.take_back.new.table.table = rw c.in-Carried.is at c.take_back.ensures.took_back in
     (carried.0, carried.1, refl, refl, record { granted = c.requires.none_granted; aborted = c.requires.none_aborted })

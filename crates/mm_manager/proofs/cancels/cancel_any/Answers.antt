@@ -63,5 +63,5 @@ returns-clause-cancels c before =
     let unmarked : has c.clear.new.self.due.items k.process ≡ false
     = mark_at c.clear.new.self.due.items k.process c.index.result.now false (omega (arith, within, c.requires.fits.due, ap (λ v. length v.items) c.clear.ensures.due)) c.index.ensures c.if-index.false in
     let not_due : has c.args.lists.now.due.items k.process ≡ false = ap (λ v. has v.items k.process) (sym c.clear.ensures.due) ∙ unmarked in
-    waiting_cancels s c.cancel_waiting.new.table.table t t c.args.lists.now c.clear.new.self c.clear.new.self before _ c.args.key c.clear.ensures.due c.cancel_waiting.result _ refl not_due c.cancel_waiting.ensures.gave_up refl refl
+    waiting_cancels s c.cancel_waiting.new.table.table t t c.args.lists.now c.clear.new.self c.clear.new.self before _ c.args.key c.clear.ensures.due c.cancel_waiting.result _ refl not_due c.cancel_waiting.ensures.took_back refl refl
     c.clear.ensures.granted c.clear.ensures.aborted

@@ -1,6 +1,6 @@
 use Rattle.std.proofs.Common.{sym, subst, refl, ◌++◌}
 use Rattle.mm_requests.specs.declared.form.KeyRequest.{KeyRequest}
-use Rattle.mm_service.specs.Made.{Committed, Aborted}
+use Rattle.mm_manager.specs.Made.{Committed, Aborted}
 use Rattle.mm_service.specs.Reply.{line_text, answer_text, committed_text, abort_text, status_text}
 use Rattle.mm_service.specs.Text.{AnswersKey, told_text}
 use Rattle.mm_service.proofs.Lemmas.Pieces.{writes_after, writes_printed}

@@ -1,6 +1,6 @@
 use Rattle.std.proofs.Common.{sym, subst, refl, ◌++◌}
 use Rattle.mm_requests.specs.declared.form.NameRequest.{NameRequest}
-use Rattle.mm_service.specs.Made.{Locked, Tried, Unlocked}
+use Rattle.mm_manager.specs.Made.{Locked, Tried, Unlocked}
 use Rattle.mm_service.specs.Reply.{line_text, answer_text, lock_text, try_text, unlocked_text}
 use Rattle.mm_service.specs.Text.{AnswersName, told_text}
 use Rattle.mm_service.proofs.Lemmas.Pieces.{writes_after, writes_printed}

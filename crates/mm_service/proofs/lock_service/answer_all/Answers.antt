@@ -31,7 +31,7 @@ returns-in_err-read-clause-ends g c =
     let exit = err_from_is_err_and c.from_residual.result c.from_residual.ensures.1 in
     let is : c.from_residual.result ≡ Err Read = exit.1 ∙ ap Err (exit.2 ∙ fault.fault) in
     let ended = rw c.loop-service.invariant.limit at (ended_by_read service_text _ _ c.loop-service.invariant.so_far fault.err) in
-    let P : Result ℕ Fault → Type 0 = λ r. Ran c.args.service.now.manager (g.R.Read.remaining c.args.reader.now) (g.R.Read.remaining c.read.new.reader) (g.W.Write.contents c.args.writer.now) (g.W.Write.contents c.loop-service.writer) r in
+    let P : Result ℕ Fault → Type 0 = λ r. Ran c.args.service.now.manager (g.R.Read.remaining c.args.reader.now) (g.R.Read.remaining c.read.new.reader) (g.W.Write.contents c.args.writer.now) (g.W.Write.contents c.loop-service.writer) r c.loop-service.service.manager in
     subst P (sym is) (ran_read _ ended)
 
 pub returns-in_err-count-clause-ends : goal.returns-in_err-count-clause-ends
@@ -41,7 +41,7 @@ returns-in_err-count-clause-ends g c =
     let is : c.from_residual-in_err-count.result ≡ Err Write = exit.1 ∙ ap Err (exit.2 ∙ c.in_err-count.ensures.fault) in
     let answered = subst (λ l. AnswersLines (g.W.Write.contents c.loop-service.writer) (g.W.Write.contents c.answer_piece.new.writer) c.loop-service.service l c.answer_piece.new.self lines.0 lines.1) c.within_limit.ensures lines.2 in
     let piece = piece_answered _ _ _ c.read.new.self _ _ _ _ _ _ c.loop-service.invariant.so_far c.in_ok-read.ensures.ok answered in
-    let P : Result ℕ Fault → Type 0 = λ r. Ran c.args.service.now.manager (g.R.Read.remaining c.args.reader.now) (g.R.Read.remaining c.read.new.reader) (g.W.Write.contents c.args.writer.now) (g.W.Write.contents c.answer_piece.new.writer) r in
+    let P : Result ℕ Fault → Type 0 = λ r. Ran c.args.service.now.manager (g.R.Read.remaining c.args.reader.now) (g.R.Read.remaining c.read.new.reader) (g.W.Write.contents c.args.writer.now) (g.W.Write.contents c.answer_piece.new.writer) r c.answer_piece.new.self.manager in
     subst P (sym is) (ran_write (ended_by_write service_text _ _ piece))
 
 pub returns-then-is_past_limit-clause-ends : goal.returns-then-is_past_limit-clause-ends
@@ -72,8 +72,8 @@ pub returns-clause-ends : goal.returns-clause-ends
 returns-clause-ends g c =
     let finished = c.finish.ensures.finished in
     let ended = rw c.loop-service.invariant.limit at
-    (ended_by_end service_text _ _ c.read.new.self _ _ _ _ _ _ c.loop-service.invariant.so_far c.in_ok-read.ensures.ok c.if-branch.false c.within_limit-2.ensures finished.3 finished.4) in
-    ran_end _ _ _ _ _ _ _ _ _ ended finished.5 c.finish.ensures.fault
+    (ended_by_end service_text _ _ c.read.new.self _ _ _ _ _ _ _ c.loop-service.invariant.so_far c.in_ok-read.ensures.ok c.if-branch.false c.within_limit-2.ensures finished.3 finished.4) in
+    ran_end _ _ _ _ _ _ _ _ _ _ ended finished.5 c.finish.ensures.fault
 
 pub returns-clause-end : goal.returns-clause-end
 returns-clause-end g c =

@@ -3,14 +3,15 @@ use Rattle.std.specs.List.{filter_map}
 use Rattle.std.proofs.lemmas.Bool.{eqb-true}
 use Rattle.std.proofs.lemmas.List.{length-replicate}
 use Rattle.mm_arena.specs.declared.key.Key.{Key}
-use Rattle.mm_list_lemmas.specs.Members.{Among}
+use Rattle.mm_list_lemmas.specs.Members.{Among, NoRepeat}
+use Rattle.mm_list_lemmas.proofs.Lemmas.Range.{no_repeat_filter_range}
 use Rattle.mm_rules.specs.TableState.{TableState, owner_of, owns}
 use Rattle.mm_rules.specs.Laws.{Laws}
 use Rattle.mm_settle.specs.Touched.{changed_processes}
 use Rattle.mm_settled.specs.Grants.{grants}
 use Rattle.mm_settled.specs.declared.reply.EndKind.{EndKind}
 use Rattle.mm_settled.specs.private.Ends.{EndStep}
-use Rattle.mm_settled.specs.private.Lists.{given, owned_by_key}
+use Rattle.mm_settled.specs.private.Lists.{given, owned_by_key, owns_key}
 use Rattle.mm_settled.proofs.Lemmas.EitherEnd.{end_refused, end_keeps, end_was_live, end_hands_on}
 use Rattle.mm_settled.proofs.Lemmas.Fits.{fits_again, owned_by_process, owned_within, owned_listed, sorted_owned}
 use Rattle.mm_settled.proofs.Lemmas.Grants.{given_are_grants, few_grants, nobody_changed_grants_none}
@@ -75,6 +76,11 @@ returns-clause-told c =
 
 pub returns-clause-owned : goal.returns-clause-owned
 returns-clause-owned c = λ r. subst (λ ns. Among r ns ↔ (owner_of c.args.table.now r ≡ Some c.args.key)) (sym (is_sorted c)) (owned_listed c.args.table.now c.args.key c.requires.laws r)
+
+pub returns-clause-once : goal.returns-clause-once
+returns-clause-once c =
+    let s = c.args.table.now in
+    subst (λ ns. NoRepeat ns) (sym (is_sorted c)) (no_repeat_filter_range (owns_key s c.args.key) 0 s.config.resources)
 
 pub returns-in_err-end_waking-clause-fits : goal.returns-in_err-end_waking-clause-fits
 returns-in_err-end_waking-clause-fits c =

@@ -1,5 +1,5 @@
 use Rattle.std.proofs.Common.{take}
-use Rattle.mm_settled.specs.private.Lists.{NoneWaits}
+use Rattle.mm_settled.specs.Calls.{NoneWaits}
 use Rattle.mm_settled.proofs.settle.any_waits.Given as goal
 
 abbrev pub invariant-loop-process : goal.invariant-loop-process

@@ -4,7 +4,7 @@ use crate::tests::same::same;
 use mm_shared::{Key, Refusal, Report, State};
 use std::process::Abort;
 use std::sync::Wait;
-use std::sync::atomic::AtomicBool;
+use std::sync::atomic::{AtomicBool, AtomicU64};
 use test_seats::Calls;
 
 /// What came of the calls of a thread, or of several.
@@ -62,6 +62,29 @@ pub enum Job {
     Slots,
     /// The same, and tries to begin more.
     AfterSlots,
+    /// Waits, and then reads its own label on the board, or looks about meanwhile.
+    PeeksBeside,
+}
+
+/// What threads tell each other.
+#[derive(Drop)]
+pub struct Signals {
+    /// Labels are used up.
+    pub used_up: AtomicBool,
+    /// How often a thread has looked about.
+    pub looks: AtomicU64,
+    /// Nobody needs to look about any more.
+    pub done: AtomicBool,
+}
+
+impl Signals {
+    pub fn new() -> Signals {
+        Signals {
+            used_up: AtomicBool::new(false),
+            looks: AtomicU64::new(0),
+            done: AtomicBool::new(false),
+        }
+    }
 }
 
 /// A thread's number, its calls, and what came of them.
@@ -80,8 +103,9 @@ impl<C: Calls> Caller<C> {
         }
     }
 
-    /// Does the job. The flag is set once labels are used up.
-    pub fn does<R: Wait + Abort>(&mut self, rt: &R, job: Job, used_up: &AtomicBool) {
+    /// Does the job.
+    pub fn does<R: Wait + Abort>(&mut self, rt: &R, job: Job, signals: &Signals) {
+        let used_up = &signals.used_up;
         match job {
             Job::Transactions => self.makes_a_thousand(rt),
             Job::OldKey => self.keeps_a_key(rt),
@@ -90,6 +114,7 @@ impl<C: Calls> Caller<C> {
             Job::AfterLabels => self.goes_on(rt),
             Job::Slots => self.uses_slots(rt),
             Job::AfterSlots => self.finds_no_slot(rt),
+            Job::PeeksBeside => self.peeks_beside(rt, signals),
         }
     }
 

@@ -1,12 +1,11 @@
 //! Threads that are at work at one table at once, each with a part of a pass.
 ghost use Rattle.std.specs.Prelude.{◌<◌};
 
-use crate::tests::shared::caller::{Caller, Job, Made};
+use crate::tests::shared::caller::{Caller, Job, Made, Signals};
 use mm_shared::{Name, Pass, SharedTable};
 use std::alloc::{AllocError, Global};
 use std::process::Abort;
 use std::sync::Wait;
-use std::sync::atomic::AtomicBool;
 use std::sync::ledger::Ledger;
 use std::thread::{Threads, join, map_vec};
 use test_seats::Seat;
@@ -26,10 +25,10 @@ fn works<N: Name, A: Ledger, V: Ledger, B: Ledger, R: Wait + Abort>(
     number: u32,
     pass: Pass<N, A, V, B>,
     job: Job,
-    used_up: &AtomicBool,
+    signals: &Signals,
 ) -> Member<N, A, V, B> {
     let mut caller = Caller::new(number, Seat::new(rt, table, pass));
-    caller.does(rt, job, used_up);
+    caller.does(rt, job, signals);
     let Caller {
         number,
         calls,
@@ -92,11 +91,11 @@ pub fn work_all<
     job: Job,
 ) -> Result<Made, AllocError> {
     let members = members(alloc, table, pass, threads)?;
-    let used_up = &AtomicBool::new(false);
+    let signals = &Signals::new();
     let ended = map_vec(
         rt,
         members,
-        &|member: Member<N, A, V, B>| works(rt, table, member.number, member.pass, job, used_up),
+        &|member: Member<N, A, V, B>| works(rt, table, member.number, member.pass, job, signals),
     )?;
     Ok(joined(table, pass, ended))
 }
@@ -137,13 +136,13 @@ pub fn work_both<
 ) -> Made
     requires { (1 < pass.old.parts) × (1 < other.old.parts) }
 {
-    let used_up = &AtomicBool::new(false);
+    let signals = &Signals::new();
     let mine = pass.split(table, 1);
     let theirs = other.split(table, 1);
     let (mine, theirs) = join(
         rt,
-        || works(rt, table, 0, mine, job, used_up),
-        || works(rt, table, 1, theirs, job, used_up),
+        || works(rt, table, 0, mine, job, signals),
+        || works(rt, table, 1, theirs, job, signals),
     );
     pass.join(table, mine.pass);
     other.join(table, theirs.pass);

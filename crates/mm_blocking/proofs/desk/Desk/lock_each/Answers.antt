@@ -18,6 +18,15 @@ returns-in-Waits-clause-asks c =
     c.loop-name.invariant.each (Ok (rest c.loop-name.granted)) c.lock.new.self.manager
     (waits_for_first c.loop-name.self.manager c.lock.new.self.manager c.key.result c.args.so_far.key key c.loop-name.granted c.in-Some.name c.in-Some.ensures (rw c.in-Waits.is at c.in_ok-one.ensures.asks))
 
+pub returns-in_err-one-clause-kept : goal.returns-in_err-one-clause-kept
+returns-in_err-one-clause-kept c = c.in_err-one.ensures.kept ∙ c.loop-name.invariant.kept
+
+pub returns-in-Waits-clause-kept : goal.returns-in-Waits-clause-kept
+returns-in-Waits-clause-kept c = c.in_ok-one.ensures.kept ∙ c.loop-name.invariant.kept
+
+pub returns-clause-kept : goal.returns-clause-kept
+returns-clause-kept c = c.loop-name.invariant.kept
+
 pub returns-clause-asks : goal.returns-clause-asks
 returns-clause-asks c =
     c.loop-name.invariant.each (Ok (rest c.loop-name.granted)) c.loop-name.self.manager (has_asked_for_all c.loop-name.self.manager c.args.so_far.key c.loop-name.granted c.in_default.ensures)
@@ -30,6 +39,7 @@ loop-name-preserved c =
       each = λ answer new each. c.loop-name.invariant.each answer new
           (owns_first c.loop-name.self.manager new c.key.result c.args.so_far.key key c.loop-name.granted c.in-Some.name c.in-Some.ensures c.lock.new.self.manager c.and-granted.result answer
           c.and-granted.ensures.names c.and-granted.ensures.place (rw c.in-Owns.is at c.in_ok-one.ensures.asks) each);
+      kept = c.in_ok-one.ensures.kept ∙ c.loop-name.invariant.kept;
     }
 
 pub loop-name-smaller : goal.loop-name-smaller

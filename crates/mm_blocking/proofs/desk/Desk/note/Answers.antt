@@ -1,8 +1,7 @@
-use Rattle.std.proofs.Common.{map}
-use Rattle.mm_blocking.proofs.Noting.{notes_both}
+use Rattle.mm_blocking.proofs.Moving.{then_end}
 use Rattle.mm_blocking.proofs.desk.Desk.note.Goals as goal
 
 pub returns-clause-noted : goal.returns-clause-noted
 returns-clause-noted c =
-    notes_both (map (λ g. g.key.process) c.args.self.now.manager.granted) (map (λ k. k.process) c.args.self.now.manager.aborted) c.args.wakes.now.processes.items c.note_granted.new.wakes.processes.items
-    c.note_aborted.new.wakes.processes.items c.args.self.now.unwoken.set c.note_granted.new.self.set c.note_aborted.new.self.set (rw c.granted.ensures at c.note_granted.ensures) (rw c.aborted.ensures at c.note_aborted.ensures)
+    then_end c.args.self.now.manager c.args.wakes.now c.args.self.now.unwoken c.note_told.new.wakes c.note_told.new.self.unwoken c.note_overdue.new.wakes c.note_overdue.new.self
+    c.note_told.ensures.noted c.note_overdue.ensures.noted c.note_overdue.ensures.none

@@ -9,8 +9,9 @@ loop-preserved c =
     let w = c.loop.wakes.processes.items in
     let u = c.loop.self.set in
     let next = c.in-Some.ensures.member in
-    let items = c.add.ensures.added (c.add.ensures.room (rw c.loop.invariant.0 c.loop-test.true)) in
-    let passes : (p : ℕ) → IsToWake w u p ↔ IsToWake (w ++ n ∷ []) (slice_set u n false) p = taken n w u next.0.member in (
-      rw items (omega (arith, length-append w (n ∷ []), c.loop.invariant.0)),
-      λ p. rw items (rw next.1 ((λ is. (passes p).0 ((c.loop.invariant.1 p).0 is)), λ is. (c.loop.invariant.1 p).1 ((passes p).1 is))),
-    )
+    let items = c.add.ensures.added (c.add.ensures.room (rw c.loop.invariant.counted c.loop-test.true)) in
+    let passes : (p : ℕ) → IsToWake w u p ↔ IsToWake (w ++ n ∷ []) (slice_set u n false) p = taken n w u next.0.member in record {
+      counted = rw items (omega (arith, length-append w (n ∷ []), c.loop.invariant.counted));
+      same = λ p. rw items (rw next.1 ((λ is. (passes p).0 ((c.loop.invariant.same p).0 is)), λ is. (c.loop.invariant.same p).1 ((passes p).1 is)));
+      overdue = c.loop.invariant.overdue;
+    }

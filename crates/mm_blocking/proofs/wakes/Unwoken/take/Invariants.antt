@@ -3,4 +3,8 @@ use Rattle.mm_blocking.specs.Wakes.{IsToWake}
 use Rattle.mm_blocking.proofs.wakes.Unwoken.take.Given as goal
 
 abbrev pub invariant-loop : goal.invariant-loop
-invariant-loop l = (length l.wakes.processes.items ≡ l.counter) × ((p : ℕ) → IsToWake [] l.fn.self.set p ↔ IsToWake l.wakes.processes.items l.self.set p)
+invariant-loop l = record {
+  counted : length l.wakes.processes.items ≡ l.counter;
+  same : (p : ℕ) → IsToWake [] l.fn.self.set p ↔ IsToWake l.wakes.processes.items l.self.set p;
+  overdue : l.self.overdue ≡ l.fn.self.overdue;
+}

@@ -4,13 +4,12 @@ use Rattle.std.proofs.lemmas.List.{drop-drop}
 use Rattle.mm_lines.specs.Cut.{is}
 use Rattle.mm_lines.specs.Output.{Writes}
 use Rattle.mm_lines.proofs.Lemmas.Answered.{answered_none, answered_written}
-use Rattle.mm_script.specs.private.Session.{AnswersLine, AnswersLines, IsLawful}
-use Rattle.mm_script.specs.Text.{Text}
+use Rattle.mm_script.specs.private.Session.{AnswersLine, AnswersLines, IsLawful, TextToAny}
 use Rattle.mm_script.proofs.Lemmas.Session.{answers_more, if_ok-at_err}
 use Rattle.mm_script.proofs.engine.Session.answer_lines.Goals as goal
 
 pub loop-rest-init : goal.loop-rest-init
-loop-rest-init g c = record { answered = answered_none (λ _. Text) IsLawful _ _ _ _ _; in_range = omega arith }
+loop-rest-init g c = record { answered = answered_none TextToAny IsLawful _ _ _ _ _; in_range = omega arith }
 
 -- the replies so far are written or kept, and the next line is answered
 pub loop-rest-preserved : goal.loop-rest-preserved

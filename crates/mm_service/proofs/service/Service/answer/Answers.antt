@@ -21,8 +21,10 @@ returns-in-Silent-clause-answered g c =
 pub returns-in-Request-clause-answered : goal.returns-in-Request-clause-answered
 returns-in-Request-clause-answered g c =
     let line = sym c.in-Request.is ∙ c.line_of-named.ensures.line in
-    let made = c.make.ensures.made in
+    let made = c.make-outcome.ensures.made in
+    let before = c.keeps_laws.ensures in
+    let after = c.keeps_laws-in-Request.ensures in
     let named = line_of c.args.line.now in
-    let L = λ (l : Line). AnswersLine l named.name c.args.self.now.manager made.0 0 c.make.new.manager in
-    let N = λ (n : List ℕ). AnswersLine (kind.Request c.in-Request.request) n c.args.self.now.manager made.0 0 c.make.new.manager in
-    (made.1, record { reply = made.0; one = 0; answer = subst L line (subst N c.line_of-named.ensures.name (made.2, refl)); writes = made.3; malformed = omega arith; at_most_one = omega arith }, made.4)
+    let L = λ (l : Line). AnswersLine l named.name c.args.self.now.manager made.0 0 c.make-outcome.new.manager in
+    let N = λ (n : List ℕ). AnswersLine (kind.Request c.in-Request.request) n c.args.self.now.manager made.0 0 c.make-outcome.new.manager in
+    (made.1, record { reply = made.0; one = 0; answer = subst L line (subst N c.line_of-named.ensures.name (before, made.2, after, refl)); writes = made.3; malformed = omega arith; at_most_one = omega arith }, made.4)

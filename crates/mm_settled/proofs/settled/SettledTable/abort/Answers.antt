@@ -1,5 +1,8 @@
-use Rattle.std.proofs.Common.{vec_capacity, ap, arith}
+use Rattle.std.proofs.Common.{vec_capacity, ap, subst, arith}
 use Rattle.mm_rules.specs.declared.reply.Totals.{Totals}
+use Rattle.mm_rules.specs.Event.{Abort}
+use Rattle.mm_settled.specs.Calls.{Makes, OthersKeepVerdicts}
+use Rattle.mm_settled.specs.SettledState.{SettledState}
 use Rattle.mm_settled.proofs.Lemmas.Fits.{room_again}
 use Rattle.mm_settled.proofs.settled.SettledTable.abort.Goals as goal
 
@@ -10,3 +13,9 @@ invariant_of-self c = record {
   owned = room_again c.self.inside.table.config c.end-answer.new.table.config (vec_capacity c.end-answer.new.owned) c.end-answer.ensures.ends.config (omega (arith, c.self.invariant.owned, c.end-answer.ensures.room));
   told_at = omega (arith, ap (λ (n : Totals). n.accepted) c.totals.ensures);
 }
+
+pub returns-clause-makes : goal.returns-clause-makes
+returns-clause-makes c = subst (λ (old : SettledState). Makes (Abort c.args.key) old.table c.end-answer.result c.end-answer.new.table) c.self.view_is c.end-answer.ensures.makes
+
+pub returns-clause-others : goal.returns-clause-others
+returns-clause-others c = subst (λ (old : SettledState). OthersKeepVerdicts old.table c.end-answer.new.table c.args.key.process) c.self.view_is c.end-answer.ensures.ends.others

@@ -1,5 +1,7 @@
-use Rattle.std.proofs.Common.{vec_capacity, ap, arith}
+use Rattle.std.proofs.Common.{vec_capacity, ap, subst, arith}
 use Rattle.mm_rules.specs.declared.reply.Totals.{Totals}
+use Rattle.mm_settled.specs.Calls.{MakesEnd, OthersKeepVerdicts}
+use Rattle.mm_settled.specs.SettledState.{SettledState}
 use Rattle.mm_settled.proofs.Lemmas.Fits.{room_again}
 use Rattle.mm_settled.proofs.settled.SettledTable.end_listing.Goals as goal
 
@@ -10,3 +12,9 @@ invariant_of-self c = record {
   owned = room_again c.self.inside.table.config c.end-answer.new.table.config (vec_capacity c.self.inside.owned) c.end-answer.ensures.ends.config c.self.invariant.owned;
   told_at = omega (arith, ap (λ (n : Totals). n.accepted) c.totals.ensures);
 }
+
+pub returns-clause-makes : goal.returns-clause-makes
+returns-clause-makes c = subst (λ (old : SettledState). MakesEnd c.args.kind c.args.key old.table c.end-answer.result c.end-answer.new.table) c.self.view_is c.end-answer.ensures.makes
+
+pub returns-clause-others : goal.returns-clause-others
+returns-clause-others c = subst (λ (old : SettledState). OthersKeepVerdicts old.table c.end-answer.new.table c.args.key.process) c.self.view_is c.end-answer.ensures.ends.others

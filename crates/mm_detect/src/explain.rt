@@ -1,0 +1,81 @@
+//! Explains a script, that of a file or of standard input.
+ghost use Rattle.mm_detect.specs.Answer.{EndsExplain};
+
+use crate::ending::{Ending, print_no_memory};
+use mm_command::ExplainOptions;
+use mm_explain::{ExplainFault, Options, explain};
+use mm_work::ScriptFault;
+use std::alloc::Global;
+use std::env::{Env, FillError};
+use std::fs::File;
+use std::io::{Eprint, IsTerminal, Print, Read, Write};
+use std::rt::Files;
+
+/// Explains the script of the file, or that of the reader where no file is named. Text has colors on a terminal, unless NO_COLOR is set.
+#[inline(never)]
+pub fn run_explain<R: Env + Eprint + Files + Print, I: Read, W: Write + IsTerminal>(
+    rt: &R,
+    alloc: Global,
+    file: Option<&String>,
+    asked: &ExplainOptions,
+    input: &mut I,
+    output: &mut W,
+) -> Ending
+    ensures { EndsExplain result }
+{
+    let options = Options {
+        mermaid: asked.mermaid,
+        dot: asked.dot,
+        all: asked.all,
+        at: asked.at,
+        has_colors: output.is_terminal() && may_have_colors(rt),
+    };
+    match file {
+        Some(file) => explain_file(rt, alloc, file.as_str(), options, output),
+        None => ending_of(rt, explain(alloc, options, input, output)),
+    }
+}
+
+/// Whether the environment does not ask for text without colors.
+fn may_have_colors(rt: &impl Env) -> bool {
+    match rt.var("NO_COLOR", &mut [0; 1]) {
+        Ok(len) => len == 0,
+        Err(FillError::NotPresent) => true,
+        Err(FillError::TooLong) => false,
+    }
+}
+
+/// Explains the script of the file. Where it cannot be read, that is told.
+fn explain_file<R: Eprint + Files + Print, W: Write>(
+    rt: &R,
+    alloc: Global,
+    file: &str,
+    options: Options,
+    output: &mut W,
+) -> Ending
+    ensures { EndsExplain result }
+{
+    match File::open(rt, file) {
+        Ok(mut script) => ending_of(rt, explain(alloc, options, &mut script, output)),
+        Err(error) => {
+            // Where standard error cannot be written either, the status alone reports it.
+            let _ = eprintln!(rt; "{file}: {error}");
+            Ending::Ran(Err(ScriptFault::Read))
+        }
+    }
+}
+
+/// How the program ends after this, with what is to be told of it.
+fn ending_of<R: Eprint + Print>(rt: &R, outcome: Result<u64, ExplainFault>) -> Ending
+    ensures { EndsExplain result }
+{
+    match outcome {
+        Ok(malformed) => Ending::Ran(Ok(malformed)),
+        Err(ExplainFault::Lines(fault)) => Ending::Ran(Err(fault)),
+        Err(ExplainFault::Memory) => Ending::Refused(print_no_memory(rt)),
+        Err(fault @ ExplainFault::NoLine(_)) => {
+            let _ = eprintln!(rt; "{fault}");
+            Ending::Wrong
+        }
+    }
+}
