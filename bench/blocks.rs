@@ -3,8 +3,10 @@
 //! nanoseconds of processor time, without these blocks and with them: by labels and by a walk where blocks come at the tail of the chain,
 //! and by both where they come at its head.
 
+mod processor_time;
 mod walk;
 
+use processor_time::now;
 use std::hint::black_box;
 use std::time::Instant;
 
@@ -17,24 +19,6 @@ const SECONDS: f64 = 0.2;
 
 unsafe extern "C" {
     safe fn mm_bench_blocks(room: u32, waiting: u32, is_at_head: bool) -> u64;
-    /// The C library's.
-    safe fn clock_gettime(clock: i32, time: &mut Time) -> i32;
-}
-
-/// `struct timespec` of Linux on 64 bits.
-#[repr(C)]
-#[derive(Default)]
-struct Time {
-    seconds: i64,
-    nanoseconds: i64,
-}
-
-/// The processor time of this thread so far, in nanoseconds.
-fn now() -> f64 {
-    const CLOCK_THREAD_CPUTIME_ID: i32 = 3;
-    let mut time = Time::default();
-    assert_eq!(0, clock_gettime(CLOCK_THREAD_CPUTIME_ID, &mut time));
-    time.seconds as f64 * 1e9 + time.nanoseconds as f64
 }
 
 /// As many chains as there is room for, each of `room` processes. In each so many come to wait, one after another.

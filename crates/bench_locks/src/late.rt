@@ -1,4 +1,4 @@
-//! A chain of transactions that wait with a time, and whose front blocks anew.
+//! Chains of transactions that wait with a time.
 
 use crate::threads::nanoseconds_since;
 use mm_blocking::{LockError, Locks, ManagerConfig, Transaction};
@@ -13,44 +13,94 @@ use std::time::{Clock, Duration, Instant};
 /// The time that a request is given, in milliseconds.
 const LIMIT: u64 = 20;
 
-/// So many milliseconds after the others the front blocks: they wait by then.
-const PAUSE: u64 = 5;
+/// So many milliseconds after a request with a time the front blocks, if it blocks after it.
+const LATER: u64 = 5;
 
-/// How often a thread looks whether all have come back, a millisecond apart. So nobody keeps a name for much more than a second.
-const LOOKS: u32 = 1_000;
+/// So many milliseconds pass before the last one asks, if it alone has a time, and one more for every two of the others: they wait by then.
+const PAUSE: u64 = 10;
+
+/// How often a thread looks whether all have come back, a millisecond apart. So nobody keeps a name for much more than ten seconds.
+const LOOKS: u32 = 10_000;
+
+/// A chain: its first transaction waits for nobody, the second one, its front, for the first one, and each other one for the one before it.
+#[derive(Clone, Copy)]
+pub struct Chain {
+    /// The number of the last one.
+    pub last: u16,
+    /// Whether all behind the front have a time, or the last one alone.
+    pub are_all_timed: bool,
+    /// Whether the front blocks after the requests with a time, with a label above all others: so these carry its label.
+    pub is_carried: bool,
+}
+
+impl Chain {
+    /// How many make a request with a time.
+    fn timed(self) -> u64 {
+        if self.are_all_timed {
+            u64::from(self.last).saturating_sub(1)
+        } else {
+            1
+        }
+    }
+
+    /// How many milliseconds pass before a request with a time.
+    fn ask_after(self) -> u64 {
+        if self.are_all_timed {
+            0
+        } else {
+            (u64::from(self.last) / 2).saturating_add(PAUSE)
+        }
+    }
+
+    /// How many milliseconds pass before the front blocks.
+    fn front_after(self) -> u64 {
+        if self.is_carried {
+            self.ask_after().saturating_add(LATER)
+        } else {
+            0
+        }
+    }
+}
 
 /// What the threads of a chain share.
 #[derive(Drop)]
-struct Chain<'a> {
+struct Shared<'a> {
     locks: &'a Locks,
+    chain: Chain,
     gate: &'a Barrier,
     /// How many have come back from their requests with a time.
     back: &'a AtomicU64,
-    /// How many make such a request.
-    waiters: u64,
 }
 
-impl Chain<'_> {
-    /// Waits until all have come back, or for a second.
+impl Shared<'_> {
+    /// Waits until all have come back.
     fn await_all<R: Clock>(&self, rt: &R) {
         for _ in 0..LOOKS {
-            if self.back.load(SeqCst) >= self.waiters {
+            if self.back.load(SeqCst) >= self.chain.timed() {
                 return;
             }
             thread::sleep(rt, Duration::from_millis(1));
         }
     }
 
-    /// Asks for the name of the one before, and keeps what it owns until all have come back. Returns how many nanoseconds after its time it
-    /// came back; `None` where it was granted the name.
+    /// Waits for the front, once for each of the chain, and takes that back at once. Each wait raises its label by one, so the front's next
+    /// label is above all others of the chain.
+    fn rise<R: Wait + Clock>(&self, transaction: &mut Transaction<'_, R>) {
+        for _ in 0..self.chain.last {
+            let _ = transaction.lock_for(&1_u16.to_be_bytes(), Duration::from_millis(0));
+        }
+    }
+
+    /// Makes the request with a time. Returns how many nanoseconds after its time it came back; `None` if it was granted the name.
     fn time_out<R: Wait + Clock>(
         &self,
         rt: &R,
         transaction: &mut Transaction<'_, R>,
-        number: u8,
+        name: &[u8],
     ) -> Option<u64> {
+        thread::sleep(rt, Duration::from_millis(self.chain.ask_after()));
         let start = Instant::now(rt).ok();
-        let answer = transaction.lock_for(&[number.wrapping_sub(1)], Duration::from_millis(LIMIT));
+        let answer = transaction.lock_for(name, Duration::from_millis(LIMIT));
         let took = nanoseconds_since(rt, start);
         self.back.fetch_add(1, SeqCst);
         self.await_all(rt);
@@ -60,46 +110,59 @@ impl Chain<'_> {
         }
     }
 
-    /// What one of the threads does. The first one owns the name for which the front will wait; the second one is the front; each other one
-    /// waits for the name of the one before it.
-    fn part<R: Wait + Clock>(&self, rt: &R, number: u8) -> Result<Option<u64>, LockError> {
+    /// What one of the threads does: it locks its own name and then waits for that of the one before. The first one keeps its name until all
+    /// requests with a time have come back.
+    fn part<R: Wait + Clock>(&self, rt: &R, number: u16) -> Result<Option<u64>, LockError> {
         let mut transaction = self.locks.begin(rt)?;
-        transaction.lock(&[number])?;
+        transaction.lock(&number.to_be_bytes())?;
         self.gate.wait(rt);
-        let late = match number {
-            0 => {
-                self.await_all(rt);
-                None
-            }
-            1 => {
-                thread::sleep(rt, Duration::from_millis(PAUSE));
-                transaction.lock(&[0])?;
-                None
-            }
-            _ => self.time_out(rt, &mut transaction, number),
-        };
+        if number == 0 && self.chain.is_carried {
+            self.rise(&mut transaction);
+        }
+        self.gate.wait(rt);
+        let late = self.wait_for_the_one_before(rt, &mut transaction, number)?;
         transaction.commit()?;
         Ok(late)
     }
+
+    fn wait_for_the_one_before<R: Wait + Clock>(
+        &self,
+        rt: &R,
+        transaction: &mut Transaction<'_, R>,
+        number: u16,
+    ) -> Result<Option<u64>, LockError> {
+        if number == 0 {
+            self.await_all(rt);
+            return Ok(None);
+        }
+        let name = number.wrapping_sub(1).to_be_bytes();
+        if number == 1 {
+            thread::sleep(rt, Duration::from_millis(self.chain.front_after()));
+        } else if self.chain.are_all_timed || number == self.chain.last {
+            return Ok(self.time_out(rt, transaction, &name));
+        }
+        transaction.lock(&name)?;
+        Ok(None)
+    }
 }
 
-/// Lets so many transactions wait in a chain, all but the front with a time. Returns for each of these how many nanoseconds after its time it
-/// came back. `None` for the front and for the one for which it waits, and for each that was granted its name.
+/// Lets the transactions of a chain wait. Returns for each that has a time how many nanoseconds after it its request came back. `None` for the
+/// others, and for each that was granted its name.
 pub fn late<R: Threads + Wait + Clock + Sync>(
     rt: &R,
     alloc: Global,
-    transactions: u8,
+    chain: Chain,
 ) -> Result<Vec<Option<u64>>, AllocError> {
     let config = ManagerConfig {
-        transactions: 256,
-        names: 256,
-        name_bytes: 1,
+        transactions: 4_096,
+        names: 4_096,
+        name_bytes: 2,
         seed: 7,
     };
     let Ok(locks) = Locks::open(alloc, config) else {
         return Ok(Vec::new(alloc));
     };
-    let parts = waits(rt, alloc, &locks, transactions);
+    let parts = waits(rt, alloc, &locks, chain);
     drop(locks);
     parts
 }
@@ -109,21 +172,21 @@ fn waits<R: Threads + Wait + Clock + Sync>(
     rt: &R,
     alloc: Global,
     locks: &Locks,
-    transactions: u8,
+    chain: Chain,
 ) -> Result<Vec<Option<u64>>, AllocError> {
-    let threads = usize::from(transactions) + 1;
+    let threads = usize::from(chain.last) + 1;
     let gate = Barrier::new(threads);
     let back = AtomicU64::new(0);
-    let chain = Chain {
+    let shared = Shared {
         locks,
+        chain,
         gate: &gate,
         back: &back,
-        waiters: u64::from(transactions).saturating_sub(1),
     };
     thread::map_indices(
         rt,
         alloc,
         threads,
-        &|number| chain.part(rt, number as u8).unwrap_or(None),
+        &|number| shared.part(rt, number as u16).unwrap_or(None),
     )
 }

@@ -9,9 +9,13 @@
 //! `bench_locks late LENGTH`: a chain of so many transactions, the front of which blocks anew while each other one waits for the one before it
 //! with a time of 20 milliseconds. It prints for each of these how many nanoseconds after its time it came back, one a line.
 //!
+//! `bench_locks last LENGTH own|carried`: a chain of so many transactions that wait, the last of which alone has that time. With `carried` the
+//! front blocks while the last one waits, so that the last one carries its label; else it blocks before. It prints how many nanoseconds after its
+//! time the last one came back.
+//!
 //! The modules:
 //!
-//! - `late`: a chain of transactions that wait with a time.
+//! - `late`: chains of transactions that wait with a time.
 //! - `names`: the names, and which of them a transaction locks.
 //! - `shared`: what all threads share, and what each has done.
 //! - `transfers`: transactions of four locks.
@@ -26,7 +30,7 @@ mod shared;
 mod threads;
 mod transfers;
 
-use late::late;
+use late::{Chain, late};
 use mm_blocking::{Locks, ManagerConfig};
 use names::{Name, all_names};
 use shared::{Done, Way};
@@ -86,17 +90,23 @@ fn run<R: Threads + Wait + Clock + Sync>(
     done.map(Some)
 }
 
-/// The longest chain.
-const MAX_CHAIN: u32 = 64;
+/// The longest chain of which all have a time, and the longest one of which the last alone has one.
+const MAX_TIMED: u32 = 64;
+
+const MAX_WAITING: u32 = 4_095;
 
 /// Prints for each of a chain that waits with a time how long after its time it came back.
 fn print_late<R: Print + Threads + Wait + Clock + Sync>(
     rt: &R,
     alloc: Global,
-    length: u32,
+    chain: Chain,
 ) -> io::Result<()> {
-    let transactions = length.clamp(2, MAX_CHAIN) as u8;
-    for nanoseconds in late(rt, alloc, transactions)?.as_slice() {
+    print_each(rt, late(rt, alloc, chain)?.as_slice())
+}
+
+/// Prints the times that are there, one a line.
+fn print_each<R: Print>(rt: &R, times: &[Option<u64>]) -> io::Result<()> {
+    for nanoseconds in times {
         if let Some(nanoseconds) = nanoseconds {
             println!(rt; "{nanoseconds}")?;
         }
@@ -112,7 +122,20 @@ fn main(rt: HostRuntime) -> io::Result<()> {
         return Ok(());
     };
     if word.as_str() == "late" {
-        return print_late(&rt, rt.alloc(), number(words.next()));
+        let chain = Chain {
+            last: number(words.next()).clamp(2, MAX_TIMED) as u16,
+            are_all_timed: true,
+            is_carried: true,
+        };
+        return print_late(&rt, rt.alloc(), chain);
+    }
+    if word.as_str() == "last" {
+        let chain = Chain {
+            last: number(words.next()).clamp(2, MAX_WAITING) as u16,
+            are_all_timed: false,
+            is_carried: words.next().is_some_and(|word| word.as_str() == "carried"),
+        };
+        return print_late(&rt, rt.alloc(), chain);
     }
     let Some(way) = Way::named(word.as_str()) else {
         return Ok(());

@@ -18,6 +18,7 @@ mod random;
 mod rings;
 mod rounds;
 mod settled;
+mod withdrawals;
 
 /// How many processes the tables have whose size is not what is timed.
 const PROCESSES: u32 = 4_096;
