@@ -40,6 +40,7 @@ impl Desk {
     }
 
     /// Starts a transaction.
+    #[inline(always)]
     pub fn begin(&mut self) -> Result<Key, LockError>
         ensures starts { Starts self.old.manager result self.new.manager }
         ensures refused { IfErr result (λ error. of_begin error ≡ true) }
@@ -83,6 +84,8 @@ impl Desk {
 
     /// Asks for the names that are left in their order, until one is to be waited for or is refused. Returns which ones were granted: all,
     /// or those before the one that the transaction waits for.
+    // In place: so what was granted is told in registers.
+    #[inline(always)]
     pub fn lock_each<'n>(&mut self, so_far: GrantedUpTo<'n>) -> Result<GrantedUpTo<'n>, LockError>
         ensures asks { AsksEach self.old.manager so_far.entry.key (rest so_far.entry) (left result) self.new.manager }
         ensures granted { IfOk result (IsAmong so_far.entry.key so_far.entry.names.now) }
@@ -101,6 +104,7 @@ impl Desk {
 
     /// Looks what the request for the first name that is left has come to. Where the transaction owns it, asks for those behind it, as
     /// `lock_each`.
+    #[inline(never)]
     pub fn go_on<'n>(&mut self, so_far: GrantedUpTo<'n>) -> Result<GrantedUpTo<'n>, LockError>
         ensures goes_on { GoesOn self.old.manager so_far.entry.key (rest so_far.entry) (left result) self.new.manager }
         ensures granted { IfOk result (IsAmong so_far.entry.key so_far.entry.names.now) }
@@ -261,6 +265,7 @@ impl Desk {
     }
 
     /// Notes whom the last call told something: those for whom there is no room in `wakes`, here.
+    #[inline]
     fn note_told(&mut self, wakes: &mut Wakes)
         ensures noted { NotesTold self.old.manager self.old.unwoken.overdue wakes.old self.old.unwoken wakes.new self.new.unwoken }
         ensures manager { self.new.manager ≡ self.old.manager }

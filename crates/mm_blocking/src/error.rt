@@ -36,6 +36,7 @@ impl LockError {
     ghost use Rattle.mm_blocking.specs.Errors.{error_of};
 
     /// What a refusal of the manager means.
+    #[inline(never)]
     pub(crate) fn of_refusal(refusal: Refusal) -> LockError
         ensures error { result ≡ error_of refusal }
         ensures in_time { result ≢ LockError.TimedOut }

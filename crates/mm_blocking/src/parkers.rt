@@ -2,12 +2,64 @@
 use crate::wakes::Wakes;
 use crossbeam_utils::CachePadded;
 use std::alloc::{AllocError, Global};
-use std::thread::Parker;
+use std::sync::Wait;
+use std::sync::atomic::AtomicBool;
+use std::sync::atomic::Ordering::SeqCst;
+use std::thread::{self, Parker};
+use std::time::{Clock, Duration};
+
+/// How often a thread yields its processor before it sleeps. Often it is woken in that time, and goes on at once.
+const YIELDS: u32 = 8;
+
+/// A parker that tells a thread which yields whether it was woken.
+#[derive(Drop)]
+pub struct FlaggedParker {
+    parker: Parker,
+    is_woken: AtomicBool,
+}
+
+impl FlaggedParker {
+    fn new() -> FlaggedParker {
+        FlaggedParker {
+            parker: Parker::new(),
+            is_woken: AtomicBool::new(false),
+        }
+    }
+
+    /// Yields until the thread is woken, `YIELDS` times at most, and then sleeps until it is woken. A wake since the last sleep counts too.
+    pub fn yield_and_park<R: Wait>(&self, rt: &R) {
+        self.is_woken.store(false, SeqCst);
+        for _ in 0..YIELDS {
+            if self.is_woken.load(SeqCst) {
+                break;
+            }
+            thread::yield_now();
+        }
+        self.parker.park(rt);
+    }
+
+    /// Sleeps until the thread is woken. A wake since the last sleep counts too.
+    pub fn park<R: Wait>(&self, rt: &R) {
+        self.parker.park(rt);
+    }
+
+    /// Sleeps until the thread is woken or the time is up. A wake since the last sleep counts too.
+    pub fn park_timeout<R: Wait + Clock>(&self, rt: &R, limit: Duration) {
+        self.parker.park_timeout(rt, limit);
+    }
+
+    /// Wakes the thread.
+    fn wake(&self) {
+        // The parker is told first: a thread that sees the flag does not sleep in it.
+        self.parker.unpark();
+        self.is_woken.store(true, SeqCst);
+    }
+}
 
 /// A place to sleep for the thread of each transaction, by its process.
 #[derive(Drop)]
 pub struct Parkers {
-    parkers: Vec<CachePadded<Parker>>,
+    parkers: Vec<CachePadded<FlaggedParker>>,
 }
 
 impl Parkers {
@@ -15,13 +67,13 @@ impl Parkers {
     pub fn open(alloc: Global, count: u32) -> Result<Parkers, AllocError> {
         let mut parkers = Vec::with_capacity(alloc, count as usize)?;
         for _ in 0..count {
-            parkers.push_reserved(CachePadded::new(Parker::new()));
+            parkers.push_reserved(CachePadded::new(FlaggedParker::new()));
         }
         Ok(Parkers { parkers })
     }
 
     /// Where the thread of this process's transaction sleeps.
-    pub fn of(&self, process: u32) -> Option<&Parker> {
+    pub fn of(&self, process: u32) -> Option<&FlaggedParker> {
         let parker = self.parkers.get(process as usize)?;
         Some(&**parker)
     }
@@ -30,7 +82,7 @@ impl Parkers {
     pub fn wake(&self, wakes: &Wakes) {
         for process in wakes.processes() {
             if let Some(parker) = self.of(*process) {
-                parker.unpark();
+                parker.wake();
             }
         }
     }

@@ -6,16 +6,12 @@ ghost use Rattle.mm_blocking.specs.Granted.{IsFor, IsForAll};
 use crate::desk::{Asked, Granted, GrantedUpTo};
 use crate::error::LockError;
 use crate::locks::Locks;
+use crate::parkers::FlaggedParker;
 use crate::patience::Patience;
 use mm_lock::stay_away;
 use mm_manager::Key;
 use std::sync::Wait;
-use std::thread::Parker;
 use std::time::{Clock, Duration};
-
-/// How often a thread that is to wait for a name yields its processor before it sleeps. Often the name is granted in that time, and no thread
-/// has to be woken.
-const YIELDS: u32 = 8;
 
 /// How often the thread of a victim yields its processor when the victim was rolled back. One that began again at once would often close the
 /// same cycle once more, before the others are done.
@@ -28,7 +24,7 @@ const VICTIM_YIELDS: u32 = 256;
 pub struct Transaction<'m, R: Wait> {
     rt: &'m R,
     locks: &'m Locks,
-    parker: &'m Parker,
+    parker: &'m FlaggedParker,
     key: Key,
 }
 
@@ -50,7 +46,7 @@ impl<'m, R: Wait> Transaction<'m, R> {
     pub(crate) fn new(
         rt: &'m R,
         locks: &'m Locks,
-        parker: &'m Parker,
+        parker: &'m FlaggedParker,
         key: Key,
     ) -> Transaction<'m, R>
         ensures { result.key ≡ key }
@@ -104,9 +100,8 @@ impl<'m, R: Wait> Transaction<'m, R> {
         ensures granted { IfOk result (IsFor self.now.key name.now) }
         ensures refused { IfErr result (λ error. of_lock error ≡ true) }
     {
-        stay_away(YIELDS);
         for _ in self.rt.forever() {
-            self.parker.park(self.rt);
+            self.parker.yield_and_park(self.rt);
             match self.locks.asked(self.rt, self.key, name)? {
                 Asked::Owns(granted) => return Ok(granted),
                 Asked::Waits => {}
@@ -159,8 +154,7 @@ impl<'m, R: Wait> Transaction<'m, R> {
     {
         let mut granted = so_far;
         for _ in self.rt.forever() {
-            stay_away(YIELDS);
-            self.parker.park(self.rt);
+            self.parker.yield_and_park(self.rt);
             granted = self.locks.go_on(self.rt, granted)?;
             if granted.is_all() {
                 return Ok(granted);

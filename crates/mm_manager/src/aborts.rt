@@ -60,6 +60,7 @@ pub fn take_back(table: &mut SettledTable, key: Key) -> Cancel
 }
 
 /// Ends any live transaction.
+#[inline(never)]
 pub fn abort_any(
     table: &mut SettledTable,
     names: &mut Names,

@@ -46,6 +46,7 @@ fn end_if_due(table: &mut SettledTable, names: &mut Names, lists: &mut Lists, ke
 }
 
 /// Ends a transaction that was granted something, and whose abort is due no longer.
+#[inline(never)]
 fn end_one(table: &mut SettledTable, names: &mut Names, lists: &mut Lists, key: Key)
     requires numbered { AreNumbered table.old.table names.old }
     requires fits { Fits table.old.table.config lists.old }

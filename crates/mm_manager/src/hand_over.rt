@@ -13,7 +13,7 @@ ghost use Rattle.mm_manager.specs.private.Room.{HasReserve};
 ghost use Rattle.mm_manager.specs.LockState.{KeepOwned};
 
 use crate::Key;
-use crate::numbers::{forget_each, forget_released};
+use crate::numbers::{forget_ended, forget_released};
 use mm_names::Names;
 use mm_settled::{EndKind, Released, SettledTable};
 
@@ -48,6 +48,7 @@ pub fn release(
 }
 
 /// `SettledTable::end_listing`: each name of the transaction keeps its number exactly where somebody owns it then.
+#[inline(always)]
 pub fn end_transaction(
     table: &mut SettledTable,
     names: &mut Names,
@@ -73,5 +74,5 @@ pub fn end_transaction(
     let Ok(()) = table.end_listing(kind, key, owned) else {
         unreachable!();
     };
-    forget_each(table.table(), names, owned);
+    forget_ended(table, names, owned);
 }

@@ -101,6 +101,7 @@ impl LockManager {
     ///
     /// Refused as `CountsFull` where 4,611,686,018,426,339,328 events were counted or more, and as `TransactionsFull` where there are as
     /// many transactions as there can be, which is tested second. Constant time.
+    #[inline(always)]
     pub fn begin(&mut self) -> Result<Key, Refusal>
         ensures begins { Begins self.old result self.new }
         ensures totals { self.new.totals ≡ after_begin self.old.totals result }

@@ -1,6 +1,7 @@
 //! A number has a name exactly while it has an owner.
-ghost use Rattle.std.specs.Prelude.{◌≡◌, ◌⊎◌, ◌↔◌, Ok, Err, Some, fold, IfOk, IfErr, OnOk, OnErr, IsSome, IsTrue};
-ghost use Rattle.mm_names.specs.Names.{name_of, Interns, IsNamed, IsRefusedAsFull};
+ghost use Rattle.std.specs.Prelude.{◌≡◌, ◌⊎◌, ◌↔◌, ℕ, [], Ok, Err, None, Some, fold, IfOk, IfErr, OnOk, OnErr, IsSome, IsTrue};
+ghost use Rattle.mm_list_lemmas.specs.Members.{Among};
+ghost use Rattle.mm_names.specs.Names.{name_of, with_name, Interns, IsNamed, IsRefusedAsFull};
 ghost use Rattle.mm_rules.specs.TableState.{owner_of};
 ghost use Rattle.mm_manager.specs.Permit.{may_ask, may_name, may_ask_for};
 ghost use Rattle.mm_manager.specs.Refused.{UnlockRefused};
@@ -9,7 +10,7 @@ ghost use Rattle.mm_manager.specs.private.Numbers.{forgotten, left_by, bare};
 use crate::permit::{may_ask, may_name};
 use crate::{Key, Refusal};
 use mm_names::{Entry, Names, NamesError};
-use mm_settled::{Released, Table};
+use mm_settled::{Released, SettledTable, Table};
 
 /// The owner of a number; `None` where it has none, or is not one of the numbers.
 pub fn owner_of(table: &Table, number: u32) -> Option<Key>
@@ -94,10 +95,40 @@ fn forget_unowned(table: &Table, names: &mut Names, number: u32)
 }
 
 /// Takes their names from those of these numbers that nobody owns.
-pub fn forget_each(table: &Table, names: &mut Names, numbers: &[u32])
+fn forget_each(table: &Table, names: &mut Names, numbers: &[u32])
     ensures { names.new ≡ fold (forgotten table.now) names.old numbers.now }
 {
     for number in numbers {
         forget_unowned(table, names, *number);
+    }
+}
+
+/// Takes its name from a number.
+#[inline(always)]
+fn forget_one(names: &mut Names, number: u32)
+    ensures { names.new ≡ with_name names.old number None }
+{
+    names.forget(number);
+}
+
+/// Takes their names from these numbers.
+fn forget_all(names: &mut Names, numbers: &[u32])
+    ensures { names.new ≡ fold (λ t n. with_name t n None) names.old numbers.now }
+{
+    for number in numbers {
+        forget_one(names, *number);
+    }
+}
+
+/// Takes their names from those of these numbers that nobody owns. Where the last call granted nothing, nobody owns one.
+#[inline(always)]
+pub fn forget_ended(table: &SettledTable, names: &mut Names, numbers: &[u32])
+    requires { table.now.granted ≡ [] → (q : ℕ) → Among q numbers.now → owner_of table.now.table q ≡ None }
+    ensures { names.new ≡ fold (forgotten table.now.table) names.old numbers.now }
+{
+    if table.granted().is_empty() {
+        forget_all(names, numbers);
+    } else {
+        forget_each(table.table(), names, numbers);
     }
 }

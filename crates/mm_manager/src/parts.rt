@@ -76,6 +76,8 @@ pub fn release_number(
 }
 
 /// Ends a transaction that is active, or the victim of a deadlock.
+// In place, as all is that an end does where nobody waited.
+#[inline(always)]
 pub fn end(table: &mut SettledTable, names: &mut Names, lists: &mut Lists, kind: EndKind, key: Key)
     requires parts { AreParts table.old.table names.old lists.old }
     requires none_granted { lists.old.granted.items ≡ [] }
@@ -90,6 +92,7 @@ pub fn end(table: &mut SettledTable, names: &mut Names, lists: &mut Lists, kind:
 }
 
 /// Starts a transaction.
+#[inline(always)]
 pub fn begin(table: &mut SettledTable, names: &Names, lists: &mut Lists) -> Result<Key, Refusal>
     requires { AreParts table.old.table names.now lists.old }
     ensures begun { IfOk result (λ key. Step Begin table.old.table (Ok key) table.new.table) }
@@ -111,6 +114,8 @@ pub fn begin(table: &mut SettledTable, names: &Names, lists: &mut Lists) -> Resu
 }
 
 /// Asks for a name.
+// In place, as all of a request is that is granted: what is told of it then stays in registers.
+#[inline(always)]
 pub fn lock(
     table: &mut SettledTable,
     names: &mut Names,

@@ -21,6 +21,7 @@ use mm_settled::{Locked, SettledTable, Table};
 
 /// Asks the table for the number of a name, which the name has already, or gets. Nobody owns a number whose name is new, so the table is
 /// asked at once, and what would refuse the request is looked for only where the table refuses it.
+#[inline(always)]
 pub fn request(
     table: &mut SettledTable,
     names: &mut Names,
@@ -42,6 +43,7 @@ pub fn request(
 }
 
 /// Asks the table for a number whose name is new. Where that is refused, the number has no name again.
+#[inline(always)]
 fn request_new(
     table: &mut SettledTable,
     names: &mut Names,
@@ -63,6 +65,7 @@ fn request_new(
 }
 
 /// Asks the table for a number that nobody owns, and tells whether the transaction owns it then.
+#[inline(always)]
 fn is_granted(table: &mut SettledTable, key: Key, number: u32) -> bool
     requires in_range { number < table.old.table.config.resources }
     requires left { HasReserve table.old.table }
@@ -72,10 +75,20 @@ fn is_granted(table: &mut SettledTable, key: Key, number: u32) -> bool
     ensures others { OthersKeepVerdicts table.old.table table.new.table key.process }
 {
     table.is_at_rest();
-    if may_count(table.table()).is_err() {
+    if may_ask_now(table.table(), key).is_err() {
         return false;
     }
-    table.lock(key, number).is_ok()
+    table.grant_free(key, number);
+    true
+}
+
+/// Whether a transaction may ask for something, and an event may be counted.
+#[inline(always)]
+fn may_ask_now(table: &Table, key: Key) -> Result<(), Refusal>
+    ensures { result ≡ may_ask_more table.now key }
+{
+    may_ask(table, key)?;
+    may_count(table)
 }
 
 /// Asks the table for a number that has a name.

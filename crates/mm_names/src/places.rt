@@ -147,6 +147,7 @@ fn copy_ends(place: &mut [u8], name: &[u8])
 }
 
 /// Writes a name of eight bytes or more to its place, eight bytes at a time.
+#[inline(never)]
 fn copy_words(place: &mut [u8], name: &[u8])
     requires long { 8 ≤ length name.now }
     requires place { length place.old ≡ length name.now }

@@ -10,3 +10,7 @@ pub mod Given
 pub mod Freed
 -- the records of resources, as their owners and their links
 pub mod Resources
+-- resources that are freed one after the other, along the links
+pub mod Path
+-- the fields after all resources of a process are freed
+pub mod FreedAll

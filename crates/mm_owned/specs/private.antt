@@ -1,2 +1,3 @@
 pub mod Owner
 pub mod Linked
+pub mod Path

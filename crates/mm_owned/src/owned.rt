@@ -1,12 +1,13 @@
 //! The owner of each resource, and the resources of each process: a list in which each resource is linked to the one before it and to
 //! the next.
-ghost use Rattle.std.specs.Prelude.{◌≡◌, ◌≤◌, ◌<◌, length, vec_capacity, IfOk, IfSome, IsNone, None};
+ghost use Rattle.std.specs.Prelude.{◌≡◌, ◌≤◌, ◌<◌, ℕ, List, length, fold, vec_capacity, IfOk, IfSome, IsNone, None};
 ghost use Rattle.std.specs.Option.{ForSome};
-ghost use Rattle.mm_list_lemmas.specs.Members.{head};
+ghost use Rattle.mm_list_lemmas.specs.Members.{head, NoRepeat};
 ghost use Rattle.mm_links.specs.Links.{with_before, with_next};
 ghost use Rattle.mm_links.specs.Chain.{first_with_next};
 ghost use Rattle.mm_owned.specs.Owned.{unowned, owner_at, list_at, given, freed, FollowsInList, ListsMatchOwners};
 ghost use Rattle.mm_owned.specs.private.Linked.{links_of, owners_of};
+ghost use Rattle.mm_owned.specs.private.Path.{IsPath, freed_in};
 
 use crate::owner::Owner;
 use mm_arena::Key;
@@ -149,6 +150,17 @@ impl Owned {
         set_before(&mut self.resources, next, link);
     }
 
+    /// Takes all of its resources from a process, in `O(its resources)`: nobody owns them then.
+    #[inline]
+    pub fn free_all(&mut self, process: u32)
+        requires { process < length self.old.lists }
+        ensures freed { self.new ≡ fold freed self.old (list_at self.old process) }
+        ensures matched { ListsMatchOwners self.old }
+    {
+        let first = mem::replace(&mut self.firsts[process as usize], Link::NONE);
+        free_from(&mut self.resources, first);
+    }
+
     /// Takes a resource from its owner and from the list that it is in, where it has an owner, in constant time. The others in the
     /// list keep their order.
     #[inline]
@@ -194,5 +206,18 @@ fn set_next(first: &mut Link, resources: &mut [Resource], resource: Link, next: 
     match resource.get() {
         None => *first = next,
         Some(resource) => resources[resource as usize].links.next = next,
+    }
+}
+
+/// Frees the resources from this one on, each of which leads to the next.
+#[inline]
+fn free_from(resources: &mut [Resource], first: Link)
+    requires { (rs : List ℕ) × NoRepeat rs × IsPath (links_of resources.old) first rs }
+    ensures { (rs : List ℕ) → NoRepeat rs → IsPath (links_of resources.old) first rs → resources.new ≡ fold freed_in resources.old rs }
+{
+    let mut next = first;
+    'all: while let Some(resource) = next.get() {
+        let was = mem::replace(&mut resources[resource as usize], FREE);
+        next = was.links.next;
     }
 }

@@ -37,6 +37,7 @@ pub fn release(
 }
 
 /// Ends a transaction, and settles the table where that leaves somebody to be told. What it owned is listed.
+#[inline(always)]
 pub fn end(
     table: &mut Table,
     lists: &mut Lists,
@@ -86,6 +87,7 @@ fn release_listing(
 
 /// Ends a transaction in the table, and lists whom that grants what and changes. Where it changes nobody it grants nothing. What the
 /// transaction owned is listed too.
+#[inline(always)]
 fn end_listing(
     table: &mut Table,
     lists: &mut Lists,
@@ -115,6 +117,7 @@ fn end_listing(
 }
 
 /// `Table::finish_waking` of an active transaction, `Table::abort_waking` of a victim.
+#[inline(always)]
 fn end_waking(
     table: &mut Table,
     kind: EndKind,

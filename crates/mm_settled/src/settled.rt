@@ -1,5 +1,6 @@
-ghost use Rattle.std.specs.Prelude.{◌≡◌, ◌↔◌, ◌≤◌, ℕ, List, [], Some, Err, IsTrue, OnOk, vec_capacity};
-ghost use Rattle.mm_rules.specs.Event.{Step, Begin, Release, Finish, Abort};
+ghost use Rattle.std.specs.Prelude.{◌≡◌, ◌↔◌, ◌≤◌, ◌<◌, ◌^◌, ℕ, List, [], Some, None, Ok, Err, IsTrue, OnOk, vec_capacity};
+ghost use Rattle.mm_rules.specs.Event.{Step, Begin, Release, Finish, Abort, allowed, resource_tests};
+ghost use Rattle.mm_settled.specs.declared.reply.Locked.TheVariants as Locked;
 ghost use Rattle.mm_list_lemmas.specs.Members.{Among, NoRepeat};
 ghost use Rattle.mm_rules.specs.TableState.{has_verdict, owner_of};
 ghost use Rattle.mm_rules.specs.Laws.{Laws, AtRest};
@@ -122,6 +123,22 @@ impl SettledTable {
         )
     }
 
+    /// `lock` of a resource that nobody owns, by a key that may use it: so nothing is tested, and it is granted. Constant time.
+    #[inline(always)]
+    pub fn grant_free(&mut self, key: Key, resource: u32)
+        requires passed { allowed (resource_tests self.old.table key resource) ≡ Ok tt }
+        requires process { key.process < self.old.table.config.processes }
+        requires resource { resource < self.old.table.config.resources }
+        requires count { self.old.table.totals.accepted < 2 ^ 62 }
+        requires free { owner_of self.old.table resource ≡ None }
+        ensures locks { Locks self.old.table key resource (Ok Locked.Granted) self.new.table }
+        ensures others { OthersKeepVerdicts self.old.table self.new.table key.process }
+        ensures told { Tells self.old.table self.new }
+    {
+        self.table.keeps_laws();
+        self.table.grant_free(key, resource);
+    }
+
     /// Hands the resource over: the longest waiter owns it from now on and is listed in `granted`, and each other waiter keeps its
     /// place; with no waiter it is free. Where others wait on, the table is settled. Nobody gets a verdict.
     ///
@@ -186,6 +203,7 @@ impl SettledTable {
     ///
     /// `owned` has room for each resource, and no memory is taken. Where the call is refused, what `owned` has means nothing. It is
     /// refused as `finish` or `abort` is, and costs what that costs.
+    #[inline(always)]
     pub fn end_listing(
         &mut self,
         kind: EndKind,

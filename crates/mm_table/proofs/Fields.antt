@@ -3,6 +3,7 @@
 -- one field: the labels, the owners
 pub mod Labels
 pub mod Ownership
+pub mod FreedAll
 -- the opening
 pub mod Opening
 -- a queue that is walked, one that is blocked, a resource that is handed over

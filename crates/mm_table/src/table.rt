@@ -1,8 +1,9 @@
-ghost use Rattle.std.specs.Prelude.{◌≡◌, ◌≢◌, ◌≤◌, ◌<◌, ◌↔◌, ◌||◌, ℕ, Some, false, length, replicate, IfOk, IfErr, IfSome, IfNone, None, vec_capacity};
+ghost use Rattle.std.specs.Prelude.{◌≡◌, ◌≢◌, ◌≤◌, ◌<◌, ◌^◌, ◌↔◌, ◌||◌, ℕ, Ok, Some, false, length, replicate, IfOk, IfErr, IfSome, IfNone, None, vec_capacity};
 ghost use Rattle.mm_list_lemmas.specs.Members.{Among, NoRepeat};
 ghost use Rattle.mm_bit_set.specs.BitSet.{has, members};
 ghost use Rattle.mm_rules.specs.TableState.{owner_of, public_of, holder_of, wait_of};
-ghost use Rattle.mm_rules.specs.Event.{Opens, Step, Begin, Acquire, Release, Finish, Transmit, Detect, Abort, GiveUp, Settle, state_of, owner_told, tenant_of};
+ghost use Rattle.mm_rules.specs.Event.{Opens, Step, Begin, Acquire, Release, Finish, Transmit, Detect, Abort, GiveUp, Settle, allowed, resource_tests, state_of, owner_told, tenant_of};
+ghost use Rattle.mm_rules.specs.declared.reply.Acquired.TheVariants as Acquired;
 ghost use Rattle.mm_rules.specs.Laws.{Laws, AtRest, HasSoundVerdicts};
 ghost use Rattle.mm_rules.specs.Withdraw.{Withdraws};
 ghost use Rattle.mm_settle.specs.Touched.{changed_processes};
@@ -71,6 +72,7 @@ impl Table {
     /// Starts a transaction in the first free process, and returns its key. The labels of the process stay as they are.
     ///
     /// Refused as `CountsExhausted` or `Full`. Constant time.
+    #[inline(always)]
     pub fn begin(&mut self) -> Result<Key, Refusal>
         ensures { Step Begin self.old result self.new }
     {
@@ -86,6 +88,20 @@ impl Table {
         ensures { Step (Acquire key resource) self.old result self.new }
     {
         self.records.acquire(key, resource, &mut self.sets.changed)
+    }
+
+    /// `acquire` of a resource that nobody owns, by a key that may use it: so nothing is tested. Constant time.
+    #[inline(always)]
+    pub fn grant_free(&mut self, key: Key, resource: u32)
+        requires passed { allowed (resource_tests self.old key resource) ≡ Ok tt }
+        requires process { key.process < self.old.config.processes }
+        requires resource { resource < self.old.config.resources }
+        requires count { self.old.totals.accepted < 2 ^ 62 }
+        requires free { owner_of self.old resource ≡ None }
+        ensures { Step (Acquire key resource) self.old (Ok Acquired.Granted) self.new }
+    {
+        self.keeps_laws();
+        self.records.grant_free(key, resource);
     }
 
     /// Hands the resource over: the longest waiter owns it from now on, and each other waiter keeps its place and gets a fresh
@@ -136,6 +152,7 @@ impl Table {
     /// `finish`, which also lists whom to wake, as `release_waking` does: those that waited for what the transaction owned.
     ///
     /// Refused as `finish` is. `O(its resources + their waiters)`.
+    #[inline(always)]
     pub fn finish_waking(&mut self, key: Key, wake: &mut Vec<u32>) -> Result<(), Refusal>
         requires room { self.old.config.processes ≤ vec_capacity wake.old }
         ensures step { Step (Finish key) self.old result self.new }
@@ -181,6 +198,7 @@ impl Table {
     /// process of the transaction itself, whose wait and verdict are gone.
     ///
     /// Refused as `abort` is. `O(its resources + their waiters)`.
+    #[inline(never)]
     pub fn abort_waking(&mut self, key: Key, wake: &mut Vec<u32>) -> Result<(), Refusal>
         requires room { self.old.config.processes ≤ vec_capacity wake.old }
         ensures step { Step (Abort key) self.old result self.new }

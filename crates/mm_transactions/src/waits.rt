@@ -52,6 +52,14 @@ impl Transactions {
         self.first_queued(resource)
     }
 
+    /// Whether nobody waits, in constant time.
+    #[inline]
+    pub fn nobody_waits(&self) -> bool
+        ensures { IsTrue result → self.now.waits ≡ [] }
+    {
+        self.waiting == 0
+    }
+
     /// `first_waiter`, by a look at the queue even where nobody waits for any resource.
     #[inline]
     fn first_queued(&self, resource: u32) -> Option<Key>

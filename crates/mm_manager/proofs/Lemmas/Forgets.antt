@@ -75,6 +75,12 @@ module _ (s : TableState) where
   bytes-each [] t = refl
   bytes-each (n ∷ ns) t = bytes-each ns (forgotten s t n) ∙ bytes-forgotten t n (owner_of s n) refl
 
+  -- where nobody owns any of these, all are forgotten
+  pub all_forgotten : (ns : List ℕ) (t : NameTable) → ((q : ℕ) → Among q ns → owner_of s q ≡ None) → fold (λ v n. with_name v n None) t ns ≡ fold (forgotten s) t ns
+  all_forgotten [] t free = refl
+  all_forgotten (n ∷ ns) t free =
+      ap (λ v. fold (λ w m. with_name w m None) v ns) (sym (forgotten_by t n None (free n (inl refl)))) ∙ all_forgotten ns (forgotten s t n) (λ q later. free q (inr later))
+
 -- from s to u the numbers ns, which were owned, got other owners or none, and no other one did
 module _ (s u : TableState) (t : NameTable) (numbered : AreNumbered s t) (config : u.config ≡ s.config) (ns : List ℕ)
     (owned : (q : ℕ) → Among q ns → ¬ (owner_of s q ≡ None)) (others : (q : ℕ) → ¬ Among q ns → owner_of u q ≡ owner_of s q) where

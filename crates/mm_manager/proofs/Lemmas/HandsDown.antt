@@ -1,8 +1,9 @@
 -- What one event leaves of owners and waits, by number.
-use Rattle.std.proofs.Common.{◌≡◌, ◌⊎◌, ◌<◌, ℕ, Bool, true, false, List, Some, None, Ok, IsTrue, option_and_then, if◌then◌else◌, nat_eq, inl, inr, refl, sym, ap, subst, ◌∙◌, arith, slice_index_or}
+use Rattle.std.proofs.Common.{◌≡◌, ◌⊎◌, ◌<◌, ℕ, Bool, true, false, List, [], ◌∷◌, Option, Some, None, Ok, IsTrue, option_and_then, if◌then◌else◌, nat_eq, inl, inr, refl, sym, ap, subst, ◌∙◌, arith, slice_index_or}
 use Rattle.std.specs.Option.{option_map_or}
 use Rattle.std.specs.List.{range_with_len}
 use Rattle.std.proofs.lemmas.Bool.{cases_Bool, cases_eq, eq-eqb, ne_eqb, not-false}
+use Rattle.std.proofs.lemmas.Option.{same_Some}
 use Rattle.mm_arena.specs.declared.key.Key.{Key}
 use Rattle.mm_list_lemmas.specs.Members.{Among}
 use Rattle.mm_list_lemmas.proofs.Lemmas.Range.{among_range}
@@ -139,3 +140,19 @@ module _ (s u : TableState) (k : Key) (granted : List Grant) (laws : Laws s) (en
       hands_down s made.mid u k.process (owns s k.process) (IsEnding k) granted (rest_laws made.mid u (end_keeps kind s made.mid k laws made.step) made.rests) on made.rests ends are made.verdicts
       (λ q h loses owned. gone_all s made.mid k q laws on (owned ∙ ap Some loses))
       (other_key s k laws (end_was_live kind s made.mid k made.step))
+
+in_none : {P : Type 0} (gs : List Grant) (g : Grant) → gs ≡ [] → Among g gs → P
+in_none [] g is among = absurd among
+in_none (x ∷ gs) g is among = (let never : x ∷ gs ≡ [] = is in absurd (cc))
+
+-- what a transaction owned that ends nobody owns after that, where the end grants nothing
+module _ (s u : TableState) (k : Key) (granted : List Grant) (down : HandsDown s k.process (IsEnding k) granted u) (none : granted ≡ []) (q : ℕ) (owned : owner_of s q ≡ Some k) where
+  nobody_by : (o : Option Key) → owner_of u q ≡ o → o ≡ None
+  nobody_by None is = refl
+  nobody_by (Some h) is = elim (down.gains q h is) [
+    | inl before ↦ absurd (down.lost q h (same_Some h k (sym before ∙ owned)) is)
+    | inr among ↦ in_none granted (record { key = h; resource = q }) none among
+  ]
+
+  pub nobody_owns : owner_of u q ≡ None
+  nobody_owns = nobody_by (owner_of u q) refl

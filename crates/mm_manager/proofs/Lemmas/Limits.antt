@@ -9,10 +9,10 @@ use Rattle.mm_list_lemmas.specs.Members.{Among}
 use Rattle.mm_list_lemmas.proofs.Lemmas.Among.{list_all_from}
 use Rattle.mm_list_lemmas.proofs.Lemmas.Filter.{filter_gives}
 use Rattle.mm_rules.specs.declared.refusal.Refusal.{Refusal}
-use Rattle.mm_rules.specs.declared.refusal.Refusal.TheVariants.{CountsExhausted, Carried}
+use Rattle.mm_rules.specs.declared.refusal.Refusal.TheVariants.{CountsExhausted, Stale, NoResource, Waiting, Carried}
 use Rattle.mm_rules.specs.TableState.{TableState, Wait, is_live, is_waiting, has_verdict, holder_of, owner_of, owns, resources_of, wait_of, waiters_of}
 use Rattle.mm_rules.specs.Change.{label_against, block_fits, give_to_fits, hand_over, hand_over_fits, vacate, vacate_fits, abort}
-use Rattle.mm_rules.specs.Event.{Tests, Release, Finish, Abort, Gives, Step, allowed, counts_exhausted, decided, outcome, acquire_tests, acquire_answer, acquire_change, release_tests, release_answer, finish_tests, abort_tests}
+use Rattle.mm_rules.specs.Event.{Tests, Release, Finish, Abort, Gives, Step, allowed, counts_exhausted, decided, outcome, resource_tests, acquire_tests, acquire_answer, acquire_change, release_tests, release_answer, finish_tests, abort_tests}
 use Rattle.mm_rules.specs.Laws.{Laws}
 use Rattle.mm_rules.specs.Withdraw.{renew_fits, shown_process, shows_waiting, withdraw, withdraw_tests, Withdraws}
 use Rattle.mm_rules.proofs.States.Lookups.{waits_here}
@@ -211,6 +211,9 @@ module _ (s : TableState) (k : Key) (laws : Laws s) (room : HasReserve s) (live 
 
 -- ---- a request
 
+passes_by : (a b c d : Bool) → a ≡ false → b ≡ false → c ≡ false → d ≡ false → allowed ((a, CountsExhausted) ∷ (b, Stale) ∷ (c, NoResource) ∷ (d, Waiting) ∷ []) ≡ Ok tt
+passes_by a b c d a_is b_is c_is d_is = rw (a_is, b_is, c_is, d_is) refl
+
 module _ (s : TableState) (k : Key) (laws : Laws s) (room : HasReserve s) (live : is_live s k ≡ true) (idle : wait_of s k.process ≡ None) (below : s.totals.accepted < event_limit)
     (r : ℕ) (in_range : r < s.config.resources) (other : owns s k.process r ≡ false) where
   asked_can : CanCount s
@@ -221,6 +224,10 @@ module _ (s : TableState) (k : Key) (laws : Laws s) (room : HasReserve s) (live 
   fits_by None fits = refl
   fits_by (Some h) fits = not_of (block_fits s k.process h.process)
       (le-leb (label_against s k.process h.process).counter s.config.label_limit (omega (arith, fits h refl, room.by_events k.process, room.by_events h.process)))
+
+  -- it is not refused whoever owns the number
+  pub may_use : allowed (resource_tests s k r) ≡ Ok tt
+  may_use = passes_by (counts_exhausted s) (not (is_live s k)) (nat_le s.config.resources r) (is_waiting s k.process) asked_can.counts (ap not live) (lt-leb s.config.resources r in_range) (ap is_some idle)
 
   pub lock_never : ((h : Key) → owner_of s r ≡ Some h → 2 * s.totals.accepted + 2 ≤ s.config.label_limit) → (u : TableState) (e : Refusal) → Locks s k r (Err e) u → ⊥
   lock_never fits u e locks = elim locks.1 [

@@ -76,7 +76,7 @@ module _ (s : TableState) (owned : Ownership) (lists : Listed s owned) (n : ℕ)
   in_resources r among =
       filter_keeps (owns s n) (range_with_len 0 s.config.resources) r (among_range 0 s.config.resources r (omega arith) (omega (arith, lists.within n r among))) (lists.mine n r among)
 
-  of_resources : (r : ℕ) → Among r (resources_of s n) → Among r (list_at owned n)
+  pub of_resources : (r : ℕ) → Among r (resources_of s n) → Among r (list_at owned n)
   of_resources r among = lists.all n r (filter_gives (owns s n) (range_with_len 0 s.config.resources) r among).1
 
   -- what follows r in its list is owned as well, and is another resource

@@ -1,8 +1,9 @@
 //! A resource is granted, or its owner is waited for with a new label.
-ghost use Rattle.std.specs.Prelude.{◌≡◌, ◌<◌, ◌+◌, ◌^◌, ◌∷◌, ◌++◌, [], IsTrue, None, length, MatchOption, true, false};
-ghost use Rattle.mm_rules.specs.TableState.{wait_of, is_live};
+ghost use Rattle.std.specs.Prelude.{◌≡◌, ◌<◌, ◌+◌, ◌^◌, ◌∷◌, ◌++◌, [], List, Bool, Ok, IsTrue, None, length, MatchOption, true, false};
+ghost use Rattle.mm_rules.specs.TableState.{wait_of, is_live, owner_of};
 ghost use Rattle.mm_rules.specs.Change.{block_fits, label_against};
-ghost use Rattle.mm_rules.specs.Event.{Gives, acquired};
+ghost use Rattle.mm_rules.specs.Event.{Gives, acquired, allowed, resource_tests};
+ghost use Rattle.mm_rules.specs.declared.reply.Acquired.TheVariants as Acquired;
 ghost use Rattle.mm_rules.specs.Laws.{Laws};
 ghost use Rattle.mm_settle.specs.Touched.{Touches};
 ghost use Rattle.mm_settle.specs.Steps.Added.{Adds};
@@ -40,6 +41,22 @@ impl Records {
             return Err(Refusal::LabelsExhausted);
         };
         Ok(Acquired::Waits { holder, label })
+    }
+
+    /// `acquire` of a resource that nobody owns, by a key that may use it: so nothing is tested. Constant time.
+    #[inline(always)]
+    pub fn grant_free(&mut self, key: Key, resource: u32)
+        requires laws { Laws self.old }
+        requires passed { allowed (resource_tests self.old key resource) ≡ Ok tt }
+        requires process { key.process < self.old.config.processes }
+        requires resource { resource < self.old.config.resources }
+        requires count { self.old.totals.accepted < 2 ^ 62 }
+        requires free { owner_of self.old resource ≡ None }
+        ensures step { Gives (acquired self.old key resource) (Ok Acquired.Granted) self.new }
+        ensures touched { (set : List Bool) → Touches self.old self.new set set }
+    {
+        self.grant(key, resource);
+        self.count();
     }
 
     /// `acquire` of a resource that another process, `holder`, owns. Returns the label by which the transaction waits; `None` past the

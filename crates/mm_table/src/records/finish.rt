@@ -1,5 +1,5 @@
 //! A transaction ends: all that it owns is handed over, and its process is freed.
-ghost use Rattle.std.specs.Prelude.{◌≡◌, ◌<◌, IsTrue, None, IsFalse, fold, length, OnOk};
+ghost use Rattle.std.specs.Prelude.{◌≡◌, ◌<◌, List, Bool, [], IsTrue, None, IsFalse, fold, length, OnOk};
 ghost use Rattle.mm_rules.specs.TableState.{wait_of, is_live, has_verdict, resources_of};
 ghost use Rattle.mm_rules.specs.Change.{hand_over, free_slot, vacate, vacate_fits};
 ghost use Rattle.mm_rules.specs.Event.{Gives, allowed, finished, finish_tests};
@@ -14,6 +14,7 @@ use mm_bit_set::BitSet;
 impl Records {
     /// Hands over all that the transaction owns, frees its process, and adds those that this changes to the touched.
     /// `O(its resources + their waiters)`.
+    #[inline(always)]
     pub fn finish(&mut self, key: Key, touched: &mut BitSet) -> Result<(), Refusal>
         requires laws { Laws self.old }
         requires sized { length touched.old ≡ self.old.config.processes }
@@ -44,6 +45,7 @@ impl Records {
     }
 
     /// Hands over all that a live transaction owns, and frees its process. The order in which it hands over makes no difference.
+    #[inline(always)]
     pub(super) fn vacate(&mut self, key: Key, touched: &mut BitSet)
         requires laws { Laws self.old }
         requires live { IsTrue (is_live self.old key) }
@@ -58,6 +60,7 @@ impl Records {
     }
 
     /// Whether the limit allows each label that is made when `process` hands over all that it owns.
+    #[inline]
     pub(super) fn vacate_fits(&self, process: u32) -> bool
         requires { process < self.now.config.processes }
         ensures { result ≡ vacate_fits self.now process }
@@ -76,7 +79,38 @@ impl Records {
     }
 
     /// Hands over all that `process` owns, and adds all that waited for it to the touched.
+    #[inline(always)]
     fn hand_over_all(&mut self, process: u32, touched: &mut BitSet)
+        requires laws { Laws self.old }
+        requires process { process < self.old.config.processes }
+        requires active { wait_of self.old process ≡ None }
+        requires fits { IsTrue (vacate_fits self.old process) }
+        requires sized { length touched.old ≡ self.old.config.processes }
+        ensures state { self.new ≡ fold hand_over self.old (resources_of self.old process) }
+        ensures touched { IsVacating self.old process self.new touched.old touched.new }
+    {
+        if self.transactions.nobody_waits() {
+            self.free_all(process);
+        } else {
+            self.hand_over_each(process, touched);
+        }
+    }
+
+    /// Frees all that `process` owns, where nobody waits.
+    #[inline(always)]
+    fn free_all(&mut self, process: u32)
+        requires laws { Laws self.old }
+        requires process { process < self.old.config.processes }
+        requires none { self.old.waits ≡ [] }
+        ensures state { self.new ≡ fold hand_over self.old (resources_of self.old process) }
+        ensures touched { (set : List Bool) → IsVacating self.old process self.new set set }
+    {
+        self.owned.free_all(process);
+    }
+
+    /// `hand_over_all`, one resource after the other.
+    #[inline(never)]
+    fn hand_over_each(&mut self, process: u32, touched: &mut BitSet)
         requires laws { Laws self.old }
         requires process { process < self.old.config.processes }
         requires active { wait_of self.old process ≡ None }

@@ -1,28 +1,51 @@
-use Rattle.std.proofs.Common.{◌≡◌, Ok, refl, sym, ap, ◌∙◌}
-use Rattle.mm_manager.specs.Permit.{may_count}
+use Rattle.std.proofs.Common.{◌≡◌, Ok, refl, sym, ap, ◌∙◌, arith}
+use Rattle.mm_rules.specs.TableState.{owner_of}
+use Rattle.mm_rules.specs.Event.{allowed, resource_tests}
+use Rattle.mm_manager.specs.Permit.{may_ask, may_count}
+use Rattle.mm_manager.specs.private.Requests.{may_ask_more}
 use Rattle.mm_manager.proofs.Lemmas.Answered.{asks_more}
-use Rattle.mm_manager.proofs.Lemmas.Unowned.{passed, not_passed, granted_if_ok, refused_if_err}
+use Rattle.mm_manager.proofs.Lemmas.Limits.{may_use}
+use Rattle.mm_manager.proofs.Lemmas.May.{IsActive, asks, counted}
+use Rattle.mm_manager.proofs.Lemmas.Numbers.{some_not_none}
+use Rattle.mm_manager.proofs.Lemmas.Owners.{not_mine}
+use Rattle.mm_manager.proofs.Lemmas.Unowned.{passed, not_passed}
+use Rattle.mm_rules.proofs.States.Lookups.{live_within}
 use Rattle.mm_manager.proofs.request.is_granted.Goals as goal
 
 pub returns-then-is_err-clause-refused : goal.returns-then-is_err-clause-refused
 returns-then-is_err-clause-refused c = (
-  λ more. not_passed c.may_count.result c.if-is_err.ensures.value (c.may_count.ensures ∙ ap may_count c.table.ensures ∙ (asks_more c.args.table.now.table c.args.key more).1),
+  λ more. not_passed c.may_ask_now.result c.if-is_err.ensures.value (c.may_ask_now.ensures ∙ ap (λ s. may_ask_more s c.args.key) c.table.ensures ∙ more),
   refl,
 )
 
-pub returns-then-is_err-clause-others : goal.returns-then-is_err-clause-others
-returns-then-is_err-clause-others c = λ v apart. refl
+pub grant_free-requires-clause-passed : goal.grant_free-requires-clause-passed
+grant_free-requires-clause-passed c =
+    let s = c.args.table.now.table in
+    let k = c.args.key in
+    let more : may_ask_more s k ≡ Ok tt = ap (λ t. may_ask_more t k) (sym c.table.ensures) ∙ sym c.may_ask_now.ensures ∙ passed c.may_ask_now.result c.if-is_err.ensures.value in
+    let r = c.args.number in
+    let laws = c.is_at_rest.ensures.laws in
+    let both = asks_more s k more in
+    let active = asks s k both.0 in
+    may_use s k laws c.requires.left active.live active.idle (counted s both.1) r c.requires.in_range (not_mine s k r laws active.live (λ mine. some_not_none (owner_of s r) k mine c.requires.free))
+
+pub grant_free-requires-clause-process : goal.grant_free-requires-clause-process
+grant_free-requires-clause-process c =
+    let s = c.args.table.now.table in
+    let k = c.args.key in
+    let more : may_ask_more s k ≡ Ok tt = ap (λ t. may_ask_more t k) (sym c.table.ensures) ∙ sym c.may_ask_now.ensures ∙ passed c.may_ask_now.result c.if-is_err.ensures.value in
+    live_within s k c.is_at_rest.ensures.laws.lawful.well_formed.sizes (asks s k (asks_more s k more).0).live
+
+pub grant_free-requires-clause-count : goal.grant_free-requires-clause-count
+grant_free-requires-clause-count c =
+    let s = c.args.table.now.table in
+    let k = c.args.key in
+    let more : may_ask_more s k ≡ Ok tt = ap (λ t. may_ask_more t k) (sym c.table.ensures) ∙ sym c.may_ask_now.ensures ∙ passed c.may_ask_now.result c.if-is_err.ensures.value in
+    omega (arith, counted s (asks_more s k more).1)
 
 pub returns-clause-granted : goal.returns-clause-granted
 returns-clause-granted c =
     let s = c.args.table.now.table in
-    let count : may_count s ≡ Ok tt = ap may_count (sym c.table.ensures) ∙ sym c.may_count.ensures ∙ passed c.may_count.result c.if-is_err.ensures.value in
-    granted_if_ok s c.lock.new.self.table c.args.key c.args.number c.requires.free c.lock.result c.is_ok.result c.is_ok.ensures.value count c.lock.ensures.locks
-
-pub returns-clause-refused : goal.returns-clause-refused
-returns-clause-refused c =
-    refused_if_err c.args.table.now.table c.lock.new.self.table c.args.key c.args.number c.requires.free c.lock.result c.is_ok.result c.is_ok.ensures.value c.is_at_rest.ensures.laws c.requires.left
-    c.requires.in_range c.lock.ensures.locks
-
-pub returns-clause-others : goal.returns-clause-others
-returns-clause-others c = c.lock.ensures.others
+    let k = c.args.key in
+    let more : may_ask_more s k ≡ Ok tt = ap (λ t. may_ask_more t k) (sym c.table.ensures) ∙ sym c.may_ask_now.ensures ∙ passed c.may_ask_now.result c.if-is_err.ensures.value in
+    (more, c.grant_free.ensures.locks)

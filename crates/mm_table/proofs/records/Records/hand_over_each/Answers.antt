@@ -8,8 +8,8 @@ use Rattle.mm_rules.proofs.States.HandOverAll.{IsUnderWay, starts, handed_one, f
 use Rattle.mm_settle.specs.Steps.Vacating.{IsVacating}
 use Rattle.mm_settle.proofs.Lemmas.Vacated.{vacating_starts, vacating_next}
 use Rattle.mm_table.proofs.Fields.Ownership.{listed, in_resources, none_left, below, follows}
-use Rattle.mm_table.proofs.records.Records.hand_over_all.Goals as goal
-use Rattle.mm_table.proofs.records.Records.hand_over_all.Goals.{in-Some-following, in-None}
+use Rattle.mm_table.proofs.records.Records.hand_over_each.Goals as goal
+use Rattle.mm_table.proofs.records.Records.hand_over_each.Goals.{in-Some-following, in-None}
 
 pub loop-next-init : goal.loop-next-init
 loop-next-init c =

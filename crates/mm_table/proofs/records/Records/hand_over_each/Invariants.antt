@@ -3,7 +3,7 @@ use Rattle.mm_list_lemmas.specs.Members.{Among}
 use Rattle.mm_rules.specs.TableState.{resources_of}
 use Rattle.mm_rules.proofs.States.HandOverAll.{IsUnderWay}
 use Rattle.mm_settle.specs.Steps.Vacating.{IsVacating}
-use Rattle.mm_table.proofs.records.Records.hand_over_all.Given as goal
+use Rattle.mm_table.proofs.records.Records.hand_over_each.Given as goal
 
 -- `next` is owned still; where there is none, nothing is
 abbrev pub invariant-loop-next : goal.invariant-loop-next
