@@ -1,5 +1,6 @@
 //! The calls by which names are handed over: a release, and the end of a transaction. There is room for each, so none is refused.
 ghost use Rattle.std.specs.Prelude.{◌≡◌, ◌≤◌, ◌↔◌, ℕ, Ok, Some, None, true, IsSome, IfSome, IfNone, OnSome, fold, vec_capacity};
+ghost use Rattle.std.specs.Bool.{OnTrue, OnFalse};
 ghost use Rattle.mm_list_lemmas.specs.Members.{Among};
 ghost use Rattle.mm_names.specs.Names.{name_of};
 ghost use Rattle.mm_rules.specs.TableState.{is_live, owner_of};
@@ -47,7 +48,8 @@ pub fn release(
     Some(answer)
 }
 
-/// `SettledTable::end_listing`: each name of the transaction keeps its number exactly where somebody owns it then.
+/// `SettledTable::end_listing` of a transaction that may end in this way: each of its names keeps its number exactly where somebody owns it
+/// then.
 #[inline(always)]
 pub fn end_transaction(
     table: &mut SettledTable,
@@ -70,9 +72,40 @@ pub fn end_transaction(
     ensures room { vec_capacity owned.new ≡ vec_capacity owned.old }
     ensures left { HasReserve table.new.table }
 {
+    let is_ended = try_end_transaction(table, names, owned, kind, key);
+    if !is_ended {
+        unreachable!();
+    }
+}
+
+/// `end_transaction`, where the transaction may end in this way. `false` exactly where it may not, and then nothing changes.
+#[inline(always)]
+pub fn try_end_transaction(
+    table: &mut SettledTable,
+    names: &mut Names,
+    owned: &mut Vec<u32>,
+    kind: EndKind,
+    key: Key,
+) -> bool
+    requires numbered { AreNumbered table.old.table names.old }
+    requires room { table.old.table.config.resources ≤ vec_capacity owned.old }
+    requires left { HasReserve table.old.table }
+    ensures made { OnTrue result (MakesEnd kind key table.old.table (Ok tt) table.new.table) }
+    ensures others { OthersKeepVerdicts table.old.table table.new.table key.process }
+    ensures told { Tells table.old.table table.new }
+    ensures ended { EndsWaits table.old.table table.new.table key.process table.new.granted }
+    ensures names { OnTrue result (KeepOwned names.old table.new.table names.new) }
+    ensures numbered { OnTrue result (AreNumbered table.new.table names.new) }
+    ensures room { vec_capacity owned.new ≡ vec_capacity owned.old }
+    ensures left { OnTrue result (HasReserve table.new.table) }
+    ensures refused { OnFalse result (is_live table.old.table key ≡ true → ¬ MayEnd kind table.old.table key.process) }
+    ensures table { OnFalse result (table.new.table ≡ table.old.table) }
+    ensures same { OnFalse result (names.new ≡ names.old) }
+{
     table.is_at_rest();
     let Ok(()) = table.end_listing(kind, key, owned) else {
-        unreachable!();
+        return false;
     };
     forget_ended(table, names, owned);
+    true
 }

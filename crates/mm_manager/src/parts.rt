@@ -1,5 +1,6 @@
 //! The calls over the parts of a manager.
 ghost use Rattle.std.specs.Prelude.{◌≡◌, ◌⊎◌, ℕ, [], Some, None, Ok, Err, true, length, IfOk, IfErr, OnOk, OnErr, IsSome};
+ghost use Rattle.std.specs.Bool.{OnTrue, OnFalse};
 ghost use Rattle.mm_arena.specs.declared.key.Key.{Key as KeyValue};
 ghost use Rattle.mm_list_lemmas.specs.Members.{Among};
 ghost use Rattle.mm_names.specs.Names.{name_of, IsLawful as IsLawfulNames};
@@ -20,10 +21,10 @@ ghost use Rattle.mm_manager.specs.private.Numbers.{AreNumbered, bare};
 ghost use Rattle.mm_manager.specs.private.Room.{HasReserve};
 
 use crate::due::end_due;
-use crate::hand_over::{end_transaction, release};
+use crate::hand_over::{release, try_end_transaction};
 use crate::lists::{Lists, add_grants};
 use crate::numbers::{named_number, not_released};
-use crate::permit::{may_ask, may_count};
+use crate::permit::{may_ask, may_count, why_not_asked};
 use crate::request::{request, try_request};
 use crate::{Key, Lock, Refusal, TryLock};
 use mm_names::Names;
@@ -76,8 +77,6 @@ pub fn release_number(
 }
 
 /// Ends a transaction that is active, or the victim of a deadlock.
-// In place, as all is that an end does where nobody waited.
-#[inline(always)]
 pub fn end(table: &mut SettledTable, names: &mut Names, lists: &mut Lists, kind: EndKind, key: Key)
     requires parts { AreParts table.old.table names.old lists.old }
     requires none_granted { lists.old.granted.items ≡ [] }
@@ -86,9 +85,36 @@ pub fn end(table: &mut SettledTable, names: &mut Names, lists: &mut Lists, kind:
     requires may { MayEnd kind table.old.table key.process }
     ensures { HandedEnd kind key table.old.table names.old lists.old.due.items table.new.table names.new lists.new }
 {
+    let is_ended = try_end(table, names, lists, kind, key);
+    if !is_ended {
+        unreachable!();
+    }
+}
+
+/// `end`, where the transaction may end in this way. `false` exactly where it may not, and then nothing changes.
+// In place, as all is that an end does where nobody waited.
+#[inline(always)]
+fn try_end(
+    table: &mut SettledTable,
+    names: &mut Names,
+    lists: &mut Lists,
+    kind: EndKind,
+    key: Key,
+) -> bool
+    requires parts { AreParts table.old.table names.old lists.old }
+    requires none_granted { lists.old.granted.items ≡ [] }
+    requires none_aborted { lists.old.aborted.items ≡ [] }
+    ensures ended { OnTrue result (HandedEnd kind key table.old.table names.old lists.old.due.items table.new.table names.new lists.new) }
+    ensures refused { OnFalse result (is_live table.old.table key ≡ true → ¬ MayEnd kind table.old.table key.process) }
+    ensures untouched { OnFalse result (IsUntouched table.old.table names.old lists.old table.new.table names.new lists.new) }
+    ensures parts { OnFalse result (AreParts table.new.table names.new lists.new) }
+{
     table.is_at_rest();
-    end_transaction(table, names, &mut lists.owned, kind, key);
+    if !try_end_transaction(table, names, &mut lists.owned, kind, key) {
+        return false;
+    }
     pass_on(table, names, lists);
+    true
 }
 
 /// Starts a transaction.
@@ -204,7 +230,8 @@ pub fn commit(
     ensures parts { AreParts table.new.table names.new lists.new }
 {
     lists.clear();
-    may_ask(table.table(), key)?;
-    end(table, names, lists, EndKind::Finish, key);
+    if !try_end(table, names, lists, EndKind::Finish, key) {
+        return Err(why_not_asked(table.table(), key));
+    }
     Ok(())
 }

@@ -26,6 +26,18 @@ pub fn may_ask(table: &Table, key: Key) -> Result<(), Refusal>
     }
 }
 
+/// Why a transaction may not ask for anything.
+#[inline(never)]
+pub fn why_not_asked(table: &Table, key: Key) -> Refusal
+    requires { may_ask table.now key ≢ Ok tt }
+    ensures { may_ask table.now key ≡ Err result }
+{
+    let Err(refusal) = may_ask(table, key) else {
+        unreachable!();
+    };
+    refusal
+}
+
 /// Whether a transaction may take back its wait: its key is live, and it waits in no deadlock.
 pub fn may_cancel(table: &Table, key: Key) -> Result<(), Refusal>
     ensures { result ≡ may_cancel table.now key }

@@ -2,7 +2,7 @@
 use Rattle.std.proofs.Common.{◌≡◌, ◌≤◌, ◌<◌, ◌+◌, ◌*◌, ◌^◌, ◌∷◌, ℕ, Bool, true, false, not, List, [], Option, Some, None, is_some, length, count_by, nat_eq, nat_le, Result, Ok, Err, MatchBool, inl, inr, refl, sym, ap, subst, ◌∙◌, arith}
 use Rattle.std.specs.List.{AllByRecursion}
 use Rattle.std.specs.Option.{option_map_or}
-use Rattle.std.proofs.lemmas.Bool.{and_parts, eq-eqb, lt-leb, le-leb, lt-ltb}
+use Rattle.std.proofs.lemmas.Bool.{and_parts, not-false, eq-eqb, lt-leb, le-leb, lt-ltb}
 use Rattle.std.proofs.lemmas.List.Sums.{count_by-le-length}
 use Rattle.mm_arena.specs.declared.key.Key.{Key}
 use Rattle.mm_list_lemmas.specs.Members.{Among}
@@ -15,11 +15,12 @@ use Rattle.mm_rules.specs.Change.{label_against, block_fits, give_to_fits, hand_
 use Rattle.mm_rules.specs.Event.{Tests, Release, Finish, Abort, Gives, Step, allowed, counts_exhausted, decided, outcome, resource_tests, acquire_tests, acquire_answer, acquire_change, release_tests, release_answer, finish_tests, abort_tests}
 use Rattle.mm_rules.specs.Laws.{Laws}
 use Rattle.mm_rules.specs.Withdraw.{renew_fits, shown_process, shows_waiting, withdraw, withdraw_tests, Withdraws}
-use Rattle.mm_rules.proofs.States.Lookups.{waits_here}
+use Rattle.mm_rules.proofs.States.Lookups.{none_of_is_some, waits_here}
 use Rattle.mm_rules.proofs.States.Vacate.{live_process}
 use Rattle.mm_settled.specs.Calls.{Locks, MakesEnd, MakesWithdrawal, Refuses, has_room}
 use Rattle.mm_settled.specs.declared.reply.EndKind.{EndKind}
 use Rattle.mm_settled.specs.declared.reply.EndKind.TheVariants as way
+use Rattle.mm_settled.proofs.Lemmas.Accepted.{accepted}
 use Rattle.mm_settled.proofs.Lemmas.Ends.{owner_in_range}
 use Rattle.mm_manager.specs.Permit.{event_limit}
 use Rattle.mm_manager.specs.private.Handed.{MayEnd}
@@ -112,6 +113,16 @@ module _ (s : TableState) (labels : LabelsWithin s s.config.label_limit) where
   vacate_has_room n = list_all_from (hand_over_fits s) (resources_of s n) (λ r among. hand_over_has_room r)
 
 -- ---- the end of a transaction, and a release
+
+-- a refused end changes nothing
+pub end_refused_same : (kind : EndKind) (s u : TableState) (k : Key) (e : Refusal) → MakesEnd kind k s (Err e) u → u ≡ s
+end_refused_same way.Finish s u k e refuses = refuses.0
+end_refused_same way.Abort s u k e refuses = refuses.0
+
+-- an accepted one may be made
+pub end_may : (kind : EndKind) (s u : TableState) (k : Key) → MakesEnd kind k s (Ok tt) u → MayEnd kind s k.process
+end_may way.Finish s u k made = none_of_is_some (wait_of s k.process) (accepted (finish_tests s k) s tt (vacate s k.process) tt made.mid made.event).passed.1.1.0
+end_may way.Abort s u k made = not-false (has_verdict s k.process) (accepted (abort_tests s k) s tt (abort s k.process) tt made.mid made.event).passed.1.1.0
 
 -- where there is room, the table refuses by itself
 by_room : (b : Bool) (P Q : Type 0) → b ≡ true → MatchBool b P Q → P

@@ -1,11 +1,9 @@
 use Rattle.std.proofs.Common.{◌≡◌, Ok, refl, sym, ap, ◌∙◌, arith}
 use Rattle.mm_rules.specs.TableState.{owner_of}
-use Rattle.mm_rules.specs.Event.{allowed, resource_tests}
-use Rattle.mm_manager.specs.Permit.{may_ask, may_count}
 use Rattle.mm_manager.specs.private.Requests.{may_ask_more}
 use Rattle.mm_manager.proofs.Lemmas.Answered.{asks_more}
 use Rattle.mm_manager.proofs.Lemmas.Limits.{may_use}
-use Rattle.mm_manager.proofs.Lemmas.May.{IsActive, asks, counted}
+use Rattle.mm_manager.proofs.Lemmas.May.{asks, counted}
 use Rattle.mm_manager.proofs.Lemmas.Numbers.{some_not_none}
 use Rattle.mm_manager.proofs.Lemmas.Owners.{not_mine}
 use Rattle.mm_manager.proofs.Lemmas.Unowned.{passed, not_passed}

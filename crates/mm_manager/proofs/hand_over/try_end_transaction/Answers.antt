@@ -1,21 +1,25 @@
 use Rattle.std.proofs.Common.{◌≡◌, ◌↔◌, ℕ, Ok, Err, Some, fold, ap, subst, ◌∙◌}
 use Rattle.mm_list_lemmas.specs.Members.{Among}
-use Rattle.mm_rules.specs.TableState.{TableState, owner_of}
+use Rattle.mm_rules.specs.TableState.{owner_of}
 use Rattle.mm_settled.specs.Calls.{MakesEnd}
 use Rattle.mm_manager.specs.private.Numbers.{forgotten}
 use Rattle.mm_manager.proofs.Lemmas.Owners.{end_leaves}
 use Rattle.mm_manager.proofs.Lemmas.Forgets.{NamesFollow, ended_names}
 use Rattle.mm_manager.proofs.Lemmas.HandsDown.{end_hands_down, nobody_owns}
-use Rattle.mm_manager.proofs.Lemmas.Limits.{end_never}
+use Rattle.mm_manager.proofs.Lemmas.Limits.{end_never, end_refused_same}
 use Rattle.mm_manager.proofs.Lemmas.Room.{end_room}
-use Rattle.mm_manager.proofs.hand_over.end_transaction.Goals as goal
+use Rattle.mm_manager.proofs.hand_over.try_end_transaction.Goals as goal
 
-pub unreachable-requires : goal.unreachable-requires
-unreachable-requires c =
+refuses : (c : goal.In_default) → MakesEnd c.args.kind c.args.key c.args.table.now.table (Err c.in_default.field-0) c.end_listing.new.self.table
+refuses c = rw c.in_default.is at c.end_listing.ensures.makes
+
+pub returns-in_default-clause-refused : goal.returns-in_default-clause-refused
+returns-in_default-clause-refused c =
     let s = c.args.table.now.table in
-    let k = c.args.key in
-    let refuses : MakesEnd c.args.kind k s (Err c.in_default.field-0) c.end_listing.new.self.table = rw c.in_default.is at c.end_listing.ensures.makes in
-    end_never s k c.is_at_rest.ensures.laws c.requires.left c.requires.live c.args.kind c.requires.may c.end_listing.new.self.table c.in_default.field-0 refuses
+    λ live may. end_never s c.args.key c.is_at_rest.ensures.laws c.requires.left live c.args.kind may c.end_listing.new.self.table c.in_default.field-0 (refuses c)
+
+pub returns-in_default-clause-table : goal.returns-in_default-clause-table
+returns-in_default-clause-table c = end_refused_same c.args.kind c.args.table.now.table c.end_listing.new.self.table c.args.key c.in_default.field-0 (refuses c)
 
 made : (c : goal.After-forget_ended) → MakesEnd c.args.kind c.args.key c.args.table.now.table (Ok tt) c.end_listing.new.self.table
 made c =
