@@ -2,6 +2,8 @@
 use Rattle.std.proofs.Common.{◌≡◌, ◌+◌, ℕ, zero, suc, List, [], ◌∷◌, drop, slice_get, Some, None, Result, Ok, Err, Bor, inl, inr, refl, sym, subst, ap, arith}
 use Rattle.mm_arena.specs.declared.key.Key.{Key}
 use Rattle.mm_manager.specs.LockState.{LockState, Owns}
+use Rattle.mm_manager.specs.Permit.{may_ask}
+use Rattle.mm_manager.proofs.Lemmas.Answered.{granted_asks_more, request_asks}
 use Rattle.mm_blocking.specs.Calls.{Receives, Asks, AsksEach, GoesOn, Finds, bytes_of, rest}
 use Rattle.mm_blocking.specs.declared.desk.Asked.TheVariants as asked
 use Rattle.mm_blocking.specs.declared.desk.tokens.GrantedUpTo.{GrantedUpTo}
@@ -22,6 +24,11 @@ none_left (name ∷ names) zero is = absurd (cc is)
 none_left (name ∷ names) (suc i) is = none_left names i is
 
 -- ---- they are asked for
+
+-- who owns a name by its request may ask for more
+pub received_asks : (old new : LockState) (k : Key) (name : List ℕ) → Receives old k name new → may_ask new.table k ≡ Ok tt
+received_asks old new k name (inl granted) = granted_asks_more old.table new.table k granted.step.0 granted.step.2
+received_asks old new k name (inr held) = subst (λ s. may_ask s k ≡ Ok tt) (sym held.step.1) (request_asks old.table old.names.name_bytes k name held.may)
 
 module _ (m new : LockState) (j k : Key) (same : j ≡ k) (so_far : GrantedUpTo) (one : Bor (List ℕ)) (is : Some one ≡ slice_get so_far.names.now so_far.place) where
   pub owns_first : (mid : LockState) (next : GrantedUpTo) (answer : Result (List (List ℕ)) LockError) → next.names.now ≡ so_far.names.now → next.place ≡ so_far.place + 1

@@ -1,6 +1,7 @@
 //! The manager behind the lock.
-ghost use Rattle.std.specs.Prelude.{◌≡◌, ◌⊎◌, ◌↔◌, [], ℕ, IfErr, IfOk, IfSome, IsTrue, true, Result};
+ghost use Rattle.std.specs.Prelude.{◌≡◌, ◌⊎◌, ◌↔◌, [], ℕ, IfErr, IfOk, IfSome, IsTrue, Ok, true, Result};
 ghost use Rattle.mm_manager.specs.LockState.{Owns};
+ghost use Rattle.mm_manager.specs.Permit.{may_ask};
 ghost use Rattle.mm_manager.specs.Reads.{HasStatus};
 ghost use Rattle.mm_manager.specs.declared.refusal.Refusal.{Refusal as RefusalValue};
 ghost use Rattle.mm_manager.specs.declared.reply.Status.{Status as StatusValue};
@@ -82,6 +83,23 @@ impl Desk {
         }
     }
 
+    /// `lock` by a transaction that does not wait, as one that was granted its last request.
+    #[inline(always)]
+    fn lock_active<'n>(&mut self, key: Key, name: &'n [u8]) -> Result<Asked<'n>, LockError>
+        requires { may_ask self.old.manager.table key ≡ Ok tt }
+        ensures asks { Asks self.old.manager key name.now result self.new.manager }
+        ensures granted { IfOk result (OwnsFor key name.now) }
+        ensures refused { IfErr result (λ error. of_lock error ≡ true) }
+        ensures kept { self.new.unwoken ≡ self.old.unwoken }
+    {
+        match self.manager.lock_active(key, name) {
+            Ok(Lock::Granted | Lock::Held) => Ok(Asked::Owns(self.granted(key, name))),
+            Ok(Lock::Waits { .. }) => Ok(Asked::Waits),
+            Ok(Lock::Deadlock { .. }) => Err(LockError::Deadlock),
+            Err(refusal) => Err(LockError::of_refusal(refusal)),
+        }
+    }
+
     /// Asks for the names that are left in their order, until one is to be waited for or is refused. Returns which ones were granted: all,
     /// or those before the one that the transaction waits for.
     // In place: so what was granted is told in registers.
@@ -92,9 +110,30 @@ impl Desk {
         ensures refused { IfErr result (λ error. of_lock error ≡ true) }
         ensures kept { self.new.unwoken ≡ self.old.unwoken }
     {
+        let Some(name) = so_far.next() else {
+            return Ok(so_far);
+        };
+        match self.lock(so_far.key(), name)? {
+            Asked::Owns(one) => self.lock_each_active(so_far.and(one)),
+            Asked::Waits => Ok(so_far),
+        }
+    }
+
+    /// `lock_each` by a transaction that does not wait, as one that was granted its last request.
+    #[inline(always)]
+    fn lock_each_active<'n>(
+        &mut self,
+        so_far: GrantedUpTo<'n>,
+    ) -> Result<GrantedUpTo<'n>, LockError>
+        requires { may_ask self.old.manager.table so_far.key ≡ Ok tt }
+        ensures asks { AsksEach self.old.manager so_far.entry.key (rest so_far.entry) (left result) self.new.manager }
+        ensures granted { IfOk result (IsAmong so_far.entry.key so_far.entry.names.now) }
+        ensures refused { IfErr result (λ error. of_lock error ≡ true) }
+        ensures kept { self.new.unwoken ≡ self.old.unwoken }
+    {
         let mut granted = so_far;
         while let Some(name) = granted.next() {
-            match self.lock(granted.key(), name)? {
+            match self.lock_active(granted.key(), name)? {
                 Asked::Owns(one) => granted = granted.and(one),
                 Asked::Waits => return Ok(granted),
             }

@@ -1,5 +1,6 @@
 //! The lock manager.
 ghost use Rattle.std.specs.Prelude.{◌≡◌, ◌↔◌, ◌≤◌, ℕ, List, [], Some, Ok, Err, IfOk, IfErr, OnOk, option_copied, vec_capacity, length};
+ghost use Rattle.std.specs.Bool.{OnTrue};
 ghost use Rattle.mm_arena.specs.declared.key.Key.{Key as KeyValue};
 ghost use Rattle.mm_bit_set.specs.BitSet.{has};
 ghost use Rattle.mm_list_lemmas.specs.Members.{Among, NoRepeat};
@@ -7,7 +8,7 @@ ghost use Rattle.mm_names.specs.Names.{name_of};
 ghost use Rattle.mm_rules.specs.TableState.{owner_of};
 ghost use Rattle.mm_settled.specs.Calls.{OthersKeepVerdicts};
 ghost use Rattle.mm_manager.specs.LockState.{Owns, IsLawful};
-ghost use Rattle.mm_manager.specs.Permit.{may_request};
+ghost use Rattle.mm_manager.specs.Permit.{may_ask, may_request};
 ghost use Rattle.mm_manager.specs.Opening.{opening_state, IsTransactionsOut, IsNamesOut, IsNameBytesOut};
 ghost use Rattle.mm_manager.specs.Calls.{Begins, LocksName, TriesName, Requests, Tries, UnlocksName, Commits, Aborts, Cancels};
 ghost use Rattle.mm_manager.specs.Reads.{HasStatus, waits_of};
@@ -135,7 +136,46 @@ impl LockManager {
         ensures aborted { self.new.aborted ≡ [] }
         ensures totals { self.new.totals ≡ after_lock self.old.totals result }
     {
-        let answer = parts::lock(&mut self.table, &mut self.names, &mut self.lists, key, name);
+        self.ask_for(key, name, false)
+    }
+
+    /// `lock` by a transaction that does not wait, as one that was granted its last request. Its key is not looked at again.
+    #[inline(always)]
+    pub fn lock_active(&mut self, key: Key, name: &[u8]) -> Result<Lock, Refusal>
+        requires { may_ask self.old.table key ≡ Ok tt }
+        ensures locks { LocksName self.old key name.now result self.new }
+        ensures may { OnOk result (may_request self.old.table self.old.names.name_bytes key name.now ≡ Ok tt) }
+        ensures step { IfOk result (λ answer. Requests self.old.table self.old.names key name.now answer self.new.table self.new.names) }
+        ensures others { OthersKeepVerdicts self.old.table self.new.table key.process }
+        ensures due { self.new.due ≡ self.old.due }
+        ensures granted { self.new.granted ≡ [] }
+        ensures aborted { self.new.aborted ≡ [] }
+        ensures totals { self.new.totals ≡ after_lock self.old.totals result }
+    {
+        self.ask_for(key, name, true)
+    }
+
+    /// `lock`. `is_active` where it is known that the transaction may ask.
+    #[inline(always)]
+    fn ask_for(&mut self, key: Key, name: &[u8], is_active: bool) -> Result<Lock, Refusal>
+        requires { OnTrue is_active (may_ask self.old.table key ≡ Ok tt) }
+        ensures locks { LocksName self.old key name.now result self.new }
+        ensures may { OnOk result (may_request self.old.table self.old.names.name_bytes key name.now ≡ Ok tt) }
+        ensures step { IfOk result (λ answer. Requests self.old.table self.old.names key name.now answer self.new.table self.new.names) }
+        ensures others { OthersKeepVerdicts self.old.table self.new.table key.process }
+        ensures due { self.new.due ≡ self.old.due }
+        ensures granted { self.new.granted ≡ [] }
+        ensures aborted { self.new.aborted ≡ [] }
+        ensures totals { self.new.totals ≡ after_lock self.old.totals result }
+    {
+        let answer = parts::lock(
+            &mut self.table,
+            &mut self.names,
+            &mut self.lists,
+            key,
+            name,
+            is_active,
+        );
         self.totals.count_lock(&answer);
         answer
     }

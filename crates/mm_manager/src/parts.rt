@@ -139,7 +139,7 @@ pub fn begin(table: &mut SettledTable, names: &Names, lists: &mut Lists) -> Resu
     }
 }
 
-/// Asks for a name.
+/// Asks for a name. `is_active` where it is known that the transaction may ask.
 // In place, as all of a request is that is granted: what is told of it then stays in registers.
 #[inline(always)]
 pub fn lock(
@@ -148,8 +148,10 @@ pub fn lock(
     lists: &mut Lists,
     key: Key,
     name: &[u8],
+    is_active: bool,
 ) -> Result<Lock, Refusal>
-    requires { AreParts table.old.table names.old lists.old }
+    requires parts { AreParts table.old.table names.old lists.old }
+    requires known { OnTrue is_active (may_ask table.old.table key ≡ Ok tt) }
     ensures requested { IfOk result (λ answer. Requests table.old.table names.old key name.now answer table.new.table names.new) }
     ensures may { OnOk result (may_request table.old.table names.old.name_bytes key name.now ≡ Ok tt) }
     ensures refused { IfErr result (λ refusal. LockRefused (bare table.old.table names.old) key name.now refusal) }
@@ -164,7 +166,7 @@ pub fn lock(
 {
     lists.clear();
     table.is_at_rest();
-    request(table, names, key, name)
+    request(table, names, key, name, is_active)
 }
 
 /// Asks for a name that nobody owns.

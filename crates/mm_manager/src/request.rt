@@ -20,14 +20,17 @@ use mm_names::{Entry, Names};
 use mm_settled::{Locked, SettledTable, Table};
 
 /// Asks the table for the number of a name, which the name has already, or gets. Nobody owns a number whose name is new, so the table is
-/// asked at once, and what would refuse the request is looked for only where the table refuses it.
+/// asked at once, and what would refuse the request is looked for only where the table refuses it. `is_active` where it is known that the
+/// transaction may ask.
 #[inline(always)]
 pub fn request(
     table: &mut SettledTable,
     names: &mut Names,
     key: Key,
     name: &[u8],
+    is_active: bool,
 ) -> Result<Lock, Refusal>
+    requires known { OnTrue is_active (may_ask table.old.table key ≡ Ok tt) }
     requires numbered { AreNumbered table.old.table names.old }
     requires left { HasReserve table.old.table }
     ensures requested { Requested table.old.table names.old key name.now result table.new.table names.new }
@@ -36,7 +39,7 @@ pub fn request(
 {
     table.is_at_rest();
     match entry_of(names, name) {
-        Ok(Entry { number, is_new }) if is_new => request_new(table, names, key, number),
+        Ok(Entry { number, is_new }) if is_new => request_new(table, names, key, number, is_active),
         Ok(Entry { number, .. }) => request_named(table, key, number),
         Err(refusal) => Err(refused_first(table.table(), key, refusal)),
     }
@@ -49,7 +52,9 @@ fn request_new(
     names: &mut Names,
     key: Key,
     number: u32,
+    is_active: bool,
 ) -> Result<Lock, Refusal>
+    requires known { OnTrue is_active (may_ask table.old.table key ≡ Ok tt) }
     requires in_range { number < table.old.table.config.resources }
     requires left { HasReserve table.old.table }
     requires free { owner_of table.old.table number ≡ None }
@@ -57,7 +62,7 @@ fn request_new(
     ensures answers { AnswersNew table.old.table key number names.old result table.new.table names.new }
     ensures others { OthersKeepVerdicts table.old.table table.new.table key.process }
 {
-    if is_granted(table, key, number) {
+    if is_granted(table, key, number, is_active) {
         return Ok(Lock::Granted);
     }
     names.forget(number);
@@ -66,7 +71,8 @@ fn request_new(
 
 /// Asks the table for a number that nobody owns, and tells whether the transaction owns it then.
 #[inline(always)]
-fn is_granted(table: &mut SettledTable, key: Key, number: u32) -> bool
+fn is_granted(table: &mut SettledTable, key: Key, number: u32, is_active: bool) -> bool
+    requires known { OnTrue is_active (may_ask table.old.table key ≡ Ok tt) }
     requires in_range { number < table.old.table.config.resources }
     requires left { HasReserve table.old.table }
     requires free { owner_of table.old.table number ≡ None }
@@ -75,7 +81,7 @@ fn is_granted(table: &mut SettledTable, key: Key, number: u32) -> bool
     ensures others { OthersKeepVerdicts table.old.table table.new.table key.process }
 {
     table.is_at_rest();
-    if may_ask_now(table.table(), key).is_err() {
+    if may_ask_now(table.table(), key, is_active).is_err() {
         return false;
     }
     table.grant_free(key, number);
@@ -84,10 +90,13 @@ fn is_granted(table: &mut SettledTable, key: Key, number: u32) -> bool
 
 /// Whether a transaction may ask for something, and an event may be counted.
 #[inline(always)]
-fn may_ask_now(table: &Table, key: Key) -> Result<(), Refusal>
+fn may_ask_now(table: &Table, key: Key, is_active: bool) -> Result<(), Refusal>
+    requires { OnTrue is_active (may_ask table.now key ≡ Ok tt) }
     ensures { result ≡ may_ask_more table.now key }
 {
-    may_ask(table, key)?;
+    if !is_active {
+        may_ask(table, key)?;
+    }
     may_count(table)
 }
 

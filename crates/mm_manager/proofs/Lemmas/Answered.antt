@@ -5,7 +5,7 @@ use Rattle.std.proofs.lemmas.List.{set-set, set-get_or}
 use Rattle.mm_arena.specs.declared.key.Key.{Key}
 use Rattle.mm_names.specs.Names.{NameTable, name_of, with_name, IsFree, IsNamed, IsRefusedAsFull, Interns}
 use Rattle.mm_rules.specs.declared.reply.Acquired.TheVariants as acquired
-use Rattle.mm_rules.specs.TableState.{TableState, is_live, has_verdict, owner_of, wait_of}
+use Rattle.mm_rules.specs.TableState.{TableState, is_live, has_verdict, owner_of, wait_of, waited_for}
 use Rattle.mm_rules.specs.Event.{acquire_tests, acquire_answer, acquire_change}
 use Rattle.mm_rules.specs.Laws.{Laws}
 use Rattle.mm_rules.proofs.States.Lookups.{none_of_is_some}
@@ -63,6 +63,17 @@ granted_asks s u k n locks =
     let done = accepted (acquire_tests s k n) s (acquire_answer s k (owner_of s n)) (acquire_change s k n (owner_of s n)) acquired.Granted u locks in
     ap (λ b. if b then may_ask_in (wait_of s k.process) (has_verdict s k.process) else Err NoTransaction) (not-false (is_live s k) done.passed.1.0)
     ∙ ap (λ o. may_ask_in o (has_verdict s k.process)) (none_of_is_some (wait_of s k.process) done.passed.1.1.1.0)
+
+-- so it may after it
+pub granted_asks_more : (s u : TableState) (k : Key) (n : ℕ) → Locks s k n (Ok locked.Granted) u → may_ask u k ≡ Ok tt
+granted_asks_more s u k n locks =
+    let granted = granted_is s u k n locks in
+    let active = asks s k (granted_asks s u k n locks) in
+    ap (λ b. if b then may_ask_in (wait_of u k.process) (has_verdict u k.process) else Err NoTransaction) (granted.live ∙ active.live)
+    ∙ ap (λ o. may_ask_in o (has_verdict u k.process)) (ap (λ ws. waited_for ws k.process) granted.waits ∙ active.idle)
+
+pub request_asks : (s : TableState) (name_bytes : ℕ) (k : Key) (name : List ℕ) → may_request s name_bytes k name ≡ Ok tt → may_ask s k ≡ Ok tt
+request_asks s name_bytes k name may = (first_both (may_ask s k) (first_refusal (may_count s) (may_name name_bytes name)) may).0
 
 -- ---- by what a request says
 

@@ -35,6 +35,7 @@ pub record IsGranted (s : TableState) (k : Key) (n : ℕ) (u : TableState) : Typ
   pub free : owner_of s n ≡ None
   pub owners : u.owners ≡ slice_set s.owners n (Some k)
   pub waits : u.waits ≡ s.waits
+  pub live : is_live u k ≡ is_live s k
   pub config : u.config ≡ s.config
 
 -- k waits for the number, which h owns
@@ -46,7 +47,7 @@ pub record IsQueued (s : TableState) (k : Key) (n : ℕ) (h : Key) (u : TableSta
   pub config : u.config ≡ s.config
 
 granted_by : (s u : TableState) (k : Key) (n m : ℕ) (o : Option Key) → owner_of s n ≡ o → acquire_answer s k o ≡ acquired.Granted → u ≡ counting (acquire_change s k n o) m → IsGranted s k n u
-granted_by s u k n m None is answer after = record { free = is; owners = ap (λ (v : TableState). v.owners) after; waits = ap (λ (v : TableState). v.waits) after; config = ap (λ (v : TableState). v.config) after }
+granted_by s u k n m None is answer after = record { free = is; owners = ap (λ (v : TableState). v.owners) after; waits = ap (λ (v : TableState). v.waits) after; live = ap (λ (v : TableState). is_live v k) after; config = ap (λ (v : TableState). v.config) after }
 granted_by s u k n m (Some h) is answer after = absurd (cc)
 
 queued_by : (s u : TableState) (k h : Key) (l : Label) (n m : ℕ) (o : Option Key) → wait_of s k.process ≡ None → owner_of s n ≡ o → acquire_answer s k o ≡ acquired.Waits h l → u ≡ counting (acquire_change s k n o) m → IsQueued s k n h u

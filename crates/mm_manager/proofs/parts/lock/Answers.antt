@@ -4,7 +4,7 @@ use Rattle.mm_manager.proofs.parts.lock.Goals as goal
 
 keeps : (c : goal.After-request) → RequestKeeps c.args.table.now.table c.request.new.table.table
 keeps c =
-    requested_keeps c.args.table.now.table c.request.new.table.table c.args.names.now c.request.new.names c.args.key c.args.name.now c.is_at_rest.ensures.laws c.requires.room c.request.result c.request.ensures.requested
+    requested_keeps c.args.table.now.table c.request.new.table.table c.args.names.now c.request.new.names c.args.key c.args.name.now c.is_at_rest.ensures.laws c.requires.parts.room c.request.result c.request.ensures.requested
 
 pub returns-clause-requested : goal.returns-clause-requested
 returns-clause-requested c = requested_asks c.args.table.now.table c.request.new.table.table c.args.names.now c.request.new.names c.args.key c.args.name.now c.request.result c.request.ensures.requested
@@ -26,7 +26,7 @@ returns-clause-laws c = (c.is_at_rest.ensures.laws, (keeps c).laws)
 
 pub returns-clause-parts : goal.returns-clause-parts
 returns-clause-parts c =
-    let was = c.requires.fits in
+    let was = c.requires.parts.fits in
     let cleared = c.clear.ensures in
     record {
       numbered = c.request.ensures.numbered;
@@ -37,7 +37,7 @@ returns-clause-parts c =
         owned = rw cleared.owned was.owned;
       };
       due = rw cleared.due
-          (requested_due c.args.table.now.table c.request.new.table.table c.args.names.now c.request.new.names c.args.key c.args.name.now c.is_at_rest.ensures.laws c.requires.room
-          c.args.lists.now.due.items c.request.result c.request.ensures.requested c.request.ensures.others c.requires.due);
+          (requested_due c.args.table.now.table c.request.new.table.table c.args.names.now c.request.new.names c.args.key c.args.name.now c.is_at_rest.ensures.laws c.requires.parts.room
+          c.args.lists.now.due.items c.request.result c.request.ensures.requested c.request.ensures.others c.requires.parts.due);
       room = (keeps c).room;
     }

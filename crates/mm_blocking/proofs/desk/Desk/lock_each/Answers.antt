@@ -1,49 +1,26 @@
-use Rattle.std.proofs.Common.{◌≡◌, ◌∙◌, ◌<◌, length, Ok, Err, rules, arith, sym, ap}
-use Rattle.std.proofs.lemmas.Option.{slice_get_within}
-use Rattle.mm_blocking.specs.Calls.{rest}
-use Rattle.mm_blocking.proofs.Each.{owns_first, waits_for_first, first_is_refused, has_asked_for_all}
+use Rattle.std.proofs.Common.{◌≡◌, Ok, Err, rules, sym, subst, ◌∙◌}
+use Rattle.mm_manager.specs.Permit.{may_ask}
+use Rattle.mm_blocking.proofs.Each.{owns_first, waits_for_first, first_is_refused, has_asked_for_all, received_asks}
 use Rattle.mm_blocking.proofs.desk.Desk.lock_each.Goals as goal
+
+pub returns-in_default-clause-asks : goal.returns-in_default-clause-asks
+returns-in_default-clause-asks c = has_asked_for_all c.args.self.now.manager c.args.so_far.key c.args.so_far c.in_default.ensures
 
 pub returns-in_err-one-clause-asks : goal.returns-in_err-one-clause-asks
 returns-in_err-one-clause-asks c =
     let told : c.from_residual.result ≡ Err c.in_err-one.field-0.0 = search rules in
-    let key : c.key.result ≡ c.args.so_far.key = c.key.ensures ∙ c.loop-name.invariant.same.0 in
-    rw told
-    (c.loop-name.invariant.each (Err c.in_err-one.field-0.0) c.lock.new.self.manager
-    (first_is_refused c.loop-name.self.manager c.lock.new.self.manager c.key.result c.args.so_far.key key c.loop-name.granted c.in-Some.name c.in-Some.ensures c.in_err-one.field-0.0 c.in_err-one.ensures.asks))
+    rw told (first_is_refused c.args.self.now.manager c.lock.new.self.manager c.key.result c.args.so_far.key c.key.ensures c.args.so_far c.in-Some.name c.in-Some.ensures c.in_err-one.field-0.0 c.in_err-one.ensures.asks)
 
 pub returns-in-Waits-clause-asks : goal.returns-in-Waits-clause-asks
 returns-in-Waits-clause-asks c =
-    let key : c.key.result ≡ c.args.so_far.key = c.key.ensures ∙ c.loop-name.invariant.same.0 in
-    c.loop-name.invariant.each (Ok (rest c.loop-name.granted)) c.lock.new.self.manager
-    (waits_for_first c.loop-name.self.manager c.lock.new.self.manager c.key.result c.args.so_far.key key c.loop-name.granted c.in-Some.name c.in-Some.ensures (rw c.in-Waits.is at c.in_ok-one.ensures.asks))
+    waits_for_first c.args.self.now.manager c.lock.new.self.manager c.key.result c.args.so_far.key c.key.ensures c.args.so_far c.in-Some.name c.in-Some.ensures (rw c.in-Waits.is at c.in_ok-one.ensures.asks)
 
-pub returns-in_err-one-clause-kept : goal.returns-in_err-one-clause-kept
-returns-in_err-one-clause-kept c = c.in_err-one.ensures.kept ∙ c.loop-name.invariant.kept
+pub returns-in-Owns-clause-asks : goal.returns-in-Owns-clause-asks
+returns-in-Owns-clause-asks c =
+    owns_first c.args.self.now.manager c.lock_each_active.new.self.manager c.key.result c.args.so_far.key c.key.ensures c.args.so_far c.in-Some.name c.in-Some.ensures c.lock.new.self.manager c.and.result _
+    c.and.ensures.names c.and.ensures.place (rw c.in-Owns.is at c.in_ok-one.ensures.asks) (rw c.and.ensures.key at c.lock_each_active.ensures.asks)
 
-pub returns-in-Waits-clause-kept : goal.returns-in-Waits-clause-kept
-returns-in-Waits-clause-kept c = c.in_ok-one.ensures.kept ∙ c.loop-name.invariant.kept
-
-pub returns-clause-kept : goal.returns-clause-kept
-returns-clause-kept c = c.loop-name.invariant.kept
-
-pub returns-clause-asks : goal.returns-clause-asks
-returns-clause-asks c =
-    c.loop-name.invariant.each (Ok (rest c.loop-name.granted)) c.loop-name.self.manager (has_asked_for_all c.loop-name.self.manager c.args.so_far.key c.loop-name.granted c.in_default.ensures)
-
-pub loop-name-preserved : goal.loop-name-preserved
-loop-name-preserved c =
-    let key : c.key.result ≡ c.args.so_far.key = c.key.ensures ∙ c.loop-name.invariant.same.0 in
-    record {
-      same = (c.and-granted.ensures.key ∙ c.loop-name.invariant.same.0, c.and-granted.ensures.names ∙ c.loop-name.invariant.same.1);
-      each = λ answer new each. c.loop-name.invariant.each answer new
-          (owns_first c.loop-name.self.manager new c.key.result c.args.so_far.key key c.loop-name.granted c.in-Some.name c.in-Some.ensures c.lock.new.self.manager c.and-granted.result answer
-          c.and-granted.ensures.names c.and-granted.ensures.place (rw c.in-Owns.is at c.in_ok-one.ensures.asks) each);
-      kept = c.in_ok-one.ensures.kept ∙ c.loop-name.invariant.kept;
-    }
-
-pub loop-name-smaller : goal.loop-name-smaller
-loop-name-smaller c =
-    let within : c.loop-name.granted.place < length c.loop-name.granted.names.now = slice_get_within c.loop-name.granted.names.now c.loop-name.granted.place c.in-Some.name (sym c.in-Some.ensures) in
-    let same : length c.and-granted.result.names.now ≡ length c.loop-name.granted.names.now = ap length c.and-granted.ensures.names in
-    omega arith
+pub lock_each_active-requires : goal.lock_each_active-requires
+lock_each_active-requires c =
+    subst (λ k. may_ask c.lock.new.self.manager.table k ≡ Ok tt) (c.key.ensures ∙ sym c.and.ensures.key)
+    (received_asks c.args.self.now.manager c.lock.new.self.manager c.key.result c.in-Some.name.now (rw c.in-Owns.is at c.in_ok-one.ensures.asks))

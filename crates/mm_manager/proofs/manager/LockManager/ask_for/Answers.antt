@@ -4,7 +4,7 @@ use Rattle.mm_manager.specs.Calls.{LocksName}
 use Rattle.mm_manager.specs.private.Aborts.{seen}
 use Rattle.mm_manager.proofs.Lemmas.Told.{asked_locks}
 use Rattle.mm_manager.proofs.Lemmas.Counted.{lock_counted, counts_fit}
-use Rattle.mm_manager.proofs.manager.LockManager.lock.Goals as goal
+use Rattle.mm_manager.proofs.manager.LockManager.ask_for.Goals as goal
 
 pub returns-clause-locks : goal.returns-clause-locks
 returns-clause-locks c =
