@@ -106,8 +106,7 @@ fn end_listing(
     ensures room { vec_capacity owned.new ≡ vec_capacity owned.old }
 {
     lists.granted.clear();
-    table.owned_by(key, owned);
-    end_waking(table, kind, key, &mut lists.changed)?;
+    end_waking(table, kind, key, owned, &mut lists.changed)?;
     if lists.changed.is_empty() {
         return Ok(());
     }
@@ -116,21 +115,29 @@ fn end_listing(
     Ok(())
 }
 
-/// `Table::finish_waking` of an active transaction, `Table::abort_waking` of a victim.
+/// Ends a transaction in the table by a finish or an abort, and lists what it owned and whom to wake.
 #[inline(always)]
 fn end_waking(
     table: &mut Table,
     kind: EndKind,
     key: Key,
+    owned: &mut Vec<u32>,
     wake: &mut Vec<u32>,
 ) -> Result<(), Refusal>
     requires room { table.old.config.processes ≤ vec_capacity wake.old }
+    requires room_to_list { table.old.config.resources ≤ vec_capacity owned.old }
     ensures step { EndStep kind key table.old result table.new }
     ensures woken { wake.new.items ≡ changed_processes table.old table.new }
     ensures room { vec_capacity wake.new ≡ vec_capacity wake.old }
+    ensures owned { OnOk result ((r : ℕ) → Among r owned.new.items ↔ (owner_of table.old r ≡ Some key)) }
+    ensures once { OnOk result (NoRepeat owned.new.items) }
+    ensures room_to_list { vec_capacity owned.new ≡ vec_capacity owned.old }
 {
     match kind {
-        EndKind::Finish => table.finish_waking(key, wake),
-        EndKind::Abort => table.abort_waking(key, wake),
+        EndKind::Finish => table.finish_listing(key, owned, wake),
+        EndKind::Abort => {
+            table.owned_by(key, owned);
+            table.abort_waking(key, wake)
+        }
     }
 }

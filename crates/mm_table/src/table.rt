@@ -1,4 +1,4 @@
-ghost use Rattle.std.specs.Prelude.{◌≡◌, ◌≢◌, ◌≤◌, ◌<◌, ◌^◌, ◌↔◌, ◌||◌, ℕ, Ok, Some, false, length, replicate, IfOk, IfErr, IfSome, IfNone, None, vec_capacity};
+ghost use Rattle.std.specs.Prelude.{◌≡◌, ◌≢◌, ◌≤◌, ◌<◌, ◌^◌, ◌↔◌, ◌||◌, ℕ, Ok, Some, false, length, replicate, IfOk, IfErr, IfSome, IfNone, None, OnOk, vec_capacity};
 ghost use Rattle.mm_list_lemmas.specs.Members.{Among, NoRepeat};
 ghost use Rattle.mm_bit_set.specs.BitSet.{has, members};
 ghost use Rattle.mm_rules.specs.TableState.{owner_of, public_of, holder_of, wait_of};
@@ -160,6 +160,33 @@ impl Table {
         ensures room { vec_capacity wake.new ≡ vec_capacity wake.old }
     {
         let answer = self.records.finish(key, &mut self.sets.touched);
+        self.sets.touched.move_all(&mut self.sets.changed, wake);
+        answer
+    }
+
+    /// `finish_waking`, which also lists what the transaction owned, as `owned_by` does. Where the call is refused, what `resources` has
+    /// means nothing.
+    ///
+    /// Refused as `finish` is. `O(its resources + their waiters)`.
+    #[inline(always)]
+    pub fn finish_listing(
+        &mut self,
+        key: Key,
+        resources: &mut Vec<u32>,
+        wake: &mut Vec<u32>,
+    ) -> Result<(), Refusal>
+        requires room { self.old.config.processes ≤ vec_capacity wake.old }
+        requires room_to_list { self.old.config.resources ≤ vec_capacity resources.old }
+        ensures step { Step (Finish key) self.old result self.new }
+        ensures woken { wake.new.items ≡ changed_processes self.old self.new }
+        ensures room { vec_capacity wake.new ≡ vec_capacity wake.old }
+        ensures listed { OnOk result ((r : ℕ) → Among r resources.new.items ↔ (owner_of self.old r ≡ Some key)) }
+        ensures once { OnOk result (NoRepeat resources.new.items) }
+        ensures room_to_list { vec_capacity resources.new ≡ vec_capacity resources.old }
+    {
+        let answer = self
+            .records
+            .finish_listing(key, resources, &mut self.sets.touched);
         self.sets.touched.move_all(&mut self.sets.changed, wake);
         answer
     }

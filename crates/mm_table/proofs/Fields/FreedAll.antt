@@ -1,9 +1,9 @@
 -- All that a process owns is freed, where nobody waits.
-use Rattle.std.proofs.Common.{◌≡◌, ℕ, Bool, List, [], ◌∷◌, fold, slice_set, Option, Some, None, refl, sym, ap, ◌∙◌, subst}
+use Rattle.std.proofs.Common.{◌≡◌, ℕ, Bool, List, [], ◌∷◌, fold, slice_set, Option, None, refl, sym, ap, ◌∙◌, subst}
 use Rattle.mm_arena.specs.declared.key.Key.{Key}
 use Rattle.mm_owned.specs.Owned.{Ownership, ListsMatchOwners, list_at, freed}
 use Rattle.mm_rules.specs.declared.config.Config.{Config}
-use Rattle.mm_rules.specs.TableState.{TableState, resources_of, waiters_of, holder_of, wait_of, owns}
+use Rattle.mm_rules.specs.TableState.{TableState, resources_of, waiters_of, wait_of, owns}
 use Rattle.mm_rules.specs.Change.{give_to, hand_over}
 use Rattle.mm_rules.specs.Laws.{Laws}
 use Rattle.mm_rules.proofs.States.HandOverOrder.{any_order}

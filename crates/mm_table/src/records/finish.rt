@@ -1,6 +1,7 @@
 //! A transaction ends: all that it owns is handed over, and its process is freed.
-ghost use Rattle.std.specs.Prelude.{◌≡◌, ◌<◌, List, Bool, [], IsTrue, None, IsFalse, fold, length, OnOk};
-ghost use Rattle.mm_rules.specs.TableState.{wait_of, is_live, has_verdict, resources_of};
+ghost use Rattle.std.specs.Prelude.{◌≡◌, ◌<◌, ◌≤◌, ◌↔◌, ℕ, List, Bool, [], IsTrue, None, Some, IsFalse, fold, length, vec_capacity, OnOk};
+ghost use Rattle.mm_list_lemmas.specs.Members.{Among, NoRepeat};
+ghost use Rattle.mm_rules.specs.TableState.{owner_of, wait_of, is_live, has_verdict, resources_of};
 ghost use Rattle.mm_rules.specs.Change.{hand_over, free_slot, vacate, vacate_fits};
 ghost use Rattle.mm_rules.specs.Event.{Gives, allowed, finished, finish_tests};
 ghost use Rattle.mm_rules.specs.Laws.{Laws};
@@ -22,6 +23,30 @@ impl Records {
         ensures touched { Touches self.old self.new touched.old touched.new }
     {
         self.may_finish(key)?;
+        self.vacate(key, touched);
+        self.count();
+        Ok(())
+    }
+
+    /// `finish`, which also lists what the transaction owned, in place of what `resources` held.
+    #[inline(always)]
+    pub fn finish_listing(
+        &mut self,
+        key: Key,
+        resources: &mut Vec<u32>,
+        touched: &mut BitSet,
+    ) -> Result<(), Refusal>
+        requires laws { Laws self.old }
+        requires sized { length touched.old ≡ self.old.config.processes }
+        requires room { self.old.config.resources ≤ vec_capacity resources.old }
+        ensures step { Gives (finished self.old key) result self.new }
+        ensures touched { Touches self.old self.new touched.old touched.new }
+        ensures listed { OnOk result ((r : ℕ) → Among r resources.new.items ↔ (owner_of self.old r ≡ Some key)) }
+        ensures once { OnOk result (NoRepeat resources.new.items) }
+        ensures room { vec_capacity resources.new ≡ vec_capacity resources.old }
+    {
+        self.may_finish(key)?;
+        self.owned_by_live(key, resources);
         self.vacate(key, touched);
         self.count();
         Ok(())

@@ -61,6 +61,19 @@ impl Records {
             resources.clear();
             return;
         }
+        self.owned_by_live(key, resources);
+    }
+
+    /// `owned_by` of a live key.
+    #[inline(always)]
+    pub(super) fn owned_by_live(&self, key: Key, resources: &mut Vec<u32>)
+        requires laws { Laws self.now }
+        requires live { IsTrue (is_live self.now key) }
+        requires room { self.now.config.resources ≤ vec_capacity resources.old }
+        ensures listed { (r : ℕ) → Among r resources.new.items ↔ (owner_of self.now r ≡ Some key) }
+        ensures once { NoRepeat resources.new.items }
+        ensures room { vec_capacity resources.new ≡ vec_capacity resources.old }
+    {
         self.owned.list(key.process, resources);
     }
 

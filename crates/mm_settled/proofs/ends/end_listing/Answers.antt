@@ -49,21 +49,21 @@ returns-then-is_empty-clause-told c =
 
 pub sort-requires-clause-within : goal.sort-requires-clause-within
 sort-requires-clause-within c =
-    owned_within c.args.table.now c.args.key c.owned_by.new.resources.items (length c.args.lists.now.resources) c.requires.laws
-    (ap length c.requires.fits.resources ∙ length-replicate c.args.table.now.config.resources false) c.owned_by.ensures.listed
+    owned_within c.args.table.now c.args.key c.end_waking.new.owned.items (length c.args.lists.now.resources) c.requires.laws
+    (ap length c.requires.fits.resources ∙ length-replicate c.args.table.now.config.resources false) (rw c.in_ok-end_waking.was at c.end_waking.ensures.owned)
 
 are_grants : (c : goal.After-list_given-arg-1) → filter_map (given c.end_waking.new.table) c.deref.result.now ≡ grants c.args.table.now c.end_waking.new.table
 are_grants c =
     let s = c.args.table.now in
     let is : EndStep c.args.kind c.args.key s (Ok tt) c.end_waking.new.table = rw c.in_ok-end_waking.was at c.end_waking.ensures.step in
     given_now c.args.kind s c.end_waking.new.table c.args.key c.deref.result.now c.requires.laws is
-    (c.deref.ensures.value ∙ c.sort.ensures.sorted ∙ sorted_owned s c.args.key c.owned_by.new.resources.items c.args.lists.now.resources c.requires.fits.resources c.owned_by.ensures.listed)
+    (c.deref.ensures.value ∙ c.sort.ensures.sorted ∙ sorted_owned s c.args.key c.end_waking.new.owned.items c.args.lists.now.resources c.requires.fits.resources (rw c.in_ok-end_waking.was at c.end_waking.ensures.owned))
 
 pub list_given-requires : goal.list_given-requires
 list_given-requires c = omega (arith, ap length (are_grants c), few_grants c.args.table.now c.end_waking.new.table c.requires.laws, c.requires.fits.granted, c.clear.ensures.capacity)
 
 is_sorted : (c : goal.After-list_given) → c.sort.new.numbers.items ≡ owned_by_key c.args.table.now c.args.key
-is_sorted c = c.sort.ensures.sorted ∙ sorted_owned c.args.table.now c.args.key c.owned_by.new.resources.items c.args.lists.now.resources c.requires.fits.resources c.owned_by.ensures.listed
+is_sorted c = c.sort.ensures.sorted ∙ sorted_owned c.args.table.now c.args.key c.end_waking.new.owned.items c.args.lists.now.resources c.requires.fits.resources (rw c.in_ok-end_waking.was at c.end_waking.ensures.owned)
 
 pub returns-clause-told : goal.returns-clause-told
 returns-clause-told c =

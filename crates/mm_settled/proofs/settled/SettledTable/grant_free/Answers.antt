@@ -1,7 +1,7 @@
 use Rattle.std.proofs.Common.{◌≡◌, Ok, [], if◌then◌else◌, vec_capacity, sym, subst}
 use Rattle.mm_rules.specs.declared.config.Config.{Config}
 use Rattle.mm_rules.specs.declared.reply.Acquired.TheVariants.{Granted}
-use Rattle.mm_rules.specs.TableState.{TableState, has_verdict}
+use Rattle.mm_rules.specs.TableState.{has_verdict}
 use Rattle.mm_rules.specs.Event.{Acquire}
 use Rattle.mm_rules.proofs.States.Config.{event_config}
 use Rattle.mm_settled.specs.Grants.{Tells}

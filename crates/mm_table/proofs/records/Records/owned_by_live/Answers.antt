@@ -7,7 +7,7 @@ use Rattle.mm_list_lemmas.specs.Members.{Among, NoRepeat}
 use Rattle.mm_rules.specs.TableState.{TableState, is_live, owns}
 use Rattle.mm_rules.proofs.States.Release.{owns_gives}
 use Rattle.mm_table.proofs.Fields.Ownership.{listed}
-use Rattle.mm_table.proofs.records.Records.owned_by.Goals as goal
+use Rattle.mm_table.proofs.records.Records.owned_by_live.Goals as goal
 
 generation_is : (s : TableState) (k : Key) → IsTrue (is_live s k) → slice_index s.generations k.process ≡ k.generation
 generation_is s k live =
@@ -24,12 +24,11 @@ pub returns-clause-listed : goal.returns-clause-listed
 returns-clause-listed c =
     let s = c.args.self.now in
     let key = c.args.key in
-    let live : IsTrue (is_live s key) = sym c.is_live.ensures.live ∙ c.if-not-is_live.false in
     let lists = listed c.self.inside s c.self.invariant c.self.view_is c.list.ensures.matched in
     λ r. (
       λ among.
           let owner = owns_gives s key.process r (lists.mine key.process r (subst (Among r) c.list.ensures.listed among)) in
-          owner.1 ∙ ap Some (one_key s owner.0 key (c.requires.laws.lawful.well_formed.owners r owner.0 owner.1) live owner.2),
+          owner.1 ∙ ap Some (one_key s owner.0 key (c.requires.laws.lawful.well_formed.owners r owner.0 owner.1) c.requires.live owner.2),
       λ is.
           let mine : owns s key.process r ≡ true = ap (λ o. option_map_or (λ (k : Key). nat_eq k.process key.process) o false) is ∙ eq-eqb key.process key.process refl in
           subst (Among r) (sym c.list.ensures.listed) (lists.all key.process r mine),
