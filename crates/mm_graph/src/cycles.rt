@@ -1,5 +1,5 @@
 //! The cycle of waits that a process is on. This is a search for display.
-ghost use Rattle.std.specs.Prelude.{◌≡◌, ◌≤◌, ◌↔◌, ◌<◌, ℕ, IsTrue, IfSome, IfNone, vec_capacity};
+ghost use Rattle.std.specs.Prelude.{◌≡◌, ◌≤◌, ◌↔◌, IsTrue, vec_capacity};
 ghost use Rattle.mm_rules.specs.TableState.{graph_of};
 ghost use Rattle.mm_rules.specs.Graph.{Cycle};
 ghost use Rattle.mm_rules.specs.Victims.{IsOnCycle};
@@ -32,23 +32,4 @@ pub fn cycle_through(table: &Table, process: u32, members: &mut Vec<u32>) -> boo
         place = holder;
     }
     false
-}
-
-/// The first process that is on a cycle of waits, with that cycle in `members`; `None` where the table has no cycle of waits. `members` has
-/// room for each process, and no memory is taken.
-///
-/// It follows the waits from each process in turn.
-pub fn any_cycle(table: &Table, members: &mut Vec<u32>) -> Option<u32>
-    requires { table.now.config.processes ≤ vec_capacity members.old }
-    ensures found { IfSome result (λ process. Cycle (graph_of table.now) process members.new.items) }
-    ensures none { IfNone result ((n : ℕ) → ¬ IsOnCycle table.now n) }
-    ensures room { vec_capacity members.new ≡ vec_capacity members.old }
-{
-    for process in 0..table.config().processes {
-        if cycle_through(table, process, members) {
-            return Some(process);
-        }
-    }
-    table.keeps_laws();
-    None
 }

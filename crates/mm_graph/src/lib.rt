@@ -1,4 +1,4 @@
-//! The wait-for graph of a table, gathered for display: its edges, and the cycles among them. The table itself keeps no edges and searches
+//! The wait-for graph of a table, gathered for display: its edges, and the cycle that a process is on. The table itself keeps no edges and searches
 //! for no cycle.
 //!
 //! - `edges`: the waits of a table, each with its holder.
@@ -8,5 +8,5 @@
 mod cycles;
 mod edges;
 
-pub use cycles::{any_cycle, cycle_through};
+pub use cycles::cycle_through;
 pub use edges::{Edge, edge_of, edges_of};
