@@ -13,7 +13,7 @@ SECONDS = 120
 
 def build_program():
     """Builds the repository's program where that is needed, and answers its path."""
-    built = subprocess.run([os.path.join(TOP, "mmdetect")], stdin=subprocess.DEVNULL, check=False)
+    built = subprocess.run([os.path.join(TOP, "mmdetect"), "prove"], stdin=subprocess.DEVNULL, check=False)
     if built.returncode != 0:
         sys.exit("the program cannot be built")
     return os.path.join(TOP, "crates", "mm_detect", "out", "mm_detect")

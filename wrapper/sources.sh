@@ -1,8 +1,8 @@
-# Sourced by mmdetect, wrapper/build and run_tests: what the program is made from, and whether the one that stands is of that.
+# Sourced by mmdetect, wrapper/prove and run_tests: what the program is made from, and whether the one that stands is of that.
 # The variable top is the folder that has crates.txt.
 
 program=$top/crates/mm_detect/out/mm_detect
-# Beside the program stands what it was made from: a line with the digest of the sources and that of the program, and one with the toolchain.
+# What the program was made from: a line with the digest of the sources and that of the program, and a line with the toolchain.
 kept=$program.sources
 
 # lines_of CRATE: the lines of crates.txt for this crate and for those that it rests on, each after all that it rests on
@@ -61,13 +61,4 @@ is_built() {
   { read -r sources own && read -r made_by; } < "$kept" || return 1
   [ "$sources" = "$(sources_of mm_detect)" ] && [ "$own" = "$(digest_of_program)" ] || return 1
   ! command -v rt > /dev/null || [ "$made_by" = "$(toolchain)" ]
-}
-
-# may_be_written: what a build writes can be written
-may_be_written() {
-  local crate
-  for crate in $(crates_of mm_detect); do
-    [ -w "$top/crates/$crate" ] || return 1
-    [ ! -e "$top/crates/$crate/out" ] || [ -w "$top/crates/$crate/out" ] || return 1
-  done
 }

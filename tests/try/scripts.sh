@@ -123,9 +123,17 @@ run < "$work/script" > /dev/full 2> "$work/err"
 status=$?
 : > "$work/out"
 ends 3 "" "write fault" $status
-case_is "help into a full device"
-run --help > /dev/full 2> "$work/err"
-ends 3 "" "write fault" $?
+# (the second words are for the program: ./mmdetect has no text at once for them)
+for words in --help "script -v --help"; do
+  case_is "$words into a full device"
+  # shellcheck disable=SC2086
+  run $words > /dev/full 2> "$work/err"
+  ends 3 "" "write fault" $?
+  case_is "$words into a closed standard output"
+  # shellcheck disable=SC2086
+  run $words >&- 2> "$work/err"
+  ends 3 "" "write fault" $?
+done
 case_is "a directory as standard input"
 run < / > "$work/out" 2> "$work/err"
 ends 3 "" "read fault" $?
@@ -137,9 +145,6 @@ run < "$work/script" >&- 2> "$work/err"
 status=$?
 : > "$work/out"
 ends 3 "" "write fault" $status
-case_is "help into a closed standard output"
-run --help >&- 2> "$work/err"
-ends 3 "" "write fault" $?
 case_is "a read fault that cannot be told"
 : > "$work/err"
 run < / > "$work/out" 2>&-

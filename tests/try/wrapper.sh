@@ -1,175 +1,165 @@
-# Part of tests/try_program: how mmdetect answers, proves and builds where no program is built, in a checkout of three small crates, with
-# a command that stands for the toolchain.
+# Part of tests/try_program: what ./mmdetect does if no program is built of its sources, in a checkout of a few small crates, with a command
+# that stands for the toolchain.
 checkout=$work/checkout
 fake=$work/fake
-mkdir -p "$fake/bin" "$checkout/crates/mm_low/src" "$checkout/crates/mm_other/src" "$checkout/crates/mm_detect/src" \
-  "$checkout/crates/mm_detect/must-fail" "$checkout/crates/example_script/src"
+low=$checkout/crates/mm_low/src/lib.rt
+mkdir -p "$fake/bin" "$fake/tmp" "$checkout"/crates/{mm_low,mm_other,mm_detect,example_script}/src "$checkout/crates/mm_detect/must-fail"
 cp -r mmdetect wrapper "$checkout"
 printf 'mm_low:\nmm_other:\nexample_script: mm_low\nmm_detect: mm_low kit # the program\n' > "$checkout/crates.txt"
 echo 'Handles allowed: none.' > "$checkout/HANDLES"
-low=$checkout/crates/mm_low/src/lib.rt
-program=$checkout/crates/mm_detect/out/mm_detect
 echo low > "$low"
 echo main > "$checkout/crates/mm_detect/src/main.rt"
 echo edit > "$checkout/crates/mm_detect/must-fail/one.edit"
 echo kit-1 > "$fake/version"
-echo 0 > "$fake/takes"
+printf 'begin' > "$work/script"
 
-# It is as slow as 'takes' says, refuses every crate while 'refuses' is there, and builds a program that prints its sources, its words and
-# its input. A try prints what it was given; it has no answer while 'mute' is there. 'ran' has its process, its words and its folder.
+# A try prints what it was given, and has no answer while 'mute' is there. A build proves one crate, and then waits, with a process below
+# it, while 'held' is there; it fails if 'refuses' is there. The program prints its sources, its words and its input.
 cat > "$fake/bin/rt" << 'RT'
 #!/usr/bin/env bash
 fake=$(dirname "$0")/..
-echo "$$ $* ${PWD##*/}" >> "$fake/ran"
+[ "$1" = version ] || echo "$1" >> "$fake/calls"
 case $1 in
   version) cat "$fake/version" ;;
   try)
-    sleep "$(cat "$fake/takes")"
-    [ ! -e "$fake/mute" ] || { echo "run=no-answer proved=no" >&2; exit 6; }
+    [ ! -e "$fake/mute" ] || { printf '%s\n' "checked: no-answer: it takes long" "run=no-answer proved=no" >&2; exit 6; }
     echo "tried ${PWD##*/} $* $(cat)"
     printf '%s\n' "one complaint" "checked: ended status=1" "races: not looked for" "run=ended status=1 runners=1 proved=no" >&2
     exit 1
     ;;
   ci)
-    [ "$(cat HANDLES)" = "Handles allowed: none." ] || exit 1
     find . -type f | sort > "$fake/staged"
-    (exec -a rattle bash -c 'sleep "$0"; :' "$(cat "$fake/takes")" --crate-name mm_low)
-    [ ! -e "$fake/refuses" ] || { echo "fn one: not proved"; exit 1; }
-    echo "rt: mm_low proved"
-    sleep "$(cat "$fake/takes")"
-    echo "rt: mm_detect proved"
-    mkdir -p crates/mm_detect/out
-    printf '#!/bin/sh\necho "%s $* $(cat)"\n' "$(cat crates/mm_low/src/*.rt crates/mm_detect/src/main.rt | paste -sd ' ')" > crates/mm_detect/out/mm_detect
-    chmod +x crates/mm_detect/out/mm_detect
+    sleep 1000 &
+    echo "$$ $!" > "$fake/processes"
+    printf '%s\n' "rt: mm_low proved" "rt: mm_low: its tests are proved"
+    while [ -e "$fake/held" ]; do sleep 0.1; done
+    kill $!
+    [ ! -e "$fake/refuses" ] || { echo "  fn one: not proved"; exit 1; }
+    echo "rt: mm_detect is kept: an earlier run proved it"
+    made=$(cat crates/mm_low/src/*.rt crates/mm_detect/src/main.rt | paste -sd ' ')
+    mkdir -p crates/mm_detect/out && cd crates/mm_detect/out || exit
+    printf '#!/bin/sh\necho "%s $* $(cat)"\n' "$made" > mm_detect
+    chmod +x mm_detect
     ;;
 esac
 RT
 chmod +x "$fake/bin/rt"
-with_fake() {
-  env -u MMDETECT_BUILD "PATH=$fake/bin:$PATH" timeout 60 "$@"
-}
 
-# wrapped WORD..: mmdetect of that checkout, with that toolchain, after a proof where it needs one
+# wrapped WORD..: mmdetect of that checkout, with that toolchain and with MMDETECT_BUILD as 'build' says
+build=
+with_fake=(env PATH="$fake/bin:$PATH" TMPDIR="$fake/tmp")
 wrapped() {
-  with_fake env MMDETECT_BUILD=proved "$checkout/mmdetect" "$@" < /dev/null > "$work/out" 2> "$work/err"
+  "${with_fake[@]}" MMDETECT_BUILD="$build" timeout 60 "$checkout/mmdetect" "$@" > "$work/out" 2> "$work/err"
 }
 
-# builds OUTPUT: mmdetect builds, and the program then prints this
-builds() {
-  wrapped script
-  ends 0 "$1 script " some $?
-  reports "mmdetect: proved and built in "
+# called CALLS: the toolchain was called so since the last look
+called() {
+  same "calls of the toolchain" "$1" "$(cat "$fake/calls")"
+  : > "$fake/calls"
+}
+: > "$fake/calls"
+
+# gives STATUS OUTPUT ERRORS CALLS WORD..: with the script and these words mmdetect ends so, and calls the toolchain so
+gives() {
+  wrapped "${@:5}" < "$work/script"
+  ends "${@:1:3}" $?
+  called "$4"
 }
 
-# runs_no MODE: the toolchain was not called so
-runs_no() {
-  same "the toolchain's runs" "" "$(grep " $1" "$fake/ran" 2> /dev/null)"
+# until_is COMMAND..: waits until the command succeeds, for a minute at most
+until_is() {
+  local i
+  for ((i = 0; i < 600; i++)); do
+    ! "$@" || return 0
+    sleep 0.1
+  done
+  fails "it never came to this: $*"
 }
 
-# builds_nothing OUTPUT: the program that stands prints this
-builds_nothing() {
-  : > "$fake/ran"
-  wrapped script
-  ends 0 "$1 script " "" $?
-  runs_no '\(ci\|try\)'
-}
-
-# A first answer, unproved.
-case_is "a short script in a file is answered by a try, and nothing is kept of it"
-printf 'begin' > "$work/script"
-with_fake "$checkout/mmdetect" < "$work/script" > "$work/out" 2> "$work/err"
+# What is tried.
+tried="mmdetect: no program is built: a try of these sources answers in about a minute, unproved; to prove and build: ./mmdetect prove"
+prove_first="mmdetect: prove it first: ./mmdetect prove"
+case_is "a script in a file is tried"
+gives 1 "tried example_script try -- begin" "$tried
+one complaint" try
+case_is "a script in a pipe is tried"
+printf 'begin' | wrapped script
 ends 1 "tried example_script try -- begin" some $?
-same "standard error" "one complaint
-mmdetect: answered in 0 s by an unproved try of these sources; './mmdetect prove' proves them and builds the program" "$(cat "$work/err")"
-[ ! -e "$program" ] || fails "a program was left"
-runs_no ci
-case_is "a short script in a pipe is answered by a try"
-printf 'begin' | with_fake "$checkout/mmdetect" script > "$work/out" 2> "$work/err"
-ends 1 "tried example_script try -- begin" some $?
-case_is "a verbose script is answered by a try of the whole program"
-printf 'begin' | with_fake "$checkout/mmdetect" script --verbose > "$work/out" 2> "$work/err"
-ends 1 "tried mm_detect try -- script --verbose begin" some $?
-case_is "a workload is answered by a try"
-(cd "$work" && echo '{}' > work.json && with_fake "$checkout/mmdetect" threads work.json -v) > "$work/out" 2> "$work/err"
-ends 1 "tried mm_detect try --data work.json=$work/work.json -- threads work.json -v " some $?
-case_is "a storm is answered by a try"
-with_fake "$checkout/mmdetect" storm --seed=7 < /dev/null > "$work/out" 2> "$work/err"
-ends 1 "tried mm_detect try -- storm --seed=7 " some $?
-case_is "an answer into a full device"
-with_fake "$checkout/mmdetect" < "$work/script" > /dev/full 2> "$work/err"
-status=$?
-: > "$work/out"
-ends 3 "" some $status
-reports "write fault"
-case_is "help and wrong words are answered at once"
-: > "$fake/ran"
-for part in mmdetect script threads storm; do
-  words=("$part" --help)
-  [ "$part" != mmdetect ] || words=(--help)
-  with_fake "$checkout/mmdetect" "${words[@]}" > "$work/out" 2> "$work/err"
-  status=$?
-  ends 0 "$(cat "wrapper/help/$part.txt")" "" $status
-done
-with_fake "$checkout/mmdetect" fly > "$work/out" 2> "$work/err"
-ends 2 "" "error: unrecognized subcommand 'fly'
+called try
+case_is "a script that is typed is tried"
+"${with_fake[@]}" MMDETECT_BUILD= tests/on_terminal "$checkout/mmdetect" <<< "typed" > "$work/out"
+same status 1 $?
+says "mmdetect: reads a script from this terminal"
+says "tried example_script try -- typed"
+called try
+case_is "other words are tried by the whole program"
+gives 1 "tried mm_detect try -- script --verbose begin" some try script --verbose
+gives 1 "tried mm_detect try -- storm --seed=7 " some try storm --seed=7
+gives 1 "tried mm_detect try -- fly " some try fly
+case_is "a file that a word names is given to a try"
+echo '{}' > "$work/work.json"
+gives 1 "tried mm_detect try --data work.json=$work/work.json -- threads work.json -v " some try threads "$work/work.json" -v
+(cd "$work" && wrapped explain work.json) < "$work/script"
+ends 1 "tried mm_detect try --data work.json=$work/work.json -- explain work.json " some $?
+called try
 
-Usage: mmdetect [COMMAND]
+# What is not.
+case_is "help is told at once"
+gives 0 "$(cat wrapper/help.txt)
 
-For more information, try '--help'." $?
-runs_no '\(ci\|try\)'
-
-# What a try cannot do is proved first; the program then has all of the input.
-echo 'low main' > "$work/is"
-# proved_first NAME: what follows is a case in which no program stands
-proved_first() {
-  case_is "$1"
-  rm -rf "$checkout/crates/mm_detect/out"
-  : > "$fake/ran"
-}
-proved_first "a script that has no answer by a try"
+Commands of ./mmdetect alone:
+  prove    Proves and builds the program, and runs nothing" "" "" --help
+gives 0 "$(cat wrapper/help/prove.txt)" "" "" help prove
+case_is "a pipe that stays open"
+mkfifo "$work/open"
+exec 9<> "$work/open"
+wrapped locks < "$work/open"
+ends 126 "" "$prove_first" $?
+exec 9>&-
+case_is "more than a mebibyte in a pipe"
+head -c 1048577 /dev/zero | wrapped
+ends 126 "" "$prove_first" $?
+case_is "a report"
+gives 126 "" "$prove_first" "" storm --report "$work/report"
+case_is "a try that has no answer"
 : > "$fake/mute"
-with_fake "$checkout/mmdetect" < "$work/script" > "$work/out" 2> "$work/err"
-ends 0 "low main  begin" some $?
-proved_first "a script in a pipe that has no answer by a try"
-printf 'begin' | with_fake "$checkout/mmdetect" > "$work/out" 2> "$work/err"
-ends 0 "low main  begin" some $?
-rm "$fake/mute"
-proved_first "a pipe that stays open"
-{ printf 'one '; sleep 3; printf 'two'; } | with_fake "$checkout/mmdetect" > "$work/out" 2> "$work/err"
-ends 0 "low main  one two" some $?
-runs_no try
-proved_first "a script of more than a mebibyte"
-head -c 1048577 /dev/zero | tr '\0' x > "$work/long"
-with_fake "$checkout/mmdetect" < "$work/long" > "$work/out" 2> "$work/err"
-same status 0 $?
-same "bytes" 1048588 "$(wc -c < "$work/out")"
-runs_no try
-proved_first "a terminal"
-env -u MMDETECT_BUILD "PATH=$fake/bin:$PATH" tests/on_terminal "$checkout/mmdetect" < /dev/null > "$work/out"
-same status 0 $?
-runs_no try
-proved_first "MMDETECT_BUILD=proved"
-builds "low main"
-runs_no try
+gives 126 "" "$tried
+checked: no-answer: it takes long
+run=no-answer proved=no
+$prove_first" try
+case_is "nothing is tried or built if nothing may be"
+build=never
+gives 126 "" "mmdetect: no program is built of these sources" ""
+gives 126 "" "mmdetect: no program is built of these sources, and none may be: MMDETECT_BUILD=never" "" prove
+build=
+
+# Proofs.
+case_is "a proof says how far it is, and runs nothing"
+wrapped prove < "$work/script"
+status=$?
+sed -i 's/[0-9]* s$/N s/' "$work/err"
+ends 0 "" "mmdetect: the program is proved and built; from nothing that takes about a quarter of an hour on four processors
+mmdetect: 1 of 2 crates proved, mm_low just now; N s
+mmdetect: 2 of 2 crates proved, mm_detect just now; N s
+mmdetect: proved and built in N s" $status
+called ci
 case_is "what is proved: the crates of the program, without edits"
 same "the files" "./HANDLES
 ./crates.txt
 ./crates/mm_detect/src/main.rt
 ./crates/mm_low/src/lib.rt" "$(cat "$fake/staged")"
-
-# What stands is used until a source changes.
-case_is "nothing is built where nothing has changed"
-builds_nothing "low main"
-proved_first "mmdetect prove proves, and runs nothing"
-wrapped prove
-ends 0 "" some $?
-reports "mmdetect: proved and built in "
-case_is "mmdetect prove where the program stands"
-wrapped prove
-ends 0 "" "mmdetect: the program of these sources is proved and built" $?
-case_is "a source of a crate that the program does not rest on"
+case_is "what is proved is run, until a source changes"
+gives 0 "low main script begin" "" "" script
+gives 0 "" "mmdetect: the program of these sources is proved and built" "" prove
 echo other > "$checkout/crates/mm_other/src/lib.rt"
-builds_nothing "low main"
+gives 0 "low main script begin" "" "" script
+
+# builds OUTPUT: with MMDETECT_BUILD=proved a call proves first, and the program, which has the whole input, prints this
+builds() {
+  build=proved
+  gives 0 "$1 script begin" some ci script
+  build=
+}
 case_is "a changed source with an old time"
 echo lower > "$low"
 touch -d 2001-01-01 "$low"
@@ -182,92 +172,80 @@ builds "lower main"
 case_is "another toolchain"
 echo kit-2 > "$fake/version"
 builds "lower main"
-builds_nothing "lower main"
 case_is "a program that something else has built"
-printf '#!/bin/sh\necho other\n' > "$program"
+printf '#!/bin/sh\necho other\n' > "$checkout/crates/mm_detect/out/mm_detect"
 builds "lower main"
-
-case_is "a source that changes while the build runs"
-echo 1 > "$fake/takes"
-echo first > "$low"
-wrapped &
-child=$!
-sleep 1
-echo second > "$low"
-wait "$child"
-reports "mmdetect: a source changed while the program was built"
-echo 0 > "$fake/takes"
-builds "second main"
-
 case_is "a build that fails"
 echo third > "$low"
 : > "$fake/refuses"
-wrapped
-ends 126 "" some $?
+gives 126 "" some ci prove
 log=$(sed -n "s/^mmdetect: the build failed; what the toolchain said is in //p" "$work/err")
-grep -qx "fn one: not proved" "$log" || fails "the toolchain's line is not in '$log'"
-same "the toolchain's lines on standard error" "" "$(grep "^fn " "$work/err")"
+grep -qx "  fn one: not proved" "$log" || fails "the toolchain's line is not in '$log'"
 rm "$fake/refuses"
 builds "third main"
 
-for signal in TERM INT HUP; do
-  case_is "SIG$signal ends the build and what it started"
-  echo "of $signal" > "$low"
-  echo 20 > "$fake/takes"
-  : > "$fake/ran"
-  # (a command in the background would not be given SIGINT, and one below nohup not SIGHUP)
-  env MMDETECT_BUILD=proved "PATH=$fake/bin:$PATH" python3 -c 'import os, signal, sys
+# starts SOURCE: a build of this source is under way in the background, where it gets each signal
+starts() {
+  : > "$fake/held"
+  : > "$work/err"
+  echo "$1" > "$low"
+  "${with_fake[@]}" MMDETECT_BUILD=proved python3 -c 'import os, signal, sys
 for each in signal.SIGHUP, signal.SIGINT, signal.SIGTERM:
     signal.signal(each, signal.SIG_DFL)
-os.execv(sys.argv[1], sys.argv[1:])' "$checkout/mmdetect" > "$work/out" 2> "$work/err" &
+os.execv(sys.argv[1], sys.argv[1:])' "$checkout/mmdetect" < "$work/script" > "$work/out" 2> "$work/err" &
   child=$!
-  for ((i = 0; i < 100; i++)); do
-    grep -q ' ci ' "$fake/ran" && break
-    sleep 0.1
-  done
+  until_is grep -q "1 of 2 crates proved" "$work/err"
+}
+case_is "a source that changes while the build runs"
+starts first
+echo second > "$low"
+rm "$fake/held"
+wait "$child"
+ends 0 "first main  begin" some $?
+reports "mmdetect: a source changed while the program was built: the next call builds again"
+called ci
+builds "second main"
+
+# is_over PROCESS
+is_over() {
+  ! grep -qs '^State:\s*[^XZ]' "/proc/$1/status"
+}
+for signal in TERM INT HUP; do
+  case_is "SIG$signal ends the build and what it started"
+  starts "of $signal"
   kill -s "$signal" "$child"
   wait "$child"
   status=$?
-  ends $((128 + $(kill -l "$signal"))) "" some $status
-  read -r toolchain _ < <(grep ' ci ' "$fake/ran")
-  ! kill -0 "$toolchain" 2> /dev/null || fails "the toolchain still runs"
-  echo 0 > "$fake/takes"
-  builds "of $signal main"
+  ends $((128 + $(kill -l "$signal"))) "" some "$status"
+  reports "mmdetect: the build was ended by SIG$signal"
+  read -ra processes < "$fake/processes"
+  for process in "${processes[@]}"; do
+    until_is is_over "$process"
+  done
+  same "what is left" "" "$(ls "$fake/tmp")"
+  rm "$fake/held"
+  called ci
 done
+builds "of HUP main"
 
-case_is "a terminal has one line that is written over: crates, and the time that is left"
-echo 1 > "$fake/takes"
-echo fourth > "$low"
-printf 'mm_low 1\nmm_detect 2\n' > "$checkout/wrapper/seconds"
-env MMDETECT_BUILD=proved "PATH=$fake/bin:$PATH" tests/on_terminal "$checkout/mmdetect" script < /dev/null > "$work/out"
-same status 0 $?
-says $'\r\e[Kmmdetect: 0 of 2 crates proved; mm_low under way; '
-says $'\r\e[Kmmdetect: 1 of 2 crates proved; '
-says " left"
-says $'\r\e[Kmmdetect: proved and built in '
-echo 0 > "$fake/takes"
-
-case_is "nothing is built where nothing may be"
-echo fifth > "$low"
-MMDETECT_BUILD=never PATH="$fake/bin:$PATH" "$checkout/mmdetect" > "$work/out" 2> "$work/err"
-ends 126 "" "mmdetect: no program is built of these sources" $?
+# What is missing.
+none=$(tr ':' '\n' <<< "$PATH" | while read -r folder; do [ -x "$folder/rt" ] || echo "$folder"; done | paste -sd ':')
+case_is "no toolchain, and the program stands"
+PATH=$none "$checkout/mmdetect" script < "$work/script" > "$work/out" 2> "$work/err"
+ends 0 "of HUP main script begin" "" $?
+echo last > "$low"
+for word in prove script; do
+  case_is "no toolchain, and the word $word"
+  PATH=$none MMDETECT_BUILD='' "$checkout/mmdetect" $word < "$work/script" > "$work/out" 2> "$work/err"
+  ends 127 "" "mmdetect: the command rt of the Rattle toolchain is not on the PATH" $?
+done
 case_is "a checkout that cannot be written"
 chmod -R a+rX "$work"
-if [ "$(id -u)" -eq 0 ]; then
-  as_other="setpriv --reuid=65534 --regid=65534 --clear-groups"
-else
-  as_other=
+as_other=(setpriv --reuid=65534 --regid=65534 --clear-groups)
+if [ "$(id -u)" -ne 0 ]; then
+  as_other=()
   chmod -R a-w "$checkout"
 fi
-$as_other env MMDETECT_BUILD=proved PATH="$fake/bin:$PATH" "$checkout/mmdetect" > "$work/out" 2> "$work/err"
+"${with_fake[@]}" MMDETECT_BUILD= "${as_other[@]}" "$checkout/mmdetect" prove > "$work/out" 2> "$work/err"
 ends 125 "" "mmdetect: no program is built of these sources, and this checkout cannot be written" $?
 chmod -R u+w "$checkout"
-
-case_is "no toolchain"
-none=$(tr ':' '\n' <<< "$PATH" | while read -r folder; do [ -x "$folder/rt" ] || echo "$folder"; done | paste -sd ':')
-env MMDETECT_BUILD=proved PATH="$none" "$checkout/mmdetect" > "$work/out" 2> "$work/err"
-ends 127 "" "mmdetect: the command rt of the Rattle toolchain is not on the PATH" $?
-case_is "no toolchain, and the program stands"
-builds "fifth main"
-env MMDETECT_BUILD=proved PATH="$none" "$checkout/mmdetect" script < /dev/null > "$work/out" 2> "$work/err"
-ends 0 "fifth main script " "" $?
