@@ -22,7 +22,7 @@ def arguments(words: Optional[List[str]] = None) -> argparse.Namespace:
     commands = parser.add_subparsers(dest="command", required=True)
     serves = commands.add_parser("serve", help="a Unix socket in front of one lock service, for many processes")
     serves.add_argument("--socket", required=True, metavar="PATH", help="the file of the socket, which is removed at the end")
-    serves.add_argument("--mode", type=rights, default=0o600, help="its rights (0600 if missing)")
+    serves.add_argument("--mode", type=rights, metavar="MODE", default=0o600, help="its rights (0600 if missing)")
     serves.add_argument("--program", metavar="PATH", help="the program mmdetect (PASHKURE_PROGRAM of the environment if missing)")
     serves.add_argument("--transactions", type=int, metavar="N", help="how many transactions can be live at once")
     serves.add_argument("--names", type=int, metavar="N", help="how many names can be owned at once")
