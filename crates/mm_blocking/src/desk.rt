@@ -83,7 +83,7 @@ impl Desk {
         }
     }
 
-    /// `lock` by a transaction that does not wait, as one that was granted its last request.
+    /// `lock` by a transaction that is known to be active, such as one that was just granted a name.
     #[inline(always)]
     fn lock_active<'n>(&mut self, key: Key, name: &'n [u8]) -> Result<Asked<'n>, LockError>
         requires { may_ask self.old.manager.table key ≡ Ok tt }
@@ -102,7 +102,7 @@ impl Desk {
 
     /// Asks for the names that are left in their order, until one is to be waited for or is refused. Returns which ones were granted: all,
     /// or those before the one that the transaction waits for.
-    // In place: so what was granted is told in registers.
+    // In place, so that what was granted is told in registers.
     #[inline(always)]
     pub fn lock_each<'n>(&mut self, so_far: GrantedUpTo<'n>) -> Result<GrantedUpTo<'n>, LockError>
         ensures asks { AsksEach self.old.manager so_far.entry.key (rest so_far.entry) (left result) self.new.manager }
@@ -119,7 +119,7 @@ impl Desk {
         }
     }
 
-    /// `lock_each` by a transaction that does not wait, as one that was granted its last request.
+    /// `lock_each` by a transaction that is known to be active, such as one that was just granted a name.
     #[inline(always)]
     fn lock_each_active<'n>(
         &mut self,

@@ -48,8 +48,7 @@ pub fn release(
     Some(answer)
 }
 
-/// `SettledTable::end_listing` of a transaction that may end in this way: each of its names keeps its number exactly where somebody owns it
-/// then.
+/// `SettledTable::end_listing` of a transaction that may end in this way: each of its names keeps its number exactly if somebody owns it then.
 #[inline(always)]
 pub fn end_transaction(
     table: &mut SettledTable,
@@ -78,7 +77,7 @@ pub fn end_transaction(
     }
 }
 
-/// `end_transaction`, where the transaction may end in this way. `false` exactly where it may not, and then nothing changes.
+/// `end_transaction`, if the transaction may end in this way. Returns `false` exactly if it may not, and then nothing changes.
 #[inline(always)]
 pub fn try_end_transaction(
     table: &mut SettledTable,

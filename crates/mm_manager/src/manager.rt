@@ -139,7 +139,7 @@ impl LockManager {
         self.ask_for(key, name, false)
     }
 
-    /// `lock` by a transaction that does not wait, as one that was granted its last request. Its key is not looked at again.
+    /// `lock` by a transaction that is known to be active, such as one that was just granted a name. Its key is not tested.
     #[inline(always)]
     pub fn lock_active(&mut self, key: Key, name: &[u8]) -> Result<Lock, Refusal>
         requires { may_ask self.old.table key ≡ Ok tt }
@@ -155,7 +155,7 @@ impl LockManager {
         self.ask_for(key, name, true)
     }
 
-    /// `lock`. `is_active` where it is known that the transaction may ask.
+    /// `lock`. If `is_active`, the transaction is known to be active, and its key is not tested.
     #[inline(always)]
     fn ask_for(&mut self, key: Key, name: &[u8], is_active: bool) -> Result<Lock, Refusal>
         requires { OnTrue is_active (may_ask self.old.table key ≡ Ok tt) }

@@ -120,7 +120,7 @@ fn forget_all(names: &mut Names, numbers: &[u32])
     }
 }
 
-/// Takes their names from those of these numbers that nobody owns. Where the last call granted nothing, nobody owns one.
+/// Takes their names from those of these numbers that nobody owns: from all of them, if the last call granted nothing.
 #[inline(always)]
 pub fn forget_ended(table: &SettledTable, names: &mut Names, numbers: &[u32])
     requires { table.now.granted ≡ [] → (q : ℕ) → Among q numbers.now → owner_of table.now.table q ≡ None }

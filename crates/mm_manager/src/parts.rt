@@ -91,8 +91,8 @@ pub fn end(table: &mut SettledTable, names: &mut Names, lists: &mut Lists, kind:
     }
 }
 
-/// `end`, where the transaction may end in this way. `false` exactly where it may not, and then nothing changes.
-// In place, as all is that an end does where nobody waited.
+/// `end`, if the transaction may end in this way. Returns `false` exactly if it may not, and then nothing changes.
+// In place, as all is that an end does if nobody waits.
 #[inline(always)]
 fn try_end(
     table: &mut SettledTable,
@@ -139,7 +139,7 @@ pub fn begin(table: &mut SettledTable, names: &Names, lists: &mut Lists) -> Resu
     }
 }
 
-/// Asks for a name. `is_active` where it is known that the transaction may ask.
+/// Asks for a name. If `is_active`, the transaction is known to be active, and its key is not tested.
 // In place, as all of a request is that is granted: what is told of it then stays in registers.
 #[inline(always)]
 pub fn lock(

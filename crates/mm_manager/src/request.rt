@@ -20,8 +20,8 @@ use mm_names::{Entry, Names};
 use mm_settled::{Locked, SettledTable, Table};
 
 /// Asks the table for the number of a name, which the name has already, or gets. Nobody owns a number whose name is new, so the table is
-/// asked at once, and what would refuse the request is looked for only where the table refuses it. `is_active` where it is known that the
-/// transaction may ask.
+/// asked at once, and what would refuse the request is looked for only if the table refuses it. If `is_active`, the transaction is known to be
+/// active, and its key is not tested.
 #[inline(always)]
 pub fn request(
     table: &mut SettledTable,

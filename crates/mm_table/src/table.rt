@@ -164,8 +164,8 @@ impl Table {
         answer
     }
 
-    /// `finish_waking`, which also lists what the transaction owned, as `owned_by` does. Where the call is refused, what `resources` has
-    /// means nothing.
+    /// `finish_waking`, which also lists what the transaction owned, as `owned_by` does. If the call is refused, what `resources` has means
+    /// nothing.
     ///
     /// Refused as `finish` is. `O(its resources + their waiters)`.
     #[inline(always)]

@@ -121,7 +121,7 @@ impl Records {
         }
     }
 
-    /// Frees all that `process` owns, where nobody waits.
+    /// Frees all that `process` owns. Nobody waits.
     #[inline(always)]
     fn free_all(&mut self, process: u32)
         requires laws { Laws self.old }
@@ -133,7 +133,7 @@ impl Records {
         self.owned.free_all(process);
     }
 
-    /// `hand_over_all`, one resource after the other.
+    /// Hands over all that `process` owns, one resource after the other, as `hand_over_all`.
     #[inline(never)]
     fn hand_over_each(&mut self, process: u32, touched: &mut BitSet)
         requires laws { Laws self.old }
