@@ -2,7 +2,7 @@
 pub mod HandsOn
 pub mod Accepted
 pub mod Ends
--- what a call tells: grants, and the changed
+-- whom a call granted what
 pub mod Grants
 pub mod Numbers
 pub mod Released

@@ -102,5 +102,5 @@ IsDeadlock (Err refusal) = false
 
 -- a settled table is opened as a table is, and tells of nobody
 abbrev pub OpensSettled : Config → Result SettledState Refusal → Type 0
-OpensSettled c (Ok s) = Opens c (Ok s.table) × (s.granted ≡ []) × (s.changed ≡ [])
+OpensSettled c (Ok s) = Opens c (Ok s.table) × (s.granted ≡ [])
 OpensSettled c (Err refusal) = Opens c (Err refusal)

@@ -5,7 +5,6 @@ use Rattle.std.specs.List.{filter_map, range_with_len}
 use Rattle.mm_arena.specs.declared.key.Key.{Key}
 use Rattle.mm_list_lemmas.specs.Members.{Among}
 use Rattle.mm_rules.specs.TableState.{TableState, owner_of, wait_of}
-use Rattle.mm_settle.specs.Touched.{changed_processes}
 use Rattle.mm_settled.specs.declared.reply.Grant.{Grant}
 use Rattle.mm_settled.specs.SettledState.{SettledState}
 
@@ -23,10 +22,9 @@ grant_of old new r = option_and_then (to_waiter old r) (owner_of new r)
 abbrev pub grants : TableState → TableState → List Grant
 grants old new = filter_map (grant_of old new) (range_with_len 0 old.config.resources)
 
--- the lists have the grants, and the processes that are other than before
+-- the list has the grants
 pub record Tells (old : TableState) (new : SettledState) : Type 0 where
   pub granted : new.granted ≡ grants old new.table
-  pub changed : new.changed ≡ changed_processes old new.table
 
 -- m waited for what it owns now, and waits no longer
 pub record WasGranted (old new : TableState) (g : Grant) : Type 0 where

@@ -6,15 +6,15 @@ ghost use Rattle.mm_rules.specs.Laws.{AtRest, Laws};
 ghost use Rattle.mm_rules.specs.TableState.{owner_of};
 ghost use Rattle.mm_settle.specs.Touched.{changed_processes};
 ghost use Rattle.mm_settled.specs.Calls.{Makes, MakesEnd};
+ghost use Rattle.mm_settled.specs.Grants.{grants};
 ghost use Rattle.mm_settled.specs.private.Ends.{EndStep, Ends};
 ghost use Rattle.mm_settled.specs.private.Lists.{Fits};
-ghost use Rattle.mm_settled.specs.private.Told.{TellsOf};
 
 use crate::lists::{Lists, list_given, sort};
 use crate::settle::{come_to_rest, has_room};
 use crate::{EndKind, Grant, Key, Refusal, Released, Table};
 
-/// Hands the resource over, and settles the table where that leaves somebody to be told.
+/// Hands the resource over, and settles the table if one of those that this changed waits.
 pub fn release(
     table: &mut Table,
     lists: &mut Lists,
@@ -28,15 +28,15 @@ pub fn release(
 {
     table.keeps_laws();
     if !has_room(table) {
-        lists.clear();
+        lists.granted.clear();
         return Err(Refusal::CountsExhausted);
     }
     let answer = release_listing(table, lists, key, resource)?;
-    come_to_rest(table, &mut lists.changed, &mut lists.processes);
+    come_to_rest(table, &lists.woken);
     Ok(answer)
 }
 
-/// Ends a transaction, and settles the table where that leaves somebody to be told. What it owned is listed.
+/// Ends a transaction, and settles the table if one of those that this changed waits. What it owned is listed.
 #[inline(always)]
 pub fn end(
     table: &mut Table,
@@ -56,11 +56,11 @@ pub fn end(
 {
     table.keeps_laws();
     if !has_room(table) {
-        lists.clear();
+        lists.granted.clear();
         return Err(Refusal::CountsExhausted);
     }
     end_listing(table, lists, owned, kind, key)?;
-    come_to_rest(table, &mut lists.changed, &mut lists.processes);
+    come_to_rest(table, &lists.woken);
     Ok(())
 }
 
@@ -74,11 +74,12 @@ fn release_listing(
     requires laws { Laws table.old }
     requires fits { Fits table.old.config lists.old }
     ensures step { Step (Release key resource) table.old result table.new }
-    ensures told { TellsOf table.old table.new lists.new }
+    ensures granted { lists.new.granted.items ≡ grants table.old table.new }
+    ensures woken { lists.new.woken.items ≡ changed_processes table.old table.new }
     ensures fits { Fits table.old.config lists.new }
 {
     lists.granted.clear();
-    let answer = table.release_waking(key, resource, &mut lists.changed)?;
+    let answer = table.release_waking(key, resource, &mut lists.woken)?;
     if let Released::To(key) = answer {
         lists.granted.push_reserved(Grant { key, resource });
     }
@@ -99,15 +100,16 @@ fn end_listing(
     requires fits { Fits table.old.config lists.old }
     requires room { table.old.config.resources ≤ vec_capacity owned.old }
     ensures step { EndStep kind key table.old result table.new }
-    ensures told { TellsOf table.old table.new lists.new }
+    ensures granted { lists.new.granted.items ≡ grants table.old table.new }
+    ensures woken { lists.new.woken.items ≡ changed_processes table.old table.new }
     ensures fits { Fits table.old.config lists.new }
     ensures owned { OnOk result ((r : ℕ) → Among r owned.new.items ↔ (owner_of table.old r ≡ Some key)) }
     ensures once { OnOk result (NoRepeat owned.new.items) }
     ensures room { vec_capacity owned.new ≡ vec_capacity owned.old }
 {
     lists.granted.clear();
-    end_waking(table, kind, key, owned, &mut lists.changed)?;
-    if lists.changed.is_empty() {
+    end_waking(table, kind, key, owned, &mut lists.woken)?;
+    if lists.woken.is_empty() {
         return Ok(());
     }
     sort(&mut lists.resources, owned);

@@ -3,8 +3,8 @@
 //!
 //! - `settled`: `SettledTable`, with one method for each call.
 //! - `reply`: what a request is told, what a grant is, and how a call ends a transaction.
-//! - `lock`, `withdraw`, `ends`: the calls, over a table and the lists of what a call told.
-//! - `lists`: whom a call granted what, and whom it changed; how both are found.
+//! - `lock`, `withdraw`, `ends`: the calls, over a table and the lists that they fill.
+//! - `lists`: whom a call granted what, and how that is found.
 //! - `settle`: a settle that is not refused, and when one is needed.
 #![tactic(auto)]
 

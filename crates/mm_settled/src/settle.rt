@@ -1,14 +1,10 @@
 //! A settle that is not refused, and when one is needed.
-ghost use Rattle.std.specs.Prelude.{◌≡◌, ◌≤◌, ◌<◌, ◌↔◌, false, length, replicate, vec_capacity, IsFalse};
-ghost use Rattle.std.specs.List.{AllByRecursion};
+ghost use Rattle.std.specs.Prelude.{◌≡◌, ◌↔◌, false, IsFalse};
 ghost use Rattle.mm_rules.specs.Event.{Step, Settle, counts_exhausted};
-ghost use Rattle.mm_settle.specs.Touched.{changed_processes};
 ghost use Rattle.mm_settled.specs.Calls.{has_room, NoneWaits};
-ghost use Rattle.mm_settled.specs.private.Lists.{joined, ComesToRest};
+ghost use Rattle.mm_settled.specs.private.Lists.{ComesToRest};
 
 use crate::Table;
-use crate::lists::add_all;
-use mm_bit_set::BitSet;
 use mm_table::Settled;
 
 /// Where the accepted or the verdict count is this or more, every event is refused.
@@ -23,15 +19,12 @@ pub fn has_room(table: &Table) -> bool
     totals.accepted < COUNT_LIMIT - 1 && totals.verdicts < COUNT_LIMIT
 }
 
-/// Settles a table of which one more event can be counted, and lists whom that changes.
-fn settle(table: &mut Table, changed: &mut Vec<u32>) -> Settled
-    requires counts { counts_exhausted table.old ≡ false }
-    requires room { table.old.config.processes ≤ vec_capacity changed.old }
-    ensures step { Step Settle table.old (Ok result) table.new }
-    ensures changed { changed.new.items ≡ changed_processes table.old table.new }
-    ensures room { vec_capacity changed.new ≡ vec_capacity changed.old }
+/// Settles a table of which one more event can be counted.
+pub fn settle(table: &mut Table) -> Settled
+    requires { counts_exhausted table.old ≡ false }
+    ensures { Step Settle table.old (Ok result) table.new }
 {
-    let Ok(settled) = table.settle_waking(changed) else {
+    let Ok(settled) = table.settle() else {
         return Settled {
             raises: 0,
             verdicts: 0,
@@ -40,36 +33,13 @@ fn settle(table: &mut Table, changed: &mut Vec<u32>) -> Settled
     settled
 }
 
-/// Settles such a table, and lists whom that changes beside those that are listed. The set is empty.
-pub fn settle_listing(table: &mut Table, changed: &mut Vec<u32>, set: &mut BitSet) -> Settled
-    requires counts { counts_exhausted table.old ≡ false }
-    requires none { set.old ≡ replicate table.old.config.processes false }
-    requires room { table.old.config.processes ≤ vec_capacity changed.old }
-    requires within { AllByRecursion (λ n. n < table.old.config.processes) changed.old.items }
-    ensures step { Step Settle table.old (Ok result) table.new }
-    ensures changed { changed.new.items ≡ joined changed.old.items table.old table.new }
-    ensures none { set.new ≡ set.old }
-    ensures room { vec_capacity changed.new ≡ vec_capacity changed.old }
+/// Settles such a table if one of the woken waits.
+pub fn come_to_rest(table: &mut Table, woken: &[u32])
+    requires { counts_exhausted table.old ≡ false }
+    ensures { ComesToRest table.old woken.now table.new }
 {
-    add_all(set, changed);
-    let settled = settle(table, changed);
-    add_all(set, changed);
-    set.take_all(changed);
-    settled
-}
-
-/// Settles such a table where one of those that are listed waits, and lists whom that changes beside them. The set is empty.
-pub fn come_to_rest(table: &mut Table, changed: &mut Vec<u32>, set: &mut BitSet)
-    requires counts { counts_exhausted table.old ≡ false }
-    requires none { set.old ≡ replicate table.old.config.processes false }
-    requires room { table.old.config.processes ≤ vec_capacity changed.old }
-    requires within { AllByRecursion (λ n. n < table.old.config.processes) changed.old.items }
-    ensures rests { ComesToRest table.old changed.old.items table.new changed.new.items }
-    ensures none { set.new ≡ set.old }
-    ensures room { vec_capacity changed.new ≡ vec_capacity changed.old }
-{
-    if any_waits(table, changed) {
-        settle_listing(table, changed, set);
+    if any_waits(table, woken) {
+        settle(table);
     }
 }
 

@@ -20,15 +20,15 @@ use std::marker::Model;
 /// A table of exclusive locks that is at rest between its calls: nothing is left to transmit or to detect, and one verdict stands on
 /// each cycle of waits.
 ///
-/// A contract sees it as a `SettledState`: the table, and what the last call told, whom it granted what and whom it changed. After a
-/// call that is refused both lists are empty, and the table is as it was. No call but `open` takes memory.
+/// A contract sees it as a `SettledState`: the table, and whom the last call granted what. After a call that is refused that list is
+/// empty, and the table is as it was. No call but `open` takes memory.
 pub struct SettledTable {
     table: Table,
     lists: Lists,
     /// What a transaction owned that ended. What it has between calls means nothing.
     owned: Vec<u32>,
-    /// How many events the table had accepted right after the last call that filled the lists. Once it accepts one more, what they have
-    /// means nothing: so an accepted call that tells of nobody need not touch them.
+    /// How many events the table had accepted right after the last call that listed grants. Once it accepts one more, what the list has
+    /// means nothing: so an accepted call that grants nothing need not touch it.
     told_at: u64,
 }
 
@@ -59,8 +59,8 @@ impl SettledTable {
     /// A table of this configuration, which has no transaction, and in which no resource has an owner.
     ///
     /// Refused as `BadConfig` exactly where a number is out of its range, and as `Memory` only where a request for memory was
-    /// refused. This is the one call that takes memory: what `Table::open` takes, for each process 16 bytes and a bit more, and for
-    /// each resource 4 bytes and a bit more.
+    /// refused. This is the one call that takes memory: what `Table::open` takes, for each process 16 bytes, and for each
+    /// resource 4 bytes and a bit more.
     pub fn open(alloc: Global, config: Config) -> Result<SettledTable, Refusal>
         ensures { OpensSettled config result }
     {
@@ -88,7 +88,7 @@ impl SettledTable {
         match self.table.begin() {
             Ok(key) => Ok(key),
             Err(refusal) => {
-                self.lists.clear();
+                self.lists.granted.clear();
                 Err(refusal)
             }
         }
@@ -114,13 +114,7 @@ impl SettledTable {
         ensures told { Tells self.old.table self.new }
     {
         self.table.keeps_laws();
-        lock(
-            &mut self.table,
-            &mut self.lists,
-            &mut self.told_at,
-            key,
-            resource,
-        )
+        lock(&mut self.table, &mut self.lists.granted, key, resource)
     }
 
     /// `lock` of a resource that nobody owns, by a key that may use it: so nothing is tested, and it is granted. Constant time.
@@ -251,17 +245,6 @@ impl SettledTable {
             return &[];
         }
         &self.lists.granted
-    }
-
-    /// The processes that the last call changed, by rising number: those whose labels, wait, holder or verdict are other than before.
-    /// Constant time.
-    pub fn changed(&self) -> &[u32]
-        ensures { result.now ≡ self.now.changed }
-    {
-        if !is_told(self.told_at, &self.table) {
-            return &[];
-        }
-        &self.lists.changed
     }
 
     /// The table, to read it: what a transaction does (`state`), who owns a resource (`owner`) and what a key owns (`owned_by`), for

@@ -4,8 +4,8 @@ ghost use Rattle.mm_rules.specs.TableState.{has_verdict};
 ghost use Rattle.mm_rules.specs.Laws.{AtRest};
 ghost use Rattle.mm_rules.specs.Withdraw.{IsBehindVictim};
 ghost use Rattle.mm_settled.specs.Calls.{MakesWithdrawal};
+ghost use Rattle.mm_settled.specs.Grants.{grants};
 ghost use Rattle.mm_settled.specs.private.Lists.{Fits};
-ghost use Rattle.mm_settled.specs.private.Told.{TellsOf};
 
 use crate::lists::Lists;
 use crate::settle::{come_to_rest, has_room};
@@ -18,17 +18,17 @@ pub fn withdraw(table: &mut Table, lists: &mut Lists, key: Key) -> Result<(), Re
     ensures makes { MakesWithdrawal key table.old result table.new }
     ensures others { (v : ℕ) → has_verdict table.new v ≡ has_verdict table.old v }
     ensures carried { (result ≡ Err Refusal.Carried) → IsBehindVictim table.old key.process }
-    ensures told { TellsOf table.old table.new lists.new }
+    ensures granted { lists.new.granted.items ≡ grants table.old table.new }
     ensures config { table.new.config ≡ table.old.config }
     ensures rest { AtRest table.new }
     ensures fits { Fits table.new.config lists.new }
 {
     table.keeps_laws();
-    lists.clear();
+    lists.granted.clear();
     if !has_room(table) {
         return Err(Refusal::CountsExhausted);
     }
-    table.withdraw_waking(key, &mut lists.changed)?;
-    come_to_rest(table, &mut lists.changed, &mut lists.processes);
+    table.withdraw_waking(key, &mut lists.woken)?;
+    come_to_rest(table, &lists.woken);
     Ok(())
 }

@@ -9,20 +9,19 @@ use Rattle.mm_rules.specs.TableState.{TableState, has_verdict, is_live, owns}
 use Rattle.mm_rules.specs.Change.{vacate, abort}
 use Rattle.mm_rules.specs.Event.{Finish, Abort, finish_tests, abort_tests, counts_exhausted}
 use Rattle.mm_rules.specs.Laws.{Laws, AtRest}
-use Rattle.mm_rules.proofs.States.Config.{event_config}
 use Rattle.mm_rules.proofs.States.EventsKeepLaws.{event_keeps}
+use Rattle.mm_settle.specs.Touched.{changed_processes}
 use Rattle.mm_settle.proofs.Lemmas.Shown.{shown_changes_are_told}
 use Rattle.mm_settled.specs.Calls.{MakesEnd, Rests, has_room}
+use Rattle.mm_settled.specs.Grants.{grants}
 use Rattle.mm_settled.specs.declared.lists.Lists.{Lists}
 use Rattle.mm_settled.specs.declared.reply.EndKind.{EndKind}
 use Rattle.mm_settled.specs.declared.reply.EndKind.TheVariants as way
 use Rattle.mm_settled.specs.private.Ends.{EndStep, Ends}
 use Rattle.mm_settled.specs.private.Lists.{ComesToRest, Fits}
-use Rattle.mm_settled.specs.private.Told.{TellsOf}
 use Rattle.mm_settled.proofs.Lemmas.Accepted.{accepted}
 use Rattle.mm_settled.proofs.Lemmas.Ends.{HandsOn, finish_hands_on, abort_hands_on}
 use Rattle.mm_settled.proofs.Lemmas.EndsAs.{refused_for_room, makes_as, hands_over_made, hands_over_ends}
-use Rattle.mm_settled.proofs.Lemmas.Fits.{HasSameRoom}
 use Rattle.mm_settled.proofs.Lemmas.Refused.{finish_refused, abort_refused, refuses}
 use Rattle.mm_settled.proofs.Lemmas.Rest.{room_left}
 
@@ -43,10 +42,6 @@ refused_makes way.Abort s t k reply refusal is room step = makes_as (Abort k) s 
 
 -- ---- accepted
 
-pub end_config : (kind : EndKind) (s t : TableState) (k : Key) → EndStep kind k s (Ok tt) t → t.config ≡ s.config
-end_config way.Finish s t k step = event_config (Finish k) s t (Ok tt) step
-end_config way.Abort s t k step = event_config (Abort k) s t (Ok tt) step
-
 pub end_counts : (kind : EndKind) (s t : TableState) (k : Key) → EndStep kind k s (Ok tt) t → has_room s ≡ true → counts_exhausted t ≡ false
 end_counts way.Finish s t k step room = room_left (Finish k) s t tt step (λ i. 0) room
 end_counts way.Abort s t k step room = room_left (Abort k) s t tt step (λ i. 0) room
@@ -64,22 +59,22 @@ end_hands_on way.Finish s t k laws step = finish_hands_on s t k laws step
 end_hands_on way.Abort s t k laws step = abort_hands_on s t k laws step
 
 -- an accepted end, and the settle after it
-module _ (s mid new : TableState) (k : Key) (was lists : Lists) (laws : Laws s) (rest : AtRest s) (room : has_room s ≡ true) (tells : TellsOf s mid was)
-    (comes : ComesToRest mid was.changed.items new lists.changed.items) (fits : Fits s.config was) (same_room : HasSameRoom was lists) (same : lists.granted.items ≡ was.granted.items) where
+module _ (s mid new : TableState) (k : Key) (lists : Lists) (laws : Laws s) (rest : AtRest s) (room : has_room s ≡ true) (granted : lists.granted.items ≡ grants s mid)
+    (woken : lists.woken.items ≡ changed_processes s mid) (comes : ComesToRest mid lists.woken.items new) (fits : Fits s.config lists) where
   pub end_makes : (kind : EndKind) → EndStep kind k s (Ok tt) mid → MakesEnd kind k s (Ok tt) new
   end_makes way.Finish step =
-      hands_over_made s mid new k.process (owns s k.process) was lists laws rest room tells comes fits same_room same (Finish k) tt step (λ never. never)
+      hands_over_made s mid new k.process (owns s k.process) lists laws rest room granted woken comes fits (Finish k) tt step (λ never. never)
       (shown_changes_are_told (Finish k) s mid (Ok tt) step laws).shown (finish_hands_on s mid k laws step)
   end_makes way.Abort step =
-      hands_over_made s mid new k.process (owns s k.process) was lists laws rest room tells comes fits same_room same (Abort k) tt step (λ never. never)
+      hands_over_made s mid new k.process (owns s k.process) lists laws rest room granted woken comes fits (Abort k) tt step (λ never. never)
       (shown_changes_are_told (Abort k) s mid (Ok tt) step laws).shown (abort_hands_on s mid k laws step)
 
   pub end_ends : (kind : EndKind) → EndStep kind k s (Ok tt) mid → Ends s new k.process lists
   end_ends way.Finish step =
-      hands_over_ends s mid new k.process (owns s k.process) was lists laws rest room tells comes fits same_room same (Finish k) tt step (λ never. never)
+      hands_over_ends s mid new k.process (owns s k.process) lists laws rest room granted woken comes fits (Finish k) tt step (λ never. never)
       (shown_changes_are_told (Finish k) s mid (Ok tt) step laws).shown (finish_hands_on s mid k laws step)
   end_ends way.Abort step =
-      hands_over_ends s mid new k.process (owns s k.process) was lists laws rest room tells comes fits same_room same (Abort k) tt step (λ never. never)
+      hands_over_ends s mid new k.process (owns s k.process) lists laws rest room granted woken comes fits (Abort k) tt step (λ never. never)
       (shown_changes_are_told (Abort k) s mid (Ok tt) step laws).shown (abort_hands_on s mid k laws step)
 
 -- ---- an end that was made

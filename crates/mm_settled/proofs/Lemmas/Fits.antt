@@ -14,10 +14,8 @@ use Rattle.mm_bit_set.specs.BitSet.{has, members}
 use Rattle.mm_rules.specs.declared.config.Config.{Config}
 use Rattle.mm_rules.specs.TableState.{TableState, is_live, owner_of, owns}
 use Rattle.mm_rules.specs.Laws.{Laws}
-use Rattle.mm_settle.specs.Touched.{is_changed, changed_processes}
 use Rattle.mm_settled.specs.declared.lists.Lists.{Lists}
-use Rattle.mm_settled.specs.private.Lists.{Fits, is_listed, is_key, owns_key, owned_by_key, joined, sorted}
-use Rattle.mm_settled.proofs.Lemmas.Changed.{listed_is}
+use Rattle.mm_settled.specs.private.Lists.{Fits, is_listed, is_key, owns_key, owned_by_key, sorted}
 use Rattle.mm_settled.proofs.Lemmas.Ends.{owner_in_range}
 use Rattle.mm_settled.proofs.Lemmas.Numbers.{filter_agree_on, is_listed_among, among_is_listed}
 
@@ -25,9 +23,8 @@ use Rattle.mm_settled.proofs.Lemmas.Numbers.{filter_agree_on, is_listed_among, a
 
 pub record HasSameRoom (l m : Lists) : Type 0 where
   pub granted : vec_capacity m.granted ≡ vec_capacity l.granted
-  pub changed : vec_capacity m.changed ≡ vec_capacity l.changed
+  pub woken : vec_capacity m.woken ≡ vec_capacity l.woken
   pub resources : m.resources ≡ l.resources
-  pub processes : m.processes ≡ l.processes
 
 pub fits_again : (c d : Config) (l m : Lists) → d ≡ c → Fits c l → HasSameRoom l m → Fits d m
 fits_again c d l m same fits room =
@@ -35,9 +32,8 @@ fits_again c d l m same fits room =
     let resources = ap (λ (e : Config). e.resources) same in
     record {
       granted = omega (arith, fits.granted, room.granted, processes);
-      changed = omega (arith, fits.changed, room.changed, processes);
+      woken = omega (arith, fits.woken, room.woken, processes);
       resources = room.resources ∙ fits.resources ∙ ap (λ n. replicate n false) (sym resources);
-      processes = room.processes ∙ fits.processes ∙ ap (λ n. replicate n false) (sym processes);
     }
 
 -- room for each resource is room for each of them after a call
@@ -53,17 +49,8 @@ none_in count n = elim (cases_lt n count) [
 ]
 
 -- a set that was empty has what was added to it
-pub has_added : (count : ℕ) (none set : List Bool) (ns : List ℕ) → none ≡ replicate count false → ((n : ℕ) → has set n ≡ (has none n || is_listed ns n)) → (n : ℕ) → has set n ≡ is_listed ns n
+has_added : (count : ℕ) (none set : List Bool) (ns : List ℕ) → none ≡ replicate count false → ((n : ℕ) → has set n ≡ (has none n || is_listed ns n)) → (n : ℕ) → has set n ≡ is_listed ns n
 has_added count none set ns empty added n = added n ∙ ap (λ b. b || is_listed ns n) (ap (λ s. has s n) empty ∙ none_in count n)
-
-pub joined_members : (listed now : List ℕ) (s t : TableState) (none first second : List Bool) → none ≡ replicate s.config.processes false
-    → ((n : ℕ) → has first n ≡ (has none n || is_listed listed n)) → ((n : ℕ) → has second n ≡ (has first n || is_listed now n))
-    → length first ≡ length none → length second ≡ length first → now ≡ changed_processes s t → members second ≡ joined listed s t
-joined_members listed now s t none first second empty added more sized still is =
-    let long : length second ≡ s.config.processes = still ∙ sized ∙ ap length empty ∙ length-replicate s.config.processes false in
-    ap (λ m. filter (has second) (range_with_len 0 m)) long
-    ∙ filter_agree_on (has second) (λ n. is_listed listed n || is_changed s t n) (range_with_len 0 s.config.processes)
-    (λ n among. more n ∙ ap (λ b. b || is_listed now n) (has_added s.config.processes none first listed empty added n) ∙ ap (λ b. is_listed listed n || b) (ap (λ ns. is_listed ns n) is ∙ listed_is s t n among))
 
 -- ---- what a key owns
 

@@ -11,73 +11,37 @@ use Rattle.mm_rules.specs.declared.reply.Acquired.{Acquired}
 use Rattle.mm_rules.specs.declared.reply.Acquired.TheVariants as acquired
 use Rattle.mm_rules.specs.declared.reply.Settled.{Settled}
 use Rattle.mm_rules.specs.TableState.{TableState, Wait, is_live, owner_of, public_of, has_verdict, graph_of}
-use Rattle.mm_rules.specs.Change.{block}
 use Rattle.mm_rules.specs.Event.{Acquire, Settle, Step, acquire_tests, acquire_answer, acquire_change}
 use Rattle.mm_rules.specs.Laws.{Laws, AtRest}
 use Rattle.mm_rules.specs.Victims.{IsOnCycle, OnlyCloserIsConvicted}
 use Rattle.mm_rules.proofs.Graph.Closes.{same_holders_keep, cycle_before}
 use Rattle.mm_rules.proofs.States.Config.{event_config}
+use Rattle.mm_rules.proofs.States.Counts.{event_counts}
 use Rattle.mm_rules.proofs.States.EventsKeepLaws.{event_keeps}
-use Rattle.mm_rules.proofs.States.Lookups.{live_within}
 use Rattle.mm_rules.proofs.States.Outcome.{KeepsLaws, counting}
 use Rattle.mm_rules.proofs.States.Settle.{settle_gives_rest}
 use Rattle.mm_rules.proofs.States.SettleKeeps.{SettleKeeps, same_holders, settle_keeps}
 use Rattle.mm_rules.proofs.States.Victims.{closer_is_victim}
-use Rattle.mm_settle.specs.Touched.{IsUnchanged, changed_processes}
-use Rattle.mm_settle.proofs.Lemmas.Acquired.{queue_else}
-use Rattle.mm_settle.proofs.Lemmas.Touched.{unchanged_then, block_else, block_rises}
 use Rattle.mm_settled.specs.declared.reply.Locked.{Locked}
 use Rattle.mm_settled.specs.declared.reply.Locked.TheVariants.{Granted, Waits, Deadlock}
 use Rattle.mm_settled.specs.Calls.{has_room, Locks, WaitsFrom, IsDeadlock}
 use Rattle.mm_settled.specs.Grants.{grants}
-use Rattle.mm_settled.specs.private.Lists.{joined}
 use Rattle.mm_settled.specs.private.Told.{told_by, has_owner, is_owned}
 use Rattle.mm_settled.proofs.Lemmas.Accepted.{IsAccepted, accepted}
-use Rattle.mm_settled.proofs.Lemmas.Changed.{changed_one, joined_is, settle_does_not_change_back}
 use Rattle.mm_settled.proofs.Lemmas.Grants.{same_owners_grant_none}
 use Rattle.mm_settled.proofs.Lemmas.Quiet.{granted_quiet, idle_on_no_cycle}
 
--- what an acquire that waits leaves, and whom it changes
-pub record BeginsToWait (s : TableState) (k : Key) (t : TableState) : Type 0 where
-  pub owners : t.owners ≡ s.owners
-  pub verdicts : t.verdicts ≡ s.verdicts
-  pub within : k.process < s.config.processes
-  pub changed : changed_processes s t ≡ k.process ∷ []
+owners_by : (s t : TableState) (k h : Key) (r : ℕ) (l : Label) (o : Option Key) → acquire_answer s k o ≡ acquired.Waits h l → (m : ℕ) → t ≡ counting (acquire_change s k r o) m → t.owners ≡ s.owners
+owners_by s t k h r l None answer m is = absurd (cc)
+owners_by s t k h r l (Some g) answer m is = ap (λ (u : TableState). u.owners) is
 
-unchanged_counting : (s t : TableState) (n m : ℕ) → IsUnchanged s t n → IsUnchanged s (counting t m) n
-unchanged_counting s t n m same = record { private = same.private; public = same.public; wait = same.wait; holder = same.holder; verdict = same.verdict }
-
-waits_by : (s t : TableState) (k h : Key) (r : ℕ) (l : Label) (o : Option Key) → Laws s → IsTrue (is_live s k) → acquire_answer s k o ≡ acquired.Waits h l
-    → (m : ℕ) → t ≡ counting (acquire_change s k r o) m → BeginsToWait s k t
-waits_by s t k h r l None laws live answer m is = absurd (cc)
-waits_by s t k h r l (Some g) laws live answer m is =
-    let n = k.process in
-    let w : Wait = record { key = k; resource = r } in
-    let queued = record s { waits = s.waits ++ w ∷ [] } in
-    let change = block queued n g.process in
-    let within : n < s.config.processes = live_within s k laws.lawful.well_formed.sizes live in
-    record {
-      owners = ap (λ (u : TableState). u.owners) is;
-      verdicts = ap (λ (u : TableState). u.verdicts) is;
-      within = within;
-      changed = changed_one s t n within
-          (λ q apart. subst (λ u. IsUnchanged s u q) (sym is)
-          (unchanged_counting s change q m (unchanged_then s queued change q (queue_else s w q apart) (block_else queued n g.process q apart))))
-          (λ same.
-          let now : public_of change n ≡ public_of s n = sym (ap (λ u. public_of u n) is) ∙ same.public in
-          omega (arith, block_rises queued n g.process (omega (arith, within, laws.lawful.well_formed.sizes.public)), ap (λ (l : Label). l.counter) now));
-    }
-
-pub begins_to_wait : (s t : TableState) (k h : Key) (r : ℕ) (l : Label) → Laws s → Step (Acquire k r) s (Ok (acquired.Waits h l)) t → BeginsToWait s k t
-begins_to_wait s t k h r l laws step =
+-- a request that waits leaves all owners
+wait_keeps_owners : (s t : TableState) (k h : Key) (r : ℕ) (l : Label) → Step (Acquire k r) s (Ok (acquired.Waits h l)) t → t.owners ≡ s.owners
+wait_keeps_owners s t k h r l step =
     let change = acquire_change s k r (owner_of s r) in
     let done : IsAccepted Acquired (acquire_tests s k r) (acquire_answer s k (owner_of s r)) change (acquired.Waits h l) t
     = accepted (acquire_tests s k r) s (acquire_answer s k (owner_of s r)) change (acquired.Waits h l) t step in
-    waits_by s t k h r l (owner_of s r) laws (not-false (is_live s k) done.passed.1.0) done.answer (change.totals.accepted + 1) done.state
-
-pub waiter_within : (s t : TableState) (k h : Key) (r : ℕ) (l : Label) → Laws s → Step (Acquire k r) s (Ok (acquired.Waits h l)) t → k.process < t.config.processes
-waiter_within s t k h r l laws step =
-    omega (arith, (begins_to_wait s t k h r l laws step).within, ap (λ (c : Config). c.processes) (event_config (Acquire k r) s t (Ok (acquired.Waits h l)) step))
+    owners_by s t k h r l (owner_of s r) done.answer (change.totals.accepted + 1) done.state
 
 -- the answer tells whether the requester is on a cycle
 pub deadlock_iff : (old new : TableState) (k : Key) (r : ℕ) (reply : Result Locked Refusal) → Laws old → Locks old k r reply new → OnOk reply (IsTrue (IsDeadlock reply) ↔ IsOnCycle new k.process)
@@ -126,9 +90,6 @@ module _ (old mid new : TableState) (k h : Key) (r : ℕ) (l : Label) (answer : 
   after : KeepsLaws old mid
   after = event_keeps (Acquire k r) old mid (Ok (acquired.Waits h l)) asks laws
 
-  begins : BeginsToWait old k mid
-  begins = begins_to_wait old mid k h r l laws asks
-
   only : OnlyCloserIsConvicted old mid new k.process answer
   only = closer_is_victim old mid new k h r l answer asks settles laws rest
 
@@ -137,9 +98,6 @@ module _ (old mid new : TableState) (k h : Key) (r : ℕ) (l : Label) (answer : 
 
   pub waiter_rests : AtRest new
   waiter_rests = (settle_gives_rest mid new answer settles after.laws).at_rest
-
-  pub waiter_config : new.config ≡ old.config
-  waiter_config = keeps.config ∙ event_config (Acquire k r) old mid (Ok (acquired.Waits h l)) asks
 
   pub waiter_alone : (v : ℕ) → v ≢ k.process → has_verdict new v ≡ has_verdict old v
   waiter_alone = only.others
@@ -173,11 +131,9 @@ module _ (old mid new : TableState) (k h : Key) (r : ℕ) (l : Label) (answer : 
     pub waiter_locks : Locks old k r (Ok (told_by answer h)) new
     waiter_locks = locks_by (nat_eq answer.verdicts 0) refl
 
-  pub waiter_changed : joined (k.process ∷ []) mid new ≡ changed_processes old new
-  waiter_changed =
-      ap (λ ns. joined ns mid new) (sym begins.changed)
-      ∙ joined_is old mid new (event_config (Acquire k r) old mid (Ok (acquired.Waits h l)) asks)
-      (settle_does_not_change_back old mid new answer after settles (λ n same. ap (λ vs. slice_index_or vs n false) begins.verdicts))
-
   pub waiter_grants : grants old new ≡ []
-  waiter_grants = same_owners_grant_none old new laws (keeps.owners ∙ begins.owners)
+  waiter_grants = same_owners_grant_none old new laws (keeps.owners ∙ wait_keeps_owners old mid k h r l asks)
+
+  -- an event and a settle were counted
+  pub waiter_counts : old.totals.accepted < new.totals.accepted
+  waiter_counts = omega (arith, (event_counts (Acquire k r) old mid (Ok (acquired.Waits h l)) asks).0, (event_counts Settle mid new (Ok answer) settles).0)

@@ -12,14 +12,11 @@ use Rattle.mm_rules.specs.Laws.{Laws, AtRest}
 use Rattle.mm_rules.specs.Victims.{IsOnCycle}
 use Rattle.mm_rules.proofs.Graph.IsSettled.{start_waits}
 use Rattle.mm_rules.proofs.Graph.Walks.{active_waits_not}
-use Rattle.mm_rules.proofs.States.Lookups.{none_of_is_some, no_holder, waits_here, held}
+use Rattle.mm_rules.proofs.States.Lookups.{none_of_is_some, no_holder}
 use Rattle.mm_rules.proofs.States.Outcome.{counting}
 use Rattle.mm_rules.proofs.States.Rest.{rest_stays}
-use Rattle.mm_settle.specs.Touched.{IsUnchanged, changed_processes}
-use Rattle.mm_settle.proofs.Lemmas.Touched.{unchanged, owner_else}
 use Rattle.mm_settled.specs.Grants.{grants}
 use Rattle.mm_settled.proofs.Lemmas.Accepted.{IsAccepted, accepted, either}
-use Rattle.mm_settled.proofs.Lemmas.Changed.{changed_nobody}
 use Rattle.mm_settled.proofs.Lemmas.Grants.{same_owners_grant_none, owner_or_idle_grants_none}
 
 -- from s to t nobody is granted anything, and no verdict and no public label changes
@@ -31,10 +28,6 @@ pub record IsQuiet (s t : TableState) : Type 0 where
 pub quiet_rests : (e : Event) (s t : TableState) (reply : Result (Answer e) Refusal) → Step e s reply t → Laws s → AtRest s → IsQuiet s t → AtRest t
 quiet_rests e s t reply step laws rest quiet = rest_stays e s t reply step laws rest (λ n h waits. quiet.public h)
 
--- the count is no part of what is unchanged
-unchanged_counting : (s t : TableState) (n m : ℕ) → IsUnchanged s t n → IsUnchanged s (counting t m) n
-unchanged_counting s t n m same = record { private = same.private; public = same.public; wait = same.wait; holder = same.holder; verdict = same.verdict }
-
 pub same_is_quiet : (s t : TableState) → Laws s → t ≡ s → IsQuiet s t
 same_is_quiet s t laws is = record {
   granted = same_owners_grant_none s t laws (ap (λ (u : TableState). u.owners) is);
@@ -42,51 +35,37 @@ same_is_quiet s t laws is = record {
   verdicts = λ n. ap (λ u. has_verdict u n) is;
 }
 
-pub same_changes_nobody : (s t : TableState) → t ≡ s → changed_processes s t ≡ []
-same_changes_nobody s t is = ap (changed_processes s) is ∙ changed_nobody s s (unchanged s)
-
-nobody_changed : (s t : TableState) → Laws s → t.owners ≡ s.owners → ((n : ℕ) → IsUnchanged s t n) → IsQuiet s t × (changed_processes s t ≡ [])
-nobody_changed s t laws owners same = (
-  record { granted = same_owners_grant_none s t laws owners; public = λ n. (same n).public; verdicts = λ n. (same n).verdict },
-  changed_nobody s t same,
-)
-
 -- ---- begin
 
-pub begin_quiet : (s t : TableState) (reply : Result Key Refusal) → Laws s → Step Begin s reply t → IsQuiet s t × (changed_processes s t ≡ [])
+pub begin_quiet : (s t : TableState) (reply : Result Key Refusal) → Laws s → Step Begin s reply t → IsQuiet s t
 begin_quiet s t reply laws step =
     let n = slice_index s.free 0 in
     let begun = record s { free = drop 1 s.free; live = slice_set s.live n true } in
     elim (either (begin_tests s) s (key_of s n) begun reply t step) [
-      | inl same ↦ (same_is_quiet s t laws same, same_changes_nobody s t same)
-      | inr is ↦ nobody_changed s t laws (ap (λ (u : TableState). u.owners) is) (λ m. subst (λ u. IsUnchanged s u m) (sym is) record { private = refl; public = refl; wait = refl; holder = refl; verdict = refl })
+      | inl same ↦ same_is_quiet s t laws same
+      | inr is ↦ record {
+        granted = same_owners_grant_none s t laws (ap (λ (u : TableState). u.owners) is);
+        public = λ m. ap (λ u. public_of u m) is;
+        verdicts = λ m. ap (λ u. has_verdict u m) is;
+      }
     ]
 
 -- ---- a request that is granted
 
 pub record GrantsNow (s : TableState) (k : Key) (t : TableState) : Type 0 where
   pub quiet : IsQuiet s t
-  pub changed : changed_processes s t ≡ []
   pub idle : wait_of t k.process ≡ None
 
 granted_by : (s t : TableState) (k : Key) (r : ℕ) (o : Option Key) → Laws s → owner_of s r ≡ o → wait_of s k.process ≡ None → acquire_answer s k o ≡ Granted
     → (m : ℕ) → t ≡ counting (acquire_change s k r o) m → GrantsNow s k t
 granted_by s t k r (Some h) laws owned idle answer m is = absurd (cc)
 granted_by s t k r None laws owned idle answer m is =
-    let given = acquire_change s k r None in
-    let nobody_waits : (n : ℕ) → wait_of s n ≢ Some r = λ n waits.
-    let here = waits_here s n r waits in
-    let its = held s laws.lawful.well_formed here.wait here.among in
-    let never : None ≡ Some its.0 = sym owned ∙ ap (owner_of s) (sym here.resource) ∙ its.1 in
-    absurd (cc) in
-    let same : (n : ℕ) → IsUnchanged s t n = λ n. subst (λ u. IsUnchanged s u n) (sym is) (unchanged_counting s given n m (owner_else s r n (Some k) (nobody_waits n))) in
     record {
       quiet = record {
         granted = owner_or_idle_grants_none s t laws (λ q j owned_now. by q j (sym (ap (λ u. owner_of u q) is) ∙ owned_now));
-        public = λ n. (same n).public;
-        verdicts = λ n. (same n).verdict;
+        public = λ n. ap (λ u. public_of u n) is;
+        verdicts = λ n. ap (λ u. has_verdict u n) is;
       };
-      changed = changed_nobody s t same;
       idle = ap (λ u. wait_of u k.process) is ∙ idle;
     }
   where

@@ -21,8 +21,8 @@ use Rattle.mm_settle.proofs.Lemmas.Told.{unchanged_is}
 use Rattle.mm_settled.specs.Calls.{has_room, NoneWaits, Rests, Made, OthersKeepVerdicts}
 use Rattle.mm_settled.specs.Grants.{grants, EndsWaits}
 use Rattle.mm_settled.specs.declared.reply.Grant.{Grant}
-use Rattle.mm_settled.specs.private.Lists.{ComesToRest, joined}
-use Rattle.mm_settled.proofs.Lemmas.Changed.{joined_is, listed_changed, settle_does_not_change_back}
+use Rattle.mm_settled.specs.private.Lists.{ComesToRest}
+use Rattle.mm_settled.proofs.Lemmas.Changed.{listed_changed}
 use Rattle.mm_settled.proofs.Lemmas.Ends.{HandsOn}
 use Rattle.mm_settled.proofs.Lemmas.Grants.{grants_alike, ends_waits}
 
@@ -61,11 +61,10 @@ hands_on_still s mid new n p on config owners waits verdicts =
     }
 
 -- a call by which process n hands resources over
-pub record EndsAtRest (e : Event) (old : TableState) (answer : Answer e) (new : TableState) (n : ℕ) (granted : List Grant) (changed : List ℕ) : Type 0 where
+pub record EndsAtRest (e : Event) (old : TableState) (answer : Answer e) (new : TableState) (n : ℕ) (granted : List Grant) : Type 0 where
   pub made : Made e old answer new
   pub others : OthersKeepVerdicts old new n
   pub are_granted : granted ≡ grants old new
-  pub are_changed : changed ≡ changed_processes old new
   pub ended : EndsWaits old new n granted
   pub rest : AtRest new
   pub config : new.config ≡ old.config
@@ -84,7 +83,7 @@ module _ (e : Event) (old mid new : TableState) (answer : Answer e) (laws : Laws
         | inr still ↦ (unchanged_is old mid h still).public
       ])
 
-  module _ (none : BeginsWait e (Ok answer) → ⊥) (idle : IdleShowTheSame old mid) (listed now : List ℕ) (tells : listed ≡ changed_processes old mid) (comes : ComesToRest mid listed new now) where
+  module _ (none : BeginsWait e (Ok answer) → ⊥) (idle : IdleShowTheSame old mid) (woken : List ℕ) (tells : woken ≡ changed_processes old mid) (comes : ComesToRest mid woken new) where
     rests_again : AtRest new
     rests_again = elim comes [
       | inl quiet ↦ subst (λ (t : TableState). AtRest t) (sym quiet.1) (idle_rests idle (subst (NoneWaits mid) tells quiet.0))
@@ -100,7 +99,7 @@ module _ (e : Event) (old mid new : TableState) (answer : Answer e) (laws : Laws
       | inl quiet ↦ (λ same. subst (NoneWaits mid) tells quiet.0, λ none. quiet.1)
       | inr settled ↦ (
         λ same. absurd (omega (arith, ap (λ (t : TableState). t.totals.accepted) same, (event_counts Settle mid new (Ok settled.0) settled.1).0)),
-        λ none. absurd (settled.3 (subst (NoneWaits mid) (sym tells) none)),
+        λ none. absurd (settled.2 (subst (NoneWaits mid) (sym tells) none)),
       )
     ]
 
@@ -114,16 +113,6 @@ module _ (e : Event) (old mid new : TableState) (answer : Answer e) (laws : Laws
     gives_none v = elim comes [
       | inl quiet ↦ ap (λ t. has_verdict t v) quiet.1
       | inr settled ↦ (others_have_no_victim e old mid new (Ok answer) settled.0 event none settled.1 laws rest.cycles).1 v
-    ]
-
-    all_changed : now ≡ changed_processes old new
-    all_changed = elim comes [
-      | inl quiet ↦ quiet.2 ∙ tells ∙ ap (changed_processes old) (sym quiet.1)
-      | inr settled ↦
-          settled.2 ∙ ap (λ ns. joined ns mid new) tells
-          ∙ joined_is old mid new (event_config e old mid (Ok answer) event)
-          (settle_does_not_change_back old mid new settled.0 after settled.1
-          (λ n same. sym ((others_have_no_victim e old mid new (Ok answer) settled.0 event none settled.1 laws rest.cycles).1 n) ∙ same))
     ]
 
     -- the settle leaves owners, waits and the configuration
@@ -146,14 +135,13 @@ module _ (e : Event) (old mid new : TableState) (answer : Answer e) (laws : Laws
       on_again : HandsOn old n p new
       on_again = hands_on_still old mid new n p on kept.0 kept.1 kept.2 gives_none
 
-      pub ends_at_rest : has_room old ≡ true → (granted : List Grant) → granted ≡ grants old mid → EndsAtRest e old answer new n granted now
+      pub ends_at_rest : has_room old ≡ true → (granted : List Grant) → granted ≡ grants old mid → EndsAtRest e old answer new n granted
       ends_at_rest room granted is =
           let all : granted ≡ grants old new = is ∙ all_granted in
           record {
             made = made room;
             others = on_again.verdicts;
             are_granted = all;
-            are_changed = all_changed;
             ended = subst (EndsWaits old new n) (sym all) (ends_waits old new n p laws on_again laws_again);
             rest = rests_again;
             config = same_config;

@@ -1,54 +1,27 @@
--- What a call tells, as a contract sees it.
-use Rattle.std.proofs.Common.{◌≡◌, ◌≤◌, ◌+◌, ℕ, Bool, true, false, [], Option, Some, None, Ok, drop, slice_set, slice_index, if◌then◌else◌, sym, ap, ◌∙◌, arith}
-use Rattle.std.proofs.lemmas.Bool.{eq-eqb, ne_eqb}
-use Rattle.mm_arena.specs.declared.key.Key.{Key}
-use Rattle.mm_rules.specs.declared.reply.Acquired.{Acquired}
-use Rattle.mm_rules.specs.declared.reply.Totals.{Totals}
-use Rattle.mm_rules.specs.TableState.{TableState, key_of, owner_of}
-use Rattle.mm_rules.specs.Event.{Begin, Acquire, Step, begin_tests, acquire_tests, acquire_answer, acquire_change}
-use Rattle.mm_rules.proofs.States.Outcome.{counting}
-use Rattle.mm_settle.specs.Touched.{changed_processes}
-use Rattle.mm_settled.specs.Grants.{grants, Tells}
-use Rattle.mm_settled.specs.declared.lists.Lists.{Lists}
-use Rattle.mm_settled.specs.private.Told.{TellsIf, is_told}
-use Rattle.mm_settled.proofs.Lemmas.Accepted.{accepted}
+-- What a call that grants nothing tells.
+use Rattle.std.proofs.Common.{◌≡◌, ◌≤◌, ◌<◌, ℕ, Bool, true, false, [], List, refl, if◌then◌else◌, inl, inr, sym, ap, subst, ◌∙◌, arith}
+use Rattle.std.proofs.lemmas.Bool.{ne_eqb}
+use Rattle.mm_rules.specs.TableState.{TableState}
+use Rattle.mm_settled.specs.Grants.{grants}
+use Rattle.mm_settled.specs.declared.reply.Grant.{Grant}
+use Rattle.mm_settled.specs.private.Told.{GrantsNothing, is_told}
 
-pub tells_if : (told : Bool) (old new : TableState) (lists : Lists) → TellsIf told old new lists
-    → Tells old record { table = new; granted = if told then lists.granted.items else []; changed = if told then lists.changed.items else [] }
-tells_if true old new lists told = record { granted = told.granted; changed = told.changed }
-tells_if false old new lists none = record { granted = sym none.0; changed = sym none.1 }
+either_empty : (told : Bool) (granted : List Grant) → granted ≡ [] → (if told then granted else []) ≡ []
+either_empty true granted empty = empty
+either_empty false granted empty = refl
 
--- where there is nothing to tell, lists that have nothing tell it, whether they are looked at or not
-pub tells_nothing : (told : Bool) (old new : TableState) (lists : Lists) → lists.granted.items ≡ [] → lists.changed.items ≡ [] → grants old new ≡ [] → changed_processes old new ≡ [] → TellsIf told old new lists
-tells_nothing true old new lists granted changed none nobody = record { granted = granted ∙ sym none; changed = changed ∙ sym nobody }
-tells_nothing false old new lists granted changed none nobody = (none, nobody)
-
--- ---- the lists were filled by the last call
-
-pub told_now : (at : ℕ) (s : TableState) → at ≡ s.totals.accepted → is_told at s ≡ true
-told_now at s is = eq-eqb at s.totals.accepted is
-
--- ---- an event was accepted since
-
-pub counted_alike : (n m : Totals) → n ≡ m → n.accepted ≤ m.accepted
-counted_alike n m same = omega (arith, ap (λ (t : Totals). t.accepted) same)
-
-pub counted_past : (at : ℕ) (s t : TableState) → at ≤ s.totals.accepted → t.totals.accepted ≡ s.totals.accepted + 1 → at ≤ t.totals.accepted
-counted_past at s t before counted = omega (arith, before, counted)
-
--- a begin and an acquire that are accepted are counted
-pub begin_counts : (s t : TableState) (k : Key) → Step Begin s (Ok k) t → t.totals.accepted ≡ s.totals.accepted + 1
-begin_counts s t k step =
-    let n = slice_index s.free 0 in
-    ap (λ (u : TableState). u.totals.accepted) (accepted (begin_tests s) s (key_of s n) (record s { free = drop 1 s.free; live = slice_set s.live n true }) k t step).state
-
-acquire_counts_by : (s t : TableState) (k : Key) (r : ℕ) (o : Option Key) → t ≡ counting (acquire_change s k r o) ((acquire_change s k r o).totals.accepted + 1) → t.totals.accepted ≡ s.totals.accepted + 1
-acquire_counts_by s t k r None is = ap (λ (u : TableState). u.totals.accepted) is
-acquire_counts_by s t k r (Some h) is = ap (λ (u : TableState). u.totals.accepted) is
-
-pub acquire_counts : (s t : TableState) (k : Key) (r : ℕ) (answer : Acquired) → Step (Acquire k r) s (Ok answer) t → t.totals.accepted ≡ s.totals.accepted + 1
-acquire_counts s t k r answer step =
-    acquire_counts_by s t k r (owner_of s r) (accepted (acquire_tests s k r) s (acquire_answer s k (owner_of s r)) (acquire_change s k r (owner_of s r)) answer t step).state
-
-pub told_before : (at : ℕ) (s t : TableState) → at ≤ s.totals.accepted → t.totals.accepted ≡ s.totals.accepted + 1 → is_told at t ≡ false
+pub told_before : (at : ℕ) (s t : TableState) → at ≤ s.totals.accepted → s.totals.accepted < t.totals.accepted → is_told at t ≡ false
 told_before at s t before counted = ne_eqb at t.totals.accepted (λ same. omega (arith, before, counted, same))
+
+-- the list is empty, or it was filled before the last event
+pub tells_nothing : (at : ℕ) (old new : TableState) (granted : List Grant) → at ≤ old.totals.accepted → GrantsNothing old new granted → (if is_told at new then granted else []) ≡ grants old new
+tells_nothing at old new granted before nothing = elim nothing.silent [
+  | inl counted ↦ ap (λ b. if b then granted else []) (told_before at old new before counted) ∙ sym nothing.none
+  | inr same ↦ either_empty (is_told at new) granted same.1 ∙ sym nothing.none
+]
+
+pub stamped_before : (at : ℕ) (old new : TableState) (granted : List Grant) → at ≤ old.totals.accepted → GrantsNothing old new granted → at ≤ new.totals.accepted
+stamped_before at old new granted before nothing = elim nothing.silent [
+  | inl counted ↦ omega (arith, before, counted)
+  | inr same ↦ subst (λ (u : TableState). at ≤ u.totals.accepted) (sym same.0) before
+]

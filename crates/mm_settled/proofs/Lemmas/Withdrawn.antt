@@ -24,9 +24,9 @@ use Rattle.mm_settle.proofs.Lemmas.Told.{unchanged_is}
 use Rattle.mm_settle.proofs.Lemmas.Touched.{block_else}
 use Rattle.mm_settled.specs.Calls.{has_room, NoneWaits, MadeWithdrawal, MakesWithdrawal}
 use Rattle.mm_settled.specs.Grants.{grants}
-use Rattle.mm_settled.specs.private.Lists.{ComesToRest, joined}
+use Rattle.mm_settled.specs.private.Lists.{ComesToRest}
 use Rattle.mm_settled.proofs.Lemmas.Accepted.{refused}
-use Rattle.mm_settled.proofs.Lemmas.Changed.{joined_is, listed_changed, settle_does_not_change_back}
+use Rattle.mm_settled.proofs.Lemmas.Changed.{listed_changed}
 use Rattle.mm_settled.proofs.Lemmas.Grants.{same_owners_grant_none}
 
 -- who is refused as `Carried` is behind a victim
@@ -59,15 +59,6 @@ idle_shows s k laws =
     outcome_keeps (IdleShowTheSame s) (λ t m was. was) s tt (withdraw s n) (withdraw_tests s k) (λ m idle. refl)
     (λ passed. idle_by s (shown_process s n) n (shows_waiting s n) (holder_of s (shown_process s n)) (λ is. let shows : ShowsWaiting s n laws (shown_process s n) = shows_waiting_gives s n laws is in (shows.apart, shows.waiting)))
 
--- after it a settle can be counted
-pub withdraw_room_left : (k : Key) (old mid : TableState) → Withdraws k old (Ok tt) mid → has_room old ≡ true → counts_exhausted mid ≡ false
-withdraw_room_left k old mid event room =
-    let parts = and_parts (nat_lt (old.totals.accepted + 1) (2 ^ 62)) (nat_lt old.totals.verdicts (2 ^ 62)) room in
-    let few : old.totals.accepted + 1 < 2 ^ 62 = ltb-true (old.totals.accepted + 1) (2 ^ 62) parts.0 in
-    let few_verdicts : old.totals.verdicts < 2 ^ 62 = ltb-true old.totals.verdicts (2 ^ 62) parts.1 in
-    let counts : Counts (GiveUp k) (Ok tt) old.totals mid.totals = (withdraw_counts k old mid (Ok tt) event).0 in
-    rw (lt-leb (2 ^ 62) mid.totals.accepted (omega (arith, counts.0, few)), lt-leb (2 ^ 62) mid.totals.verdicts (omega (arith, counts.1, few_verdicts))) refl
-
 -- a refused one changes nothing
 pub withdraw_refused : (k : Key) (s t : TableState) (refusal : Refusal) → Withdraws k s (Err refusal) t → t ≡ s
 withdraw_refused k s t refusal step = refused (withdraw_tests s k) s tt (withdraw s k.process) refusal t step
@@ -83,9 +74,6 @@ pub withdrawal_as : (k : Key) (s t : TableState) (reply : Result (Unit {0}) Refu
     → MakesWithdrawal k s reply t
 withdrawal_as k s t (Ok answer) refusal is refuses = absurd is.1
 withdrawal_as k s t (Err x) refusal is refuses = rw is.1 refuses
-
-pub withdrawal_has_no_room : (k : Key) (s : TableState) → has_room s ≡ false → MakesWithdrawal k s (Err CountsExhausted) s
-withdrawal_has_no_room k s full = (refl, subst (λ b. MatchBool b (Withdraws k s (Err CountsExhausted) s) (◌≡◌ {A = Refusal} CountsExhausted CountsExhausted)) (sym full) refl)
 
 module _ (k : Key) (old mid new : TableState) (laws : Laws old) (rest : AtRest old) (event : Withdraws k old (Ok tt) mid) where
   after : KeepsLaws old mid
@@ -106,7 +94,7 @@ module _ (k : Key) (old mid new : TableState) (laws : Laws old) (rest : AtRest o
         | inr still ↦ (unchanged_is old mid h still).public
       ])
 
-  module _ (listed now : List ℕ) (tells : listed ≡ changed_processes old mid) (comes : ComesToRest mid listed new now) where
+  module _ (woken : List ℕ) (tells : woken ≡ changed_processes old mid) (comes : ComesToRest mid woken new) where
     pub withdrawn_at_rest : AtRest new
     withdrawn_at_rest = elim comes [
       | inl quiet ↦ subst (λ (t : TableState). AtRest t) (sym quiet.1) (idle_rests (subst (NoneWaits mid) tells quiet.0))
@@ -121,16 +109,6 @@ module _ (k : Key) (old mid new : TableState) (laws : Laws old) (rest : AtRest o
 
     pub withdrawn_verdicts : (v : ℕ) → has_verdict new v ≡ has_verdict old v
     withdrawn_verdicts v = gives_none v ∙ ap (λ vs. slice_index_or vs v false) leaves.verdicts
-
-    pub withdrawn_changed : now ≡ changed_processes old new
-    withdrawn_changed = elim comes [
-      | inl quiet ↦ quiet.2 ∙ tells ∙ ap (changed_processes old) (sym quiet.1)
-      | inr settled ↦
-          settled.2 ∙ ap (λ ns. joined ns mid new) tells
-          ∙ joined_is old mid new leaves.config
-          (settle_does_not_change_back old mid new settled.0 after settled.1
-          (λ n same. sym ((withdraw_has_no_victim k old mid new (Ok tt) settled.0 event settled.1 laws rest).verdicts n) ∙ same))
-    ]
 
     -- the settle leaves owners and the configuration
     kept : (new.config ≡ mid.config) × (new.owners ≡ mid.owners)
@@ -151,7 +129,7 @@ module _ (k : Key) (old mid new : TableState) (laws : Laws old) (rest : AtRest o
       | inl quiet ↦ (λ same. subst (NoneWaits mid) tells quiet.0, λ none. quiet.1)
       | inr settled ↦ (
         λ same. absurd (omega (arith, ap (λ (t : TableState). t.totals.accepted) same, (event_counts Settle mid new (Ok settled.0) settled.1).0)),
-        λ none. absurd (settled.3 (subst (NoneWaits mid) (sym tells) none)),
+        λ none. absurd (settled.2 (subst (NoneWaits mid) (sym tells) none)),
       )
     ]
 

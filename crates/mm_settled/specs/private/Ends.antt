@@ -6,22 +6,21 @@ use Rattle.mm_rules.specs.TableState.{TableState}
 use Rattle.mm_rules.specs.Event.{Finish, Abort, Step}
 use Rattle.mm_rules.specs.Laws.{AtRest}
 use Rattle.mm_settled.specs.Calls.{OthersKeepVerdicts}
-use Rattle.mm_settled.specs.Grants.{EndsWaits}
+use Rattle.mm_settled.specs.Grants.{grants, EndsWaits}
 use Rattle.mm_settled.specs.declared.lists.Lists.{Lists}
 use Rattle.mm_settled.specs.declared.reply.EndKind.{EndKind}
 use Rattle.mm_settled.specs.declared.reply.EndKind.TheVariants as way
 use Rattle.mm_settled.specs.private.Lists.{Fits}
-use Rattle.mm_settled.specs.private.Told.{TellsOf}
 
 -- the event by which k ends
 abbrev pub EndStep : EndKind → Key → TableState → Result (Unit {0}) Refusal → TableState → Type 0
 EndStep way.Finish k old reply new = Step (Finish k) old reply new
 EndStep way.Abort k old reply new = Step (Abort k) old reply new
 
--- a call of process n that hands over, and settles the table where that is needed, leaves it at rest, and the lists tell of both
+-- a call of process n that hands over, and settles the table where that is needed, leaves it at rest, and the list of grants tells of both
 pub record Ends (old new : TableState) (n : ℕ) (lists : Lists) : Type 0 where
   pub others : OthersKeepVerdicts old new n
-  pub told : TellsOf old new lists
+  pub granted : lists.granted.items ≡ grants old new
   pub ended : EndsWaits old new n lists.granted.items
   pub config : new.config ≡ old.config
   pub rest : AtRest new

@@ -6,15 +6,14 @@ use Rattle.mm_settled.specs.private.Lists.{Fits}
 use Rattle.mm_settled.specs.private.Told.{is_told}
 use Rattle.mm_settled.specs.SettledState.{SettledState}
 
--- what a contract sees: where an event has been accepted since the lists were filled, what they have means nothing
+-- what a contract sees: where an event has been accepted since the grants were listed, the list means nothing
 abbrev pub state_of : Inside → SettledState
 state_of t = record {
   table = t.table;
   granted = if is_told t.told_at t.table then t.lists.granted.items else [];
-  changed = if is_told t.told_at t.table then t.lists.changed.items else [];
 }
 
--- the table is at rest, there is room for its lists and for each resource, and the lists were filled once as many events had been accepted as now, or fewer
+-- the table is at rest, there is room for its lists and for each resource, and the grants were listed once as many events had been accepted as now, or fewer
 pub record IsSettledTable (t : Inside) : Type 0 where
   pub rest : AtRest t.table
   pub fits : Fits t.table.config t.lists

@@ -19,15 +19,12 @@ use Rattle.mm_settled.proofs.Lemmas.Numbers.{no_length}
 use Rattle.mm_settled.proofs.Lemmas.Quiet.{same_is_quiet}
 use Rattle.mm_settled.proofs.ends.end_listing.Goals as goal
 
-pub returns-in_err-end_waking-clause-told : goal.returns-in_err-end_waking-clause-told
-returns-in_err-end_waking-clause-told c =
+pub returns-in_err-end_waking-clause-granted : goal.returns-in_err-end_waking-clause-granted
+returns-in_err-end_waking-clause-granted c =
     let s = c.args.table.now in
     let is : EndStep c.args.kind c.args.key s (Err c.in_err-end_waking.field-0.0) c.end_waking.new.table = rw c.in_err-end_waking.was at c.end_waking.ensures.step in
     let same = end_refused c.args.kind s c.end_waking.new.table c.args.key c.in_err-end_waking.field-0.0 is in
-    record {
-      granted = c.clear.ensures.items ∙ sym (same_is_quiet s c.end_waking.new.table c.requires.laws same).granted;
-      changed = c.end_waking.ensures.woken;
-    }
+    c.clear.ensures.items ∙ sym (same_is_quiet s c.end_waking.new.table c.requires.laws same).granted
 
 -- ---- it is accepted
 
@@ -36,16 +33,13 @@ given_now : (kind : EndKind) (s t : TableState) (k : Key) (ns : List ℕ) → La
 given_now kind s t k ns laws is are_owned =
     ap (filter_map (given t)) (are_owned ∙ owned_by_process s k laws (end_was_live kind s t k is)) ∙ given_are_grants s t k.process (owns s k.process) laws (end_hands_on kind s t k laws is)
 
-pub returns-then-is_empty-clause-told : goal.returns-then-is_empty-clause-told
-returns-then-is_empty-clause-told c =
+pub returns-then-is_empty-clause-granted : goal.returns-then-is_empty-clause-granted
+returns-then-is_empty-clause-granted c =
     let s = c.args.table.now in
     let t = c.end_waking.new.table in
     let is : EndStep c.args.kind c.args.key s (Ok tt) t = rw c.in_ok-end_waking.was at c.end_waking.ensures.step in
     let nobody : changed_processes s t ≡ [] = sym c.end_waking.ensures.woken ∙ no_length c.end_waking.new.wake.items (omega (arith, c.end_waking.new.wake.ok, eqb-true (vec_len c.end_waking.new.wake) 0 (sym c.is_empty.ensures ∙ c.if-is_empty.true))) in
-    record {
-      granted = c.clear.ensures.items ∙ sym (nobody_changed_grants_none s t c.requires.laws (end_keeps c.args.kind s t c.args.key c.requires.laws is) nobody);
-      changed = c.end_waking.ensures.woken;
-    }
+    c.clear.ensures.items ∙ sym (nobody_changed_grants_none s t c.requires.laws (end_keeps c.args.kind s t c.args.key c.requires.laws is) nobody)
 
 pub sort-requires-clause-within : goal.sort-requires-clause-within
 sort-requires-clause-within c =
@@ -65,14 +59,11 @@ list_given-requires c = omega (arith, ap length (are_grants c), few_grants c.arg
 is_sorted : (c : goal.After-list_given) → c.sort.new.numbers.items ≡ owned_by_key c.args.table.now c.args.key
 is_sorted c = c.sort.ensures.sorted ∙ sorted_owned c.args.table.now c.args.key c.end_waking.new.owned.items c.args.lists.now.resources c.requires.fits.resources (rw c.in_ok-end_waking.was at c.end_waking.ensures.owned)
 
-pub returns-clause-told : goal.returns-clause-told
-returns-clause-told c =
+pub returns-clause-granted : goal.returns-clause-granted
+returns-clause-granted c =
     let s = c.args.table.now in
     let is : EndStep c.args.kind c.args.key s (Ok tt) c.end_waking.new.table = rw c.in_ok-end_waking.was at c.end_waking.ensures.step in
-    record {
-      granted = c.list_given.ensures.given ∙ given_now c.args.kind s c.end_waking.new.table c.args.key c.deref.result.now c.requires.laws is (c.deref.ensures.value ∙ is_sorted c);
-      changed = c.end_waking.ensures.woken;
-    }
+    c.list_given.ensures.given ∙ given_now c.args.kind s c.end_waking.new.table c.args.key c.deref.result.now c.requires.laws is (c.deref.ensures.value ∙ is_sorted c)
 
 pub returns-clause-owned : goal.returns-clause-owned
 returns-clause-owned c = λ r. subst (λ ns. Among r ns ↔ (owner_of c.args.table.now r ≡ Some c.args.key)) (sym (is_sorted c)) (owned_listed c.args.table.now c.args.key c.requires.laws r)
@@ -85,14 +76,14 @@ returns-clause-once c =
 pub returns-in_err-end_waking-clause-fits : goal.returns-in_err-end_waking-clause-fits
 returns-in_err-end_waking-clause-fits c =
     fits_again c.args.table.now.config c.args.table.now.config c.args.lists.now _ refl c.requires.fits
-    record { granted = c.clear.ensures.capacity; changed = c.end_waking.ensures.room; resources = refl; processes = refl }
+    record { granted = c.clear.ensures.capacity; woken = c.end_waking.ensures.room; resources = refl }
 
 pub returns-then-is_empty-clause-fits : goal.returns-then-is_empty-clause-fits
 returns-then-is_empty-clause-fits c =
     fits_again c.args.table.now.config c.args.table.now.config c.args.lists.now _ refl c.requires.fits
-    record { granted = c.clear.ensures.capacity; changed = c.end_waking.ensures.room; resources = refl; processes = refl }
+    record { granted = c.clear.ensures.capacity; woken = c.end_waking.ensures.room; resources = refl }
 
 pub returns-clause-fits : goal.returns-clause-fits
 returns-clause-fits c =
     fits_again c.args.table.now.config c.args.table.now.config c.args.lists.now _ refl c.requires.fits
-    record { granted = c.list_given.ensures.room ∙ c.clear.ensures.capacity; changed = c.end_waking.ensures.room; resources = c.sort.ensures.none; processes = refl }
+    record { granted = c.list_given.ensures.room ∙ c.clear.ensures.capacity; woken = c.end_waking.ensures.room; resources = c.sort.ensures.none }
