@@ -64,7 +64,7 @@ pub fn end(
     Ok(())
 }
 
-/// `Table::release`, and whom it grants what and changes.
+/// `Table::release`, which also lists whom it grants what and whom it changes.
 fn release_listing(
     table: &mut Table,
     lists: &mut Lists,
@@ -86,8 +86,8 @@ fn release_listing(
     Ok(answer)
 }
 
-/// Ends a transaction in the table, and lists whom that grants what and changes. Where it changes nobody it grants nothing. What the
-/// transaction owned is listed too.
+/// Ends a transaction in the table, and lists whom that grants what and whom it changes. If it changes nobody, it grants nothing. What
+/// the transaction owned is listed too.
 #[inline(always)]
 fn end_listing(
     table: &mut Table,

@@ -12,8 +12,8 @@ use mm_table::Acquired;
 /// Where no count is this or more, many more events can be counted.
 const FAR_BELOW_LIMIT: u64 = 1 << 61;
 
-/// Asks for the resource. Where the transaction waits, the table is settled. A refusal empties the list of grants. An accepted request leaves
-/// it as it was: the table has then accepted more events than when it was filled, so it means nothing.
+/// Asks for the resource, and settles the table if the transaction waits. A refusal empties the list of grants. An accepted request leaves
+/// it as it is: the table has accepted an event since it was filled, so it means nothing.
 #[inline(always)]
 pub fn lock(
     table: &mut Table,

@@ -1,21 +1,19 @@
 -- A request that waits, and the settle that follows: whoever closed a cycle of waits has its verdict, and nobody else has a new one.
-use Rattle.std.proofs.Common.{◌≡◌, ◌≢◌, ◌<◌, ◌+◌, ◌++◌, ℕ, [], ◌∷◌, Option, Some, None, Result, Ok, Err, Bool, true, false, not, ◌&&◌, IsTrue, nat_eq, nat_lt, if◌then◌else◌, slice_index_or, inl, inr, refl, sym, ap, subst, ◌∙◌, arith}
+use Rattle.std.proofs.Common.{◌≡◌, ◌≢◌, ◌<◌, ◌+◌, ℕ, [], Option, Some, None, Result, Ok, Err, Bool, true, false, not, ◌&&◌, IsTrue, nat_eq, nat_lt, if◌then◌else◌, inl, inr, refl, sym, ap, ◌∙◌, arith}
 use Rattle.std.specs.Prelude.{OnOk, ◌↔◌}
-use Rattle.std.proofs.lemmas.Bool.{cases_Bool, eqb-true, eqb-false, not-false, lt-ltb, leb-false}
+use Rattle.std.proofs.lemmas.Bool.{cases_Bool, eqb-true, eqb-false, lt-ltb, leb-false}
 use Rattle.mm_label.specs.Label.{Label}
 use Rattle.mm_arena.specs.declared.key.Key.{Key}
-use Rattle.mm_rules.specs.declared.config.Config.{Config}
 use Rattle.mm_rules.specs.declared.refusal.Refusal.{Refusal}
 use Rattle.mm_rules.specs.declared.refusal.Refusal.TheVariants.{NoResource}
 use Rattle.mm_rules.specs.declared.reply.Acquired.{Acquired}
 use Rattle.mm_rules.specs.declared.reply.Acquired.TheVariants as acquired
 use Rattle.mm_rules.specs.declared.reply.Settled.{Settled}
-use Rattle.mm_rules.specs.TableState.{TableState, Wait, is_live, owner_of, public_of, has_verdict, graph_of}
+use Rattle.mm_rules.specs.TableState.{TableState, owner_of, has_verdict, graph_of}
 use Rattle.mm_rules.specs.Event.{Acquire, Settle, Step, acquire_tests, acquire_answer, acquire_change}
 use Rattle.mm_rules.specs.Laws.{Laws, AtRest}
 use Rattle.mm_rules.specs.Victims.{IsOnCycle, OnlyCloserIsConvicted}
 use Rattle.mm_rules.proofs.Graph.Closes.{same_holders_keep, cycle_before}
-use Rattle.mm_rules.proofs.States.Config.{event_config}
 use Rattle.mm_rules.proofs.States.Counts.{event_counts}
 use Rattle.mm_rules.proofs.States.EventsKeepLaws.{event_keeps}
 use Rattle.mm_rules.proofs.States.Outcome.{KeepsLaws, counting}

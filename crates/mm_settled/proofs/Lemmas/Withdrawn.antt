@@ -1,15 +1,14 @@
 -- After a withdrawal the table is at rest again, and what it tells is true of the whole call.
-use Rattle.std.proofs.Common.{◌≡◌, ◌≢◌, ◌+◌, ◌^◌, ◌<◌, ◌↔◌, ℕ, Bool, true, false, if◌then◌else◌, List, [], Option, Some, None, is_some, slice_index_or, Result, Ok, Err, IsErr, IsErrAnd, MatchBool, inl, inr, refl, sym, ap, subst, ◌∙◌, arith}
-use Rattle.std.specs.Prelude.{nat_lt}
+use Rattle.std.proofs.Common.{◌≡◌, ◌≢◌, ◌<◌, ◌↔◌, ℕ, Bool, true, false, if◌then◌else◌, List, [], Option, Some, None, is_some, slice_index_or, Result, Ok, Err, IsErr, IsErrAnd, MatchBool, inl, inr, refl, sym, ap, subst, ◌∙◌, arith}
 use Rattle.std.specs.Option.{option_map_or}
-use Rattle.std.proofs.lemmas.Bool.{cases_Bool, cases_eq, and_parts, ltb-true, lt-leb}
+use Rattle.std.proofs.lemmas.Bool.{cases_Bool, cases_eq}
 use Rattle.mm_arena.specs.declared.key.Key.{Key}
 use Rattle.mm_rules.specs.declared.refusal.Refusal.{Refusal}
 use Rattle.mm_rules.specs.declared.refusal.Refusal.TheVariants.{CountsExhausted, Carried}
 use Rattle.mm_rules.specs.TableState.{TableState, is_waiting, holder_of, wait_of, has_verdict}
 use Rattle.mm_rules.specs.Change.{block, activate}
-use Rattle.mm_rules.specs.Event.{GiveUp, Settle, counts_exhausted}
-use Rattle.mm_rules.specs.Laws.{Laws, AtRest, Counts}
+use Rattle.mm_rules.specs.Event.{Settle}
+use Rattle.mm_rules.specs.Laws.{Laws, AtRest}
 use Rattle.mm_rules.specs.Withdraw.{IsBehindVictim, Withdraws, shown_process, shows_waiting, withdraw, withdraw_tests, withdrawn}
 use Rattle.mm_rules.proofs.States.Activate.{waits_else}
 use Rattle.mm_rules.proofs.States.Counts.{event_counts}
@@ -17,7 +16,7 @@ use Rattle.mm_rules.proofs.States.Lookups.{holder_within}
 use Rattle.mm_rules.proofs.States.Outcome.{KeepsLaws, outcome_keeps}
 use Rattle.mm_rules.proofs.States.SettleKeeps.{SettleKeeps, settle_keeps}
 use Rattle.mm_rules.proofs.States.Withdraw.{ShowsWaiting, shows_waiting_gives, withdraw_keeps}
-use Rattle.mm_rules.proofs.States.WithdrawLaws.{Leaves, withdraw_leaves, withdraw_counts, withdraw_has_no_victim, withdraw_stays_at_rest, carried_is_behind_victim}
+use Rattle.mm_rules.proofs.States.WithdrawLaws.{Leaves, withdraw_leaves, withdraw_has_no_victim, withdraw_stays_at_rest, carried_is_behind_victim}
 use Rattle.mm_settle.specs.Touched.{is_changed, changed_processes}
 use Rattle.mm_settle.specs.Shown.{IdleShowTheSame}
 use Rattle.mm_settle.proofs.Lemmas.Told.{unchanged_is}

@@ -1,4 +1,4 @@
-use Rattle.std.proofs.Common.{Ok, Err, refl, sym, subst, ◌∙◌}
+use Rattle.std.proofs.Common.{Err, refl, sym, subst, ◌∙◌}
 use Rattle.mm_settled.specs.private.Ends.{EndStep}
 use Rattle.mm_settled.specs.private.Lists.{ComesToRest}
 use Rattle.mm_settled.proofs.Lemmas.EitherEnd.{end_refused, no_room_makes, refused_makes, end_counts, end_makes, end_ends}
