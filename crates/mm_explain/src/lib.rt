@@ -9,7 +9,7 @@
 //! - `fault`: why a script was not explained to its end.
 #![tactic(auto)]
 
-ghost use Rattle.mm_lines.specs.Input.{IsReady};
+ghost use Rattle.std.specs.Prelude.{◌≤◌};
 
 mod calls;
 mod changes;
@@ -77,17 +77,16 @@ fn explain_all<R: Read, W: Write>(
     reader: &mut R,
     writer: &mut W,
 ) -> Result<u64, ExplainFault>
-    requires { IsReady input.old }
+    requires { input.old.taken ≤ input.old.limits.input }
 {
     while input.read(reader)? {
-        let count = session.explain_piece(input.within_limit(), writer)?;
+        session.explain_piece(input, writer)?;
         if session.is_over() {
             break;
         }
         if input.is_past_limit() {
             return Err(ExplainFault::Lines(Fault::TooLong));
         }
-        input.drop_front(count);
     }
-    session.finish(input.within_limit(), writer)
+    session.finish(input.held(), writer)
 }

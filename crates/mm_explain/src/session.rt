@@ -1,5 +1,5 @@
 //! A script as far as it is explained.
-ghost use Rattle.std.specs.Prelude.{◌≤◌, length, IfOk};
+ghost use Rattle.std.specs.Prelude.{◌≡◌};
 
 use crate::calls::{explain_call, explain_hand_over, explain_refusal};
 use crate::changes::explain_changes;
@@ -8,7 +8,7 @@ use crate::picture::{Format, draw};
 use crate::sheet::Sheet;
 use crate::view::View;
 use crate::{ExplainFault, Options};
-use mm_lines::{Fault, index_of};
+use mm_lines::{Fault, Input, split_once};
 use mm_script::{Call, Line, Reply, line_of, make};
 use mm_table::{Key, Table};
 use std::alloc::{AllocError, Global};
@@ -62,34 +62,31 @@ impl Session {
         }
     }
 
-    /// Explains the lines whose newline is among the bytes, as far as they are wanted, writes that, and returns how many bytes they have.
+    /// Explains the lines whose newline was read, as far as they are wanted, and writes that.
     pub fn explain_piece<W: Write>(
         &mut self,
-        bytes: &[u8],
+        input: &mut Input,
         writer: &mut W,
-    ) -> Result<usize, ExplainFault>
-        ensures { IfOk result (λ count. count ≤ length bytes.now) }
+    ) -> Result<(), ExplainFault>
+        ensures { input.new ≡ record input.old { held = input.new.held } }
     {
-        let count = self.explain_lines(bytes)?;
-        self.write(writer)?;
-        Ok(count)
+        self.explain_lines(input)?;
+        self.write(writer)
     }
 
-    /// Explains the lines whose newline is among the bytes, as far as they are wanted, and returns how many bytes they have.
-    fn explain_lines(&mut self, bytes: &[u8]) -> Result<usize, AllocError>
-        ensures { IfOk result (λ count. count ≤ length bytes.now) }
+    /// Explains the lines whose newline was read, as far as they are wanted.
+    fn explain_lines(&mut self, input: &mut Input) -> Result<(), AllocError>
+        ensures { input.new ≡ record input.old { held = input.new.held } }
     {
-        let mut count = 0;
         while !self.is_over() {
-            let rest = bytes.split_at(count).1;
-            let newline = index_of(b'\n', rest);
-            if newline == rest.len() {
-                return Ok(count);
-            }
-            self.explain_line(rest.split_at(newline).0)?;
-            count += newline + 1;
+            let Some((line, _)) = split_once(b'\n', input.held()) else {
+                break;
+            };
+            let len = line.len();
+            self.explain_line(line)?;
+            input.drop_front(len + 1);
         }
-        Ok(count)
+        Ok(())
     }
 
     /// Explains the line that no newline ends, unless it is empty or not wanted.

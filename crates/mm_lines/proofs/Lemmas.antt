@@ -1,9 +1,5 @@
--- lines that are answered, one after the other
-pub mod Answered
--- what was read and written where lines are answered no further
-pub mod Ended
--- a move of bytes to the front
-pub mod Input
+-- where the first of some bytes stands
+pub mod Cut
 -- where bytes are cut into lines, whatever follows
 pub mod Lines
 -- lines at the front of bytes that are answered
@@ -14,5 +10,7 @@ pub mod Number
 pub mod Output
 -- what was read, answered and written so far
 pub mod Reached
+-- what lines are answered
+pub mod Text
 -- the first word of a line, and the others
 pub mod Words

@@ -10,5 +10,5 @@ pub mod Lines
 pub mod Input
 -- the bytes that are written, kept or lost
 pub mod Output
--- how far lines are answered
-pub mod Answered
+-- what lines are answered
+pub mod Text

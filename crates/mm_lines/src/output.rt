@@ -28,6 +28,19 @@ pub fn write_output<W: Write>(output: &mut Output, writer: &mut W) -> Result<(),
     Ok(())
 }
 
+/// Writes all replies and flushes.
+pub(crate) fn flush_output<W: Write>(output: &mut Output, writer: &mut W) -> Result<(), Fault>
+    ensures written { (lost : List ℕ) × Writes (W.contents writer.old) (W.contents writer.new) output.old.items lost
+        × OnOk result (lost ≡ []) }
+    ensures fault { IsOkUnless result Fault.Write }
+{
+    write_output(output, writer)?;
+    match writer.flush() {
+        Ok(()) => Ok(()),
+        Err(_) => Err(Fault::Write),
+    }
+}
+
 /// Writes all replies where there may be no room for so many bytes more.
 pub fn make_room<W: Write>(output: &mut Output, room: usize, writer: &mut W) -> Result<(), Fault>
     requires { room ≤ OUTPUT_LEN }

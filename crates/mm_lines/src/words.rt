@@ -3,7 +3,7 @@ ghost use Rattle.std.specs.Prelude.{◌≡◌, ◌+◌, ◌-◌, ◌^◌};
 ghost use Rattle.std.specs.Iterator.{YieldsFirstRef, item_count};
 ghost use Rattle.mm_lines.specs.Words.{words_of, number_at_most, key_of};
 
-use crate::cut::{index_of, index_of_other, split_around};
+use crate::cut::{index_of_other, split_once};
 use mm_arena::Key;
 
 /// The words of a line: what stands between spaces.
@@ -58,7 +58,7 @@ impl<'a> Iterator for Words<'a> {
             self.rest = rest;
             return None;
         }
-        let (word, rest) = rest.split_at(index_of(b' ', rest));
+        let (word, rest) = split_once(b' ', rest).unwrap_or((rest, &[]));
         self.rest = rest;
         Some(word)
     }
@@ -97,7 +97,7 @@ fn number32(word: &[u8]) -> Option<u32>
 fn key(word: &[u8]) -> Option<Key>
     ensures { result ≡ key_of word.now }
 {
-    let (process, generation) = split_around(b'.', word);
+    let (process, generation) = split_once(b'.', word)?;
     Some(Key {
         process: number32(process)?,
         generation: number32(generation)?,

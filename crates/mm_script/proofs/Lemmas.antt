@@ -1,6 +1,2 @@
--- how a script ends
-pub mod RunScript
--- what a session answered and wrote
-pub mod Session
--- each text has replies
+-- each text has replies, and how a script ends
 pub mod Text

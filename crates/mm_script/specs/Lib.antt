@@ -3,5 +3,5 @@ pub mod Line
 pub mod Reply
 pub mod Script
 pub mod Text
--- private: how forms and a session are kept; no public clause cites these
+-- private: how forms are kept, and a law that `Answerer` asks for; no public clause cites these
 pub mod private

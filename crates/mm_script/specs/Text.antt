@@ -1,5 +1,5 @@
 -- What a script is answered.
-use Rattle.std.specs.Prelude.{◌≡◌, ℕ, ◌+◌, ◌≤◌, ◌<◌, ◌⊎◌, List, [], ◌∷◌, ◌++◌, Option, Some, None, Result, Ok, Err}
+use Rattle.std.specs.Prelude.{◌≡◌, ℕ, ◌≤◌, ◌<◌, ◌⊎◌, List, [], Option, Some, None, Result, Ok, Err}
 use Rattle.std.specs.Result.{result_ok}
 use Rattle.mm_limits.specs.declared.TheConstants.{MAX_PROCESSES}
 use Rattle.mm_table.specs.config.Config.{Config}
@@ -63,15 +63,11 @@ Replies call None = RepliesWithNone call
 Replies call (Some old) = RepliesWithTable call old
 
 -- the bytes that a line is answered from a table or none, 1 if it is malformed, and the table after it
-abbrev pub Answers : Line → Option TableState → List ℕ → ℕ → Option TableState → Type 0
-Answers kind.Silent old out malformed new = (out ≡ []) × (malformed ≡ 0) × (new ≡ old)
-Answers kind.Malformed old out malformed new = (out ≡ reply_line replies.Malformed) × (malformed ≡ 1) × (new ≡ old)
-Answers (kind.Call call) old out malformed new = (reply : Reply) × Replies call old reply new × (out ≡ reply_line reply) × (malformed ≡ 0)
+abbrev pub AnswersLine : Line → Option TableState → List ℕ → ℕ → Option TableState → Type 0
+AnswersLine kind.Silent old out malformed new = (out ≡ []) × (malformed ≡ 0) × (new ≡ old)
+AnswersLine kind.Malformed old out malformed new = (out ≡ reply_line replies.Malformed) × (malformed ≡ 1) × (new ≡ old)
+AnswersLine (kind.Call call) old out malformed new = (reply : Reply) × Replies call old reply new × (out ≡ reply_line reply) × (malformed ≡ 0)
 
--- the bytes that lines are answered from a table or none, and how many of them are malformed
-abbrev pub Text : Option TableState → List (List ℕ) → List ℕ → ℕ → Type 0
-Text table [] out malformed = (out ≡ []) × (malformed ≡ 0)
-Text table (line ∷ lines) out malformed =
-    (next : Option TableState) × (reply : List ℕ) × (rest : List ℕ) × (one : ℕ) × (more : ℕ)
-    × Answers (line_of line) table reply one next × Text next lines rest more
-    × (out ≡ reply ++ rest) × (malformed ≡ one + more)
+-- the same of the bytes of a line
+abbrev pub Answers : Option TableState → List ℕ → List ℕ → ℕ → Option TableState → Type 0
+Answers old line out malformed new = AnswersLine (line_of line) old out malformed new

@@ -5,35 +5,34 @@
 //! - `reason`: why a line is malformed.
 //! - `calls`: makes a call of the table that stands, if one does.
 //! - `reply`: replies, and how they are printed.
-//! - `engine`: a script as far as it is answered.
+//! - `script`: a script as far as it is answered.
 //!
-//! Lines are read, cut and written by `mm_lines`.
+//! Lines are read and cut, and replies written, by `serve` of `mm_lines`.
 #![tactic(auto)]
 
-ghost use Rattle.std.specs.Prelude.{◌≡◌, ◌≤◌, ℕ, List, [], None, length, OnOk};
+ghost use Rattle.std.specs.Prelude.{◌≤◌, ℕ, List, length, OnOk};
 ghost use Rattle.std.specs.Io.KnownBytes.{Appends, Consumes, IsAtEnd};
 ghost use Rattle.mm_script.specs.Script.{Ends};
-ghost use Rattle.mm_lines.specs.Input.{unread};
 
 mod calls;
-mod engine;
 mod forms;
 mod line;
 mod reason;
 mod reply;
+mod script;
 
 pub use calls::make;
-use engine::Session;
 pub use forms::usages;
 pub use line::{Call, Header, Line, line_of};
 pub use mm_lines::Fault as ScriptFault;
-use mm_lines::{Input, Limits};
+use mm_lines::serve;
 pub use reason::{LineFault, line_fault};
 pub use reply::{MAX_REPLY, Reply, print_reply};
+use script::Script;
 use std::alloc::Global;
 use std::io::{Read, Write};
 
-/// The longest line in bytes, with its carriage return.
+/// The longest line in bytes, as `Limits` of mm_lines counts them.
 pub const MAX_LINE: usize = 128;
 
 /// A script has at most so many bytes: 16 MiB.
@@ -60,41 +59,9 @@ pub fn run_script<R: Read, W: Write>(
     ensures end { OnOk result (IsAtEnd (R.remaining reader.new)) }
     ensures limit { (read : List ℕ) × Consumes (R.remaining reader.old) (R.remaining reader.new) read × (length read ≤ 16777217) }
 {
-    let mut input = Input::new(Limits {
-        input: INPUT_LIMIT,
-        line: MAX_LINE,
-    });
-    let mut session = Session::new(alloc);
-    let outcome = answer_all(&mut input, &mut session, reader, writer);
-    // The proof is short where the session, with its table, is dropped by a call.
-    drop(session);
+    let mut script = Script::new(alloc);
+    let outcome = serve(&mut script, reader, writer);
+    // The proof is short where the script, with its table, is dropped by a call.
+    drop(script);
     outcome
-}
-
-/// Reads and answers a script from its first byte on.
-fn answer_all<R: Read, W: Write>(
-    input: &mut Input,
-    session: &mut Session,
-    reader: &mut R,
-    writer: &mut W,
-) -> Result<u64, ScriptFault>
-    requires input { input.old ≡ unread input.old.limits }
-    requires line { input.old.limits.line ≡ MAX_LINE }
-    requires limit { input.old.limits.input ≡ INPUT_LIMIT }
-    requires table { session.old.table ≡ None }
-    requires malformed { session.old.malformed ≡ 0 }
-    requires replies { session.old.replies.items ≡ [] }
-    ensures ends { (read : List ℕ) × (written : List ℕ) × Consumes (R.remaining reader.old) (R.remaining reader.new) read
-        × Appends (W.contents writer.old) (W.contents writer.new) written × Ends result read written }
-    ensures end { OnOk result (IsAtEnd (R.remaining reader.new)) }
-    ensures limit { (read : List ℕ) × Consumes (R.remaining reader.old) (R.remaining reader.new) read × (length read ≤ 16777217) }
-{
-    while input.read(reader)? {
-        let count = session.answer_piece(input.within_limit(), writer)?;
-        if input.is_past_limit() {
-            return Err(ScriptFault::TooLong);
-        }
-        input.drop_front(count);
-    }
-    session.finish(input.within_limit(), writer)
 }

@@ -2,5 +2,3 @@
 pub mod Lists
 -- what is written piece by piece
 pub mod Pieces
--- what lines are answered, and how a run ends
-pub mod Run

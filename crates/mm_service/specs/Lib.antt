@@ -8,5 +8,5 @@ pub mod Reply
 pub mod Text
 -- what a run of a service reads and writes
 pub mod Service
--- private: how a service is kept; no public clause cites these
+-- private: how forms are kept, and a law that `Answerer` asks for; no public clause cites these
 pub mod private

@@ -120,17 +120,3 @@ AnswersLine (kind.Request request) name old out malformed new = IsLawful old × 
 -- the same of the bytes of a line
 abbrev pub Answers : LockState → List ℕ → List ℕ → ℕ → LockState → Type 0
 Answers old line out malformed new = AnswersLine (line_of line).line (line_of line).name old out malformed new
-
--- the bytes that lines are answered, how many of them are malformed, and the manager after them: all lines where `whole` holds, and else perhaps only some at
--- the front
-abbrev pub Text : Bool → LockState → List (List ℕ) → List ℕ → ℕ → LockState → Type 0
-Text whole m [] out malformed last = (out ≡ []) × (malformed ≡ 0) × (last ≡ m)
-Text true m (line ∷ lines) out malformed last =
-    (next : LockState) × (reply : List ℕ) × (rest : List ℕ) × (one : ℕ) × (more : ℕ)
-    × Answers m line reply one next × Text true next lines rest more last
-    × (out ≡ reply ++ rest) × (malformed ≡ one + more)
-Text false m (line ∷ lines) out malformed last =
-    ((out ≡ []) × (malformed ≡ 0) × (last ≡ m))
-    ⊎ ((next : LockState) × (reply : List ℕ) × (rest : List ℕ) × (one : ℕ) × (more : ℕ)
-    × Answers m line reply one next × Text false next lines rest more last
-    × (out ≡ reply ++ rest) × (malformed ≡ one + more))

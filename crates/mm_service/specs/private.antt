@@ -1,2 +1,2 @@
 pub mod Forms
-pub mod Service
+pub mod Long

@@ -5,9 +5,9 @@
 //! - `calls`: makes a request, and writes its reply and what it caused for others.
 //! - `lists`: the replies that list something: names that are held, the wait-for graph, and what a request caused.
 //! - `reply`: how replies are printed.
-//! - `service`: a service as far as it is answered. `lock_service`: `LockService`, what callers open and run.
+//! - `lock_service`: `LockService`, what callers open and run.
 //!
-//! Lines are read, cut and written by `mm_lines`. The table of the words is that of `mm_requests`.
+//! Lines are read and cut, and replies written, by `serve` of `mm_lines`. The table of the words is that of `mm_requests`.
 #![tactic(auto)]
 
 mod calls;
@@ -16,7 +16,6 @@ mod line;
 mod lists;
 mod lock_service;
 mod reply;
-mod service;
 
 pub use lock_service::LockService;
 pub use mm_lines::Fault as ServiceFault;

@@ -11,7 +11,7 @@ use mm_requests::{KeyRequest, NameRequest};
 /// The longest request in bytes: `unlock`, a key of 16 bytes, the longest name, and two spaces.
 const MAX_REQUEST: usize = MAX_NAME + 24;
 
-/// The longest line that can be a request, in bytes: the longest request and a carriage return.
+/// The longest line that can be a request, in bytes, as `Limits` of mm_lines counts them: with a carriage return.
 pub const MAX_LINE: usize = MAX_REQUEST + 1;
 
 /// What a line is.

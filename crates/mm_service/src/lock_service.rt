@@ -1,27 +1,25 @@
 //! `LockService`: what callers open and run.
-ghost use Rattle.std.specs.Prelude.{◌≡◌, ◌↔◌, ◌<◌, ◌^◌, ℕ, List, [], Err, OnOk, IfOk};
+ghost use Rattle.std.specs.Prelude.{◌≡◌, ◌↔◌, ℕ, List, Err, OnOk, IfOk};
 ghost use Rattle.std.specs.Io.KnownBytes.{Appends, Consumes, IsAtEnd};
-ghost use Rattle.mm_lines.specs.Input.{unread};
 ghost use Rattle.mm_manager.specs.Opening.{opening_state, IsTransactionsOut, IsNamesOut, IsNameBytesOut};
 ghost use Rattle.mm_service.specs.Service.{Ends};
 
-use crate::line::MAX_LINE;
+use crate::calls::make;
+use crate::line::{Line, MAX_LINE, line_of};
 use crate::lists::Numbers;
-use crate::service::Service;
+use crate::reply::{MAX_NAMED, print_line};
 use crate::{ManagerConfig, OpenError, ServiceFault};
-use mm_lines::{Input, Limits};
+use mm_lines::{Answerer, Limits, Output, serve};
 use mm_manager::LockManager;
 use std::alloc::Global;
 use std::io::{Read, Write};
 use std::marker::Model;
 
-/// A run reads at most so many bytes: 2 to the 64, less two. That is no limit in practice: at 10 GB a second it lasts 58 years.
-const INPUT_LIMIT: usize = usize::MAX - 1;
-
 /// A lock manager that answers requests, one a line. A contract sees the manager.
 #[derive(Drop)]
 pub struct LockService {
-    service: Service,
+    manager: LockManager,
+    numbers: Numbers,
 }
 
 impl Model for LockService {
@@ -29,7 +27,7 @@ impl Model for LockService {
 
     ghost Value = { LockState };
 
-    ghost view = { λ it. it.service.manager };
+    ghost view = { λ it. it.manager };
 }
 
 impl LockService {
@@ -44,9 +42,7 @@ impl LockService {
     {
         let manager = LockManager::open(alloc, config)?;
         let numbers = Numbers::new(alloc)?;
-        Ok(LockService {
-            service: Service::new(manager, numbers),
-        })
+        Ok(LockService { manager, numbers })
     }
 
     /// Reads requests to the reader's end, writes one reply for each request and each malformed line, and a line for each wait that a
@@ -71,37 +67,57 @@ impl LockService {
             × Appends (W.contents writer.old) (W.contents writer.new) written × Ends self.old result read written self.new }
         ensures end { OnOk result (IsAtEnd (R.remaining reader.new)) }
     {
-        let mut input = Input::new(Limits {
-            input: INPUT_LIMIT,
-            line: MAX_LINE,
-        });
-        self.service.start();
-        answer_all(&mut input, &mut self.service, reader, writer)
+        serve(self, reader, writer)
     }
 }
 
-/// Reads and answers requests from the first byte on.
-fn answer_all<R: Read, W: Write>(
-    input: &mut Input,
-    service: &mut Service,
-    reader: &mut R,
-    writer: &mut W,
-) -> Result<u64, ServiceFault>
-    requires input { input.old ≡ unread input.old.limits }
-    requires line { input.old.limits.line ≡ MAX_LINE }
-    requires limit { input.old.limits.input ≡ INPUT_LIMIT }
-    requires malformed { service.old.malformed ≡ 0 }
-    requires output { service.old.output.items ≡ [] }
-    ensures ends { (read : List ℕ) × (written : List ℕ) × Consumes (R.remaining reader.old) (R.remaining reader.new) read
-        × Appends (W.contents writer.old) (W.contents writer.new) written × Ends service.old.manager result read written service.new.manager }
-    ensures end { OnOk result (IsAtEnd (R.remaining reader.new)) }
-{
-    while input.read(reader)? {
-        let count = service.answer_piece(input.within_limit(), writer)?;
-        if input.is_past_limit() {
-            return Err(ServiceFault::TooLong);
+impl Answerer for LockService {
+    ghost use Rattle.mm_service.specs.Service.{input_limit};
+    ghost use Rattle.mm_service.specs.Text.{Answers};
+    ghost use Rattle.mm_service.specs.private.Long.{answers_long};
+
+    ghost answers = { Answers };
+
+    ghost LIMITS = { record { input = input_limit; line = 1049 } };
+
+    /// A run reads at most 2 to the 64 bytes, less two. That is no limit in practice: at 10 GB a second it lasts 58 years.
+    const LIMITS: Limits = Limits {
+        input: usize::MAX - 1,
+        line: MAX_LINE,
+    };
+
+    ghost ROOM = { 1200 };
+
+    const ROOM: usize = MAX_NAMED;
+
+    fn answer<W: Write>(
+        &mut self,
+        line: &[u8],
+        output: &mut Output,
+        writer: &mut W,
+    ) -> Result<bool, ServiceFault> {
+        let named = line_of(line);
+        match named.line {
+            Line::Silent => Ok(false),
+            Line::Malformed => {
+                print_line(output, b"malformed");
+                Ok(true)
+            }
+            Line::Request(request) => {
+                self.manager.keeps_laws();
+                let outcome = make(
+                    &mut self.manager,
+                    &mut self.numbers,
+                    output,
+                    request,
+                    named.name,
+                    writer,
+                );
+                self.manager.keeps_laws();
+                outcome.and(Ok(false))
+            }
         }
-        input.drop_front(count);
     }
-    service.finish(input.within_limit(), writer)
+
+    ghost long = { answers_long };
 }

@@ -5,8 +5,9 @@ use Rattle.std.proofs.lemmas.Grind.{common_steps}
 use Rattle.std.proofs.lemmas.List.Splits.{slice_split_at}
 use Rattle.std.proofs.lemmas.List.Sums.{split_at_first, fails_before_first, passes_at_first, prefix_len-le-length}
 use Rattle.mm_lines.specs.Cut.{is}
-use Rattle.mm_lines.specs.Answered.{IsText}
 use Rattle.mm_lines.specs.Lines.{parts_of, lines_of_parts, whole_parts, cut, IsOpen}
+use Rattle.mm_lines.specs.Text.{AreAlike, Text}
+use Rattle.mm_lines.proofs.Lemmas.Text.{text_long}
 
 -- there is at least one part
 pub record HasFirstPart (bytes : List ℕ) : Type 0 where
@@ -89,23 +90,24 @@ cut-is true bytes = refl
 cut-is false bytes = refl
 
 -- one line of more than `longest` bytes is as good as another
-module _ {S : Type 0} {answers : S → List ℕ → List ℕ → ℕ → S → Type 0} {longest : ℕ} {text : Bool → S → List (List ℕ) → List ℕ → ℕ → S → Type 0} (rules : IsText answers longest text) where
+module _ {S : Type 0} {answers : S → List ℕ → List ℕ → ℕ → S → Type 0} {longest : ℕ} (alike : AreAlike answers longest) where
   long_part : (whole all : Bool) (s t : S) (a b : List ℕ) (ps : List (List ℕ)) (out : List ℕ) (m : ℕ) → longest < length a → longest < length b
-      → text whole s (cut_parts all (a ∷ ps)) out m t → text whole s (cut_parts all (b ∷ ps)) out m t
+      → Text answers whole s (cut_parts all (a ∷ ps)) out m t → Text answers whole s (cut_parts all (b ∷ ps)) out m t
   unfolding cut_parts
   long_part whole all s t [] b ps out m long_a long_b h = absurd (omega arith)
   long_part whole all s t (x ∷ a) [] ps out m long_a long_b h = absurd (omega arith)
-  long_part whole true s t (x ∷ a) (y ∷ b) ps out m long_a long_b h = rules.long whole s t (x ∷ a) (y ∷ b) (lines_of_parts ps) out m long_a long_b h
+  long_part whole true s t (x ∷ a) (y ∷ b) ps out m long_a long_b h = text_long alike whole s t (x ∷ a) (y ∷ b) (lines_of_parts ps) out m long_a long_b h
   long_part whole false s t (x ∷ a) (y ∷ b) [] out m long_a long_b h = h
-  long_part whole false s t (x ∷ a) (y ∷ b) (p ∷ ps) out m long_a long_b h = rules.long whole s t (x ∷ a) (y ∷ b) (whole_parts (p ∷ ps)) out m long_a long_b h
+  long_part whole false s t (x ∷ a) (y ∷ b) (p ∷ ps) out m long_a long_b h = text_long alike whole s t (x ∷ a) (y ∷ b) (whole_parts (p ∷ ps)) out m long_a long_b h
 
   -- an open line that is too long may lose bytes
-  pub long_text : (whole all : Bool) (s t : S) (a b more out : List ℕ) (m : ℕ) → IsOpen (a ++ b) → longest < length a → text whole s (cut all (a ++ more)) out m t → text whole s (cut all ((a ++ b) ++ more)) out m t
+  pub long_text : (whole all : Bool) (s t : S) (a b more out : List ℕ) (m : ℕ) → IsOpen (a ++ b) → longest < length a
+      → Text answers whole s (cut all (a ++ more)) out m t → Text answers whole s (cut all ((a ++ b) ++ more)) out m t
   long_text whole all s t a b more out m h long is =
       let rest = first_part more in
       let short_cut : cut all (a ++ more) ≡ cut_parts all ((a ++ rest.first) ∷ rest.others) = cut-is all (a ++ more) ∙ ap (cut_parts all) (open_front a more (open_part a b h) rest.first rest.others rest.are) in
       let long_cut : cut all ((a ++ b) ++ more) ≡ cut_parts all (((a ++ b) ++ rest.first) ∷ rest.others) = cut-is all ((a ++ b) ++ more) ∙ ap (cut_parts all) (open_front (a ++ b) more h rest.first rest.others rest.are) in
-      let P : List (List ℕ) → Type 0 = λ ls. text whole s ls out m t in
+      let P : List (List ℕ) → Type 0 = λ ls. Text answers whole s ls out m t in
       subst P (sym long_cut)
       (long_part whole all s t (a ++ rest.first) ((a ++ b) ++ rest.first) rest.others out m (omega (arith, length-append a rest.first)) (omega (arith, length-append a b, length-append (a ++ b) rest.first))
       (subst P short_cut is))

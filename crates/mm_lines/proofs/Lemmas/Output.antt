@@ -1,7 +1,7 @@
 -- What is written, kept or lost.
-use Rattle.std.proofs.Common.{◌∙◌, sym, ap, refl, ℕ, List, [], ◌++◌, take, drop, Option, append_assoc, take-append-drop}
-use Rattle.std.proofs.KnownBytes.{Appends-trans, Appends-nil, Appends-kept}
-use Rattle.std.specs.Io.KnownBytes.{Appends, Keeps}
+use Rattle.std.proofs.Common.{◌≡◌, ◌∙◌, sym, ap, refl, subst, ℕ, List, [], ◌++◌, take, drop, Option, append_assoc, take-append-drop}
+use Rattle.std.proofs.KnownBytes.{Appends-trans, Appends-nil}
+use Rattle.std.specs.Io.KnownBytes.{Appends}
 use Rattle.mm_lines.specs.Output.{Writes}
 
 -- nothing is written, and all is left
@@ -24,10 +24,15 @@ writes_then before mid after bytes kept lost first second = record {
   whole = first.whole ∙ (ap (λ l. first.written ++ l) second.whole ∙ sym (append_assoc first.written second.written lost));
 }
 
+-- what is lost of the one was kept for the other
+pub writes_on : {before mid after : Option (List ℕ)} {bytes kept held lost : List ℕ} → Writes before mid bytes kept → kept ≡ held → Writes mid after held lost → Writes before after bytes lost
+writes_on {before = before} {mid = mid} {bytes = bytes} first same second = let P : List ℕ → Type 0 = λ l. Writes before mid bytes l in writes_then _ _ _ _ _ _ (subst P same first) second
+
 -- a text is added to what is kept
 pub writes_added : (before after : Option (List ℕ)) (bytes kept text : List ℕ) → Writes before after bytes kept → Writes before after (bytes ++ text) (kept ++ text)
 writes_added before after bytes kept text w = record { written = w.written; appended = w.appended; whole = ap (λ l. l ++ text) w.whole ∙ append_assoc w.written kept text }
 
--- a flush changes nothing
-pub writes_flushed : (before mid after : Option (List ℕ)) (bytes lost : List ℕ) → Writes before mid bytes lost → Keeps mid after → Writes before after bytes lost
-writes_flushed before mid after bytes lost w kept = record { written = w.written; appended = Appends-kept before mid after w.written w.appended kept; whole = w.whole }
+-- a reply is added to what was kept, and that is written, kept or lost
+pub writes_reply : {before mid after : Option (List ℕ)} {bytes kept held : List ℕ} (reply : List ℕ) {lost : List ℕ} → Writes before mid bytes kept → kept ≡ held → Writes mid after (held ++ reply) lost
+    → Writes before after (bytes ++ reply) lost
+writes_reply reply first same second = writes_on (writes_added _ _ _ _ reply first) (ap (λ l. l ++ reply) same) second

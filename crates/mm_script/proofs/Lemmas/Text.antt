@@ -1,7 +1,12 @@
 -- Each line has an answer where no table stands or its laws hold, and its answer keeps that, so each text has replies.
-use Rattle.std.proofs.Common.{refl, sym, subst, Bool, true, false, MatchBool, ℕ, ◌+◌, ◌≤◌, ◌^◌, ◌⊎◌, inl, inr, List, [], ◌∷◌, ◌++◌, Option, Some, None, Result, Ok, Err, arith}
+use Rattle.std.proofs.Common.{◌≡◌, ◌∙◌, ap, refl, sym, subst, length, append-nil, append_assoc, length-append, Bool, true, false, MatchBool, ℕ, ◌+◌, ◌≤◌, ◌^◌, ◌⊎◌, inl, inr, List, [], ◌∷◌, ◌++◌, Option, Some, None, Result, Ok, Err, arith}
 use Rattle.std.proofs.lemmas.Bool.{cases_lt}
 use Rattle.std.specs.Result.{result_ok}
+use Rattle.mm_lines.specs.declared.fault.Fault.{Fault}
+use Rattle.mm_lines.specs.declared.fault.Fault.TheVariants.{Read, Write, TooLong}
+use Rattle.mm_lines.specs.Lines.{lines_of}
+use Rattle.mm_lines.specs.Text.{Text}
+use Rattle.mm_lines.specs.Text as texts
 use Rattle.mm_table.specs.config.Config.{Config}
 use Rattle.mm_table.specs.refusal.Refusal.{Refusal}
 use Rattle.mm_table.specs.refusal.Refusal.TheVariants.{BadConfig}
@@ -22,8 +27,13 @@ use Rattle.mm_script.specs.declared.reply.Reply.{Reply}
 use Rattle.mm_script.specs.declared.reply.Reply.TheVariants as replies_are
 use Rattle.mm_script.specs.Reply.{reply_line}
 use Rattle.mm_script.specs.Line.{line_of}
-use Rattle.mm_script.specs.Text.{Answers, Makes, OpensBy, Replies, RepliesWithNone, RepliesWithTable, Text, most_processes, reply_to}
-use Rattle.mm_script.specs.private.Session.{IsLawful}
+use Rattle.mm_script.specs.Script.{Ends, input_limit}
+use Rattle.mm_script.specs.Text.{Answers, AnswersLine, Makes, OpensBy, Replies, RepliesWithNone, RepliesWithTable, most_processes, reply_to}
+
+-- no table stands, or its laws hold
+abbrev IsLawful : Option TableState → Type 0
+IsLawful None = Unit {0}
+IsLawful (Some state) = Laws state
 
 both : {A B : Type 0} → A ⊎ (¬ A) → B ⊎ (¬ B) → (A × B) ⊎ (¬ (A × B))
 both (inl a) (inl b) = inl (a, b)
@@ -93,7 +103,7 @@ replies (calls.State k) None lawful = (replies_are.NoTable, None, (refl, refl))
 replies (calls.Owner r) None lawful = (replies_are.NoTable, None, (refl, refl))
 replies calls.Totals None lawful = (replies_are.NoTable, None, (refl, refl))
 
-answers : (line : Line) (table : Option TableState) → IsLawful table → (reply : List ℕ) × (one : ℕ) × (next : Option TableState) × Answers line table reply one next
+answers : (line : Line) (table : Option TableState) → IsLawful table → (reply : List ℕ) × (one : ℕ) × (next : Option TableState) × AnswersLine line table reply one next
 answers kind.Silent table lawful = ([], 0, table, (refl, refl, refl))
 answers kind.Malformed table lawful = (reply_line replies_are.Malformed, 1, table, (refl, refl, refl))
 answers (kind.Call call) table lawful = let r = replies call table lawful in (reply_line r.0, 0, r.1, (r.0, r.2, refl, refl))
@@ -143,14 +153,45 @@ call_lawful : (call : Call) (old new : Option TableState) (reply : Reply) → Re
 call_lawful call None new reply r lawful = with_none_lawful call reply new r
 call_lawful call (Some s) new reply r laws = with_table_lawful call s reply new laws r
 
-pub answers_keep : (line : Line) (old new : Option TableState) (out : List ℕ) (one : ℕ) → Answers line old out one new → IsLawful old → IsLawful new
+answers_keep : (line : Line) (old new : Option TableState) (out : List ℕ) (one : ℕ) → AnswersLine line old out one new → IsLawful old → IsLawful new
 answers_keep kind.Silent old new out one a lawful = subst IsLawful (sym a.2) lawful
 answers_keep kind.Malformed old new out one a lawful = subst IsLawful (sym a.2) lawful
 answers_keep (kind.Call call) old new out one (reply, r, said, none) lawful = call_lawful call old new reply r lawful
 
-pub text_total : (table : Option TableState) → IsLawful table → (lines : List (List ℕ)) → (out : List ℕ) × (malformed : ℕ) × Text table lines out malformed
-text_total table lawful [] = ([], 0, (refl, refl))
+text_total : (table : Option TableState) → IsLawful table → (lines : List (List ℕ))
+    → (out : List ℕ) × (malformed : ℕ) × (last : Option TableState) × Text Answers true table lines out malformed last
+text_total table lawful [] = ([], 0, table, (refl, refl, refl))
 text_total table lawful (line ∷ lines) =
     let first = answers (line_of line) table lawful in
     let rest = text_total first.2 (answers_keep (line_of line) table first.2 first.0 first.1 first.3 lawful) lines in
-    (first.0 ++ rest.0, first.1 + rest.1, (first.2, first.0, rest.0, first.1, rest.1, first.3, rest.2, refl, refl))
+    (first.0 ++ rest.0, first.1 + rest.1, rest.2, (first.2, first.0, rest.0, first.1, rest.1, first.3, rest.3, refl, refl))
+
+-- where some lines at the front are answered, all can be
+text_whole : (table last : Option TableState) → IsLawful table → (lines : List (List ℕ)) (out : List ℕ) (malformed : ℕ) → Text Answers false table lines out malformed last
+    → (more : List ℕ) × (count : ℕ) × (after : Option TableState) × Text Answers true table lines (out ++ more) count after
+text_whole table last lawful [] out malformed text = ([], malformed, last, (append-nil out ∙ text.0, text.1, text.2))
+text_whole table last lawful (line ∷ lines) out malformed (inl none) =
+    let all = text_total table lawful (line ∷ lines) in
+    let P : List ℕ → Type 0 = λ o. Text Answers true table (line ∷ lines) (o ++ all.0) all.1 all.2 in
+    (all.0, all.1, all.2, subst P (sym none.0) all.3)
+text_whole table last lawful (line ∷ lines) out malformed (inr (next, reply, rest, one, more, answer, text, both, count)) =
+    let others = text_whole next last (answers_keep (line_of line) table next reply one answer lawful) lines rest more text in
+    (others.0, one + others.1, others.2, (next, reply, rest ++ others.0, one, others.1, answer, others.3, ap (λ o. o ++ others.0) both ∙ append_assoc reply rest others.0, refl))
+
+-- ---- how a script ends
+
+pub script_ends : (result : Result ℕ Fault) (read written : List ℕ) (last : Option TableState) → texts.Ends Answers input_limit None result read written last → Ends result read written
+script_ends (Err Write) read written last e =
+    let lost = e.1.0 in
+    let all = text_whole None last tt (lines_of read) (written ++ lost) e.1.1.0 e.1.1.1 in
+    let P : List ℕ → Type 0 = λ o. Text Answers true None (lines_of read) o all.1 all.2 in
+    (last, e, λ failed. (lost ++ all.0, (all.1, all.2, subst P (append_assoc written lost all.0) all.3)))
+script_ends (Ok malformed) read written last e = (last, e, λ failed. absurd (cc))
+script_ends (Err Read) read written last e = (last, e, λ failed. absurd (cc))
+script_ends (Err TooLong) read written last e = (last, e, λ failed. absurd (cc))
+
+pub script_bounded : (table : Option TableState) (result : Result ℕ Fault) (read written : List ℕ) (last : Option TableState) → texts.Ends Answers input_limit table result read written last → length read ≤ 16777217
+script_bounded table (Ok malformed) read written last e = omega (arith, e.0)
+script_bounded table (Err Read) read written last e = omega (arith, e.0)
+script_bounded table (Err Write) read written last e = omega (arith, e.0)
+script_bounded table (Err TooLong) read written last e = omega (arith, ap length e.2, e.3, length-append e.0 (e.1 ∷ []))

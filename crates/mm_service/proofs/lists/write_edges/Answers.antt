@@ -5,7 +5,7 @@ use Rattle.mm_manager.specs.declared.reply.Wait.{Wait}
 use Rattle.mm_service.specs.Reply.{line_text, edge_text, name_at}
 use Rattle.mm_service.specs.Text.{edge_lines}
 use Rattle.mm_service.proofs.Lemmas.Pieces.{writes_kept, writes_piece}
-use Rattle.mm_service.proofs.Lemmas.Run.{on_ok-at_err}
+use Rattle.std.proofs.lemmas.Result.{IfOk-from_err}
 use Rattle.mm_service.proofs.lists.write_edges.Goals as goal
 
 pub loop-wait-preserved : goal.loop-wait-preserved
@@ -26,4 +26,4 @@ pub returns-in_err-make_room-clause-written : goal.returns-in_err-make_room-clau
 returns-in_err-make_room-clause-written g c =
     let room = c.in_err-make_room.ensures.written in
     let rest = edge_lines c.args.manager.now c.loop-wait.wait-iterator in
-    (room.0 ++ rest, writes_kept _ _ _ _ c.loop-wait.output.items rest room.0 c.loop-wait.invariant room.1, on_ok-at_err _ _ c.from_residual.ensures.0)
+    (room.0 ++ rest, writes_kept _ _ _ _ c.loop-wait.output.items rest room.0 c.loop-wait.invariant room.1, IfOk-from_err _ _ c.from_residual.ensures.0)

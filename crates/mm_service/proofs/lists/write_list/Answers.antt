@@ -3,13 +3,13 @@ use Rattle.mm_lines.specs.Output.{Writes}
 use Rattle.mm_lines.proofs.Lemmas.Output.{writes_then}
 use Rattle.mm_service.specs.Text.{names_text}
 use Rattle.mm_service.proofs.Lemmas.Pieces.{writes_line}
-use Rattle.mm_service.proofs.Lemmas.Run.{on_ok-at_err}
+use Rattle.std.proofs.lemmas.Result.{IfOk-from_err}
 use Rattle.mm_service.proofs.lists.write_list.Goals as goal
 
 pub returns-in_err-write_names-clause-written : goal.returns-in_err-write_names-clause-written
 returns-in_err-write_names-clause-written g c =
     let names = c.in_err-write_names.ensures.written in
-    (_, writes_line _ _ c.args.output.now.items (codes "holds") _ c.print_text.new.output.items names.0 c.print_text.ensures names.1, on_ok-at_err _ _ c.from_residual.ensures.0)
+    (_, writes_line _ _ c.args.output.now.items (codes "holds") _ c.print_text.new.output.items names.0 c.print_text.ensures names.1, IfOk-from_err _ _ c.from_residual.ensures.0)
 
 pub returns-in_err-make_room-clause-written : goal.returns-in_err-make_room-clause-written
 returns-in_err-make_room-clause-written g c =
@@ -17,7 +17,7 @@ returns-in_err-make_room-clause-written g c =
     let room = c.in_err-make_room.ensures.written in
     let P = λ (l : List ℕ). Writes (g.W.Write.contents c.args.writer.now) (g.W.Write.contents c.write_names.new.writer) (c.print_text.new.output.items ++ names_text c.args.manager.now c.args.numbers.now.items.items) l in
     let all = writes_then _ _ _ _ _ _ (subst P names.2 names.1) room.1 in
-    (_, writes_line _ _ c.args.output.now.items (codes "holds") _ c.print_text.new.output.items room.0 c.print_text.ensures all, on_ok-at_err _ _ c.from_residual-in_err-make_room.ensures.0)
+    (_, writes_line _ _ c.args.output.now.items (codes "holds") _ c.print_text.new.output.items room.0 c.print_text.ensures all, IfOk-from_err _ _ c.from_residual-in_err-make_room.ensures.0)
 
 pub returns-clause-written : goal.returns-clause-written
 returns-clause-written g c =

@@ -3,7 +3,7 @@ use Rattle.mm_lines.specs.Output.{Writes}
 use Rattle.mm_settled.specs.declared.reply.Grant.{Grant}
 use Rattle.mm_service.specs.Text.{told_line, told_lines}
 use Rattle.mm_service.proofs.Lemmas.Pieces.{writes_kept, writes_next, writes_whole}
-use Rattle.mm_service.proofs.Lemmas.Run.{on_ok-at_err}
+use Rattle.std.proofs.lemmas.Result.{IfOk-from_err}
 use Rattle.mm_service.proofs.lists.write_told.Goals as goal
 
 pub loop-grant-preserved : goal.loop-grant-preserved
@@ -21,7 +21,7 @@ returns-in_err-make_room-clause-written g c =
     let rest = told_lines m (drop c.loop-grant.grant-index items) in
     let all = ap (told_lines m) c.granted-grant-items.ensures in
     let P = λ (l : List ℕ). Writes (g.W.Write.contents c.args.writer.now) (g.W.Write.contents c.make_room.new.writer) (c.args.output.now.items ++ l) (room.0 ++ rest) in
-    (room.0 ++ rest, subst P all (writes_kept _ _ _ _ c.loop-grant.output.items rest room.0 c.loop-grant.invariant room.1), on_ok-at_err _ _ c.from_residual.ensures.0)
+    (room.0 ++ rest, subst P all (writes_kept _ _ _ _ c.loop-grant.output.items rest room.0 c.loop-grant.invariant room.1), IfOk-from_err _ _ c.from_residual.ensures.0)
 
 pub returns-clause-written : goal.returns-clause-written
 returns-clause-written g c =

@@ -1,8 +1,8 @@
-use Rattle.std.proofs.Common.{◌≤◌, ◌-◌, length}
+use Rattle.std.proofs.Common.{◌≡◌, length}
 use Rattle.mm_explain.proofs.session.Session.explain_lines.Given as goal
 
-abbrev pub invariant-loop-rest : goal.invariant-loop-rest
-invariant-loop-rest l = l.count ≤ length l.bytes
+abbrev pub invariant-loop-input : goal.invariant-loop-input
+invariant-loop-input l = l.input ≡ record l.fn.input { held = l.input.held }
 
-abbrev pub decreases-loop-rest : goal.decreases-loop-rest
-decreases-loop-rest l = length l.bytes - l.count
+abbrev pub decreases-loop-input : goal.decreases-loop-input
+decreases-loop-input l = length l.input.held
