@@ -1,5 +1,5 @@
 -- Each line has an answer where no table stands or its laws hold, and its answer keeps that, so each text has replies.
-use Rattle.std.proofs.Common.{◌≡◌, ◌∙◌, ap, refl, sym, subst, length, append-nil, append_assoc, length-append, Bool, true, false, MatchBool, ℕ, ◌+◌, ◌≤◌, ◌^◌, ◌⊎◌, inl, inr, List, [], ◌∷◌, ◌++◌, Option, Some, None, Result, Ok, Err, arith}
+use Rattle.std.proofs.Common.{◌∙◌, ap, refl, sym, subst, length, append-nil, append_assoc, length-append, Bool, true, false, MatchBool, ℕ, ◌+◌, ◌≤◌, ◌^◌, ◌⊎◌, inl, inr, List, [], ◌∷◌, ◌++◌, Option, Some, None, Result, Ok, Err, arith}
 use Rattle.std.proofs.lemmas.Bool.{cases_lt}
 use Rattle.std.specs.Result.{result_ok}
 use Rattle.mm_lines.specs.declared.fault.Fault.{Fault}
