@@ -2,7 +2,7 @@
 
 use crate::names::{MOST, chosen, names_of};
 use crate::shared::{Done, Shared};
-use mm_blocking::LockError;
+use mm_locks::LockError;
 use rand_core::utils::NextWord;
 use rand_pcg::Lcg64Xsh32;
 use std::sync::Wait;

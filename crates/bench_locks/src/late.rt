@@ -1,7 +1,7 @@
 //! Chains of transactions that wait with a time.
 
 use crate::threads::nanoseconds_since;
-use mm_blocking::{LockError, Locks, ManagerConfig, Transaction};
+use mm_locks::{LockError, Locks, ManagerConfig, Transaction};
 use std::alloc::{AllocError, Global};
 use std::sync::atomic::AtomicU64;
 use std::sync::atomic::Ordering::SeqCst;

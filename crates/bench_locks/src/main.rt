@@ -31,7 +31,7 @@ mod threads;
 mod transfers;
 
 use late::{Chain, late};
-use mm_blocking::{Locks, ManagerConfig};
+use mm_locks::{Locks, ManagerConfig};
 use names::{Name, all_names};
 use shared::{Done, Way};
 use std::alloc::{AllocError, Global};

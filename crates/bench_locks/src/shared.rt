@@ -1,7 +1,7 @@
 //! What all threads share, and what each has done.
 
 use crate::names::Name;
-use mm_blocking::Locks;
+use mm_locks::Locks;
 use std::sync::Barrier;
 use std::sync::atomic::{AtomicBool, AtomicU64};
 

@@ -4,7 +4,7 @@ use crate::crowd::visit_by_chance;
 use crate::names::Name;
 use crate::shared::{Done, Shared, Way};
 use crate::transfers::transfer_at_last;
-use mm_blocking::{LockError, Locks};
+use mm_locks::{LockError, Locks};
 use rand_pcg::Lcg64Xsh32;
 use std::alloc::{AllocError, Global};
 use std::sync::atomic::Ordering::SeqCst;
@@ -57,7 +57,11 @@ fn sleep_beside<R: Wait + Clock>(
 /// A transaction that waits until the one who owns the name is done.
 fn sleep<R: Wait>(rt: &R, locks: &Locks) -> Done {
     let mut done = Done::NOTHING;
-    match locks.run(rt, 1, |transaction| transaction.lock(BED)) {
+    let answer = locks.run(rt, 1, |transaction| -> Result<(), LockError> {
+        transaction.lock(BED)?;
+        Ok(())
+    });
+    match answer {
         Ok(()) => done.commits = 1,
         Err(_) => done.aborts = 1,
     }

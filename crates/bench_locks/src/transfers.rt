@@ -2,7 +2,7 @@
 
 use crate::names::{chosen, names_of};
 use crate::shared::{Done, Shared, Way};
-use mm_blocking::{LockError, Locks};
+use mm_locks::{LockError, Locks};
 use rand_pcg::Lcg64Xsh32;
 use std::sync::Wait;
 
@@ -27,12 +27,16 @@ fn all_at_once<R: Wait>(rt: &R, locks: &Locks, names: &[&[u8]]) -> Result<(), Lo
 
 /// The same by the call that begins it.
 fn from_the_start<R: Wait>(rt: &R, locks: &Locks, names: &[&[u8]]) -> Result<(), LockError> {
-    locks.begin_with(rt, names)?.commit()
+    let (transaction, _granted) = locks.begin_with(rt, names)?;
+    transaction.commit()
 }
 
 /// The same by `run`.
 fn run<R: Wait>(rt: &R, locks: &Locks, names: &[&[u8]]) -> Result<(), LockError> {
-    locks.run(rt, u32::MAX, |transaction| transaction.lock_all(names))
+    locks.run(rt, u32::MAX, |transaction| {
+        transaction.lock_all(names)?;
+        Ok(())
+    })
 }
 
 /// One transaction, be it committed or not.

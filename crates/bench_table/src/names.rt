@@ -29,7 +29,7 @@ fn fill(table: &mut Names, names: u32, length: usize) -> bool
     let mut bytes = [b'a'; 64];
     for number in 0..names {
         write_name(&mut bytes, number);
-        if table.intern(&bytes[64 - length..]).is_err() {
+        if table.enter(&bytes[64 - length..]).is_err() {
             return false;
         }
     }
@@ -63,7 +63,7 @@ fn intern(table: &mut Names, mask: u32, length: usize, count: u64) -> u64
     for _ in 0..count {
         number = next_number(number);
         write_name(&mut bytes, number & mask);
-        if table.intern(&bytes[64 - length..]).is_ok() {
+        if table.enter(&bytes[64 - length..]).is_ok() {
             interned = interned.wrapping_add(1);
         }
     }
@@ -80,7 +80,7 @@ fn renew(table: &mut Names, mask: u32, length: usize, count: u64) -> u64
     for _ in 0..count {
         number = next_number(number);
         write_name(&mut bytes, number & mask);
-        if table.forget(number & mask) && table.intern(&bytes[64 - length..]).is_ok() {
+        if table.forget(number & mask) && table.enter(&bytes[64 - length..]).is_ok() {
             renewed = renewed.wrapping_add(1);
         }
     }
@@ -114,7 +114,7 @@ fn fill_and_work(table: &mut Names, work: Work, names: u32, length: usize, count
         Work::Intern => intern(table, mask, length, count),
         Work::Renew => renew(table, mask, length, count),
     };
-    u64::from(table.len()).wrapping_add(expected)
+    u64::from(names).wrapping_add(expected)
 }
 
 /// Opens a table of so many names, and does so. 0 where it cannot be opened.

@@ -2,7 +2,7 @@
 //! close a cycle of waits: the one that is told of the deadlock is rolled back, and made again. The sum of all accounts stays the same.
 #![tactic(auto)]
 
-use mm_blocking::{LockError, Locks, ManagerConfig};
+use mm_locks::{LockError, Locks, ManagerConfig};
 use std::alloc::Global;
 use std::io::Eprint;
 use std::sync::Wait;

@@ -3,15 +3,15 @@ use Rattle.std.proofs.Common.{◌≡◌, ◌≤◌, ℕ, true, false, List, [], 
 use Rattle.std.specs.List.{filter_map, range_with_len}
 use Rattle.std.proofs.lemmas.Bool.{cases_Bool}
 use Rattle.mm_arena.specs.declared.key.Key.{Key}
-use Rattle.mm_list_lemmas.specs.Members.{Among}
-use Rattle.mm_list_lemmas.proofs.Lemmas.Filter.{filter_keeps}
-use Rattle.mm_list_lemmas.proofs.Lemmas.Range.{among_range, length_filter_range}
+use Rattle.mm_lists.specs.Members.{Among}
+use Rattle.mm_lists.proofs.Lemmas.Filter.{filter_keeps}
+use Rattle.mm_lists.proofs.Lemmas.Range.{among_range, length_filter_range}
 use Rattle.mm_rules.specs.TableState.{TableState, is_waiting}
 use Rattle.mm_rules.specs.Event.{tenant_of}
 use Rattle.mm_rules.specs.Laws.{Laws}
 use Rattle.mm_rules.proofs.States.Lookups.{waiting_has_holder, holder_within}
-use Rattle.mm_settle.specs.Touched.{is_changed, changed_processes}
-use Rattle.mm_settle.proofs.Lemmas.Told.{unchanged_is}
+use Rattle.mm_settle_lemmas.specs.Touched.{is_changed, changed_processes}
+use Rattle.mm_settle_lemmas.proofs.Lemmas.Told.{unchanged_is}
 use Rattle.example_calls.specs.Wake.{active_key, active_keys}
 
 pub filter_map_keeps : {X Y : Type 0} (h : X → Option Y) (xs : List X) (x : X) (y : Y) → Among x xs → h x ≡ Some y → Among y (filter_map h xs)

@@ -1,6 +1,6 @@
 //! Names for as long as somebody uses them.
 ghost use Rattle.std.specs.Prelude.{◌≡◌, ◌≢◌, ◌-◌, ◌<◌, ◌↔◌, ℕ, Some, length, slice_index, IfOk, OnErr, IsSome};
-ghost use Rattle.mm_names.specs.Names.{name_of, nameless};
+ghost use Rattle.mm_names.specs.Names.{Interns, name_of, nameless};
 
 use mm_names::{Names, NamesConfig, NamesError, OpenError};
 use std::alloc::Global;
@@ -29,13 +29,13 @@ impl NamesInUse {
 
     /// One more uses this name, by the number that it gets or has.
     ///
-    /// Refused as [`Names::intern`] is; then nothing changes.
+    /// Refused as [`Names::enter`] is; then nothing changes.
     pub fn take(&mut self, name: &[u8]) -> Result<u32, NamesError>
         ensures named { IfOk result (λ n. name_of self.new.names n ≡ Some name.now) }
         ensures used { IfOk result (λ n. 0 < slice_index self.new.users.items n) }
         ensures refused { OnErr result (self.new ≡ self.old) }
     {
-        let number = self.names.intern(name)?;
+        let number = number_of(&mut self.names, name)?;
         let users = &mut self.users[number as usize];
         *users = users.saturating_add(1);
         Ok(number)
@@ -53,4 +53,12 @@ impl NamesInUse {
             self.names.forget(number);
         }
     }
+}
+
+/// Returns the number of a name, which it has or gets.
+fn number_of(names: &mut Names, name: &[u8]) -> Result<u32, NamesError>
+    ensures interned { IfOk result (λ n. Interns names.old name.now n names.new) }
+    ensures refused { OnErr result (names.new ≡ names.old) }
+{
+    Ok(names.enter(name)?.number)
 }

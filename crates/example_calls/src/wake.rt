@@ -1,9 +1,9 @@
 //! How a lock manager goes on from an abort: it wakes those that wait no longer.
 ghost use Rattle.std.specs.Prelude.{◌≡◌, ◌≤◌, ℕ, Some, IsTrue, length, vec_capacity};
-ghost use Rattle.mm_list_lemmas.specs.Members.{Among};
+ghost use Rattle.mm_lists.specs.Members.{Among};
 ghost use Rattle.mm_rules.specs.TableState.{is_waiting};
 ghost use Rattle.mm_rules.specs.Event.{Step, Abort};
-ghost use Rattle.mm_settle.specs.Touched.{changed_processes};
+ghost use Rattle.mm_settle_lemmas.specs.Touched.{changed_processes};
 ghost use Rattle.example_calls.specs.Wake.{active_key, active_keys};
 
 use mm_table::{Key, Mode, Refusal, Table};

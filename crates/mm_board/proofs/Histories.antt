@@ -4,8 +4,8 @@ use Rattle.std.proofs.lemmas.Bool.{cases_eq, cases_lt}
 use Rattle.std.proofs.lemmas.List.{length-map, get_or_past}
 use lib.ListN.{get_or-append, get_or-map}
 use lib.Seq.{get_or-append_seam}
-use Rattle.mm_list_lemmas.specs.Members.{Among}
-use Rattle.mm_list_lemmas.proofs.Lemmas.Among.{among_left}
+use Rattle.mm_lists.specs.Members.{Among}
+use Rattle.mm_lists.proofs.Lemmas.Among.{among_left}
 use Rattle.mm_label.specs.Label.{Label, label_le, opening_label}
 use Rattle.mm_board.specs.declared.views.Published.{Published}
 use Rattle.mm_board.specs.Views.{label_at, last_label, history, current_label, current_labels, with_label, NoneFalls}

@@ -4,7 +4,7 @@ use mathlib.Core.Option.{some}
 use lib.ListN.{get_elem?}
 use Rattle.atomic_table.specs.Table.{State}
 use Rattle.mm_label.specs.Label.{Label, label_le, label_of, opening_label}
-use Rattle.mm_list_lemmas.specs.Members.{Among}
+use Rattle.mm_lists.specs.Members.{Among}
 use Rattle.mm_board.specs.declared.views.Published.{Published}
 use Rattle.mm_board.specs.declared.views.View.{View}
 use Rattle.mm_board.specs.declared.views.View.TheVariants.{Publishes, Reads, Spent}

@@ -2,12 +2,12 @@
 ghost use Rattle.std.specs.Prelude.{◌≡◌, ◌+◌, ◌<◌, false, true, IfErr};
 ghost use Rattle.mm_clients.specs.End.{is_aborted, aborts_of, ends_well};
 
-use crate::earlier::{ClientEnds, Earlier};
+use crate::earlier::{ClientEnds, EarlierEnds};
 use crate::end::End;
 use crate::gate::Gate;
 use crate::steps::Steps;
 use mm_table::{Acquired, Detected, Key, Refusal};
-use mm_workload::{Coming, WorkStep};
+use mm_workload::{TransactionStream, WorkStep};
 use std::marker::Model;
 use std::thread;
 
@@ -18,9 +18,9 @@ use std::thread;
 /// needs one and all are used, it ends `Spent` and calls the table no more: what it owns then stays owned. A contract sees it as its table.
 #[derive(Drop)]
 pub struct Client<S: Steps + Drop, G: Gate + Drop> {
-    steps: S,
+    table: S,
     gate: G,
-    work: Vec<WorkStep>,
+    steps: Vec<WorkStep>,
     turns: u64,
 }
 
@@ -34,18 +34,18 @@ enum Next {
 impl<S: Steps + Drop, G: Gate + Drop> Model for Client<S, G> {
     ghost Value = { S };
 
-    ghost view = { λ client. client.steps };
+    ghost view = { λ client. client.table };
 }
 
 impl<S: Steps + Drop, G: Gate + Drop> Client<S, G> {
     /// A client on this table, with these steps and so many turns. Constant time.
-    pub fn new(steps: S, gate: G, work: Vec<WorkStep>, turns: u64) -> Client<S, G>
-        ensures { result ≡ steps }
+    pub fn new(table: S, gate: G, steps: Vec<WorkStep>, turns: u64) -> Client<S, G>
+        ensures { result ≡ table }
     {
         Client {
-            steps,
+            table,
             gate,
-            work,
+            steps,
             turns,
         }
     }
@@ -55,12 +55,12 @@ impl<S: Steps + Drop, G: Gate + Drop> Client<S, G> {
         ensures { result ≡ self }
     {
         let Client {
-            steps,
+            table,
             gate: _,
-            work: _,
+            steps: _,
             turns: _,
         } = self;
-        steps
+        table
     }
 
     /// Runs the transaction, and leaves the gate last. It makes one abort exactly where it ends `Aborted`, and else none.
@@ -79,42 +79,42 @@ impl<S: Steps + Drop, G: Gate + Drop> Client<S, G> {
     /// Runs the transaction, and then each of these where the one before it finished or was aborted, and leaves the gate last. Each makes
     /// its calls as `run` does, with all turns, and one abort exactly where it ends `Aborted`, and else none. Takes memory where the steps
     /// of the first one have no room for others; a transaction for which that is refused ends as `Refused` in place of its begin.
-    pub fn run_all(&mut self, coming: &mut Coming) -> ClientEnds
+    pub fn run_all(&mut self, stream: &mut TransactionStream) -> ClientEnds
         ensures aborts { (S.shares self.new).aborts ≡ (S.shares self.old).aborts + result.earlier.aborted + aborts_of result.last }
         ensures parts { (S.shares self.new).parts ≡ (S.shares self.old).parts }
         ensures few { result.earlier.finished + result.earlier.aborted < 1000000 }
-        ensures all { ends_well result.last ≡ true → result.earlier.finished + result.earlier.aborted + 1 ≡ coming.old.shape.transactions }
+        ensures all { ends_well result.last ≡ true → result.earlier.finished + result.earlier.aborted + 1 ≡ stream.old.shape.transactions }
     {
-        let ends = self.transactions(coming);
+        let ends = self.transactions(stream);
         self.gate.leave();
         ends
     }
 
     /// The transactions, from the begin of the first one to the end of the last one.
-    fn transactions(&mut self, coming: &mut Coming) -> ClientEnds
+    fn transactions(&mut self, stream: &mut TransactionStream) -> ClientEnds
         ensures aborts { (S.shares self.new).aborts ≡ (S.shares self.old).aborts + result.earlier.aborted + aborts_of result.last }
         ensures parts { (S.shares self.new).parts ≡ (S.shares self.old).parts }
         ensures few { result.earlier.finished + result.earlier.aborted < 1000000 }
-        ensures all { ends_well result.last ≡ true → result.earlier.finished + result.earlier.aborted + 1 ≡ coming.old.shape.transactions }
+        ensures all { ends_well result.last ≡ true → result.earlier.finished + result.earlier.aborted + 1 ≡ stream.old.shape.transactions }
     {
         let turns = self.turns;
-        let mut earlier = Earlier::NONE;
+        let mut earlier = EarlierEnds::NONE;
         let mut last = self.transaction();
-        for _more in 0..coming.count() {
+        for _more in 0..stream.count() {
             if !earlier.count(last) {
                 return ClientEnds { earlier, last };
             }
-            last = self.next(coming, turns);
+            last = self.next(stream, turns);
         }
         ClientEnds { earlier, last }
     }
 
     /// The next one of these transactions, with so many turns.
-    fn next(&mut self, coming: &mut Coming, turns: u64) -> End
+    fn next(&mut self, stream: &mut TransactionStream, turns: u64) -> End
         ensures aborts { (S.shares self.new).aborts ≡ (S.shares self.old).aborts + aborts_of result }
         ensures parts { (S.shares self.new).parts ≡ (S.shares self.old).parts }
     {
-        if coming.draw(&mut self.work).is_err() {
+        if stream.draw(&mut self.steps).is_err() {
             return End::Refused(Refusal::Memory.number());
         }
         self.turns = turns;
@@ -147,7 +147,7 @@ impl<S: Steps + Drop, G: Gate + Drop> Client<S, G> {
             if !self.spend() {
                 return Err(End::Spent);
             }
-            match self.steps.begin() {
+            match self.table.begin() {
                 Ok(key) => return Ok(key),
                 Err(Refusal::Full) => thread::yield_now(),
                 Err(refusal) => return Err(End::Refused(refusal.number())),
@@ -173,8 +173,8 @@ impl<S: Steps + Drop, G: Gate + Drop> Client<S, G> {
         ensures aborts { (S.shares self.new).aborts ≡ (S.shares self.old).aborts }
         ensures parts { (S.shares self.new).parts ≡ (S.shares self.old).parts }
     {
-        for place in 0..self.work.len() {
-            let Some(step) = self.work.get(place) else {
+        for place in 0..self.steps.len() {
+            let Some(step) = self.steps.get(place) else {
                 return Ok(Next::GoOn);
             };
             let step = *step;
@@ -192,12 +192,12 @@ impl<S: Steps + Drop, G: Gate + Drop> Client<S, G> {
         ensures parts { (S.shares self.new).parts ≡ (S.shares self.old).parts }
     {
         match step {
-            WorkStep::Acquire(resource) => match self.steps.acquire(key, resource) {
+            WorkStep::Acquire(resource) => match self.table.acquire(key, resource) {
                 Ok(Acquired::Granted) => Ok(Next::GoOn),
                 Ok(Acquired::Waits { .. }) => self.wait(key),
                 Err(refusal) => Err(self.end_refused(key, refusal)),
             },
-            WorkStep::Release(resource) => match self.steps.release(key, resource) {
+            WorkStep::Release(resource) => match self.table.release(key, resource) {
                 Ok(_) => Ok(Next::GoOn),
                 Err(refusal) => Err(self.end_refused(key, refusal)),
             },
@@ -230,8 +230,8 @@ impl<S: Steps + Drop, G: Gate + Drop> Client<S, G> {
         ensures aborts { (S.shares self.new).aborts ≡ (S.shares self.old).aborts }
         ensures parts { (S.shares self.new).parts ≡ (S.shares self.old).parts }
     {
-        self.steps.transmit(key)?;
-        match self.steps.detect(key)? {
+        self.table.transmit(key)?;
+        match self.table.detect(key)? {
             Detected::Clear => Ok(None),
             Detected::Deadlock(_) | Detected::Standing => Ok(Some(Next::Abort)),
         }
@@ -261,7 +261,7 @@ impl<S: Steps + Drop, G: Gate + Drop> Client<S, G> {
         ensures aborts { (S.shares self.new).aborts ≡ (S.shares self.old).aborts }
         ensures parts { (S.shares self.new).parts ≡ (S.shares self.old).parts }
     {
-        match self.steps.finish(key) {
+        match self.table.finish(key) {
             Ok(()) => End::Finished,
             Err(refusal) => End::Refused(refusal.number()),
         }
@@ -272,7 +272,7 @@ impl<S: Steps + Drop, G: Gate + Drop> Client<S, G> {
         ensures aborts { (S.shares self.new).aborts ≡ (S.shares self.old).aborts + aborts_of result }
         ensures parts { (S.shares self.new).parts ≡ (S.shares self.old).parts }
     {
-        match self.steps.abort(key) {
+        match self.table.abort(key) {
             Ok(()) => End::Aborted,
             Err(refusal) => self.end_refused(key, refusal),
         }
@@ -284,7 +284,7 @@ impl<S: Steps + Drop, G: Gate + Drop> Client<S, G> {
         ensures aborts { (S.shares self.new).aborts ≡ (S.shares self.old).aborts }
         ensures parts { (S.shares self.new).parts ≡ (S.shares self.old).parts }
     {
-        let _ = self.steps.finish(key);
+        let _ = self.table.finish(key);
         End::Refused(refusal.number())
     }
 }

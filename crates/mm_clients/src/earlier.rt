@@ -6,14 +6,14 @@ use crate::end::End;
 
 /// How many transactions ended in each way, of those that came before the last one of their client. No other end lets a client go on.
 #[derive(Clone, Copy, Debug, PartialEq, Eq)]
-pub struct Earlier {
+pub struct EarlierEnds {
     pub finished: u32,
     pub aborted: u32,
 }
 
-impl Earlier {
+impl EarlierEnds {
     /// Each client makes one transaction.
-    pub const NONE: Earlier = Earlier {
+    pub const NONE: EarlierEnds = EarlierEnds {
         finished: 0,
         aborted: 0,
     };
@@ -44,6 +44,6 @@ impl Earlier {
 #[derive(Clone, Copy, Debug, PartialEq, Eq)]
 pub struct ClientEnds {
     /// Those before its last one.
-    pub earlier: Earlier,
+    pub earlier: EarlierEnds,
     pub last: End,
 }

@@ -18,7 +18,7 @@ mod tally;
 mod transmitter;
 
 pub use client::Client;
-pub use earlier::{ClientEnds, Earlier};
+pub use earlier::{ClientEnds, EarlierEnds};
 pub use end::End;
 pub use gate::Gate;
 pub use mm_board::{Hint, HintKind};

@@ -2,10 +2,11 @@
 ghost use Rattle.std.specs.Prelude.{◌≡◌, ◌+◌, count_by};
 ghost use Rattle.mm_clients.specs.End.{is_finished, is_aborted, is_spent, is_refused};
 
-use crate::earlier::Earlier;
+use crate::earlier::EarlierEnds;
 use crate::end::End;
 use crate::tally::Tally;
 use mm_counts::Report;
+use serde::Serialize;
 use std::fmt;
 use std::fmt::{Display, Formatter};
 
@@ -15,7 +16,7 @@ pub struct Outcome {
     /// How the last transaction of each client ended, in the order of the clients.
     pub ends: Vec<End>,
     /// How the transactions before these ended, of all clients.
-    pub earlier: Earlier,
+    pub earlier: EarlierEnds,
     /// What the table counted.
     pub report: Report,
 }
@@ -29,7 +30,7 @@ pub struct TalliedOutcome {
 }
 
 /// How many transactions of clients ended in each way.
-#[derive(Clone, Copy, Debug, PartialEq, Eq)]
+#[derive(Clone, Copy, Debug, PartialEq, Eq, Serialize)]
 pub struct EndCounts {
     pub finished: usize,
     pub aborted: usize,
@@ -49,7 +50,7 @@ impl Outcome {
     }
 }
 
-fn count_of(ends: &[End], earlier: Earlier) -> EndCounts
+fn count_of(ends: &[End], earlier: EarlierEnds) -> EndCounts
     ensures finished { result.finished ≡ count_by is_finished ends.now + earlier.finished }
     ensures aborted { result.aborted ≡ count_by is_aborted ends.now + earlier.aborted }
     ensures spent { result.spent ≡ count_by is_spent ends.now }

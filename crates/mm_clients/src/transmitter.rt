@@ -14,7 +14,7 @@ use std::thread;
 /// A contract sees it as its table.
 #[derive(Drop)]
 pub struct Transmitter<S: Steps + Drop, G: Gate + Drop> {
-    steps: S,
+    table: S,
     gate: G,
     processes: u32,
     turns: u64,
@@ -23,16 +23,16 @@ pub struct Transmitter<S: Steps + Drop, G: Gate + Drop> {
 impl<S: Steps + Drop, G: Gate + Drop> Model for Transmitter<S, G> {
     ghost Value = { S };
 
-    ghost view = { λ transmitter. transmitter.steps };
+    ghost view = { λ transmitter. transmitter.table };
 }
 
 impl<S: Steps + Drop, G: Gate + Drop> Transmitter<S, G> {
     /// A transmitter on this table, which has so many processes. Constant time.
-    pub fn new(steps: S, gate: G, processes: u32, turns: u64) -> Transmitter<S, G>
-        ensures { result ≡ steps }
+    pub fn new(table: S, gate: G, processes: u32, turns: u64) -> Transmitter<S, G>
+        ensures { result ≡ table }
     {
         Transmitter {
-            steps,
+            table,
             gate,
             processes,
             turns,
@@ -44,12 +44,12 @@ impl<S: Steps + Drop, G: Gate + Drop> Transmitter<S, G> {
         ensures { result ≡ self }
     {
         let Transmitter {
-            steps,
+            table,
             gate: _,
             processes: _,
             turns: _,
         } = self;
-        steps
+        table
     }
 
     /// Works until all clients have left, or the turns are used up. `O(turns)` calls.
@@ -65,7 +65,7 @@ impl<S: Steps + Drop, G: Gate + Drop> Transmitter<S, G> {
             if self.gate.over() {
                 return;
             }
-            let hint = self.steps.scan(place);
+            let hint = self.table.scan(place);
             place = self.place_after(hint);
             if !self.follow(hint) {
                 thread::yield_now();
@@ -91,12 +91,12 @@ impl<S: Steps + Drop, G: Gate + Drop> Transmitter<S, G> {
         let Some(hint) = hint else {
             return false;
         };
-        let Some(key) = self.steps.tenant(hint.process) else {
+        let Some(key) = self.table.tenant(hint.process) else {
             return false;
         };
         match hint.kind {
-            HintKind::Raise => matches!(self.steps.transmit(key), Ok(Transmitted::Raised(_))),
-            HintKind::Equal => matches!(self.steps.detect(key), Ok(Detected::Deadlock(_))),
+            HintKind::Raise => matches!(self.table.transmit(key), Ok(Transmitted::Raised(_))),
+            HintKind::Equal => matches!(self.table.detect(key), Ok(Detected::Deadlock(_))),
         }
     }
 }

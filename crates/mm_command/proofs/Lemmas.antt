@@ -5,5 +5,3 @@ pub mod Walked
 pub mod Filled
 -- what the words have where they have no fault
 pub mod Faultless
--- the text of the help on a lock service
-pub mod Help

@@ -98,8 +98,12 @@ name_bytes_rule = number_rule (codes "name-bytes") 1 MAX_NAME_BYTES (codes "64")
 abbrev pub locks_seed_rule : Rule
 locks_seed_rule = free_number_rule (codes "seed") 0 18446744073709551615
 
+abbrev pub connections_rule : Rule
+connections_rule = free_number_rule (codes "connections") 1 65536
+
 abbrev pub locks_app : App
-locks_app = with_rule (with_rule (with_rule (with_rule (new_app (codes "locks")) transactions_rule) names_rule) name_bytes_rule) locks_seed_rule
+locks_app =
+    with_rule (with_rule (with_rule (with_rule (with_rule (new_app (codes "locks")) transactions_rule) names_rule) name_bytes_rule) locks_seed_rule) connections_rule
 
 -- a command that says its version
 abbrev pub versioned_app : Text → App
@@ -164,7 +168,7 @@ runs (Script verbose) = true
 runs (Threads file report verbose) = true
 runs (Storm options report verbose) = true
 runs (Locks options) = true
-runs (Explain file options) = true
+runs (Explain options) = true
 runs _ = false
 
 -- something is run, or memory was refused

@@ -3,8 +3,8 @@
 //! - `program`: the words that there are.
 //! - `explain`: those of `explain`.
 //! - `arguments`: how clap is given the arguments of a subcommand.
-//! - `options`: the numbers of a generated workload, and those of a lock service.
-ghost use Rattle.std.specs.Prelude.{◌≡◌, ◌≢◌, ◌↔◌, List, [], IfOk, IfSome, IsSome, IsTrue, Some, codes, false, true, map};
+//! - `options`: the numbers of a lock service.
+ghost use Rattle.std.specs.Prelude.{◌≡◌, ◌≢◌, ◌↔◌, List, [], IfOk, IsSome, IsTrue, Some, codes, false, true, map};
 ghost use Rattle.clap.specs.Words.{FailsBy, HasMatchesOf, Text, fault_of, found_of, one_of, rows_of, subcommand_name_of, subcommand_rows_of};
 ghost use Rattle.mm_command.specs.CommandLine.{AsksForHelp, AsksForScript, AsksForVerboseScript, AsksForVersion, HasLimits, HasNumbers, HasShape, HasText, HasWanted, IsByFault, IsHelp, IsOff, IsOn, IsRun, IsScript, IsScriptName, IsVerboseScript, program, request_at, runs, verbose_in};
 ghost use Rattle.mm_command.specs.Limits.{AreLimits, AreShape};
@@ -14,13 +14,13 @@ mod explain;
 mod options;
 mod program;
 
-use crate::help::locks_after;
 use clap::error::ErrorKind;
 use clap::{ArgMatches, Error};
 pub use explain::ExplainOptions;
 use explain::options_of;
 use mm_limits::{MAX_NAME_BYTES, MAX_NAMES, MAX_PROCESSES};
-pub use options::{LocksOptions, StormOptions};
+use mm_workload::{StormOptions, StormShape};
+pub use options::LocksOptions;
 use program::{
     MAX_ACQUIRES, MAX_CLIENTS, MAX_RESOURCES, MAX_TRANSACTIONS, MAX_TRANSMITTERS, command,
 };
@@ -49,11 +49,8 @@ pub enum Request {
     },
     /// A lock service is to be run.
     Locks(LocksOptions),
-    /// A script is to be explained: that of this file, or of standard input.
-    Explain {
-        file: Option<String>,
-        options: ExplainOptions,
-    },
+    /// A script is to be explained.
+    Explain(ExplainOptions),
     /// Help, or the version, with its text.
     Help(Error),
     /// The words are no command line of this program; the text says why.
@@ -89,25 +86,18 @@ pub fn request_of<S: AsStr>(alloc: Global, words: &[S]) -> Request
     ensures taken { fault_of program (map S.text words.now) ≡ [] → IsRun result }
     ensures wrong { fault_of program (map S.text words.now) ≢ [] → IsByFault (fault_of program (map S.text words.now)) result }
 {
-    let Ok(locks_after) = locks_after(alloc) else {
-        return Request::Memory;
-    };
-    match parsed(alloc, locks_after.as_str(), words) {
+    match parsed(alloc, words) {
         Ok(matches) => by_matches(alloc, &matches),
         Err(error) => by_error(error),
     }
 }
 
-/// What clap finds in the words. The help on `locks` ends with this text.
-fn parsed<'a, S: AsStr>(
-    alloc: Global,
-    locks_after: &'a str,
-    words: &'a [S],
-) -> Result<ArgMatches<'a>, Error>
+/// Returns what clap finds in the words.
+fn parsed<'a, S: AsStr>(alloc: Global, words: &'a [S]) -> Result<ArgMatches<'a>, Error>
     ensures fails { FailsBy (fault_of program (map S.text words.entry.now)) result }
     ensures matches { IfOk result (HasMatchesOf program (map S.text words.entry.now)) }
 {
-    command(alloc, locks_after)?.try_get_matches_from(words)
+    command(alloc)?.try_get_matches_from(words)
 }
 
 /// The request that follows from clap's error.
@@ -194,7 +184,7 @@ fn storm(alloc: Global, own: &ArgMatches<'_>) -> Result<Request, AllocError>
     if clients == 0 || clients > MAX_CLIENTS || transmitters > MAX_TRANSMITTERS {
         return wrong(alloc, "a number is out of range");
     }
-    let Some((resources, acquires, transactions)) = shape(own) else {
+    let Some(shape) = shape(own) else {
         return wrong(alloc, "a number is missing or out of range");
     };
     Ok(Request::Storm {
@@ -202,20 +192,16 @@ fn storm(alloc: Global, own: &ArgMatches<'_>) -> Result<Request, AllocError>
             seed,
             clients,
             transmitters,
-            resources,
-            acquires,
-            transactions,
+            shape,
         },
         report: file_of(alloc, own, "report")?,
         verbose: own.get_flag("verbose"),
     })
 }
 
-/// How many resources a storm has, how many words give a transaction one, and how many transactions a client makes, where all are in their
-/// ranges.
-fn shape(own: &ArgMatches<'_>) -> Option<(u32, u32, u32)>
-    ensures some { HasShape (rows_of (found_of own.now)) → IsSome result }
-    ensures in_range { IfSome result (λ shape. AreShape shape.0 shape.1 shape.2) }
+/// The shape of a storm, if all of its numbers are in their ranges.
+fn shape(own: &ArgMatches<'_>) -> Option<StormShape>
+    ensures { HasShape (rows_of (found_of own.now)) → IsSome result }
 {
     let (Some(resources), Some(acquires), Some(transactions)) = (
         own.get_one::<u32>("resources"),
@@ -227,7 +213,11 @@ fn shape(own: &ArgMatches<'_>) -> Option<(u32, u32, u32)>
     if !are_shape(resources, acquires, transactions) {
         return None;
     }
-    Some((resources, acquires, transactions))
+    Some(StormShape {
+        resources,
+        acquires,
+        transactions,
+    })
 }
 
 /// Whether a storm can have so many resources, so many words that give a transaction one, and so many transactions of each client.
@@ -257,16 +247,15 @@ fn locks(alloc: Global, own: &ArgMatches<'_>) -> Result<Request, AllocError>
         names,
         name_bytes,
         seed: own.get_one::<u64>("seed"),
+        connections: own.get_one::<u32>("connections"),
     }))
 }
 
 fn request_to_explain(alloc: Global, own: &ArgMatches<'_>) -> Result<Request, AllocError>
     ensures { IfOk result (λ request. runs request ≡ true) }
 {
-    Ok(Request::Explain {
-        file: file_of(alloc, own, "FILE")?,
-        options: options_of(own),
-    })
+    let file = file_of(alloc, own, "FILE")?;
+    Ok(Request::Explain(options_of(own, file)))
 }
 
 /// Whether a lock service can have these limits.
@@ -280,7 +269,7 @@ fn are_limits(transactions: u32, names: u32, name_bytes: u32) -> bool
 
 /// An error, which shows the usage and no more of the help.
 fn wrong(alloc: Global, text: &str) -> Result<Request, AllocError> {
-    let mut command = command(alloc, "")?;
+    let mut command = command(alloc)?;
     let error = command.error(ErrorKind::InvalidValue, text);
     drop(command);
     Ok(Request::Wrong(error?))

@@ -1,10 +1,4 @@
 //! The text of the help.
-ghost use Rattle.std.specs.Prelude.{IfOk, string_bytes};
-ghost use Rattle.mm_command.specs.Help.{ListsRequests};
-
-use mm_requests::push_usages;
-use std::alloc::{AllocError, Global};
-
 /// What the program does.
 pub const ABOUT: &str = "Finds deadlocks among transactions that lock resources of a table.";
 
@@ -128,17 +122,28 @@ Exit statuses:
      'refused N Name' printed
   5  threads, storm: some client used all its turns or was refused";
 
-/// What stands above the requests of a lock service. No line has more than 80 bytes, here and below them.
-const LOCKS_ABOVE: &str = "\
+/// The requests of a lock service with their replies, their refusals, and the exit statuses. No line has more than 80 bytes.
+pub const LOCKS_AFTER: &str = "\
 Requests are read from standard input, one a line, as long as there are any.
 Each has one reply on standard output; behind it stands a line for each wait
 that it ended.
 
 Requests and their replies:
-";
+  begin          begun K: a new transaction
+  lock K NAME    granted; held, where K owns it; waits H, where H owns it; or
+                 deadlock H: the same, and K closed a cycle of waits
+  try K NAME     granted, held, or busy H: it never waits
+  unlock K NAME  unlocked: the longest waiter owns the name now
+  commit K       committed: K hands over all that it owns, and ends
+  abort K        aborted: the same; or later: as soon as its wait ends
+  cancel K       cancelled: K waits no longer; or carried: not now
+  owner NAME     owner K, or free
+  status K       active, waiting NAME H or deadlock NAME H; 'aborting' behind
+                 it where the abort of K is due
+  holds K        holds NAME ..: the names that K owns
+  graph          graph N, and N lines '* K NAME H': who waits, and for whom
+  totals         totals BEGUN COMMITTED ABORTED DEADLOCKS
 
-/// What stands below them: their refusals, and the exit statuses.
-const LOCKS_BELOW: &str = "
 Waits that a request ended:
   * granted K NAME   K owns the name now
   * aborted K        the abort of K was due, and K has ended
@@ -148,8 +153,13 @@ spaces and control characters. A line that is no request has the reply
 'malformed'. Lines that are blank or begin with # have none.
 
 Ranges:
-  --transactions  1 to 65536   --name-bytes  1 to 1024
-  --names         1 to 65536   --seed        0 to 18446744073709551615
+  --transactions  1 to 65536   --name-bytes   1 to 1024
+  --names         1 to 65536   --connections  1 to 65536
+  --seed          0 to 18446744073709551615
+
+With --connections N each line is 'C REQUEST' of a connection C below N, or
+'- C', by which C hangs up; each reply begins with the number of the connection
+that it is for. A connection may use only the transactions that it began.
 
 A refused request changes nothing and has the reply 'refused' with a word:
   no-transaction     no live transaction has this key
@@ -169,13 +179,3 @@ Exit statuses:
   2  the command line is wrong
   3  'read fault' or 'write fault' on standard error
   4  memory was refused, and 'refused 10 Memory' printed";
-
-/// The help on a lock service, with each of its requests. Takes memory.
-pub fn locks_after(alloc: Global) -> Result<String, AllocError>
-    ensures { IfOk result (λ text. ListsRequests (string_bytes text)) }
-{
-    let mut text = String::from_str(alloc, LOCKS_ABOVE)?;
-    push_usages(&mut text)?;
-    text.push_str(LOCKS_BELOW)?;
-    Ok(text)
-}

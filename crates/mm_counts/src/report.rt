@@ -1,7 +1,9 @@
 //! What a table counted.
 
+use serde::Serialize;
+
 /// What a shared table counted from its opening to its end: the table's totals.
-#[derive(Clone, Copy, Debug, PartialEq, Eq)]
+#[derive(Clone, Copy, Debug, PartialEq, Eq, Serialize)]
 pub struct Report {
     /// Accepted events.
     pub accepted: u64,

@@ -4,7 +4,7 @@ ghost use Rattle.mm_detect.specs.Ending.{ending_status, fault_told, status_of};
 
 use mm_work::ScriptFault;
 use std::fmt::Display;
-use std::io::{Eprint, Print};
+use std::io::{Eprint, Write};
 
 /// How a run of the program ended.
 #[derive(Clone, Copy)]
@@ -62,13 +62,16 @@ pub fn fault(ending: &Ending) -> Option<ScriptFault>
 }
 
 /// Prints that memory was refused.
-pub fn print_no_memory(rt: &impl Print) -> Result<(), ScriptFault> {
-    println!(rt; "refused 10 Memory").map_err(|_| ScriptFault::Write)
+pub fn print_no_memory(output: &mut impl Write) -> Result<(), ScriptFault> {
+    print_text(output, &"refused 10 Memory\n")
 }
 
 /// Prints the text of the help, or of the version.
-pub fn print_help<R: Print, T: Display>(rt: &R, text: &T) -> Result<(), ScriptFault> {
-    print!(rt; "{text}").map_err(|_| ScriptFault::Write)
+pub fn print_text(output: &mut impl Write, text: &impl Display) -> Result<(), ScriptFault> {
+    if write!(output, "{text}").is_err() || output.flush().is_err() {
+        return Err(ScriptFault::Write);
+    }
+    Ok(())
 }
 
 /// Tells on standard error why the words are no command line.

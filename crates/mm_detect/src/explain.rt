@@ -5,18 +5,15 @@ use crate::ending::{Ending, print_no_memory};
 use mm_command::ExplainOptions;
 use mm_explain::{ExplainFault, Options, explain};
 use mm_work::ScriptFault;
-use std::alloc::Global;
 use std::env::{Env, FillError};
 use std::fs::File;
-use std::io::{Eprint, IsTerminal, Print, Read, Write};
+use std::io::{Eprint, IsTerminal, Read, Write};
 use std::rt::Files;
 
 /// Explains the script of the file, or that of the reader where no file is named. Text has colors on a terminal, unless NO_COLOR is set.
 #[inline(never)]
-pub fn run_explain<R: Env + Eprint + Files + Print, I: Read, W: Write + IsTerminal>(
+pub fn run_explain<R: Env + Eprint + Files + AllocGlobal, I: Read, W: Write + IsTerminal>(
     rt: &R,
-    alloc: Global,
-    file: Option<&String>,
     asked: &ExplainOptions,
     input: &mut I,
     output: &mut W,
@@ -30,9 +27,9 @@ pub fn run_explain<R: Env + Eprint + Files + Print, I: Read, W: Write + IsTermin
         at: asked.at,
         has_colors: output.is_terminal() && may_have_colors(rt),
     };
-    match file {
-        Some(file) => explain_file(rt, alloc, file.as_str(), options, output),
-        None => ending_of(rt, explain(alloc, options, input, output)),
+    match &asked.file {
+        Some(file) => explain_file(rt, file.as_str(), options, output),
+        None => ending_of(rt, explain(rt.alloc(), options, input, output), output),
     }
 }
 
@@ -46,9 +43,8 @@ fn may_have_colors(rt: &impl Env) -> bool {
 }
 
 /// Explains the script of the file. Where it cannot be read, that is told.
-fn explain_file<R: Eprint + Files + Print, W: Write>(
+fn explain_file<R: Eprint + Files + AllocGlobal, W: Write>(
     rt: &R,
-    alloc: Global,
     file: &str,
     options: Options,
     output: &mut W,
@@ -56,7 +52,11 @@ fn explain_file<R: Eprint + Files + Print, W: Write>(
     ensures { EndsExplain result }
 {
     match File::open(rt, file) {
-        Ok(mut script) => ending_of(rt, explain(alloc, options, &mut script, output)),
+        Ok(mut script) => ending_of(
+            rt,
+            explain(rt.alloc(), options, &mut script, output),
+            output,
+        ),
         Err(error) => {
             // Where standard error cannot be written either, the status alone reports it.
             let _ = eprintln!(rt; "{file}: {error}");
@@ -66,13 +66,17 @@ fn explain_file<R: Eprint + Files + Print, W: Write>(
 }
 
 /// How the program ends after this, with what is to be told of it.
-fn ending_of<R: Eprint + Print>(rt: &R, outcome: Result<u64, ExplainFault>) -> Ending
+fn ending_of<R: Eprint, W: Write>(
+    rt: &R,
+    outcome: Result<u64, ExplainFault>,
+    output: &mut W,
+) -> Ending
     ensures { EndsExplain result }
 {
     match outcome {
         Ok(malformed) => Ending::Ran(Ok(malformed)),
         Err(ExplainFault::Lines(fault)) => Ending::Ran(Err(fault)),
-        Err(ExplainFault::Memory) => Ending::Refused(print_no_memory(rt)),
+        Err(ExplainFault::Memory) => Ending::Refused(print_no_memory(output)),
         Err(fault @ ExplainFault::NoLine(_)) => {
             let _ = eprintln!(rt; "{fault}");
             Ending::Wrong

@@ -3,18 +3,17 @@ ghost use Rattle.mm_detect.specs.Answer.{EndsService};
 
 use crate::ending::{Ending, print_no_memory};
 use mm_command::LocksOptions;
+use mm_connections::ConnectionService;
 use mm_service::{LockService, ManagerConfig};
-use std::alloc::Global;
 use std::io;
-use std::io::{Eprint, Print, Read, Write};
+use std::io::{Eprint, Read, Write};
 use std::random::RandomSource;
 
-/// Opens a lock service and answers the requests that the reader gives. Where no seed is given and the system has no random bytes to give,
+/// Opens a lock service, with connections if a number of them is given, and answers the requests that the reader gives. Where no seed is given and the system has no random bytes to give,
 /// that is told, and nothing is read.
 #[inline(never)]
-pub fn run_locks<R: Print + Eprint + RandomSource, I: Read, W: Write>(
+pub fn run_locks<R: Eprint + RandomSource + AllocGlobal, I: Read, W: Write>(
     rt: &R,
-    alloc: Global,
     options: &LocksOptions,
     input: &mut I,
     output: &mut W,
@@ -32,9 +31,15 @@ pub fn run_locks<R: Print + Eprint + RandomSource, I: Read, W: Write>(
         name_bytes: options.name_bytes,
         seed,
     };
-    match LockService::open(alloc, config) {
-        Ok(mut service) => Ending::Ran(service.run(input, output)),
-        Err(_) => Ending::Refused(print_no_memory(rt)),
+    match options.connections {
+        None => match LockService::open(rt.alloc(), config) {
+            Ok(mut service) => Ending::Ran(service.run(input, output)),
+            Err(_) => Ending::Refused(print_no_memory(output)),
+        },
+        Some(connections) => match ConnectionService::open(rt.alloc(), config, connections) {
+            Ok(mut service) => Ending::Ran(service.run(input, output)),
+            Err(_) => Ending::Refused(print_no_memory(output)),
+        },
     }
 }
 

@@ -6,10 +6,8 @@ ghost use Rattle.mm_workload.specs.Json.{Says, SaysNone};
 ghost use Rattle.mm_workload.specs.Work.{Work};
 
 use crate::ending::Ending;
-use mm_command::StormOptions;
-use mm_report::{Taken, Told, is_same_file, print_fault, taken_from, tell};
-use mm_work::{ScriptFault, WorkFault, has_usual_shape, run_bytes, run_storm, usual_options};
-use std::alloc::Global;
+use mm_run_report::{FileBytes, RunOptions, Source, is_same_file, print_fault, read_file, tell};
+use mm_work::{ScriptFault, StormOptions, StormShape, WorkFault, run_bytes, run_storm};
 use std::io::Write;
 use std::rt::Runtime;
 use std::sync::Wait;
@@ -26,22 +24,21 @@ const WRITE_FAULT: u8 = 3;
 /// - 3 if a line could not be written.
 ///
 /// Takes memory, and starts a thread for each client and each transmitter.
-pub fn threads_on<R: Runtime + Threads + Wait + Sync, W: Write>(
+pub fn threads_on<R: Runtime + AllocGlobal + Threads + Wait + Sync, W: Write>(
     rt: &R,
-    alloc: Global,
     bytes: &[u8],
     writer: &mut W,
 ) -> u8
     ensures malformed { result ≡ 1 → SaysNone bytes.now }
     ensures ran { (result ≡ 0) ⊎ (result ≡ 5) → (work : Work) × Says bytes.now work }
 {
-    status_after(run_bytes(rt, alloc, "", bytes, Told::NOTHING, writer))
+    let wanted = RunOptions::plain(Source::Threads { file: "" });
+    status_after(run_bytes(rt, wanted, bytes, writer))
 }
 
 /// Runs the workload that is generated from these numbers, as `threads_on` runs that of a file. The status is never 1.
-pub fn storm_on<R: Runtime + Threads + Wait + Sync, W: Write>(
+pub fn storm_on<R: Runtime + AllocGlobal + Threads + Wait + Sync, W: Write>(
     rt: &R,
-    alloc: Global,
     seed: u64,
     clients: u32,
     transmitters: u32,
@@ -51,22 +48,27 @@ pub fn storm_on<R: Runtime + Threads + Wait + Sync, W: Write>(
     requires transmitters { transmitters ≤ MAX_TRANSMITTERS }
     ensures { result ≢ 1 }
 {
-    let options = usual_options(seed, clients, transmitters);
-    status_after(run_storm(rt, alloc, options, Told::NOTHING, writer))
+    let options = StormOptions {
+        seed,
+        clients,
+        transmitters,
+        shape: StormShape::USUAL,
+    };
+    let wanted = RunOptions::plain(Source::of_storm(&options));
+    status_after(run_storm(rt, wanted, &options, writer))
 }
 
 /// Runs the workload in this file, tells what came of it, and returns how that ended. A report that would replace the workload is refused
 /// before anything is read.
-pub fn answer_threads<R: Runtime + Threads + Wait + Sync, W: Write>(
+pub fn answer_threads<R: Runtime + AllocGlobal + Threads + Wait + Sync, W: Write>(
     rt: &R,
-    alloc: Global,
     file: &str,
-    told: Told<'_>,
+    wanted: RunOptions<'_>,
     output: &mut W,
 ) -> Ending
     ensures { EndsThreads result }
 {
-    if let Some(report) = told.report
+    if let Some(report) = wanted.report
         && is_same_file(rt, file, report.as_str())
     {
         tell(
@@ -76,27 +78,26 @@ pub fn answer_threads<R: Runtime + Threads + Wait + Sync, W: Write>(
         );
         return Ending::Wrong;
     }
-    Ending::Worked(run_file(rt, alloc, file, told, output))
+    Ending::Worked(run_file(rt, file, wanted, output))
 }
 
 /// Runs the workload in this file. `Read` if the file could not be read, and `Write` if a line or the report could not be written.
-fn run_file<R: Runtime + Threads + Wait + Sync, W: Write>(
+fn run_file<R: Runtime + AllocGlobal + Threads + Wait + Sync, W: Write>(
     rt: &R,
-    alloc: Global,
     file: &str,
-    told: Told<'_>,
+    wanted: RunOptions<'_>,
     output: &mut W,
 ) -> Result<u8, ScriptFault>
     ensures fault { IfErr result (λ fault. (fault ≡ ScriptFault.Read) ⊎ (fault ≡ ScriptFault.Write)) }
 {
-    match taken_from(rt, alloc, file) {
-        Taken::Bytes(bytes) if told.is_nothing() => {
-            unless_write_fault(threads_on(rt, alloc, bytes.as_slice(), output))
+    match read_file(rt, rt.alloc(), file) {
+        FileBytes::Bytes(bytes) if wanted.is_nothing() => {
+            unless_write_fault(threads_on(rt, bytes.as_slice(), output))
         }
-        Taken::Bytes(bytes) => run_bytes(rt, alloc, file, bytes.as_slice(), told, output),
-        Taken::Memory => print_fault(WorkFault::Memory, output),
-        Taken::Fault(error) => {
-            if told.verbose {
+        FileBytes::Bytes(bytes) => run_bytes(rt, wanted, bytes.as_slice(), output),
+        FileBytes::Memory => print_fault(WorkFault::Memory, output),
+        FileBytes::Fault(error) => {
+            if wanted.verbose {
                 tell(rt, file, &error);
             }
             Err(ScriptFault::Read)
@@ -105,25 +106,24 @@ fn run_file<R: Runtime + Threads + Wait + Sync, W: Write>(
 }
 
 /// Runs the workload that is generated from these numbers, and tells what came of it.
-pub fn answer_storm<R: Runtime + Threads + Wait + Sync, W: Write>(
+pub fn answer_storm<R: Runtime + AllocGlobal + Threads + Wait + Sync, W: Write>(
     rt: &R,
-    alloc: Global,
-    options: StormOptions,
-    told: Told<'_>,
+    options: &StormOptions,
+    wanted: RunOptions<'_>,
     output: &mut W,
 ) -> Result<u8, ScriptFault>
     ensures { IfErr result (λ fault. fault ≡ ScriptFault.Write) }
 {
-    if has_usual_shape(&options) && told.is_nothing() {
+    if options.shape == StormShape::USUAL && wanted.is_nothing() {
         let StormOptions {
             seed,
             clients,
             transmitters,
             ..
-        } = options;
-        unless_write_fault(storm_on(rt, alloc, seed, clients, transmitters, output))
+        } = *options;
+        unless_write_fault(storm_on(rt, seed, clients, transmitters, output))
     } else {
-        run_storm(rt, alloc, options, told, output)
+        run_storm(rt, wanted, options, output)
     }
 }
 

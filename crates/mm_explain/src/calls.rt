@@ -1,33 +1,39 @@
 //! What an accepted call came to, beside what it changed of transactions.
 
-use crate::cycle::explain_cycle;
+use crate::explanation::Explanation;
 use crate::sheet::{INDENT, Sheet, Value};
-use crate::view::View;
 use mm_graph::edge_of;
 use mm_script::{Call, Reply};
 use mm_table::{Acquired, Detected, Key, Label, Mode, Refusal, Settled, State, Table, Transmitted};
 
-/// Adds whose the resources are that a call handed over.
-pub fn explain_hand_over(sheet: &mut Sheet, table: &Table, view: &View, call: Call) {
-    match call {
-        Call::Release { resource, .. } => explain_owner(sheet, table, resource),
-        Call::Finish(_) | Call::Abort(_) => explain_owners(sheet, table, &view.owned),
-        _ => {}
+impl Explanation {
+    /// Adds whose the resources are that a call handed over.
+    pub fn explain_hand_over(&mut self, table: &Table, call: Call) {
+        match call {
+            Call::Release { resource, .. } => explain_owner(&mut self.sheet, table, resource),
+            Call::Finish(_) | Call::Abort(_) => {
+                explain_owners(&mut self.sheet, table, &self.view.owned)
+            }
+            _ => {}
+        }
     }
-}
 
-/// Adds what else a call came to.
-pub fn explain_call(sheet: &mut Sheet, table: &Table, view: &mut View, call: Call, reply: &Reply) {
-    match call {
-        Call::Acquire { key, resource } => explain_acquire(
-            sheet, table, view, key, resource, reply,
-        ),
-        Call::Transmit(key) => explain_transmit(sheet, table, key, reply),
-        Call::Detect(key) => explain_detect(sheet, table, key, reply),
-        Call::Settle => explain_settle(sheet, reply),
-        Call::State(key) => explain_state(sheet, key, reply),
-        Call::Table { .. } => explain_table(sheet, table),
-        _ => {}
+    /// Adds what else a call came to.
+    pub fn explain_call(&mut self, table: &Table, call: Call, reply: &Reply) {
+        match call {
+            Call::Acquire { key, resource } => match reply {
+                Reply::Acquired(Acquired::Granted) => {
+                    explain_granted(&mut self.sheet, key, resource)
+                }
+                _ => self.explain_cycle(table, key, "this closes the cycle {}"),
+            },
+            Call::Transmit(key) => explain_transmit(&mut self.sheet, table, key, reply),
+            Call::Detect(key) => explain_detect(&mut self.sheet, table, key, reply),
+            Call::Settle => explain_settle(&mut self.sheet, reply),
+            Call::State(key) => explain_state(&mut self.sheet, key, reply),
+            Call::Table { .. } => explain_table(&mut self.sheet, table, reply),
+            _ => {}
+        }
     }
 }
 
@@ -39,7 +45,11 @@ pub fn explain_refusal(sheet: &mut Sheet, refusal: Refusal) {
     sheet.newline();
 }
 
-fn explain_table(sheet: &mut Sheet, table: &Table) {
+/// Adds the numbers of a table that was opened.
+fn explain_table(sheet: &mut Sheet, table: &Table, reply: &Reply) {
+    let Reply::Opened = reply else {
+        return;
+    };
     let config = table.config();
     sheet.line(
         "processes {}, resources {}, label limit {}, generation limit {}",
@@ -52,23 +62,12 @@ fn explain_table(sheet: &mut Sheet, table: &Table) {
     );
 }
 
-/// Adds that the transaction owns the resource, or the cycle that its wait for it closed.
-fn explain_acquire(
-    sheet: &mut Sheet,
-    table: &Table,
-    view: &mut View,
-    key: Key,
-    resource: u32,
-    reply: &Reply,
-) {
-    if let Reply::Acquired(Acquired::Granted) = reply {
-        sheet.line(
-            "{} owns resource {} now",
-            &[Value::Key(key), Value::Number(resource)],
-        );
-    } else {
-        explain_cycle(sheet, table, view, key, "this closes the cycle {}");
-    }
+/// Adds that the transaction owns the resource.
+fn explain_granted(sheet: &mut Sheet, key: Key, resource: u32) {
+    sheet.line(
+        "{} owns resource {} now",
+        &[Value::Key(key), Value::Number(resource)],
+    );
 }
 
 /// Adds whose a resource is that was given back.

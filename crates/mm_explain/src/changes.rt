@@ -1,67 +1,47 @@
 //! What a line changed: who waits for whom, which labels rose, and who was convicted.
 
-use crate::cycle::explain_cycle;
+use crate::explanation::Explanation;
 use crate::sheet::{Paint, Sheet, Value};
-use crate::view::{Standing, View, standing_of};
+use crate::view::{Standing, standing_of};
 use mm_table::Table;
 use std::alloc::AllocError;
 
-/// Adds what is shown of each transaction now and was not before, and keeps it in the view.
-pub fn explain_changes(
-    sheet: &mut Sheet,
-    table: &Table,
-    view: &mut View,
-) -> Result<(), AllocError> {
-    for process in 0..table.config().processes {
-        let now = standing_of(table, process);
-        if now.is_none() && process as usize >= view.used() {
-            return Ok(());
+impl Explanation {
+    /// Adds what is shown of each transaction now and was not before, and keeps it in the view.
+    pub fn explain_changes(&mut self, table: &Table) -> Result<(), AllocError> {
+        for process in 0..table.config().processes {
+            let now = standing_of(table, process);
+            if now.is_none() && process as usize >= self.view.used() {
+                return Ok(());
+            }
+            let before = self.view.standing(process);
+            self.view.keep(process, now)?;
+            self.explain_change(table, before, now);
         }
-        let before = view.standing(process);
-        view.keep(process, now)?;
-        explain_change(sheet, table, view, before, now);
+        Ok(())
     }
-    Ok(())
-}
 
-/// Adds what is shown of a process now and was not before.
-fn explain_change(
-    sheet: &mut Sheet,
-    table: &Table,
-    view: &mut View,
-    before: Option<Standing>,
-    now: Option<Standing>,
-) {
-    match (before, now) {
-        (None, Some(now)) => explain_begun(sheet, &now),
-        (Some(before), None) => sheet.line(
-            "{} ends, and its process is free",
-            &[Value::Key(before.key)],
-        ),
-        (Some(before), Some(now)) => explain_kept(sheet, table, view, &before, &now),
-        (None, None) => {}
+    /// Adds what is shown of a process now and was not before.
+    fn explain_change(&mut self, table: &Table, before: Option<Standing>, now: Option<Standing>) {
+        match (before, now) {
+            (None, Some(now)) => explain_begun(&mut self.sheet, &now),
+            (Some(before), None) => self.sheet.line(
+                "{} ends, and its process is free",
+                &[Value::Key(before.key)],
+            ),
+            (Some(before), Some(now)) => self.explain_kept(table, &before, &now),
+            (None, None) => {}
+        }
     }
-}
 
-/// Adds what is shown of a transaction now and was not before.
-fn explain_kept(
-    sheet: &mut Sheet,
-    table: &Table,
-    view: &mut View,
-    before: &Standing,
-    now: &Standing,
-) {
-    explain_wait(sheet, before, now);
-    explain_labels(sheet, before, now);
-    if now.is_convicted() && !before.is_convicted() {
-        explain_verdict(sheet, now);
-        explain_cycle(
-            sheet,
-            table,
-            view,
-            now.key,
-            "so it has gone round the cycle {}",
-        );
+    /// Adds what is shown of a transaction now and was not before.
+    fn explain_kept(&mut self, table: &Table, before: &Standing, now: &Standing) {
+        explain_wait(&mut self.sheet, before, now);
+        explain_labels(&mut self.sheet, before, now);
+        if now.is_convicted() && !before.is_convicted() {
+            explain_verdict(&mut self.sheet, now);
+            self.explain_cycle(table, now.key, "so it has gone round the cycle {}");
+        }
     }
 }
 

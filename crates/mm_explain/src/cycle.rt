@@ -1,18 +1,20 @@
 //! The cycle of waits that a transaction is on.
 
+use crate::explanation::Explanation;
 use crate::sheet::{Sheet, Value};
-use crate::view::View;
 use mm_table::{Key, Label, Table};
 
-/// Adds the cycle of waits that the transaction is on, and which private label is the greatest on it; nothing where it is on none. `lead`
-/// is the text that begins the line, with a place for the key.
-pub fn explain_cycle(sheet: &mut Sheet, table: &Table, view: &mut View, key: Key, lead: &str) {
-    if !view.has_cycle(table, key.process) {
-        return;
+impl Explanation {
+    /// Adds the cycle of waits that the transaction is on, and which private label is the greatest on it; nothing if it is on none. `lead`
+    /// is the text that begins the line, with a place for the key.
+    pub fn explain_cycle(&mut self, table: &Table, key: Key, lead: &str) {
+        if !self.view.has_cycle(table, key.process) {
+            return;
+        }
+        self.sheet.begin(lead, &[Value::Key(key)]);
+        explain_members(&mut self.sheet, table, &self.view.members);
+        explain_greatest(&mut self.sheet, table, &self.view.members);
     }
-    sheet.begin(lead, &[Value::Key(key)]);
-    explain_members(sheet, table, &view.members);
-    explain_greatest(sheet, table, &view.members);
 }
 
 fn explain_members(sheet: &mut Sheet, table: &Table, members: &[u32]) {

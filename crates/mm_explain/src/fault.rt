@@ -11,8 +11,8 @@ pub enum ExplainFault {
     Lines(Fault),
     #[error("a request for memory was refused")]
     Memory,
-    /// The script has so many lines, and fewer than were asked for.
-    #[error("the script has {0} lines")]
+    /// The script ends after this line, which is before the one that was asked for.
+    #[error("the script ends after line {0}")]
     NoLine(u64),
 }
 

@@ -54,11 +54,34 @@ fn digits_of(number: u64) -> usize
 /// Adds a line, with a question mark for each control character. The end of a very long one is left out.
 fn add_line(sheet: &mut Sheet, line: &[u8]) {
     let (shown, rest) = line.split_at(line.len().min(LINE_SHOWN));
-    for byte in shown {
-        sheet.add(&[if byte.is_ascii_control() { b'?' } else { *byte }]);
-    }
+    add_shown(sheet, shown);
     if !rest.is_empty() {
         sheet.text("..");
+    }
+}
+
+/// The first of the two bytes that a character from U+0080 to U+009F has as UTF-8, as others up to U+00BF do.
+const FIRST_OF_TWO: u8 = 0xc2;
+
+/// Adds these bytes, with a question mark for each control character: U+0000 to U+001F, and U+007F to U+009F.
+fn add_shown(sheet: &mut Sheet, shown: &[u8]) {
+    let mut is_first_held = false;
+    for &byte in shown {
+        if is_first_held && matches!(byte, 0x80..=0x9f) {
+            sheet.text("?");
+            is_first_held = false;
+            continue;
+        }
+        if is_first_held {
+            sheet.add(&[FIRST_OF_TWO]);
+        }
+        is_first_held = byte == FIRST_OF_TWO;
+        if !is_first_held {
+            sheet.add(&[if byte.is_ascii_control() { b'?' } else { byte }]);
+        }
+    }
+    if is_first_held {
+        sheet.add(&[FIRST_OF_TWO]);
     }
 }
 

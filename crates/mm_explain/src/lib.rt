@@ -1,8 +1,8 @@
 //! Explains a script for people: each line with its number and the reply to it, and below it what it changed; and the wait-for graph after
 //! the last line, or after another one, as Mermaid and as Graphviz read it.
 //!
-//! - `session`: a script as far as it is explained. `heading` has a line with its reply, `changes` what it changed of transactions, `calls`
-//!   what else it came to, `cycle` the cycle that it closed.
+//! - `session`: a script as far as it is explained. `explanation`: its text and view. `heading` has a line with its reply, `changes` what it
+//!   changed of transactions, `calls` what else it came to, `cycle` the cycle that it closed.
 //! - `view`: what a table shows, and what it showed before a line.
 //! - `picture`: the wait-for graph.
 //! - `sheet`: the text that is not yet written.
@@ -14,6 +14,7 @@ ghost use Rattle.std.specs.Prelude.{◌≤◌};
 mod calls;
 mod changes;
 mod cycle;
+mod explanation;
 mod fault;
 mod heading;
 mod picture;

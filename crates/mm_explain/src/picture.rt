@@ -36,24 +36,51 @@ enum Mark {
     Victim,
 }
 
-/// Adds the wait-for graph of a table, or an empty one where there is no table: the transactions, and their waits. `all` adds the resources
-/// for which nobody waits, with their owners.
-pub fn draw(
-    sheet: &mut Sheet,
-    alloc: Global,
-    table: &Option<Table>,
-    format: Format,
-    all: bool,
-) -> Result<(), AllocError> {
-    begin(sheet, format);
-    if let Some(table) = table {
-        draw_table(sheet, alloc, table, format, all)?;
+/// A picture of a wait-for graph.
+#[derive(Clone, Copy)]
+pub struct Picture {
+    pub format: Format,
+    /// It also has the resources that nobody waits for.
+    pub all: bool,
+}
+
+impl Picture {
+    /// Adds the wait-for graph of a table, or an empty one if there is no table: the transactions, their waits, and the resources that
+    /// nobody waits for, with their owners, if all are wanted.
+    pub fn draw(
+        self,
+        sheet: &mut Sheet,
+        alloc: Global,
+        table: &Option<Table>,
+    ) -> Result<(), AllocError> {
+        begin(sheet, self.format);
+        if let Some(table) = table {
+            self.draw_table(sheet, alloc, table)?;
+        }
+        if let Format::Dot = self.format {
+            sheet.text("}");
+            sheet.newline();
+        }
+        Ok(())
     }
-    if let Format::Dot = format {
-        sheet.text("}");
-        sheet.newline();
+
+    fn draw_table(self, sheet: &mut Sheet, alloc: Global, table: &Table) -> Result<(), AllocError> {
+        let mut members = Vec::with_capacity(alloc, table.config().processes as usize)?;
+        draw_transactions(sheet, table, self.format, &mut members);
+        self.draw_waits(sheet, alloc, table)
     }
-    Ok(())
+
+    /// Adds who waits for whom, and the resources that nobody waits for if all are wanted.
+    fn draw_waits(self, sheet: &mut Sheet, alloc: Global, table: &Table) -> Result<(), AllocError> {
+        let mut edges = Vec::with_capacity(alloc, table.config().processes as usize)?;
+        edges_of(table, &mut edges);
+        draw_edges(sheet, &edges, self.format);
+        if self.all {
+            let waited = waited_of(alloc, table, &edges)?;
+            draw_unwaited(sheet, table, &waited, self.format);
+        }
+        Ok(())
+    }
 }
 
 fn begin(sheet: &mut Sheet, format: Format) {
@@ -65,18 +92,6 @@ fn begin(sheet: &mut Sheet, format: Format) {
         sheet.text(line);
         sheet.newline();
     }
-}
-
-fn draw_table(
-    sheet: &mut Sheet,
-    alloc: Global,
-    table: &Table,
-    format: Format,
-    all: bool,
-) -> Result<(), AllocError> {
-    let mut members = Vec::with_capacity(alloc, table.config().processes as usize)?;
-    draw_transactions(sheet, table, format, &mut members);
-    draw_waits(sheet, alloc, table, format, all)
 }
 
 fn draw_transactions(sheet: &mut Sheet, table: &Table, format: Format, members: &mut Vec<u32>)
@@ -141,24 +156,6 @@ fn node_of(key: Key, format: Format) -> Value {
     }
 }
 
-/// Adds who waits for whom, and the resources that nobody waits for where all are wanted.
-fn draw_waits(
-    sheet: &mut Sheet,
-    alloc: Global,
-    table: &Table,
-    format: Format,
-    all: bool,
-) -> Result<(), AllocError> {
-    let mut edges = Vec::with_capacity(alloc, table.config().processes as usize)?;
-    edges_of(table, &mut edges);
-    draw_edges(sheet, &edges, format);
-    if all {
-        draw_resources(sheet, alloc, table, &edges, format)
-    } else {
-        Ok(())
-    }
-}
-
 fn draw_edges(sheet: &mut Sheet, edges: &[Edge], format: Format) {
     for edge in edges {
         draw_edge(sheet, edge, format);
@@ -187,18 +184,11 @@ fn draw_edge(sheet: &mut Sheet, edge: &Edge, format: Format) {
     sheet.newline();
 }
 
-/// Adds the resources that nobody waits for.
-fn draw_resources(
-    sheet: &mut Sheet,
-    alloc: Global,
-    table: &Table,
-    edges: &[Edge],
-    format: Format,
-) -> Result<(), AllocError> {
+/// Which resources somebody waits for, by their numbers.
+fn waited_of(alloc: Global, table: &Table, edges: &[Edge]) -> Result<Vec<bool>, AllocError> {
     let mut waited = vec![in alloc; false; table.config().resources as usize]?;
     mark_waited(&mut waited, edges);
-    draw_unwaited(sheet, table, &waited, format);
-    Ok(())
+    Ok(waited)
 }
 
 fn mark_waited(waited: &mut [bool], edges: &[Edge]) {

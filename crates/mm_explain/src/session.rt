@@ -1,21 +1,22 @@
 //! A script as far as it is explained.
 ghost use Rattle.std.specs.Prelude.{◌≡◌};
 
-use crate::calls::{explain_call, explain_hand_over, explain_refusal};
-use crate::changes::explain_changes;
+use crate::calls::explain_refusal;
+use crate::explanation::Explanation;
 use crate::heading::add_heading;
-use crate::picture::{Format, draw};
-use crate::sheet::Sheet;
-use crate::view::View;
+use crate::picture::{Format, Picture};
 use crate::{ExplainFault, Options};
 use mm_lines::{Fault, Input, split_once};
 use mm_script::{Call, Line, Reply, line_of, make};
-use mm_table::{Key, Table};
+use mm_table::Table;
 use std::alloc::{AllocError, Global};
 use std::io::Write;
 
 /// How many columns a line of text has at most. A line of a picture may have more.
 const COLUMNS: usize = 100;
+
+/// How many bytes of text are held before they are written, at least. The text of one line may be longer.
+const MAX_HELD: usize = 65_536;
 
 /// A script as far as it is explained.
 #[derive(Drop)]
@@ -24,10 +25,7 @@ pub struct Session {
     options: Options,
     /// The table that stands, if one does.
     table: Option<Table>,
-    /// What that table showed before the line.
-    view: View,
-    /// What is not yet written.
-    sheet: Sheet,
+    explanation: Explanation,
     /// How many lines were read.
     lines: u64,
     /// How many of them were malformed.
@@ -42,13 +40,12 @@ impl Session {
         } else {
             COLUMNS
         };
-        let sheet = Sheet::open(alloc, width, options.has_colors)?;
+        let explanation = Explanation::open(alloc, width, options.has_colors)?;
         Ok(Session {
             alloc,
             options,
             table: None,
-            view: View::of_no_table(alloc),
-            sheet,
+            explanation,
             lines: 0,
             malformed: 0,
         })
@@ -70,23 +67,18 @@ impl Session {
     ) -> Result<(), ExplainFault>
         ensures { input.new ≡ record input.old { held = input.new.held } }
     {
-        self.explain_lines(input)?;
-        self.write(writer)
-    }
-
-    /// Explains the lines whose newline was read, as far as they are wanted.
-    fn explain_lines(&mut self, input: &mut Input) -> Result<(), AllocError>
-        ensures { input.new ≡ record input.old { held = input.new.held } }
-    {
         while !self.is_over() {
             let Some((line, _)) = split_once(b'\n', input.held()) else {
                 break;
             };
             let len = line.len();
             self.explain_line(line)?;
+            if self.explanation.sheet.bytes.len() >= MAX_HELD {
+                self.write(writer)?;
+            }
             input.drop_front(len + 1);
         }
-        Ok(())
+        self.write(writer)
     }
 
     /// Explains the line that no newline ends, unless it is empty or not wanted.
@@ -97,14 +89,28 @@ impl Session {
         self.explain_line(line)
     }
 
-    /// Runs a line, and explains it where it is wanted.
+    /// Runs a line, and explains it if its text is printed.
     fn explain_line(&mut self, line: &[u8]) -> Result<(), AllocError> {
         self.lines = self.lines.saturating_add(1);
-        let outcome = self.answer(line);
-        if !self.is_wanted() {
-            self.sheet.clear();
+        match line_of(line) {
+            Line::Silent => self.add_heading(line, None),
+            Line::Malformed => {
+                self.malformed = self.malformed.saturating_add(1);
+                self.add_heading(line, Some(&Reply::Malformed));
+            }
+            Line::Call(call) if self.is_wanted() => return self.explain_call(line, call),
+            Line::Call(call) => {
+                let _reply = make(&mut self.table, self.alloc, call);
+            }
         }
-        outcome
+        Ok(())
+    }
+
+    /// Adds a line with its number and its reply, if its text is printed.
+    fn add_heading(&mut self, line: &[u8], reply: Option<&Reply>) {
+        if self.is_wanted() {
+            add_heading(&mut self.explanation.sheet, self.lines, line, reply);
+        }
     }
 
     /// Whether the text of the last line is printed.
@@ -112,69 +118,49 @@ impl Session {
         !self.options.mermaid && !self.options.dot && (self.options.at.is_none() || self.is_over())
     }
 
-    /// Runs a line, and explains it.
-    fn answer(&mut self, line: &[u8]) -> Result<(), AllocError> {
-        match line_of(line) {
-            Line::Silent => {
-                add_heading(&mut self.sheet, self.lines, line, None);
-                Ok(())
-            }
-            Line::Malformed => {
-                self.malformed = self.malformed.saturating_add(1);
-                add_heading(&mut self.sheet, self.lines, line, Some(&Reply::Malformed));
-                Ok(())
-            }
-            Line::Call(call) => self.explain_call(line, call),
-        }
-    }
-
     /// Makes a call, and explains it.
     fn explain_call(&mut self, line: &[u8], call: Call) -> Result<(), AllocError> {
-        if let Some(key) = ending_key(call) {
-            self.list_owned(key);
+        if self.options.at.is_some() {
+            self.look()?;
         }
+        self.list_ending(call);
         let reply = make(&mut self.table, self.alloc, call);
-        add_heading(&mut self.sheet, self.lines, line, Some(&reply));
+        let explanation = &mut self.explanation;
+        add_heading(&mut explanation.sheet, self.lines, line, Some(&reply));
         if let Reply::Refused(refusal) = reply {
-            explain_refusal(&mut self.sheet, refusal);
+            explain_refusal(&mut explanation.sheet, refusal);
             return Ok(());
         }
-        self.explain_reply(call, &reply)
-    }
-
-    /// Lists what the key owns.
-    fn list_owned(&mut self, key: Key) {
-        if let Some(table) = &self.table {
-            self.view.list_owned(table, key);
+        match &self.table {
+            Some(table) => explanation.explain_accepted(table, call, &reply),
+            None => Ok(()),
         }
     }
 
-    /// Explains a call that was not refused.
-    fn explain_reply(&mut self, call: Call, reply: &Reply) -> Result<(), AllocError> {
+    /// Takes what the table shows now into the view: no line before this one was explained.
+    fn look(&mut self) -> Result<(), AllocError> {
         match &self.table {
-            Some(table) => {
-                explain_accepted(
-                    &mut self.sheet,
-                    self.alloc,
-                    table,
-                    &mut self.view,
-                    call,
-                    reply,
-                )
-            }
+            Some(table) => self.explanation.look(table),
             None => Ok(()),
+        }
+    }
+
+    /// Lists what the transaction owns that the call ends, if it ends one.
+    fn list_ending(&mut self, call: Call) {
+        if let (Some(table), Call::Finish(key) | Call::Abort(key)) = (&self.table, call) {
+            self.explanation.view.list_owned(table, key);
         }
     }
 
     /// Writes what is explained.
     fn write<W: Write>(&mut self, writer: &mut W) -> Result<(), ExplainFault> {
-        if self.sheet.is_short {
+        if self.explanation.sheet.is_short {
             return Err(ExplainFault::Memory);
         }
-        if writer.write_all(&self.sheet.bytes).is_err() {
+        if writer.write_all(&self.explanation.sheet.bytes).is_err() {
             return Err(ExplainFault::Lines(Fault::Write));
         }
-        self.sheet.clear();
+        self.explanation.sheet.clear();
         Ok(())
     }
 
@@ -206,36 +192,10 @@ impl Session {
 
     /// Adds the picture of this format.
     fn draw(&mut self, format: Format) -> Result<(), AllocError> {
-        draw(
-            &mut self.sheet,
-            self.alloc,
-            &self.table,
+        let picture = Picture {
             format,
-            self.options.all,
-        )
-    }
-}
-
-/// Explains a call that the table accepted.
-fn explain_accepted(
-    sheet: &mut Sheet,
-    alloc: Global,
-    table: &Table,
-    view: &mut View,
-    call: Call,
-    reply: &Reply,
-) -> Result<(), AllocError> {
-    view.turn_to(alloc, table.config())?;
-    explain_hand_over(sheet, table, view, call);
-    explain_changes(sheet, table, view)?;
-    explain_call(sheet, table, view, call, reply);
-    Ok(())
-}
-
-/// The key of a call that ends its transaction.
-fn ending_key(call: Call) -> Option<Key> {
-    match call {
-        Call::Finish(key) | Call::Abort(key) => Some(key),
-        _ => None,
+            all: self.options.all,
+        };
+        picture.draw(&mut self.explanation.sheet, self.alloc, &self.table)
     }
 }

@@ -1,6 +1,6 @@
 -- The edges of the wait-for graph of a table.
 use Rattle.std.specs.Prelude.{◌≡◌, ℕ, Option, Some, option_map, option_and_then}
-use Rattle.mm_list_lemmas.specs.Members.{Among}
+use Rattle.mm_lists.specs.Members.{Among}
 use Rattle.mm_rules.specs.TableState.{TableState, key_of, owner_of, wait_of}
 use Rattle.mm_graph.specs.declared.edges.Edge.{Edge}
 

@@ -1,6 +1,6 @@
 //! The waits of a table, each with its holder.
 ghost use Rattle.std.specs.Prelude.{◌≡◌, ◌≤◌, ◌↔◌, ◌<◌, map, vec_capacity};
-ghost use Rattle.mm_list_lemmas.specs.Members.{Among, NoRepeat};
+ghost use Rattle.mm_lists.specs.Members.{Among, NoRepeat};
 ghost use Rattle.mm_graph.specs.Edges.{edge_at, IsEdge};
 
 use mm_table::{Key, Mode, Table};

@@ -4,6 +4,9 @@
 /// How many processes a table can have: so many transactions at once.
 pub const MAX_PROCESSES: u32 = 65_536;
 
+/// A count of a table that is this or more refuses each event.
+pub const COUNT_LIMIT: u64 = 1 << 62;
+
 /// How many resources a table can have.
 pub const MAX_RESOURCES: u32 = 65_536;
 

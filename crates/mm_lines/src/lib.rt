@@ -5,6 +5,7 @@
 //! - `input`: the bytes that are read and not yet answered.
 //! - `output`: writes the replies that wait.
 //! - `words`: the words of a line, and the numbers and keys that they spell.
+//! - `table`: the row of a table that has a word.
 //! - `cut`: where bytes are cut.
 #![tactic(auto)]
 
@@ -13,6 +14,7 @@ mod fault;
 mod input;
 mod output;
 mod server;
+mod table;
 mod words;
 
 pub use cut::{split_once, without_carriage_return};
@@ -22,4 +24,5 @@ pub use output::{
     OUTPUT_LEN, Output, make_room, print_key, print_number, print_text, write_output,
 };
 pub use server::{Answerer, serve};
-pub use words::Words;
+pub use table::row_of;
+pub use words::{Words, number32};

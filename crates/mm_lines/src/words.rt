@@ -86,8 +86,8 @@ fn number64(word: &[u8]) -> Option<u64>
     Some(number)
 }
 
-/// The number that a word spells, if it fits.
-fn number32(word: &[u8]) -> Option<u32>
+/// Returns the number that a word spells, if it fits: 1 to 20 decimal digits.
+pub fn number32(word: &[u8]) -> Option<u32>
     ensures { result ≡ number_at_most u32.MAX word.now }
 {
     u32::try_from(number64(word)?).ok()

@@ -39,6 +39,8 @@ pub mod May
 pub mod Limits
 pub mod Unowned
 pub mod Unlocks
+-- a walk along the waits from a victim
+pub mod Walk
 -- who waits, and for what
 pub mod Reads
 -- what an event leaves of labels and waits

@@ -1,7 +1,7 @@
 -- What the calls do, in terms of names.
 use Rattle.std.specs.Prelude.{◌≡◌, ◌≢◌, ◌⊎◌, ◌↔◌, ℕ, Bool, true, false, List, [], ◌∷◌, ◌++◌, length, Some, Result, Ok, Err, slice_set}
 use Rattle.mm_arena.specs.declared.key.Key.{Key}
-use Rattle.mm_list_lemmas.specs.Members.{Among}
+use Rattle.mm_lists.specs.Members.{Among}
 use Rattle.mm_bit_set.specs.BitSet.{has}
 use Rattle.mm_names.specs.Names.{NameTable, name_of, Interns}
 use Rattle.mm_rules.specs.declared.reply.Released.{Released}
@@ -168,14 +168,14 @@ Commits old k (Err refusal) new = (new ≡ untold old) × (may_ask old.table k �
 
 -- ---- a wait that is taken back
 
--- k waits for nothing from now on, and owns what it owned; these are the marks then; all else stays, and nobody is told of
+-- k waits for nothing from now on, and owns what it owned; these are the marks then; all else stays but the counts, and nobody is told of
 pub record TakesBack (old : LockState) (k : Key) (due : List Bool) (new : LockState) : Type 0 where
   pub made : MadeWithdrawal k old.table new.table
   pub idle : (name : List ℕ) → ¬ Waits new k name
   pub owners : (h : Key) (name : List ℕ) → Owns new h name ↔ Owns old h name
   pub others : (h : Key) (name : List ℕ) → h.process ≢ k.process → Waits new h name ↔ Waits old h name
   pub verdicts : (v : ℕ) → has_verdict new.table v ≡ has_verdict old.table v
-  pub state : new ≡ record (untold old) { table = new.table; due = due }
+  pub state : new ≡ record (untold old) { table = new.table; due = due; totals = new.totals }
 
 -- the table refuses the withdrawal of k as `Carried`: k waits, directly or over others, for a victim, which has yet to abort
 abbrev pub IsCarried : TableState → Key → Type 0

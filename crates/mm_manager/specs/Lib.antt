@@ -1,3 +1,5 @@
+-- a walk along the waits
+pub mod Walk
 -- what a contract sees of a lock manager
 pub mod LockState
 -- the numbers of an opening

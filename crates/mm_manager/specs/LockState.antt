@@ -1,12 +1,13 @@
 -- What a contract sees of a lock manager, and who owns and who waits for which name. A name is a list of bytes.
-use Rattle.std.specs.Prelude.{◌≡◌, ◌≢◌, ◌↔◌, ◌≤◌, ℕ, Bool, true, false, List, [], length, Some, None, is_some, if◌then◌else◌}
+use Rattle.std.specs.Prelude.{◌≡◌, ◌≢◌, ◌↔◌, ◌≤◌, ◌<◌, ℕ, Bool, true, false, List, [], length, Some, None, is_some, if◌then◌else◌}
 use Rattle.mm_arena.specs.declared.key.Key.{Key}
 use Rattle.mm_bit_set.specs.BitSet.{has}
 use Rattle.mm_names.specs.Names.{NameTable, name_of, IsLawful as IsLawfulNames}
-use Rattle.mm_rules.specs.TableState.{TableState, owner_of, wait_of, is_waiting, has_verdict}
+use Rattle.mm_rules.specs.TableState.{TableState, is_live, owner_of, wait_of, is_waiting, has_verdict}
 use Rattle.mm_rules.specs.Laws.{Laws, AtRest}
 use Rattle.mm_settled.specs.declared.reply.Grant.{Grant}
 use Rattle.mm_manager.specs.Totals.{all_of}
+use Rattle.mm_manager.specs.Walk.{walk}
 use Rattle.mm_manager.specs.declared.totals.Totals.{Totals}
 
 pub record LockState : Type 0 where
@@ -45,6 +46,11 @@ pub record IsLawful (m : LockState) : Type 0 where
   pub rest : AtRest m.table
   pub names : IsLawfulNames m.names  -- no two numbers have one name
   pub numbered : (n : ℕ) → (name_of m.names n ≡ None) ↔ (owner_of m.table n ≡ None)  -- a number has a name exactly while it has an owner
+  pub marks : length m.due ≡ m.table.config.processes  -- each process has a mark
   pub due : (n : ℕ) → has m.due n ≡ true → (is_waiting m.table n ≡ true) × (has_verdict m.table n ≡ false)  -- each transaction whose abort is due waits, in no deadlock
   pub waited : (k : Key) (name : List ℕ) → Waits m k name → (h : Key) × Owns m h name × (h.process ≢ k.process)  -- who waits, waits for an owner
+  pub slots : (k : Key) → is_live m.table k ≡ true → k.process < m.table.config.processes  -- a live transaction has one of the slots
+  pub alone : (j k : Key) → is_live m.table j ≡ true → is_live m.table k ≡ true → j.process ≡ k.process → j ≡ k  -- no two have one slot
+  pub returns : (k : Key) → is_live m.table k ≡ true → has_verdict m.table k.process ≡ true
+      → (i : ℕ) × (0 < i) × (i ≤ m.table.config.processes) × (walk m.table i k ≡ Some k)  -- a walk along the waits from a victim returns to it
   pub counted : all_of m.totals ≤ m.table.totals.accepted  -- the counts together are no more than the events

@@ -5,6 +5,7 @@ use Rattle.mm_arena.specs.declared.key.Key.{Key}
 use Rattle.mm_bit_set.specs.BitSet.{has}
 use Rattle.mm_rules.specs.TableState.{TableState, key_of, is_live, owner_of, wait_of, has_verdict}
 use Rattle.mm_manager.specs.LockState.{LockState}
+use Rattle.mm_manager.specs.declared.config.ManagerConfig.{ManagerConfig}
 use Rattle.mm_manager.specs.declared.refusal.Refusal.{Refusal}
 use Rattle.mm_manager.specs.declared.refusal.Refusal.TheVariants.{NoTransaction}
 use Rattle.mm_manager.specs.declared.reply.Status.{Status}
@@ -26,6 +27,10 @@ Does m p (status.Deadlock n h) = IsHeldUp m p n h × (has_verdict m.table p ≡ 
 abbrev pub HasStatus : LockState → Key → Result Status Refusal → Type 0
 HasStatus m k (Ok told) = (is_live m.table k ≡ true) × Does m k.process told
 HasStatus m k (Err refusal) = (is_live m.table k ≡ false) × (refusal ≡ NoTransaction)
+
+-- the numbers with which the manager was opened; the seed is not told, and 0 stands for it
+abbrev pub config_of : LockState → ManagerConfig
+config_of m = record { transactions = m.table.config.processes; names = m.table.config.resources; name_bytes = m.names.name_bytes; seed = 0 }
 
 -- ---- the wait-for graph
 

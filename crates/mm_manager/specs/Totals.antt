@@ -12,11 +12,11 @@ use Rattle.mm_manager.specs.declared.totals.Totals.{Totals}
 
 -- nothing was counted
 abbrev pub nothing_counted : Totals
-nothing_counted = record { begun = 0; committed = 0; aborted = 0; deadlocks = 0 }
+nothing_counted = record { begun = 0; committed = 0; aborted = 0; deadlocks = 0; waits = 0; withdrawn = 0 }
 
 -- the sum of the counts
 abbrev pub all_of : Totals → ℕ
-all_of t = t.begun + t.committed + t.aborted + t.deadlocks
+all_of t = t.begun + t.committed + t.aborted + t.deadlocks + t.waits + t.withdrawn
 
 abbrev pub after_begin : Totals → Result Key Refusal → Totals
 after_begin t (Ok key) = record t { begun = t.begun + 1 }
@@ -24,7 +24,7 @@ after_begin t (Err refusal) = t
 
 abbrev pub after_lock : Totals → Result Lock Refusal → Totals
 after_lock t (Ok (lock.Deadlock h)) = record t { deadlocks = t.deadlocks + 1 }
-after_lock t (Ok (lock.Waits h)) = t
+after_lock t (Ok (lock.Waits h)) = record t { waits = t.waits + 1 }
 after_lock t (Ok lock.Granted) = t
 after_lock t (Ok lock.Held) = t
 after_lock t (Err refusal) = t
@@ -44,9 +44,9 @@ after_abort t (Ok aborts.Done) came_due = record t { aborted = t.aborted + (1 + 
 after_abort t (Ok aborts.Later) came_due = t
 after_abort t (Err refusal) came_due = t
 
--- a wait that was taken back of one whose abort was due is its abort
+-- if the abort of who takes back its wait was due, it ends, and is counted as aborted too
 abbrev pub after_cancel : Totals → Result cancel.Cancel Refusal → Bool → ℕ → Totals
-after_cancel t (Ok cancels.Withdrawn) true came_due = record t { aborted = t.aborted + (1 + came_due) }
-after_cancel t (Ok cancels.Withdrawn) false came_due = t
+after_cancel t (Ok cancels.Withdrawn) true came_due = record t { aborted = t.aborted + (1 + came_due); withdrawn = t.withdrawn + 1 }
+after_cancel t (Ok cancels.Withdrawn) false came_due = record t { withdrawn = t.withdrawn + 1 }
 after_cancel t (Ok cancels.Carried) was_due came_due = t
 after_cancel t (Err refusal) was_due came_due = t

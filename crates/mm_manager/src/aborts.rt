@@ -1,52 +1,86 @@
-//! The ends of transactions that wait.
-ghost use Rattle.std.specs.Prelude.{◌≡◌, [], Ok, length};
+//! The ends of transactions that wait, and the waits that are taken back.
+ghost use Rattle.std.specs.Prelude.{◌≡◌, Ok, length};
+ghost use Rattle.mm_bit_set.specs.BitSet.{has};
+ghost use Rattle.mm_manager.specs.Calls.{Aborts, Cancels};
 ghost use Rattle.mm_manager.specs.Permit.{may_cancel};
-ghost use Rattle.mm_manager.specs.private.Aborts.{AbortsWaiting, TookBack, seen};
-ghost use Rattle.mm_manager.specs.Calls.{Aborts};
-ghost use Rattle.mm_manager.specs.Totals.{after_abort};
+ghost use Rattle.mm_manager.specs.Totals.{after_abort, after_cancel};
 ghost use Rattle.mm_manager.specs.declared.totals.Totals.{Totals as TotalsValue};
-ghost use Rattle.mm_manager.specs.private.Handed.{AreParts};
+ghost use Rattle.mm_manager.specs.private.Aborts.{AbortsWaiting, TookBack, cancel_of, seen};
+ghost use Rattle.mm_manager.specs.private.Handed.{AreCleared, AreParts};
 ghost use Rattle.mm_manager.specs.private.Room.{HasReserve};
 
-use crate::lists::Lists;
-use crate::parts::end;
-use crate::reply::Abort as Aborted;
-use crate::{Cancel, Key, Refusal};
-use mm_names::Names;
+use crate::parts::Parts;
+use crate::permit::may_cancel;
+use crate::{Abort, Cancel, Key, Refusal};
 use mm_settled::{EndKind, SettledTable};
 use mm_table::Mode;
 
-/// Ends a transaction that waits in no deadlock: at once if its wait can be taken back, and else as soon as its wait ends.
-pub fn abort_waiting(
-    table: &mut SettledTable,
-    names: &mut Names,
-    lists: &mut Lists,
-    key: Key,
-) -> Aborted
-    requires parts { AreParts table.old.table names.old lists.old }
-    requires none_granted { lists.old.granted.items ≡ [] }
-    requires none_aborted { lists.old.aborted.items ≡ [] }
-    requires may { may_cancel table.old.table key ≡ Ok tt }
-    ensures aborts { AbortsWaiting table.old.table names.old lists.old key result table.new.table names.new lists.new }
-    ensures parts { AreParts table.new.table names.new lists.new }
-{
-    table.is_at_rest();
-    match take_back(table, key) {
-        Cancel::Withdrawn => {
-            lists.due[key.process as usize] = false;
-            end(table, names, lists, EndKind::Finish, key);
-            Aborted::Done
+impl Parts {
+    /// Ends any live transaction.
+    #[inline(never)]
+    pub fn abort(&mut self, key: Key) -> Result<Abort, Refusal>
+        requires { AreParts self.old }
+        ensures aborts { (before : TotalsValue) → Aborts (seen self.old before) key result (seen self.new (after_abort before result (length self.new.lists.aborted.items))) }
+        ensures parts { AreParts self.new }
+    {
+        self.lists.clear();
+        self.named.table.is_at_rest();
+        let Ok(state) = self.named.table.table().state(key) else {
+            return Err(Refusal::NoTransaction);
+        };
+        match state.mode {
+            Mode::Active => {
+                self.end(EndKind::Finish, key);
+                Ok(Abort::Done)
+            }
+            Mode::Convicted(_) => {
+                self.end(EndKind::Abort, key);
+                Ok(Abort::Done)
+            }
+            Mode::Waiting(_) => Ok(self.abort_waiting(key)),
         }
-        Cancel::Carried => {
-            lists.due[key.process as usize] = true;
-            Aborted::Later
+    }
+
+    /// Takes back the wait of a transaction. One whose abort is due ends then.
+    pub fn cancel(&mut self, key: Key) -> Result<Cancel, Refusal>
+        requires { AreParts self.old }
+        ensures cancels { (before : TotalsValue) → Cancels (seen self.old before) key result (seen self.new (after_cancel before result (has self.old.lists.due.items key.process) (length self.new.lists.aborted.items))) }
+        ensures parts { AreParts self.new }
+    {
+        self.lists.clear();
+        self.named.table.is_at_rest();
+        may_cancel(self.named.table.table(), key)?;
+        if self.lists.due[key.process as usize] {
+            return Ok(of_abort(self.abort_waiting(key)));
+        }
+        Ok(take_back(&mut self.named.table, key))
+    }
+
+    /// Ends a transaction that waits in no deadlock: at once if its wait can be taken back, and else as soon as its wait ends.
+    fn abort_waiting(&mut self, key: Key) -> Abort
+        requires cleared { AreCleared self.old }
+        requires may { may_cancel self.old.named.table.table key ≡ Ok tt }
+        ensures aborts { AbortsWaiting self.old key result self.new }
+        ensures parts { AreParts self.new }
+    {
+        self.named.table.is_at_rest();
+        match take_back(&mut self.named.table, key) {
+            Cancel::Withdrawn => {
+                self.lists.due[key.process as usize] = false;
+                self.end(EndKind::Finish, key);
+                Abort::Done
+            }
+            Cancel::Carried => {
+                self.lists.due[key.process as usize] = true;
+                Abort::Later
+            }
         }
     }
 }
 
 /// Takes back the wait of a transaction that waits in no deadlock, unless the table refuses that: then a victim is ahead, which has yet
 /// to abort.
-pub fn take_back(table: &mut SettledTable, key: Key) -> Cancel
+fn take_back(table: &mut SettledTable, key: Key) -> Cancel
     requires may { may_cancel table.old.table key ≡ Ok tt }
     requires left { HasReserve table.old.table }
     ensures took_back { TookBack table.old.table key result table.new.table }
@@ -59,32 +93,12 @@ pub fn take_back(table: &mut SettledTable, key: Key) -> Cancel
     }
 }
 
-/// Ends any live transaction.
-#[inline(never)]
-pub fn abort_any(
-    table: &mut SettledTable,
-    names: &mut Names,
-    lists: &mut Lists,
-    key: Key,
-) -> Result<Aborted, Refusal>
-    requires { AreParts table.old.table names.old lists.old }
-    ensures aborts { (before : TotalsValue) → Aborts (seen table.old.table names.old lists.old before) key result (seen table.new.table names.new lists.new (after_abort before result (length lists.new.aborted.items))) }
-    ensures parts { AreParts table.new.table names.new lists.new }
+/// What a cancel answers whose abort had this answer.
+fn of_abort(answer: Abort) -> Cancel
+    ensures { result ≡ cancel_of answer }
 {
-    lists.clear();
-    table.is_at_rest();
-    let Ok(state) = table.table().state(key) else {
-        return Err(Refusal::NoTransaction);
-    };
-    match state.mode {
-        Mode::Active => {
-            end(table, names, lists, EndKind::Finish, key);
-            Ok(Aborted::Done)
-        }
-        Mode::Convicted(_) => {
-            end(table, names, lists, EndKind::Abort, key);
-            Ok(Aborted::Done)
-        }
-        Mode::Waiting(_) => Ok(abort_waiting(table, names, lists, key)),
+    match answer {
+        Abort::Done => Cancel::Withdrawn,
+        Abort::Later => Cancel::Carried,
     }
 }

@@ -3,13 +3,12 @@
 //! - `config`, `refusal`, `reply`: the plain data of calls.
 //! - `permit`: what a call is refused for before the table is asked.
 //! - `numbers`: a number has a name exactly while it has an owner.
-//! - `hand_over`: the calls by which names are handed over.
+//! - `named`: a table whose resources have names.
 //! - `due`: the ends of those whose abort comes due in a call.
 //! - `lists`: what the last call told, and whose abort is due.
 //! - `open`: the parts of a manager that is opened.
-//! - `aborts`: the ends of transactions that wait.
-//! - `cancels`: the waits that are taken back.
-//! - `parts`: the calls over the parts of a manager.
+//! - `aborts`: the ends of transactions that wait, and the waits that are taken back.
+//! - `parts`: the parts of a manager, and the calls over them.
 //! - `manager`: `LockManager`, with one method for each call.
 //! - `request`: a request for a name.
 //! - `reads`: what can be read of a manager.
@@ -18,13 +17,12 @@
 #![tactic(auto)]
 
 mod aborts;
-mod cancels;
 mod config;
 mod due;
 mod graph;
-mod hand_over;
 mod lists;
 mod manager;
+mod named;
 mod numbers;
 mod open;
 mod parts;

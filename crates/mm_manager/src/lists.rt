@@ -4,7 +4,7 @@ ghost use Rattle.std.specs.Prelude.{◌≡◌, ◌≤◌, ◌+◌, ◌++◌, [],
 use crate::{Grant, Key, ManagerConfig};
 use std::alloc::{AllocError, Global};
 
-/// What the last call told, whose abort is due, and room for what a call hands over. All memory is taken at opening.
+/// What the last call told, and whose abort is due. All memory is taken at opening.
 #[derive(Drop)]
 pub struct Lists {
     /// Whom the call granted what, in order.
@@ -13,12 +13,11 @@ pub struct Lists {
     pub aborted: Vec<Key>,
     /// By process: whether its transaction is aborted as soon as its wait ends.
     pub due: Vec<bool>,
-    /// The numbers of a transaction that ends. What it has between calls means nothing.
-    pub owned: Vec<u32>,
 }
 
 impl Lists {
-    ghost use Rattle.mm_manager.specs.private.Lists.{Fits};
+    ghost use Rattle.mm_bit_set.specs.BitSet.{has};
+    ghost use Rattle.mm_manager.specs.private.Lists.{Clears, Fits};
     ghost use Rattle.mm_manager.specs.Opening.{table_config};
 
     /// Empty lists with room for what a call can tell of a manager of this configuration. No abort is due.
@@ -30,27 +29,30 @@ impl Lists {
     {
         let (granted, aborted) = two_lists(alloc, config.transactions)?;
         let due = vec![in alloc; false; config.transactions as usize]?;
-        let owned = Vec::with_capacity(alloc, config.names as usize)?;
         Ok(Lists {
             granted,
             aborted,
             due,
-            owned,
         })
     }
 
     /// Tells of nobody from now on.
     #[inline]
     pub fn clear(&mut self)
-        ensures granted { self.new.granted.items ≡ [] }
-        ensures aborted { self.new.aborted.items ≡ [] }
-        ensures room_to_grant { vec_capacity self.new.granted ≡ vec_capacity self.old.granted }
-        ensures room_to_abort { vec_capacity self.new.aborted ≡ vec_capacity self.old.aborted }
-        ensures due { self.new.due ≡ self.old.due }
-        ensures owned { self.new.owned ≡ self.old.owned }
+        ensures { Clears self.old self.new }
     {
         self.granted.clear();
         self.aborted.clear();
+    }
+
+    /// Whether the abort of the transaction in this key's process is due.
+    pub fn is_due(&self, key: Key) -> bool
+        ensures { result ≡ has self.now.due.items key.process }
+    {
+        match self.due.get(key.process as usize) {
+            Some(is_due) => *is_due,
+            None => false,
+        }
     }
 
     /// How many aborts came due in the call.

@@ -3,28 +3,28 @@ ghost use Rattle.std.specs.Prelude.{◌≡◌, ◌↔◌, ◌≤◌, ℕ, List, 
 ghost use Rattle.std.specs.Bool.{OnTrue};
 ghost use Rattle.mm_arena.specs.declared.key.Key.{Key as KeyValue};
 ghost use Rattle.mm_bit_set.specs.BitSet.{has};
-ghost use Rattle.mm_list_lemmas.specs.Members.{Among, NoRepeat};
+ghost use Rattle.mm_lists.specs.Members.{Among, NoRepeat};
 ghost use Rattle.mm_names.specs.Names.{name_of};
 ghost use Rattle.mm_rules.specs.TableState.{owner_of};
+ghost use Rattle.mm_rules.specs.Event.{tenant_of};
 ghost use Rattle.mm_settled.specs.Calls.{OthersKeepVerdicts};
 ghost use Rattle.mm_manager.specs.LockState.{Owns, IsLawful};
 ghost use Rattle.mm_manager.specs.Permit.{may_ask, may_request};
 ghost use Rattle.mm_manager.specs.Opening.{opening_state, IsTransactionsOut, IsNamesOut, IsNameBytesOut};
 ghost use Rattle.mm_manager.specs.Calls.{Begins, LocksName, TriesName, Requests, Tries, UnlocksName, Commits, Aborts, Cancels};
-ghost use Rattle.mm_manager.specs.Reads.{HasStatus, waits_of};
+ghost use Rattle.mm_manager.specs.Made.{Locked};
+ghost use Rattle.mm_manager.specs.Reads.{HasStatus, config_of, waits_of};
 ghost use Rattle.mm_manager.specs.Totals.{after_begin, after_lock, after_unlock, after_commit, after_abort, after_cancel};
 
-use crate::aborts::abort_any;
-use crate::cancels::{cancel_any, is_due};
 use crate::lists::Lists;
+use crate::named::NamedTable;
 use crate::numbers::owner_of;
 use crate::open::{open_names, open_table};
+use crate::parts::Parts;
 use crate::{
     Abort, Cancel, Grant, Graph, Key, Lock, ManagerConfig, OpenError, Refusal, Status, Totals,
-    TryLock, parts, reads,
+    TryLock, reads,
 };
-use mm_names::Names;
-use mm_settled::SettledTable;
 use std::alloc::Global;
 use std::marker::Model;
 
@@ -34,9 +34,7 @@ use std::marker::Model;
 /// it did for others, in `granted` and in `aborted`; a refused call changes nothing, tells of nobody and counts nothing. No call but `open`
 /// takes memory.
 pub struct LockManager {
-    table: SettledTable,
-    names: Names,
-    lists: Lists,
+    parts: Parts,
     totals: Totals,
 }
 
@@ -44,9 +42,7 @@ pub struct LockManager {
 impl Drop for LockManager {
     fn drop(self) {
         let LockManager {
-            table: _,
-            names: _,
-            lists: _,
+            parts: _,
             totals: _,
         } = self;
     }
@@ -68,7 +64,7 @@ impl LockManager {
     ///
     /// Refused as `Transactions`, `Names` or `NameBytes` exactly where that number is out of its range and those before it are not, and
     /// as `Memory` only where a request for memory was refused. This is the one call that takes memory: what `SettledTable::open` and
-    /// `Names::open` take, for each transaction 25 bytes, and for each name 4.
+    /// `Names::open` take, and for each transaction 25 bytes.
     pub fn open(alloc: Global, config: ManagerConfig) -> Result<LockManager, OpenError>
         ensures opened { IfOk result (λ manager. manager ≡ opening_state config) }
         ensures transactions { (result ≡ Err OpenError.Transactions) ↔ IsTransactionsOut config }
@@ -90,10 +86,9 @@ impl LockManager {
         let lists = Lists::open(alloc, config)?;
         let names = open_names(alloc, config)?;
         let table = open_table(alloc, config)?;
+        let named = NamedTable { table, names };
         Ok(LockManager {
-            table,
-            names,
-            lists,
+            parts: Parts { named, lists },
             totals: Totals::NONE,
         })
     }
@@ -107,7 +102,7 @@ impl LockManager {
         ensures begins { Begins self.old result self.new }
         ensures totals { self.new.totals ≡ after_begin self.old.totals result }
     {
-        let answer = parts::begin(&mut self.table, &self.names, &mut self.lists);
+        let answer = self.parts.begin();
         self.totals.count_begin(&answer);
         answer
     }
@@ -124,7 +119,7 @@ impl LockManager {
     /// `NameTooLong`, `NamesFull` or `LabelsFull`, which are tested in this order: as `CountsFull` where `begin` is, as `NamesFull` where
     /// nobody owns the name and all numbers are taken, and as `LabelsFull` where it would wait, and half as many events were counted as
     /// labels can be high, 8,796,093,022,207, or more. `O(length)` where it does not wait; a wait costs the settle that follows.
-    // In place: it is one call itself, of `parts::lock`.
+    // In place: it is one call itself, of `Parts::lock`.
     #[inline(always)]
     pub fn lock(&mut self, key: Key, name: &[u8]) -> Result<Lock, Refusal>
         ensures locks { LocksName self.old key name.now result self.new }
@@ -159,23 +154,9 @@ impl LockManager {
     #[inline(always)]
     fn ask_for(&mut self, key: Key, name: &[u8], is_active: bool) -> Result<Lock, Refusal>
         requires { OnTrue is_active (may_ask self.old.table key ≡ Ok tt) }
-        ensures locks { LocksName self.old key name.now result self.new }
-        ensures may { OnOk result (may_request self.old.table self.old.names.name_bytes key name.now ≡ Ok tt) }
-        ensures step { IfOk result (λ answer. Requests self.old.table self.old.names key name.now answer self.new.table self.new.names) }
-        ensures others { OthersKeepVerdicts self.old.table self.new.table key.process }
-        ensures due { self.new.due ≡ self.old.due }
-        ensures granted { self.new.granted ≡ [] }
-        ensures aborted { self.new.aborted ≡ [] }
-        ensures totals { self.new.totals ≡ after_lock self.old.totals result }
+        ensures { Locked self.old key name.now result self.new }
     {
-        let answer = parts::lock(
-            &mut self.table,
-            &mut self.names,
-            &mut self.lists,
-            key,
-            name,
-            is_active,
-        );
+        let answer = self.parts.lock(key, name, is_active);
         self.totals.count_lock(&answer);
         answer
     }
@@ -198,7 +179,7 @@ impl LockManager {
         ensures aborted { self.new.aborted ≡ [] }
         ensures totals { self.new.totals ≡ self.old.totals }
     {
-        parts::try_lock(&mut self.table, &mut self.names, &mut self.lists, key, name)
+        self.parts.try_lock(key, name)
     }
 
     /// Hands the name over: its longest waiter owns it from now on and is listed in `granted`; with no waiter it is free.
@@ -210,8 +191,9 @@ impl LockManager {
         ensures unlocks { UnlocksName self.old key name.now result self.new }
         ensures totals { self.new.totals ≡ after_unlock self.old.totals result (length self.new.aborted) }
     {
-        let answer = parts::unlock(&mut self.table, &mut self.names, &mut self.lists, key, name);
-        self.totals.count_unlock(&answer, self.lists.came_due());
+        let answer = self.parts.unlock(key, name);
+        self.totals
+            .count_unlock(&answer, self.parts.lists.came_due());
         answer
     }
 
@@ -223,8 +205,9 @@ impl LockManager {
         ensures commits { Commits self.old key result self.new }
         ensures totals { self.new.totals ≡ after_commit self.old.totals result (length self.new.aborted) }
     {
-        let answer = parts::commit(&mut self.table, &mut self.names, &mut self.lists, key);
-        self.totals.count_commit(&answer, self.lists.came_due());
+        let answer = self.parts.commit(key);
+        self.totals
+            .count_commit(&answer, self.parts.lists.came_due());
         answer
     }
 
@@ -240,8 +223,9 @@ impl LockManager {
         ensures aborts { Aborts self.old key result self.new }
         ensures totals { self.new.totals ≡ after_abort self.old.totals result (length self.new.aborted) }
     {
-        let answer = abort_any(&mut self.table, &mut self.names, &mut self.lists, key);
-        self.totals.count_abort(&answer, self.lists.came_due());
+        let answer = self.parts.abort(key);
+        self.totals
+            .count_abort(&answer, self.parts.lists.came_due());
         answer
     }
 
@@ -258,10 +242,10 @@ impl LockManager {
         ensures cancels { Cancels self.old key result self.new }
         ensures totals { self.new.totals ≡ after_cancel self.old.totals result (has self.old.due key.process) (length self.new.aborted) }
     {
-        let was_due = is_due(&self.lists, key);
-        let answer = cancel_any(&mut self.table, &mut self.names, &mut self.lists, key);
+        let was_due = self.parts.lists.is_due(key);
+        let answer = self.parts.cancel(key);
         self.totals
-            .count_cancel(&answer, was_due, self.lists.came_due());
+            .count_cancel(&answer, was_due, self.parts.lists.came_due());
         answer
     }
 
@@ -269,23 +253,23 @@ impl LockManager {
     pub fn granted(&self) -> &[Grant]
         ensures { result.now ≡ self.now.granted }
     {
-        &self.lists.granted
+        &self.parts.lists.granted
     }
 
     /// Whose abort came due in the last call, in order. Constant time.
     pub fn aborted(&self) -> &[Key]
         ensures { result.now ≡ self.now.aborted }
     {
-        &self.lists.aborted
+        &self.parts.lists.aborted
     }
 
     /// The owner of a name; `None` where nobody owns it. `O(length)`.
     pub fn owner(&self, name: &[u8]) -> Option<Key>
         ensures { (k : KeyValue) → (result ≡ Some k) ↔ Owns self.now k name.now }
     {
-        self.names.keeps_laws();
-        let number = self.names.find(name)?;
-        owner_of(self.table.table(), number)
+        self.parts.named.names.keeps_laws();
+        let number = self.parts.named.names.find(name)?;
+        owner_of(self.parts.named.table.table(), number)
     }
 
     /// What a transaction does: nothing that it waits for, or for which name and whose, and whether it is in a deadlock or its abort is due.
@@ -294,7 +278,7 @@ impl LockManager {
     pub fn status(&self, key: Key) -> Result<Status, Refusal>
         ensures { HasStatus self.now key result }
     {
-        reads::status(self.table.table(), &self.lists.due, key)
+        reads::status(self.parts.named.table.table(), &self.parts.lists.due, key)
     }
 
     /// Lists the numbers of the names that the transaction owns, in place of what `numbers` held, each once, in no order that is promised;
@@ -306,7 +290,28 @@ impl LockManager {
         ensures once { NoRepeat numbers.new.items }
         ensures room { vec_capacity numbers.new ≡ vec_capacity numbers.old }
     {
-        self.table.table().owned_by(key, numbers);
+        self.parts.named.table.table().owned_by(key, numbers);
+    }
+
+    /// The live transaction of a slot; `None` if it has none, or is not one of the slots. The slot of a transaction is the `process` of its
+    /// key. Constant time.
+    pub fn transaction_at(&self, slot: u32) -> Option<Key>
+        ensures { result ≡ tenant_of self.now.table slot }
+    {
+        self.parts.named.table.table().tenant(slot)
+    }
+
+    /// The numbers with which the manager was opened. The seed is not told: 0 stands for it. Constant time.
+    pub fn config(&self) -> ManagerConfig
+        ensures { result ≡ config_of self.now }
+    {
+        let table = self.parts.named.table.table().config();
+        ManagerConfig {
+            transactions: table.processes,
+            names: table.resources,
+            name_bytes: self.parts.named.names.name_bytes(),
+            seed: 0,
+        }
     }
 
     /// The wait-for graph: each transaction that waits, the number that it waits for, and the owner of that, in rising order of the waiter's
@@ -315,7 +320,7 @@ impl LockManager {
         ensures { result ≡ waits_of self.now.table }
     {
         Graph {
-            table: self.table.table(),
+            table: self.parts.named.table.table(),
             next: 0,
         }
     }
@@ -324,7 +329,7 @@ impl LockManager {
     pub fn name(&self, number: u32) -> Option<&[u8]>
         ensures { option_copied result ≡ name_of self.now.names number }
     {
-        self.names.name(number)
+        self.parts.named.names.name(number)
     }
 
     /// What was counted since the opening. Constant time.
@@ -339,14 +344,14 @@ impl LockManager {
     pub fn events(&self) -> u64
         ensures { result ≡ self.now.table.totals.accepted }
     {
-        self.table.table().totals().accepted
+        self.parts.named.table.table().totals().accepted
     }
 
     /// Does nothing. Its contract is what holds of any manager that a caller can hold, whatever was called.
     pub fn keeps_laws(&self)
         ensures { IsLawful self.now }
     {
-        self.table.is_at_rest();
-        self.names.keeps_laws();
+        self.parts.named.table.is_at_rest();
+        self.parts.named.names.keeps_laws();
     }
 }

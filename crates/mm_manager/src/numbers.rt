@@ -1,6 +1,6 @@
 //! A number has a name exactly while it has an owner.
 ghost use Rattle.std.specs.Prelude.{◌≡◌, ◌⊎◌, ◌↔◌, ℕ, [], Ok, Err, None, Some, fold, IfOk, IfErr, OnOk, OnErr, IsSome, IsTrue};
-ghost use Rattle.mm_list_lemmas.specs.Members.{Among};
+ghost use Rattle.mm_lists.specs.Members.{Among};
 ghost use Rattle.mm_names.specs.Names.{name_of, with_name, Interns, IsNamed, IsRefusedAsFull};
 ghost use Rattle.mm_rules.specs.TableState.{owner_of};
 ghost use Rattle.mm_manager.specs.Permit.{may_ask, may_name, may_ask_for};
@@ -120,15 +120,16 @@ fn forget_all(names: &mut Names, numbers: &[u32])
     }
 }
 
-/// Takes their names from those of these numbers that nobody owns: from all of them, if the last call granted nothing.
+/// Takes their names from those numbers that the transaction owned that ended last and that nobody owns: from all of them, if the last
+/// call granted nothing.
 #[inline(always)]
-pub fn forget_ended(table: &SettledTable, names: &mut Names, numbers: &[u32])
-    requires { table.now.granted ≡ [] → (q : ℕ) → Among q numbers.now → owner_of table.now.table q ≡ None }
-    ensures { names.new ≡ fold (forgotten table.now.table) names.old numbers.now }
+pub fn forget_ended(table: &SettledTable, names: &mut Names)
+    requires { table.now.granted ≡ [] → (q : ℕ) → Among q table.now.ended → owner_of table.now.table q ≡ None }
+    ensures { names.new ≡ fold (forgotten table.now.table) names.old table.now.ended }
 {
     if table.granted().is_empty() {
-        forget_all(names, numbers);
+        forget_all(names, table.ended());
     } else {
-        forget_each(table.table(), names, numbers);
+        forget_each(table.table(), names, table.ended());
     }
 }

@@ -4,13 +4,14 @@ ghost use Rattle.mm_manager.specs.Permit.{first_refusal, may_ask, may_cancel, ma
 ghost use Rattle.mm_manager.specs.private.Requests.{may_ask_more};
 
 use crate::{Key, Refusal};
+use mm_limits::COUNT_LIMIT;
 use mm_names::Names;
 use mm_settled::Table;
 use mm_table::Mode;
 
-/// Where so many events were counted, no transaction begins and no name is asked for. The table counts 2 to the 62; the others are left
-/// for the ends of those that are live then.
-const EVENT_LIMIT: u64 = (1 << 62) - (1 << 20);
+/// If this many events were counted, no transaction begins and no name is asked for. What is left below the table's limit is for the ends
+/// of those that are live then.
+const EVENT_LIMIT: u64 = COUNT_LIMIT - (1 << 20);
 
 /// Whether a transaction may ask for something: its key is live, and it does not wait.
 pub fn may_ask(table: &Table, key: Key) -> Result<(), Refusal>

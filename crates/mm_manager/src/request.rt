@@ -13,60 +13,74 @@ ghost use Rattle.mm_manager.specs.private.Numbers.{AreNumbered, bare};
 ghost use Rattle.mm_manager.specs.private.Requests.{AnswersNamed, AnswersNew, Requested, may_ask_more, tried_by};
 ghost use Rattle.mm_manager.specs.private.Room.{HasReserve};
 
+use crate::named::NamedTable;
 use crate::numbers::{entry_of, owner_of};
 use crate::permit::{may_ask, may_count, may_wait, refused_first, why_refused};
 use crate::{Key, Lock, Refusal, TryLock};
-use mm_names::{Entry, Names};
+use mm_names::Entry;
 use mm_settled::{Locked, SettledTable, Table};
 
-/// Asks the table for the number of a name, which the name has already, or gets. Nobody owns a number whose name is new, so the table is
-/// asked at once, and what would refuse the request is looked for only if the table refuses it. If `is_active`, the transaction is known to be
-/// active, and its key is not tested.
-#[inline(always)]
-pub fn request(
-    table: &mut SettledTable,
-    names: &mut Names,
-    key: Key,
-    name: &[u8],
-    is_active: bool,
-) -> Result<Lock, Refusal>
-    requires known { OnTrue is_active (may_ask table.old.table key ≡ Ok tt) }
-    requires numbered { AreNumbered table.old.table names.old }
-    requires left { HasReserve table.old.table }
-    ensures requested { Requested table.old.table names.old key name.now result table.new.table names.new }
-    ensures others { OthersKeepVerdicts table.old.table table.new.table key.process }
-    ensures numbered { AreNumbered table.new.table names.new }
-{
-    table.is_at_rest();
-    match entry_of(names, name) {
-        Ok(Entry { number, is_new }) if is_new => request_new(table, names, key, number, is_active),
-        Ok(Entry { number, .. }) => request_named(table, key, number),
-        Err(refusal) => Err(refused_first(table.table(), key, refusal)),
+impl NamedTable {
+    /// Asks the table for the number of a name, which the name has already, or gets. Nobody owns a number whose name is new, so the table
+    /// is asked at once, and what would refuse the request is looked for only if the table refuses it. If `is_active`, the transaction is
+    /// known to be active, and its key is not tested.
+    #[inline(always)]
+    pub fn request(&mut self, key: Key, name: &[u8], is_active: bool) -> Result<Lock, Refusal>
+        requires known { OnTrue is_active (may_ask self.old.table.table key ≡ Ok tt) }
+        requires numbered { AreNumbered self.old.table.table self.old.names }
+        requires left { HasReserve self.old.table.table }
+        ensures requested { Requested self.old.table.table self.old.names key name.now result self.new.table.table self.new.names }
+        ensures others { OthersKeepVerdicts self.old.table.table self.new.table.table key.process }
+        ensures numbered { AreNumbered self.new.table.table self.new.names }
+    {
+        self.table.is_at_rest();
+        match entry_of(&mut self.names, name) {
+            Ok(Entry { number, is_new }) if is_new => self.request_new(key, number, is_active),
+            Ok(Entry { number, .. }) => request_named(&mut self.table, key, number),
+            Err(refusal) => Err(refused_first(self.table.table(), key, refusal)),
+        }
     }
-}
 
-/// Asks the table for a number whose name is new. Where that is refused, the number has no name again.
-#[inline(always)]
-fn request_new(
-    table: &mut SettledTable,
-    names: &mut Names,
-    key: Key,
-    number: u32,
-    is_active: bool,
-) -> Result<Lock, Refusal>
-    requires known { OnTrue is_active (may_ask table.old.table key ≡ Ok tt) }
-    requires in_range { number < table.old.table.config.resources }
-    requires left { HasReserve table.old.table }
-    requires free { owner_of table.old.table number ≡ None }
-    requires named { IsSome (name_of names.old number) }
-    ensures answers { AnswersNew table.old.table key number names.old result table.new.table names.new }
-    ensures others { OthersKeepVerdicts table.old.table table.new.table key.process }
-{
-    if is_granted(table, key, number, is_active) {
-        return Ok(Lock::Granted);
+    /// Asks the table for a number whose name is new. If that is refused, the number has no name again.
+    #[inline(always)]
+    fn request_new(&mut self, key: Key, number: u32, is_active: bool) -> Result<Lock, Refusal>
+        requires known { OnTrue is_active (may_ask self.old.table.table key ≡ Ok tt) }
+        requires in_range { number < self.old.table.table.config.resources }
+        requires left { HasReserve self.old.table.table }
+        requires free { owner_of self.old.table.table number ≡ None }
+        requires named { IsSome (name_of self.old.names number) }
+        ensures answers { AnswersNew self.old.table.table key number self.old.names result self.new.table.table self.new.names }
+        ensures others { OthersKeepVerdicts self.old.table.table self.new.table.table key.process }
+    {
+        if is_granted(&mut self.table, key, number, is_active) {
+            return Ok(Lock::Granted);
+        }
+        self.names.forget(number);
+        Err(why_refused(self.table.table(), key))
     }
-    names.forget(number);
-    Err(why_refused(table.table(), key))
+
+    /// Asks the table for the number of a name that nobody owns. The transaction may ask.
+    pub fn try_request(&mut self, key: Key, name: &[u8]) -> Result<TryLock, Refusal>
+        requires numbered { AreNumbered self.old.table.table self.old.names }
+        requires may { may_ask self.old.table.table key ≡ Ok tt }
+        requires counted { self.old.table.table.totals.accepted < event_limit }
+        requires left { HasReserve self.old.table.table }
+        ensures tried { IfOk result (λ answer. Tries self.old.table.table self.old.names key name.now answer self.new.table.table self.new.names) }
+        ensures named { OnOk result (may_name self.old.names.name_bytes name.now ≡ Ok tt) }
+        ensures refused { IfErr result (λ refusal. TryRefused (bare self.old.table.table self.old.names) key name.now refusal) }
+        ensures table { OnErr result (self.new.table.table ≡ self.old.table.table) }
+        ensures names { OnErr result (self.new.names ≡ self.old.names) }
+        ensures others { OthersKeepVerdicts self.old.table.table self.new.table.table key.process }
+        ensures numbered { AreNumbered self.new.table.table self.new.names }
+    {
+        self.table.is_at_rest();
+        let entry = entry_of(&mut self.names, name)?;
+        if let Some(holder) = owner_of(self.table.table(), entry.number) {
+            return Ok(tried(holder, key));
+        }
+        lock_number(&mut self.table, key, entry.number);
+        Ok(TryLock::Granted)
+    }
 }
 
 /// Asks the table for a number that nobody owns, and tells whether the transaction owns it then.
@@ -119,34 +133,6 @@ fn request_named(table: &mut SettledTable, key: Key, number: u32) -> Result<Lock
         Locked::Waits { holder } => Ok(Lock::Waits { holder }),
         Locked::Deadlock { holder } => Ok(Lock::Deadlock { holder }),
     }
-}
-
-/// Asks the table for the number of a name, where nobody owns it. The transaction may ask.
-pub fn try_request(
-    table: &mut SettledTable,
-    names: &mut Names,
-    key: Key,
-    name: &[u8],
-) -> Result<TryLock, Refusal>
-    requires numbered { AreNumbered table.old.table names.old }
-    requires may { may_ask table.old.table key ≡ Ok tt }
-    requires counted { table.old.table.totals.accepted < event_limit }
-    requires left { HasReserve table.old.table }
-    ensures tried { IfOk result (λ answer. Tries table.old.table names.old key name.now answer table.new.table names.new) }
-    ensures named { OnOk result (may_name names.old.name_bytes name.now ≡ Ok tt) }
-    ensures refused { IfErr result (λ refusal. TryRefused (bare table.old.table names.old) key name.now refusal) }
-    ensures table { OnErr result (table.new.table ≡ table.old.table) }
-    ensures names { OnErr result (names.new ≡ names.old) }
-    ensures others { OthersKeepVerdicts table.old.table table.new.table key.process }
-    ensures numbered { AreNumbered table.new.table names.new }
-{
-    table.is_at_rest();
-    let entry = entry_of(names, name)?;
-    if let Some(holder) = owner_of(table.table(), entry.number) {
-        return Ok(tried(holder, key));
-    }
-    lock_number(table, key, entry.number);
-    Ok(TryLock::Granted)
 }
 
 /// Whether the transaction owns a number. Refused where another one does, and there may be no label left for one more wait.

@@ -13,6 +13,10 @@ pub struct Totals {
     pub aborted: u64,
     /// Requests that were answered `Deadlock`.
     pub deadlocks: u64,
+    /// Requests that were answered `Waits`.
+    pub waits: u64,
+    /// Waits that were taken back by `cancel`.
+    pub withdrawn: u64,
 }
 
 impl Totals {
@@ -25,6 +29,8 @@ impl Totals {
         committed: 0,
         aborted: 0,
         deadlocks: 0,
+        waits: 0,
+        withdrawn: 0,
     };
 
     pub(crate) fn count_begin(&mut self, answer: &Result<Key, Refusal>)
@@ -40,8 +46,10 @@ impl Totals {
         requires { all_of (after_lock self.old answer.now) < 2 ^ 64 }
         ensures { self.new ≡ after_lock self.old answer.now }
     {
-        if let Ok(Lock::Deadlock { .. }) = answer {
-            self.deadlocks += 1;
+        match answer {
+            Ok(Lock::Waits { .. }) => self.waits += 1,
+            Ok(Lock::Deadlock { .. }) => self.deadlocks += 1,
+            _ => {}
         }
     }
 
@@ -85,6 +93,7 @@ impl Totals {
         ensures { self.new ≡ after_cancel self.old answer.now was_due came_due }
     {
         if let Ok(Cancel::Withdrawn) = answer {
+            self.withdrawn += 1;
             if was_due {
                 self.aborted += 1 + came_due;
             }

@@ -1,5 +1,5 @@
 -- What a contract sees of a `Names`. A name is a list of bytes.
-use Rattle.std.specs.Prelude.{◌≡◌, ℕ, ◌+◌, ◌<◌, ◌≤◌, ◌⊎◌, List, [], ◌∷◌, length, Option, None, Some, is_some, IsSome, count_by, replicate, slice_index_or, slice_set}
+use Rattle.std.specs.Prelude.{◌≡◌, ℕ, ◌<◌, ◌≤◌, ◌⊎◌, List, length, Option, None, Some, IsSome, replicate, slice_index_or, slice_set}
 use Rattle.mm_names.specs.declared.config.NamesConfig.{NamesConfig}
 use Rattle.mm_names.specs.declared.config.TheConstants.NamesConfig.{MAX_NAMES, MAX_NAME_BYTES}
 
@@ -11,10 +11,6 @@ pub record NameTable : Type 0 where
 -- the name of a number
 abbrev pub name_of : NameTable → ℕ → Option (List ℕ)
 name_of t n = slice_index_or t.names n None
-
--- how many numbers have a name
-abbrev pub named_count : NameTable → ℕ
-named_count t = count_by is_some t.names
 
 -- so many numbers, none of which has a name
 abbrev pub nameless : ℕ → ℕ → NameTable
@@ -52,16 +48,6 @@ abbrev pub Interns : NameTable → List ℕ → ℕ → NameTable → Type 0
 Interns old name n new =
     ((name_of old n ≡ Some name) × (new ≡ old))
     ⊎ (¬ IsNamed old name × IsFree old n × (new ≡ with_name old n (Some name)))
-
--- the names, each with its number, by rising number; the first of these has this number
-abbrev pub entries_from : ℕ → List (Option (List ℕ)) → List (ℕ × List ℕ)
-entries_from n [] = []
-entries_from n (None ∷ names) = entries_from (n + 1) names
-entries_from n (Some name ∷ names) = (n, name) ∷ entries_from (n + 1) names
-
--- the names, each with its number, by rising number
-abbrev pub entries : NameTable → List (ℕ × List ℕ)
-entries t = entries_from 0 t.names
 
 -- each name has from 1 to `name_bytes` bytes, and there are as many numbers and bytes as a configuration may ask for
 pub record IsInRange (t : NameTable) : Type 0 where

@@ -6,13 +6,11 @@
 //! - `hash`: the hash of a name.
 //! - `spots`: where the number of a name stands, by the hash of the name.
 //! - `names`: `Names`.
-//! - `iter`: the names, by rising number.
 #![tactic(auto)]
 
 mod config;
 mod error;
 mod hash;
-mod iter;
 mod length;
 mod names;
 mod places;
@@ -20,5 +18,4 @@ mod spots;
 
 pub use config::NamesConfig;
 pub use error::{NamesError, OpenError};
-pub use iter::Iter;
 pub use names::{Entry, Names};

@@ -1,13 +1,13 @@
 //! The names.
-ghost use Rattle.std.specs.Prelude.{◌≡◌, ◌≤◌, ◌<◌, ◌↔◌, ℕ, None, Some, Err, length, IfOk, OnErr, IsTrue, IsSome, MatchOption, option_copied, vec_capacity};
+ghost use Rattle.std.specs.Prelude.{◌≡◌, ◌≤◌, ◌<◌, ◌↔◌, ℕ, None, Some, Err, length, IfOk, OnErr, IsTrue, IsSome, MatchOption, option_copied, option_map, vec_capacity};
 ghost use Rattle.std.specs.Bool.{OnTrue, OnFalse};
 ghost use Rattle.mm_owned.specs.Owned.{owner_at};
-ghost use Rattle.mm_names.specs.Names.{nameless, name_of, named_count, with_name, entries, IsNamed, IsRefusedAsFull, Interns, IsLawful, IsNamesOut, IsNameBytesOut};
+ghost use Rattle.mm_names.specs.Names.{nameless, name_of, with_name, IsNamed, IsRefusedAsFull, Interns, IsLawful, IsNamesOut, IsNameBytesOut};
 ghost use Rattle.mm_names.specs.private.Index.{AreAll};
 
 use crate::places::Places;
 use crate::spots::Spots;
-use crate::{Iter, NamesConfig, NamesError, OpenError};
+use crate::{NamesConfig, NamesError, OpenError};
 use mm_arena::Key;
 use mm_owned::Owned;
 use std::alloc::{AllocError, Global};
@@ -67,7 +67,7 @@ impl Names {
     }
 
     /// The number of a name; `None` exactly where no number has it. `O(length)`, and a look at each name of the same list.
-    // In place, as `intern` is: a call would cost a tenth of what it does.
+    // In place, as `enter` is: a call would cost a tenth of what it does.
     #[inline(always)]
     pub fn find(&self, name: &[u8]) -> Option<u32>
         ensures { MatchOption result (¬ IsNamed self.now name.now) (λ n. name_of self.now n ≡ Some name.now) }
@@ -75,26 +75,11 @@ impl Names {
         find_at(&self.places, &self.index, self.spots.of(name), name)
     }
 
-    /// The number of a name: the one that it has, and for a new name one that had none and has this name from now on. Which one is
-    /// left open. The names of all other numbers stay.
+    /// Returns the number of a name, and whether the name is new. A new name gets a number that had none; which one is left open. The
+    /// names of all other numbers stay.
     ///
-    /// Refused as `Empty` or `TooLong` exactly where the name has no bytes or more than there may be, and else as `Full` exactly where
-    /// the name is new and each number has one; then nothing changes. `O(length)`, and a look at each name of the same list.
-    #[inline(always)]
-    pub fn intern(&mut self, name: &[u8]) -> Result<u32, NamesError>
-        ensures interned { IfOk result (λ n. Interns self.old name.now n self.new) }
-        ensures empty { (result ≡ Err NamesError.Empty) ↔ (length name.now ≡ 0) }
-        ensures too_long { (result ≡ Err NamesError.TooLong) ↔ (self.old.name_bytes < length name.now) }
-        ensures full { (result ≡ Err NamesError.Full) ↔ IsRefusedAsFull self.old name.now }
-        ensures refused { OnErr result (self.new ≡ self.old) }
-    {
-        match self.enter(name) {
-            Ok(Entry { number, .. }) => Ok(number),
-            Err(error) => Err(error),
-        }
-    }
-
-    /// `intern`, which also tells whether the name is new.
+    /// Refused as `Empty` or `TooLong` exactly if the name has no bytes or more than there may be, and else as `Full` exactly if the name
+    /// is new and each number has one; then nothing changes. `O(length)`, and a look at each name of the same list.
     // In place: a call would cost a fifth of what it does.
     #[inline(always)]
     pub fn enter(&mut self, name: &[u8]) -> Result<Entry, NamesError>
@@ -133,7 +118,7 @@ impl Names {
     pub fn name(&self, number: u32) -> Option<&[u8]>
         ensures { option_copied result ≡ name_of self.now number }
     {
-        if number >= self.capacity() {
+        if number >= self.places.numbers() {
             return None;
         }
         self.places.get(number)
@@ -160,34 +145,10 @@ impl Names {
     fn has_name(&self, number: u32) -> bool
         ensures { IsTrue result ↔ IsSome (name_of self.now number) }
     {
-        if number >= self.capacity() {
+        if number >= self.places.numbers() {
             return false;
         }
         self.index.owner(number).is_some()
-    }
-
-    /// How many names there are, in constant time.
-    #[inline]
-    pub fn len(&self) -> u32
-        ensures { result ≡ named_count self.now }
-    {
-        self.capacity() - self.free.len() as u32
-    }
-
-    /// Whether there is no name, in constant time.
-    #[inline]
-    pub fn is_empty(&self) -> bool
-        ensures { IsTrue result ↔ (named_count self.now ≡ 0) }
-    {
-        self.len() == 0
-    }
-
-    /// How many names there can be at once, in constant time. The numbers are those below it.
-    #[inline]
-    pub fn capacity(&self) -> u32
-        ensures { result ≡ length self.now.names }
-    {
-        self.places.numbers()
     }
 
     /// How many bytes a name may have, in constant time.
@@ -196,16 +157,6 @@ impl Names {
         ensures { result ≡ self.now.name_bytes }
     {
         self.places.name_bytes()
-    }
-
-    /// The names, each with its number, by rising number.
-    pub fn iter(&self) -> Iter<'_>
-        ensures { result ≡ entries self.now }
-    {
-        Iter {
-            names: self,
-            next: 0,
-        }
     }
 
     /// Does nothing. Its contract is what holds of any names that a caller can hold.
@@ -261,7 +212,7 @@ fn find_at(places: &Places, index: &Owned, spot: Key, name: &[u8]) -> Option<u32
     let Some(first) = index.first(spot.process) else {
         return None;
     };
-    if is_name_of(places, index, first, spot, name) {
+    if has_tag(index, first, spot.generation) && places.has(first, name) {
         return Some(first);
     }
     find_in_list(places, index, spot, name)
@@ -277,7 +228,7 @@ fn find_in_list(places: &Places, index: &Owned, spot: Key, name: &[u8]) -> Optio
 {
     let mut next = index.first(spot.process);
     'list: while let Some(number) = next {
-        if is_name_of(places, index, number, spot, name) {
+        if has_tag(index, number, spot.generation) && places.has(number, name) {
             return Some(number);
         }
         next = index.next(number);
@@ -285,17 +236,14 @@ fn find_in_list(places: &Places, index: &Owned, spot: Key, name: &[u8]) -> Optio
     None
 }
 
-/// Whether a number of the list of this spot has this name, whose spot it is. The parts of the hashes are compared first: most other names are
-/// not read.
+/// Whether a number stands in its list under this part of a hash. That is compared before the bytes: most other names are not read.
 #[inline(always)]
-fn is_name_of(places: &Places, index: &Owned, number: u32, spot: Key, name: &[u8]) -> bool
-    requires in_range { number < length index.now.owners }
-    requires numbers { length index.now.owners ≡ length places.now.names }
-    requires at_spot { name_of places.now number ≡ Some name.now → owner_at index.now number ≡ Some spot }
-    ensures { IsTrue result ↔ (name_of places.now number ≡ Some name.now) }
+fn has_tag(index: &Owned, number: u32, tag: u32) -> bool
+    requires { number < length index.now.owners }
+    ensures { IsTrue result ↔ (option_map (λ spot. spot.generation) (owner_at index.now number) ≡ Some tag) }
 {
-    let Some(owner) = index.owner(number) else {
-        return false;
-    };
-    owner.generation == spot.generation && places.has(number, name)
+    match index.owner(number) {
+        None => false,
+        Some(spot) => spot.generation == tag,
+    }
 }

@@ -1,7 +1,7 @@
 -- What a contract sees of an `Owned`.
 use Rattle.std.specs.Prelude.{◌≡◌, ◌↔◌, ℕ, List, [], ◌∷◌, ◌++◌, Option, None, Some, map, option_map, replicate, slice_index_or, slice_set}
 use Rattle.mm_arena.specs.declared.key.Key.{Key}
-use Rattle.mm_list_lemmas.specs.Members.{Among, NoRepeat, head, without}
+use Rattle.mm_lists.specs.Members.{Among, NoRepeat, head, without}
 
 -- the owner of each resource, and by process the list of its resources, those that came last first
 pub record Ownership : Type 0 where

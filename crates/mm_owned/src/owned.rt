@@ -2,7 +2,7 @@
 //! the next.
 ghost use Rattle.std.specs.Prelude.{◌≡◌, ◌≤◌, ◌<◌, ℕ, List, length, fold, vec_capacity, IfOk, IfSome, IsNone, None};
 ghost use Rattle.std.specs.Option.{ForSome};
-ghost use Rattle.mm_list_lemmas.specs.Members.{head, NoRepeat};
+ghost use Rattle.mm_lists.specs.Members.{head, NoRepeat};
 ghost use Rattle.mm_links.specs.Links.{with_before, with_next};
 ghost use Rattle.mm_links.specs.Chain.{first_with_next};
 ghost use Rattle.mm_owned.specs.Owned.{unowned, owner_at, list_at, given, freed, FollowsInList, ListsMatchOwners};

@@ -2,7 +2,7 @@
 use Rattle.std.specs.Option.{option_map}
 use Rattle.std.specs.Prelude.{◌≡◌, ℕ, ◌<◌, List, [], ◌∷◌, ◌++◌, map, Option, replicate, slice_index_or, slice_set}
 use Rattle.mm_arena.specs.declared.key.Key.{Key}
-use Rattle.mm_list_lemmas.specs.Members.{Among, NoRepeat, head}
+use Rattle.mm_lists.specs.Members.{Among, NoRepeat, head}
 
 -- the keys of each list, in order, and how many processes there are
 pub record Queues : Type 0 where

@@ -1,7 +1,7 @@
 //! The lists.
 ghost use Rattle.std.specs.Prelude.{◌≡◌, ◌<◌, ◌≤◌, ◌↔◌, ◌++◌, ◌∷◌, [], length, drop, IsTrue, IsNone, IfOk, MatchOption};
 ghost use Rattle.std.specs.Bool.{OnFalse};
-ghost use Rattle.mm_list_lemmas.specs.Members.{Among, head};
+ghost use Rattle.mm_lists.specs.Members.{Among, head};
 ghost use Rattle.mm_queue.specs.Queues.{queue, empty_queues, with_queue, Stands, IsOccupied, IsNextKey, IsNextProcess, Removes, StandsOnce};
 
 use crate::ends::Ends;

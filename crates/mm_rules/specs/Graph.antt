@@ -1,6 +1,6 @@
 -- The wait-for graph: who waits for whom, and two labels of each process, as numbers in one order. Processes are the numbers below `processes`.
 use Rattle.std.specs.Prelude.{ℕ, Option, Some, None, ◌≡◌, ◌≢◌, ◌≤◌, ◌<◌, ◌⊎◌, List, [], ◌∷◌, length, ⊤}
-use Rattle.mm_list_lemmas.specs.Members.{Among, NoRepeat}
+use Rattle.mm_lists.specs.Members.{Among, NoRepeat}
 
 pub record Graph : Type 0 where
   pub processes : ℕ

@@ -11,7 +11,7 @@ use Rattle.mm_rules.specs.declared.reply.Totals.{Totals}
 use Rattle.mm_rules.specs.declared.reply.Transmitted.TheVariants.{Raised}
 use Rattle.mm_rules.specs.TableState.{TableState, Wait, IsInRange, IsSized, opening, is_live, private_of, public_of, has_verdict, owner_of, is_waiting, waiting_processes, graph_of}
 use Rattle.mm_rules.specs.Event.{Event, Begin, Transmit, Detect, Abort, Settle, Answer, Step, Run, IsReached, Settles}
-use Rattle.mm_list_lemmas.specs.Members.{Among, NoRepeat}
+use Rattle.mm_lists.specs.Members.{Among, NoRepeat}
 use Rattle.mm_rules.specs.Graph.{Cycle, LabelReturned, Deadlocked, IsGreatest, PropagatedLaw, RisingLaw, ToppedLaw, IsSettled}
 
 -- ---- lawful

@@ -7,7 +7,7 @@ ghost use Rattle.mm_script.specs.private.Forms.{ReadsConfig};
 ghost use Rattle.mm_lines.specs.WordsLeft.{words_left};
 
 use super::line::{Call, Header};
-use mm_lines::Words;
+use mm_lines::{Words, row_of};
 use mm_table::{Config, Key};
 
 /// What stands behind the word of a call, and the call that they make.
@@ -61,29 +61,11 @@ const FORMS: [(&str, Form); 14] = [
     ("totals", Form::Alone(Call::Totals)),
 ];
 
-/// Returns the calls that a line can make, in the order of `docs/SCRIPTS.md`: each word, and what stands behind it, as in
-/// `("acquire", "K r")`. It takes no memory, and as many steps as there are calls.
-pub fn usages() -> [(&'static str, &'static str); 14]
-    ensures words { map (λ usage. usage.0.now) result ≡ map (λ form. form.0) forms }
-{
-    usages_of(&FORMS)
-}
-
-fn usages_of(forms: &[(&'static str, Form); 14]) -> [(&'static str, &'static str); 14]
-    ensures { map (λ usage. usage.0.now) result ≡ map (λ form. form.0.now) forms.now }
-{
-    let mut usages = [("", ""); 14];
-    for (i, &(word, form)) in forms.iter().enumerate() {
-        usages[i] = (word, form.arguments());
-    }
-    usages
-}
-
 /// The call that a word makes with these arguments.
 pub fn call_of(word: &[u8], arguments: &mut Words<'_>) -> Option<Call>
     ensures { result ≡ call_of word.now (words_left arguments.old) }
 {
-    match usage_in(word, &FORMS) {
+    match row_of(word, &FORMS) {
         Some((_, form)) => form.call(arguments),
         None => None,
     }
@@ -91,34 +73,11 @@ pub fn call_of(word: &[u8], arguments: &mut Words<'_>) -> Option<Call>
 
 /// The word of a call and what stands behind it, if this word calls.
 pub fn usage_of(word: &[u8]) -> Option<(&'static str, Form)> {
-    usage_in(word, &FORMS)
-}
-
-/// The first of these forms that has the word.
-fn usage_in(word: &[u8], forms: &[(&'static str, Form)]) -> Option<(&'static str, Form)>
-    ensures { option_map (λ usage. usage.1) result ≡ lookup (bytes_eq word.now) (map (λ form. (form.0.now, form.1)) forms.now) }
-{
-    for &(text, form) in forms {
-        if word == text.as_bytes() {
-            return Some((text, form));
-        }
-    }
-    None
+    row_of(word, &FORMS)
 }
 
 impl Form {
     ghost use Rattle.mm_script.specs.private.Forms.{call_by, call_before};
-
-    /// What stands behind the word, as the pages write it.
-    fn arguments(self) -> &'static str {
-        match self {
-            Form::Table(_) => "P R L G",
-            Form::Alone(_) => "",
-            Form::Key(_) => "K",
-            Form::KeyAndResource(_) => "K r",
-            Form::Owner => "r",
-        }
-    }
 
     /// How many words stand behind the word, and the same as a text.
     pub fn wanted(self) -> (usize, &'static str) {

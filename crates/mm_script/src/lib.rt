@@ -22,7 +22,6 @@ mod reply;
 mod script;
 
 pub use calls::make;
-pub use forms::usages;
 pub use line::{Call, Header, Line, line_of};
 pub use mm_lines::Fault as ScriptFault;
 use mm_lines::serve;

@@ -1,4 +1,4 @@
--- The request that the words of a line make. mm_requests has the words, with what stands behind each.
+-- The request that the words of a line make.
 use Rattle.std.specs.Prelude.{ℕ, Bool, ◌&&◌, ◌||◌, List, [], ◌∷◌, length, Option, Some, None, nat_le, if◌then◌else◌, option_map}
 use Rattle.std.specs.List.{list_all}
 use Rattle.std.specs.Map.{lookup}
@@ -8,9 +8,9 @@ use Rattle.mm_limits.specs.declared.TheConstants.{MAX_NAME_BYTES}
 use Rattle.mm_lines.specs.Words.{◌>>=◌, key_of}
 use Rattle.mm_service.specs.declared.line.Request.{Request}
 use Rattle.mm_service.specs.declared.line.Request.TheVariants as requests
-use Rattle.mm_requests.specs.Words.{words}
-use Rattle.mm_requests.specs.declared.form.Form.{Form}
-use Rattle.mm_requests.specs.declared.form.Form.TheVariants as forms
+use Rattle.mm_service.specs.Words.{words}
+use Rattle.mm_service.specs.declared.requests.Form.{Form}
+use Rattle.mm_service.specs.declared.requests.Form.TheVariants as forms
 
 -- a request, and the name that it is about
 pub record AskedFor : Type 0 where
@@ -52,6 +52,7 @@ with_key_and_name _ _ = None
 abbrev pub request_by : Form → List (List ℕ) → Option AskedFor
 request_by forms.Begin = alone requests.Begin
 request_by (forms.Key request) = with_key (requests.OfKey request)
+request_by forms.Holds = with_key requests.Holds
 request_by (forms.KeyAndName request) = with_key_and_name (requests.OfName request)
 request_by forms.Owner = with_name requests.Owner
 request_by forms.Graph = alone requests.Graph

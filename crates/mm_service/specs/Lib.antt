@@ -1,3 +1,5 @@
+-- the words of the requests, with what follows each
+pub mod Words
 -- the requests that a line can make
 pub mod Forms
 -- what a line is

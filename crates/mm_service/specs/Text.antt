@@ -4,7 +4,7 @@ use Rattle.std.specs.Cmp.Lexicographic.{slice_cmp}
 use Rattle.std.specs.List.Sorted.{IsPermutation, IsSortedByKey}
 use Rattle.std.specs.Ordering.{nat_cmp}
 use Rattle.mm_arena.specs.declared.key.Key.{Key}
-use Rattle.mm_list_lemmas.specs.Members.{Among, NoRepeat}
+use Rattle.mm_lists.specs.Members.{Among, NoRepeat}
 use Rattle.mm_names.specs.Names.{name_of}
 use Rattle.mm_rules.specs.TableState.{is_live, owner_of}
 use Rattle.mm_settled.specs.declared.reply.Grant.{Grant}
@@ -16,18 +16,21 @@ use Rattle.mm_manager.specs.declared.reply.Abort as abort
 use Rattle.mm_manager.specs.declared.reply.Cancel as cancel
 use Rattle.mm_manager.specs.declared.reply.Cancel.TheVariants as cancels
 use Rattle.mm_manager.specs.declared.reply.Lock.{Lock}
+use Rattle.mm_manager.specs.declared.reply.Lock.TheVariants as locks
 use Rattle.mm_manager.specs.declared.reply.Status.{Status}
 use Rattle.mm_manager.specs.declared.reply.TryLock.{TryLock}
 use Rattle.mm_manager.specs.declared.reply.Wait.{Wait}
 use Rattle.mm_service.specs.Line.{line_of}
 use Rattle.mm_manager.specs.Made.{Begun, Locked, Tried, Unlocked, Committed, Aborted, Cancelled}
 use Rattle.mm_service.specs.Reply.{line_text, refusal_word, answer_text, begun_text, lock_text, try_text, unlocked_text, committed_text, abort_text, cancel_text, owner_text, totals_text, status_text, granted_text, aborted_text, edge_text, name_at}
-use Rattle.mm_requests.specs.declared.form.KeyRequest.{KeyRequest}
-use Rattle.mm_requests.specs.declared.form.KeyRequest.TheVariants as of_key
+use Rattle.mm_service.specs.declared.requests.KeyRequest.{KeyRequest}
+use Rattle.mm_service.specs.declared.requests.KeyRequest.TheVariants as of_key
+use Rattle.mm_service.specs.declared.effect.Effect.{Effect}
+use Rattle.mm_service.specs.declared.effect.Effect.TheVariants as effects
 use Rattle.mm_service.specs.declared.line.Line.{Line}
 use Rattle.mm_service.specs.declared.line.Line.TheVariants as kind
-use Rattle.mm_requests.specs.declared.form.NameRequest.{NameRequest}
-use Rattle.mm_requests.specs.declared.form.NameRequest.TheVariants as of_name
+use Rattle.mm_service.specs.declared.requests.NameRequest.{NameRequest}
+use Rattle.mm_service.specs.declared.requests.NameRequest.TheVariants as of_name
 use Rattle.mm_service.specs.declared.line.Request.{Request}
 use Rattle.mm_service.specs.declared.line.Request.TheVariants as requests
 
@@ -45,11 +48,26 @@ told_lines m (g ∷ gs) = told_line m g ++ told_lines m gs
 abbrev pub told_text : LockState → List ℕ
 told_text m = told_lines m m.granted
 
--- the transaction whose wait was taken back is live no longer where its abort was due
-abbrev pub due_line : LockState → Key → Result cancel.Cancel Refusal → List ℕ
-due_line m k (Ok cancels.Withdrawn) = if is_live m.table k then [] else line_text (aborted_text k)
-due_line m k (Ok cancels.Carried) = []
-due_line m k (Err refusal) = []
+-- what a request caused beside its reply: whose abort came due by it comes first
+abbrev pub effect_text : LockState → Effect → List ℕ
+effect_text m effects.EndedWaits = told_text m
+effect_text m (effects.Aborted k) = line_text (aborted_text k) ++ told_text m
+effect_text m _ = []
+
+-- a begin starts a transaction, or is refused
+abbrev pub begin_effect : Result Key Refusal → Effect
+begin_effect (Ok k) = effects.Begun k
+begin_effect (Err refusal) = effects.Nothing
+
+-- k closed a cycle of waits, if it was told so
+abbrev pub lock_effect : Key → Result Lock Refusal → Effect
+lock_effect k (Ok (locks.Deadlock h)) = effects.Deadlock k
+lock_effect k _ = effects.Nothing
+
+-- k, whose wait was taken back, is live no longer if its abort was due
+abbrev pub cancel_effect : LockState → Key → Result cancel.Cancel Refusal → Effect
+cancel_effect m k (Ok cancels.Withdrawn) = if is_live m.table k then effects.Nothing else effects.Aborted k
+cancel_effect m k _ = effects.Nothing
 
 -- ---- what is read
 
@@ -87,28 +105,35 @@ OwnerText m name out = (owner : Option Key) × ((k : Key) → (owner ≡ Some k)
 
 -- ---- what a line is answered
 
--- a request of a name
-abbrev pub AnswersName : NameRequest → Key → List ℕ → LockState → List ℕ → LockState → Type 0
-AnswersName of_name.Lock k name old out new = (answer : Result Lock Refusal) × Locked old k name answer new × (out ≡ line_text (answer_text lock_text answer))
-AnswersName of_name.Try k name old out new = (answer : Result TryLock Refusal) × Tried old k name answer new × (out ≡ line_text (answer_text try_text answer))
-AnswersName of_name.Unlock k name old out new = (answer : Result (Unit {0}) Refusal) × Unlocked old k name answer new × (out ≡ line_text (answer_text unlocked_text answer) ++ told_text new)
+-- a request of a name: the lines of its reply, and what it came to
+abbrev pub RepliesName : NameRequest → Key → List ℕ → LockState → List ℕ → Effect → LockState → Type 0
+RepliesName of_name.Lock k name old reply effect new = (answer : Result Lock Refusal) × Locked old k name answer new × (reply ≡ line_text (answer_text lock_text answer)) × (effect ≡ lock_effect k answer)
+RepliesName of_name.Try k name old reply effect new = (answer : Result TryLock Refusal) × Tried old k name answer new × (reply ≡ line_text (answer_text try_text answer)) × (effect ≡ effects.Nothing)
+RepliesName of_name.Unlock k name old reply effect new = (answer : Result (Unit {0}) Refusal) × Unlocked old k name answer new × (reply ≡ line_text (answer_text unlocked_text answer)) × (effect ≡ effects.EndedWaits)
 
 -- a request of a transaction
-abbrev pub AnswersKey : KeyRequest → Key → LockState → List ℕ → LockState → Type 0
-AnswersKey of_key.Commit k old out new = (answer : Result (Unit {0}) Refusal) × Committed old k answer new × (out ≡ line_text (answer_text committed_text answer) ++ told_text new)
-AnswersKey of_key.Abort k old out new = (answer : Result abort.Abort Refusal) × Aborted old k answer new × (out ≡ line_text (answer_text abort_text answer) ++ told_text new)
-AnswersKey of_key.Cancel k old out new = (answer : Result cancel.Cancel Refusal) × Cancelled old k answer new × (out ≡ line_text (answer_text cancel_text answer) ++ due_line new k answer ++ told_text new)
-AnswersKey of_key.Status k old out new = (answer : Result Status Refusal) × HasStatus old k answer × (new ≡ old) × (out ≡ line_text (answer_text (status_text old) answer))
-AnswersKey of_key.Holds k old out new = HoldsText old k out × (new ≡ old)
+abbrev pub RepliesKey : KeyRequest → Key → LockState → List ℕ → Effect → LockState → Type 0
+RepliesKey of_key.Commit k old reply effect new = (answer : Result (Unit {0}) Refusal) × Committed old k answer new × (reply ≡ line_text (answer_text committed_text answer)) × (effect ≡ effects.EndedWaits)
+RepliesKey of_key.Abort k old reply effect new = (answer : Result abort.Abort Refusal) × Aborted old k answer new × (reply ≡ line_text (answer_text abort_text answer)) × (effect ≡ effects.EndedWaits)
+RepliesKey of_key.Cancel k old reply effect new = (answer : Result cancel.Cancel Refusal) × Cancelled old k answer new × (reply ≡ line_text (answer_text cancel_text answer)) × (effect ≡ cancel_effect new k answer)
+RepliesKey of_key.Status k old reply effect new = (answer : Result Status Refusal) × HasStatus old k answer × (new ≡ old) × (reply ≡ line_text (answer_text (status_text old) answer)) × (effect ≡ effects.Nothing)
 
--- a request, of this name where it is of one
-abbrev pub AnswersRequest : Request → List ℕ → LockState → List ℕ → LockState → Type 0
-AnswersRequest requests.Begin name old out new = (answer : Result Key Refusal) × Begun old answer new × (out ≡ line_text (answer_text begun_text answer))
-AnswersRequest (requests.OfName request k) name old out new = AnswersName request k name old out new
-AnswersRequest (requests.OfKey request k) name old out new = AnswersKey request k old out new
-AnswersRequest requests.Owner name old out new = OwnerText old name out × (new ≡ old)
-AnswersRequest requests.Graph name old out new = (out ≡ graph_text old) × (new ≡ old)
-AnswersRequest requests.Totals name old out new = (out ≡ line_text (totals_text old.totals)) × (new ≡ old)
+-- a request, of this name if it is of one
+abbrev pub Replies : Request → List ℕ → LockState → List ℕ → Effect → LockState → Type 0
+Replies requests.Begin name old reply effect new = (answer : Result Key Refusal) × Begun old answer new × (reply ≡ line_text (answer_text begun_text answer)) × (effect ≡ begin_effect answer)
+Replies (requests.OfName request k) name old reply effect new = RepliesName request k name old reply effect new
+Replies (requests.OfKey request k) name old reply effect new = RepliesKey request k old reply effect new
+Replies (requests.Holds k) name old reply effect new = HoldsText old k reply × (new ≡ old) × (effect ≡ effects.Nothing)
+Replies requests.Owner name old reply effect new = OwnerText old name reply × (new ≡ old) × (effect ≡ effects.Nothing)
+Replies requests.Graph name old reply effect new = (reply ≡ graph_text old) × (new ≡ old) × (effect ≡ effects.Nothing)
+Replies requests.Totals name old reply effect new = (reply ≡ line_text (totals_text old.totals)) × (new ≡ old) × (effect ≡ effects.Nothing)
+
+-- a request is answered by its reply, and then by what it caused
+pub record AnswersRequest (request : Request) (name : List ℕ) (old : LockState) (out : List ℕ) (new : LockState) : Type 0 where
+  pub reply : List ℕ
+  pub effect : Effect
+  pub replies : Replies request name old reply effect new
+  pub text : out ≡ reply ++ effect_text new effect
 
 -- the bytes that a line is answered, 1 if it is malformed, and the manager after it; before and after a request all holds that holds of any manager that a
 -- caller can hold

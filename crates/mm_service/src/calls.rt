@@ -1,141 +1,167 @@
 //! Makes a request, and writes its reply and what it caused for others.
-ghost use Rattle.std.specs.Prelude.{◌≡◌, ◌≤◌, ◌+◌, ◌++◌, ℕ, List, OnOk, IsOkUnless};
+ghost use Rattle.std.specs.Prelude.{◌≡◌, ◌≤◌, ◌+◌, ◌++◌, ℕ, List, MatchResult, OnOk, IsOkUnless};
 ghost use Rattle.arrayvec.specs.ArrayVec.{array_vec_len};
-ghost use Rattle.mm_lines.specs.Output.{Prints, Writes};
-ghost use Rattle.mm_service.specs.Text.{AnswersKey, AnswersName, AnswersRequest, due_line};
+ghost use Rattle.mm_lines.specs.Output.{Writes};
+ghost use Rattle.mm_service.specs.Text.{AnswersRequest, Replies, RepliesKey, RepliesName, begin_effect, cancel_effect, lock_effect};
 
-use crate::line::Request;
-use crate::lists::{Numbers, write_graph, write_holds, write_told};
+use crate::effect::Effect;
+use crate::line::{Asked, Request};
+use crate::lists::{Numbers, write_effect, write_graph, write_holds};
 use crate::reply::{
-    MAX_NAMED, MAX_REPLY, print_abort, print_aborted, print_begun, print_cancel, print_committed,
-    print_lock, print_owner, print_status, print_totals, print_try, print_unlocked,
+    MAX_NAMED, MAX_REPLY, print_abort, print_begun, print_cancel, print_committed, print_lock,
+    print_owner, print_status, print_totals, print_try, print_unlocked,
 };
-use mm_lines::{Fault, OUTPUT_LEN, Output, make_room};
-use mm_manager::{Cancel, Key, LockManager, Refusal};
-use mm_requests::{KeyRequest, NameRequest};
+use crate::requests::{KeyRequest, NameRequest};
+use mm_lines::{Fault, OUTPUT_LEN, Output};
+use mm_manager::{Cancel, Key, Lock, LockManager, Refusal};
 use std::io::Write;
 
-/// Makes a request, which is of this name where it is of one.
+/// Makes a request, and writes its reply and what it caused for others.
+pub fn answer_request<W: Write>(
+    manager: &mut LockManager,
+    numbers: &mut Numbers,
+    asked: Asked<'_>,
+    output: &mut Output,
+    writer: &mut W,
+) -> Result<(), Fault>
+    requires { array_vec_len output.old + MAX_NAMED ≤ OUTPUT_LEN }
+    ensures answered { (text : List ℕ) × (lost : List ℕ) × AnswersRequest asked.entry.request asked.entry.name.now manager.old text manager.new
+        × Writes (W.contents writer.old) (W.contents writer.new) (output.old.items ++ text) lost × OnOk result (lost ≡ output.new.items) }
+    ensures fault { IsOkUnless result Fault.Write }
+{
+    match make(manager, numbers, asked, output, writer) {
+        Ok(effect) => write_effect(manager, effect, output, writer),
+        Err(fault) => Err(fault),
+    }
+}
+
+/// Makes a request, and writes its reply. Returns what else it came to: nothing, if its reply could not be written.
 pub fn make<W: Write>(
     manager: &mut LockManager,
     numbers: &mut Numbers,
+    asked: Asked<'_>,
     output: &mut Output,
-    request: Request,
-    name: &[u8],
     writer: &mut W,
-) -> Result<(), Fault>
+) -> Result<Effect, Fault>
     requires { array_vec_len output.old + MAX_NAMED ≤ OUTPUT_LEN }
-    ensures made { (text : List ℕ) × (lost : List ℕ) × AnswersRequest request name.now manager.old text manager.new
-        × Writes (W.contents writer.old) (W.contents writer.new) (output.old.items ++ text) lost × OnOk result (lost ≡ output.new.items) }
+    ensures replies { (text : List ℕ) × (effect : Effect) × (lost : List ℕ) × Replies asked.entry.request asked.entry.name.now manager.old text effect manager.new
+        × Writes (W.contents writer.old) (W.contents writer.new) (output.old.items ++ text) lost × MatchResult result (λ it. (it ≡ effect) × (lost ≡ output.new.items)) (λ _. effect ≡ Effect.Nothing) }
     ensures fault { IsOkUnless result Fault.Write }
 {
-    match request {
+    match asked.request {
         Request::Begin => {
-            print_begun(output, &manager.begin());
-            Ok(())
+            let answer = manager.begin();
+            print_begun(output, &answer);
+            Ok(begin_effect(answer))
         }
-        Request::OfName(request, key) => make_of_name(manager, output, request, key, name, writer),
-        Request::OfKey(request, key) => make_of_key(manager, numbers, output, request, key, writer),
+        Request::OfName(request, key) => {
+            Ok(reply_of_name(manager, request, key, asked.name, output))
+        }
+        Request::OfKey(request, key) => Ok(reply_of_key(manager, request, key, output)),
+        Request::Holds(key) => {
+            write_holds(manager, numbers, output, key, writer)?;
+            Ok(Effect::Nothing)
+        }
         Request::Owner => {
-            print_owner(output, manager.owner(name));
-            Ok(())
+            print_owner(output, manager.owner(asked.name));
+            Ok(Effect::Nothing)
         }
-        Request::Graph => write_graph(manager, output, writer),
+        Request::Graph => {
+            write_graph(manager, output, writer)?;
+            Ok(Effect::Nothing)
+        }
         Request::Totals => {
             print_totals(output, &manager.totals());
-            Ok(())
+            Ok(Effect::Nothing)
         }
     }
 }
 
-/// Makes a request of a transaction and a name.
-fn make_of_name<W: Write>(
+/// Returns what a begin came to beside its reply.
+fn begin_effect(answer: Result<Key, Refusal>) -> Effect
+    ensures { result ≡ begin_effect answer }
+{
+    match answer {
+        Ok(key) => Effect::Begun(key),
+        Err(_) => Effect::Nothing,
+    }
+}
+
+/// Makes a request of a transaction and a name, and prints its reply. Returns what else it came to.
+fn reply_of_name(
     manager: &mut LockManager,
-    output: &mut Output,
     request: NameRequest,
     key: Key,
     name: &[u8],
-    writer: &mut W,
-) -> Result<(), Fault>
+    output: &mut Output,
+) -> Effect
     requires { array_vec_len output.old + MAX_REPLY ≤ OUTPUT_LEN }
-    ensures made { (text : List ℕ) × (lost : List ℕ) × AnswersName request key name.now manager.old text manager.new
-        × Writes (W.contents writer.old) (W.contents writer.new) (output.old.items ++ text) lost × OnOk result (lost ≡ output.new.items) }
-    ensures fault { IsOkUnless result Fault.Write }
+    ensures { (reply : List ℕ) × RepliesName request key name.now manager.old reply result manager.new × (output.new.items ≡ output.old.items ++ reply) }
 {
     match request {
         NameRequest::Lock => {
-            print_lock(output, &manager.lock(key, name));
-            Ok(())
+            let answer = manager.lock(key, name);
+            print_lock(output, &answer);
+            lock_effect(key, &answer)
         }
         NameRequest::Try => {
             print_try(output, &manager.try_lock(key, name));
-            Ok(())
+            Effect::Nothing
         }
         NameRequest::Unlock => {
             print_unlocked(output, &manager.unlock(key, name));
-            write_told(manager, output, writer)
+            Effect::EndedWaits
         }
     }
 }
 
-/// Makes a request of a transaction.
-fn make_of_key<W: Write>(
+/// Returns what a lock came to beside its reply.
+fn lock_effect(key: Key, answer: &Result<Lock, Refusal>) -> Effect
+    ensures { result ≡ lock_effect key answer.now }
+{
+    match answer {
+        Ok(Lock::Deadlock { .. }) => Effect::Deadlock(key),
+        Ok(Lock::Granted | Lock::Held | Lock::Waits { .. }) | Err(_) => Effect::Nothing,
+    }
+}
+
+/// Makes a request of a transaction, and prints its reply. Returns what else it came to.
+fn reply_of_key(
     manager: &mut LockManager,
-    numbers: &mut Numbers,
-    output: &mut Output,
     request: KeyRequest,
     key: Key,
-    writer: &mut W,
-) -> Result<(), Fault>
+    output: &mut Output,
+) -> Effect
     requires { array_vec_len output.old + MAX_NAMED ≤ OUTPUT_LEN }
-    ensures made { (text : List ℕ) × (lost : List ℕ) × AnswersKey request key manager.old text manager.new
-        × Writes (W.contents writer.old) (W.contents writer.new) (output.old.items ++ text) lost × OnOk result (lost ≡ output.new.items) }
-    ensures fault { IsOkUnless result Fault.Write }
+    ensures { (reply : List ℕ) × RepliesKey request key manager.old reply result manager.new × (output.new.items ≡ output.old.items ++ reply) }
 {
     match request {
         KeyRequest::Commit => {
             print_committed(output, &manager.commit(key));
-            write_told(manager, output, writer)
+            Effect::EndedWaits
         }
         KeyRequest::Abort => {
             print_abort(output, &manager.abort(key));
-            write_told(manager, output, writer)
+            Effect::EndedWaits
         }
-        KeyRequest::Cancel => cancel(manager, output, key, writer),
+        KeyRequest::Cancel => {
+            let answer = manager.cancel(key);
+            print_cancel(output, &answer);
+            cancel_effect(manager, key, &answer)
+        }
         KeyRequest::Status => {
             print_status(output, manager, &manager.status(key));
-            Ok(())
+            Effect::Nothing
         }
-        KeyRequest::Holds => write_holds(manager, numbers, output, key, writer),
     }
 }
 
-/// Takes back a wait. Where the abort of its transaction was due, a line says so.
-fn cancel<W: Write>(
-    manager: &mut LockManager,
-    output: &mut Output,
-    key: Key,
-    writer: &mut W,
-) -> Result<(), Fault>
-    requires { array_vec_len output.old + MAX_NAMED ≤ OUTPUT_LEN }
-    ensures made { (text : List ℕ) × (lost : List ℕ) × AnswersKey KeyRequest.Cancel key manager.old text manager.new
-        × Writes (W.contents writer.old) (W.contents writer.new) (output.old.items ++ text) lost × OnOk result (lost ≡ output.new.items) }
-    ensures fault { IsOkUnless result Fault.Write }
+/// Returns what a cancel came to beside its reply. The transaction is live no longer exactly if its abort was due.
+fn cancel_effect(manager: &LockManager, key: Key, answer: &Result<Cancel, Refusal>) -> Effect
+    ensures { result ≡ cancel_effect manager.now key answer.now }
 {
-    let answer = manager.cancel(key);
-    print_cancel(output, &answer);
-    print_due(output, manager, key, &answer);
-    write_told(manager, output, writer)
-}
-
-/// A line where a wait was taken back and its transaction is live no longer, since its abort was due.
-fn print_due(output: &mut Output, manager: &LockManager, key: Key, answer: &Result<Cancel, Refusal>)
-    requires { array_vec_len output.old + MAX_REPLY ≤ OUTPUT_LEN }
-    ensures { Prints output.old.items (due_line manager.now key answer.now) MAX_REPLY output.new.items }
-{
-    if let Ok(Cancel::Withdrawn) = answer {
-        if manager.status(key).is_err() {
-            print_aborted(output, key);
-        }
+    match answer {
+        Ok(Cancel::Withdrawn) if manager.status(key).is_err() => Effect::Aborted(key),
+        Ok(Cancel::Withdrawn | Cancel::Carried) | Err(_) => Effect::Nothing,
     }
 }

@@ -1,4 +1,4 @@
-//! The request that the words of a line make. `mm_requests` has the table of the words.
+//! The request that the words of a line make.
 ghost use Rattle.std.specs.Prelude.{◌≡◌, ◌&&◌, nat_le, length, drop, option_map, option_copied, []};
 ghost use Rattle.std.specs.List.{list_all};
 ghost use Rattle.mm_lines.specs.WordsLeft.{words_left, first_spells};
@@ -7,8 +7,8 @@ ghost use Rattle.mm_service.specs.private.Forms.{asked_for, request_before};
 
 use crate::line::{Asked, Request};
 use crate::reply::MAX_NAME;
+use crate::requests::{Form, form_of};
 use mm_lines::Words;
-use mm_requests::{Form, form_of};
 
 /// The request that a word makes with these arguments.
 pub fn request_of<'a>(word: &[u8], arguments: &mut Words<'a>) -> Option<Asked<'a>>
@@ -37,6 +37,7 @@ fn read<'a>(form: Form, arguments: &mut Words<'a>) -> Option<Asked<'a>>
             let key = arguments.next_key()?;
             Some(nameless(Request::OfKey(request, key)))
         }
+        Form::Holds => Some(nameless(Request::Holds(arguments.next_key()?))),
         Form::KeyAndName(request) => {
             let key = arguments.next_key()?;
             let name = next_name(arguments)?;

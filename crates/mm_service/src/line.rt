@@ -1,12 +1,12 @@
 //! What a line is.
 ghost use Rattle.std.specs.Prelude.{◌≡◌};
-ghost use Rattle.mm_service.specs.Line.{line_of};
+ghost use Rattle.mm_service.specs.Line.{line_of, request_line};
 
 use crate::forms::request_of;
 use crate::reply::MAX_NAME;
+use crate::requests::{KeyRequest, NameRequest};
 use mm_lines::{Words, without_carriage_return};
 use mm_manager::Key;
-use mm_requests::{KeyRequest, NameRequest};
 
 /// The longest request in bytes: `unlock`, a key of 16 bytes, the longest name, and two spaces.
 const MAX_REQUEST: usize = MAX_NAME + 24;
@@ -33,6 +33,8 @@ pub enum Request {
     OfName(NameRequest, Key),
     /// Of a transaction.
     OfKey(KeyRequest, Key),
+    /// Of a transaction: the names that it owns are listed.
+    Holds(Key),
     /// Of a name: its owner is read.
     Owner,
     /// The wait-for graph is read.
@@ -60,7 +62,14 @@ pub fn line_of(line: &[u8]) -> Named<'_>
     ensures line { result.line ≡ (line_of line.now).line }
     ensures name { result.name.now ≡ (line_of line.now).name }
 {
-    let line = without_carriage_return(line);
+    request_line(without_carriage_return(line))
+}
+
+/// Returns what a line is, without its newline and the carriage return before that.
+pub fn request_line(line: &[u8]) -> Named<'_>
+    ensures line { result.line ≡ (request_line line.now).line }
+    ensures name { result.name.now ≡ (request_line line.now).name }
+{
     if line.len() > MAX_REQUEST {
         return Named::MALFORMED;
     }

@@ -5,8 +5,9 @@ ghost use Rattle.mm_lines.specs.Output.{Prints, Writes};
 ghost use Rattle.mm_limits.specs.declared.TheConstants.{MAX_NAMES};
 ghost use Rattle.mm_manager.specs.Reads.{waits_of};
 ghost use Rattle.mm_service.specs.Reply.{line_text};
-ghost use Rattle.mm_service.specs.Text.{AreHeld, HoldsText, edge_lines, graph_text, names_text, told_line, told_text};
+ghost use Rattle.mm_service.specs.Text.{AreHeld, HoldsText, edge_lines, effect_text, graph_text, names_text, told_line, told_text};
 
+use crate::effect::Effect;
 use crate::reply::{
     MAX_NAMED, MAX_REPLY, end_line, name_at, print_aborted, print_edge, print_granted, print_line,
 };
@@ -31,8 +32,30 @@ impl Numbers {
     }
 }
 
+/// Writes what a request caused for others, a line for each wait that it ended, and who was aborted since its abort was due.
+pub fn write_effect<W: Write>(
+    manager: &LockManager,
+    effect: Effect,
+    output: &mut Output,
+    writer: &mut W,
+) -> Result<(), Fault>
+    ensures written { (lost : List ℕ) × Writes (W.contents writer.old) (W.contents writer.new) (output.old.items ++ effect_text manager.now effect) lost
+        × OnOk result (lost ≡ output.new.items) }
+    ensures fault { IsOkUnless result Fault.Write }
+{
+    match effect {
+        Effect::Nothing | Effect::Begun(_) | Effect::Deadlock(_) => Ok(()),
+        Effect::EndedWaits => write_told(manager, output, writer),
+        Effect::Aborted(key) => {
+            make_room(output, MAX_REPLY, writer)?;
+            print_aborted(output, key);
+            write_told(manager, output, writer)
+        }
+    }
+}
+
 /// Writes whose waits the last call ended, a line each.
-pub fn write_told<W: Write>(
+fn write_told<W: Write>(
     manager: &LockManager,
     output: &mut Output,
     writer: &mut W,
@@ -149,8 +172,8 @@ pub fn write_graph<W: Write>(
     write_edges(manager, output, writer)
 }
 
-/// How many transactions wait.
-fn count_waits(manager: &LockManager) -> u64
+/// Returns how many transactions wait. `O(transactions)`.
+pub fn count_waits(manager: &LockManager) -> u64
     ensures { result ≡ length (waits_of manager.now.table) }
 {
     manager.keeps_laws();

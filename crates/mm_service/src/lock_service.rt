@@ -4,8 +4,8 @@ ghost use Rattle.std.specs.Io.KnownBytes.{Appends, Consumes, IsAtEnd};
 ghost use Rattle.mm_manager.specs.Opening.{opening_state, IsTransactionsOut, IsNamesOut, IsNameBytesOut};
 ghost use Rattle.mm_service.specs.Service.{Ends};
 
-use crate::calls::make;
-use crate::line::{Line, MAX_LINE, line_of};
+use crate::calls::answer_request;
+use crate::line::{Asked, Line, MAX_LINE, line_of};
 use crate::lists::Numbers;
 use crate::reply::{MAX_NAMED, print_line};
 use crate::{ManagerConfig, OpenError, ServiceFault};
@@ -105,12 +105,15 @@ impl Answerer for LockService {
             }
             Line::Request(request) => {
                 self.manager.keeps_laws();
-                let outcome = make(
+                let asked = Asked {
+                    request,
+                    name: named.name,
+                };
+                let outcome = answer_request(
                     &mut self.manager,
                     &mut self.numbers,
+                    asked,
                     output,
-                    request,
-                    named.name,
                     writer,
                 );
                 self.manager.keeps_laws();

@@ -2,7 +2,7 @@
 use Rattle.std.specs.Prelude.{ℕ, ◌≡◌, ◌≢◌, ◌⊎◌, ◌↔◌, ◌+◌, ◌^◌, ◌&&◌, Bool, true, false, List, [], None, Result, Ok, Err, IsTrue, MatchBool, nat_lt}
 use Rattle.mm_arena.specs.declared.key.Key.{Key}
 use Rattle.mm_label.specs.Label.{Label}
-use Rattle.mm_list_lemmas.specs.Members.{Among}
+use Rattle.mm_lists.specs.Members.{Among}
 use Rattle.mm_rules.specs.declared.config.Config.{Config}
 use Rattle.mm_rules.specs.declared.refusal.Refusal.{Refusal}
 use Rattle.mm_rules.specs.declared.refusal.Refusal.TheVariants.{CountsExhausted}
@@ -12,7 +12,7 @@ use Rattle.mm_rules.specs.TableState.{TableState, has_verdict, wait_of}
 use Rattle.mm_rules.specs.Event.{Event, Acquire, Finish, Abort, Settle, Answer, Step, Opens}
 use Rattle.mm_rules.specs.Victims.{IsOnCycle}
 use Rattle.mm_rules.specs.Withdraw.{Withdraws}
-use Rattle.mm_settle.specs.Touched.{changed_processes}
+use Rattle.mm_settle_lemmas.specs.Touched.{changed_processes}
 use Rattle.mm_settled.specs.SettledState.{SettledState}
 use Rattle.mm_settled.specs.declared.reply.EndKind.{EndKind}
 use Rattle.mm_settled.specs.declared.reply.EndKind.TheVariants as way

@@ -5,10 +5,8 @@ ghost use Rattle.mm_settled.specs.Calls.{has_room, NoneWaits};
 ghost use Rattle.mm_settled.specs.private.Lists.{ComesToRest};
 
 use crate::Table;
+use mm_limits::COUNT_LIMIT;
 use mm_table::Settled;
-
-/// Where the accepted or the verdict count is this or more, every event is refused.
-const COUNT_LIMIT: u64 = 1 << 62;
 
 /// Whether an event and a settle can be counted.
 #[inline]

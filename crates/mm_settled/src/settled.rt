@@ -1,7 +1,7 @@
-ghost use Rattle.std.specs.Prelude.{◌≡◌, ◌↔◌, ◌≤◌, ◌<◌, ◌^◌, ℕ, List, [], Some, None, Ok, Err, IsTrue, OnOk, vec_capacity};
+ghost use Rattle.std.specs.Prelude.{◌≡◌, ◌↔◌, ◌<◌, ◌^◌, ℕ, List, [], Some, None, Ok, Err, IsTrue, OnOk};
 ghost use Rattle.mm_rules.specs.Event.{Step, Begin, Release, Finish, Abort, allowed, resource_tests};
 ghost use Rattle.mm_settled.specs.declared.reply.Locked.TheVariants as Locked;
-ghost use Rattle.mm_list_lemmas.specs.Members.{Among, NoRepeat};
+ghost use Rattle.mm_lists.specs.Members.{Among, NoRepeat};
 ghost use Rattle.mm_rules.specs.TableState.{has_verdict, owner_of};
 ghost use Rattle.mm_rules.specs.Laws.{Laws, AtRest};
 ghost use Rattle.mm_rules.specs.Victims.{IsOnCycle};
@@ -9,10 +9,9 @@ ghost use Rattle.mm_rules.specs.Withdraw.{IsBehindVictim};
 ghost use Rattle.mm_settled.specs.Calls.{OpensSettled, Locks, IsDeadlock, Makes, MakesEnd, MakesWithdrawal, OthersKeepVerdicts};
 ghost use Rattle.mm_settled.specs.Grants.{Tells, EndsWaits};
 
-use crate::ends::{end, release};
-use crate::lists::{Lists, is_told, list};
+use crate::lists::{Lists, is_told};
 use crate::lock::lock;
-use crate::withdraw::withdraw;
+use crate::parts::Parts;
 use crate::{Config, EndKind, Grant, Key, Locked, Refusal, Released, Table};
 use std::alloc::Global;
 use std::marker::Model;
@@ -23,10 +22,7 @@ use std::marker::Model;
 /// A contract sees it as a `SettledState`: the table, and whom the last call granted what. After a call that is refused that list is
 /// empty, and the table is as it was. No call but `open` takes memory.
 pub struct SettledTable {
-    table: Table,
-    lists: Lists,
-    /// What a transaction owned that ended. What it has between calls means nothing.
-    owned: Vec<u32>,
+    parts: Parts,
     /// How many events the table had accepted right after the last call that listed grants. Once it accepts one more, what the list has
     /// means nothing: so an accepted call that grants nothing need not touch it.
     told_at: u64,
@@ -36,9 +32,7 @@ pub struct SettledTable {
 impl Drop for SettledTable {
     fn drop(self) {
         let SettledTable {
-            table: _,
-            lists: _,
-            owned: _,
+            parts: _,
             told_at: _,
         } = self;
     }
@@ -66,11 +60,8 @@ impl SettledTable {
     {
         let table = Table::open(alloc, config)?;
         let lists = Lists::open(alloc, config)?;
-        let owned = list(alloc, config.resources)?;
         Ok(SettledTable {
-            table,
-            lists,
-            owned,
+            parts: Parts { table, lists },
             told_at: 0,
         })
     }
@@ -84,11 +75,11 @@ impl SettledTable {
         ensures others { (v : ℕ) → has_verdict self.new.table v ≡ has_verdict self.old.table v }
         ensures told { Tells self.old.table self.new }
     {
-        self.table.keeps_laws();
-        match self.table.begin() {
+        self.parts.table.keeps_laws();
+        match self.parts.table.begin() {
             Ok(key) => Ok(key),
             Err(refusal) => {
-                self.lists.granted.clear();
+                self.parts.lists.granted.clear();
                 Err(refusal)
             }
         }
@@ -113,8 +104,13 @@ impl SettledTable {
         ensures others { OthersKeepVerdicts self.old.table self.new.table key.process }
         ensures told { Tells self.old.table self.new }
     {
-        self.table.keeps_laws();
-        lock(&mut self.table, &mut self.lists.granted, key, resource)
+        self.parts.table.keeps_laws();
+        lock(
+            &mut self.parts.table,
+            &mut self.parts.lists.granted,
+            key,
+            resource,
+        )
     }
 
     /// `lock` of a resource that nobody owns, by a key that may use it: so nothing is tested, and it is granted. Constant time.
@@ -129,8 +125,8 @@ impl SettledTable {
         ensures others { OthersKeepVerdicts self.old.table self.new.table key.process }
         ensures told { Tells self.old.table self.new }
     {
-        self.table.keeps_laws();
-        self.table.grant_free(key, resource);
+        self.parts.table.keeps_laws();
+        self.parts.table.grant_free(key, resource);
     }
 
     /// Hands the resource over: the longest waiter owns it from now on and is listed in `granted`, and each other waiter keeps its
@@ -144,8 +140,8 @@ impl SettledTable {
         ensures told { Tells self.old.table self.new }
         ensures ended { EndsWaits self.old.table self.new.table key.process self.new.granted }
     {
-        let answer = release(&mut self.table, &mut self.lists, key, resource);
-        self.told_at = self.table.totals().accepted;
+        let answer = self.parts.release(key, resource);
+        self.told_at = self.parts.table.totals().accepted;
         answer
     }
 
@@ -160,15 +156,7 @@ impl SettledTable {
         ensures told { Tells self.old.table self.new }
         ensures ended { EndsWaits self.old.table self.new.table key.process self.new.granted }
     {
-        let answer = end(
-            &mut self.table,
-            &mut self.lists,
-            &mut self.owned,
-            EndKind::Finish,
-            key,
-        );
-        self.told_at = self.table.totals().accepted;
-        answer
+        self.end(EndKind::Finish, key)
     }
 
     /// Ends a transaction that was told of a deadlock: takes back its wait, and goes on as `finish`. Nobody gets a verdict.
@@ -181,40 +169,21 @@ impl SettledTable {
         ensures told { Tells self.old.table self.new }
         ensures ended { EndsWaits self.old.table self.new.table key.process self.new.granted }
     {
-        let answer = end(
-            &mut self.table,
-            &mut self.lists,
-            &mut self.owned,
-            EndKind::Abort,
-            key,
-        );
-        self.told_at = self.table.totals().accepted;
-        answer
+        self.end(EndKind::Abort, key)
     }
 
-    /// `finish` of an active transaction or `abort` of a victim, which also lists what the transaction owned, each resource once, in no
-    /// order that is promised, in place of what `owned` held.
-    ///
-    /// `owned` has room for each resource, and no memory is taken. Where the call is refused, what `owned` has means nothing. It is
-    /// refused as `finish` or `abort` is, and costs what that costs.
+    /// `finish` of an active transaction or `abort` of a victim. It is refused as that is, and costs what that costs.
     #[inline(always)]
-    pub fn end_listing(
-        &mut self,
-        kind: EndKind,
-        key: Key,
-        owned: &mut Vec<u32>,
-    ) -> Result<(), Refusal>
-        requires room { self.old.table.config.resources ≤ vec_capacity owned.old }
+    pub fn end(&mut self, kind: EndKind, key: Key) -> Result<(), Refusal>
         ensures makes { MakesEnd kind key self.old.table result self.new.table }
         ensures others { OthersKeepVerdicts self.old.table self.new.table key.process }
         ensures told { Tells self.old.table self.new }
         ensures ended { EndsWaits self.old.table self.new.table key.process self.new.granted }
-        ensures owned { OnOk result ((r : ℕ) → Among r owned.new.items ↔ (owner_of self.old.table r ≡ Some key)) }
-        ensures once { OnOk result (NoRepeat owned.new.items) }
-        ensures room { vec_capacity owned.new ≡ vec_capacity owned.old }
+        ensures owned { OnOk result ((r : ℕ) → Among r self.new.ended ↔ (owner_of self.old.table r ≡ Some key)) }
+        ensures once { OnOk result (NoRepeat self.new.ended) }
     {
-        let answer = end(&mut self.table, &mut self.lists, owned, kind, key);
-        self.told_at = self.table.totals().accepted;
+        let answer = self.parts.end(kind, key);
+        self.told_at = self.parts.table.totals().accepted;
         answer
     }
 
@@ -232,8 +201,8 @@ impl SettledTable {
         ensures others { (v : ℕ) → has_verdict self.new.table v ≡ has_verdict self.old.table v }
         ensures told { Tells self.old.table self.new }
     {
-        let answer = withdraw(&mut self.table, &mut self.lists, key);
-        self.told_at = self.table.totals().accepted;
+        let answer = self.parts.withdraw(key);
+        self.told_at = self.parts.table.totals().accepted;
         answer
     }
 
@@ -241,10 +210,19 @@ impl SettledTable {
     pub fn granted(&self) -> &[Grant]
         ensures { result.now ≡ self.now.granted }
     {
-        if !is_told(self.told_at, &self.table) {
+        if !is_told(self.told_at, &self.parts.table) {
             return &[];
         }
-        &self.lists.granted
+        &self.parts.lists.granted
+    }
+
+    /// What the transaction owned that ended last, each resource once, in no order that is promised. After a refused end it means
+    /// nothing. Constant time.
+    #[inline]
+    pub fn ended(&self) -> &[u32]
+        ensures { result.now ≡ self.now.ended }
+    {
+        &self.parts.lists.owned
     }
 
     /// The table, to read it: what a transaction does (`state`), who owns a resource (`owner`) and what a key owns (`owned_by`), for
@@ -253,7 +231,7 @@ impl SettledTable {
     pub fn table(&self) -> &Table
         ensures { result.now ≡ self.now.table }
     {
-        &self.table
+        &self.parts.table
     }
 
     /// Does nothing. Its contract is that the table is at rest, whatever was called: nothing is left to transmit or to detect, and one
@@ -262,6 +240,6 @@ impl SettledTable {
         ensures laws { Laws self.now.table }
         ensures rest { AtRest self.now.table }
     {
-        self.table.keeps_laws();
+        self.parts.table.keeps_laws();
     }
 }

@@ -7,28 +7,30 @@ ghost use Rattle.mm_settled.specs.Calls.{MakesWithdrawal};
 ghost use Rattle.mm_settled.specs.Grants.{grants};
 ghost use Rattle.mm_settled.specs.private.Lists.{Fits};
 
-use crate::lists::Lists;
+use crate::parts::Parts;
 use crate::settle::{come_to_rest, has_room};
-use crate::{Key, Refusal, Table};
+use crate::{Key, Refusal};
 
-/// Takes back the wait of the key, and settles the table if another process that waits got a new label by that.
-pub fn withdraw(table: &mut Table, lists: &mut Lists, key: Key) -> Result<(), Refusal>
-    requires rest { AtRest table.old }
-    requires fits { Fits table.old.config lists.old }
-    ensures makes { MakesWithdrawal key table.old result table.new }
-    ensures others { (v : ℕ) → has_verdict table.new v ≡ has_verdict table.old v }
-    ensures carried { (result ≡ Err Refusal.Carried) → IsBehindVictim table.old key.process }
-    ensures granted { lists.new.granted.items ≡ grants table.old table.new }
-    ensures config { table.new.config ≡ table.old.config }
-    ensures rest { AtRest table.new }
-    ensures fits { Fits table.new.config lists.new }
-{
-    table.keeps_laws();
-    lists.granted.clear();
-    if !has_room(table) {
-        return Err(Refusal::CountsExhausted);
+impl Parts {
+    /// Takes back the wait of the key, and settles the table if another process that waits got a new label by that.
+    pub fn withdraw(&mut self, key: Key) -> Result<(), Refusal>
+        requires rest { AtRest self.old.table }
+        requires fits { Fits self.old.table.config self.old.lists }
+        ensures makes { MakesWithdrawal key self.old.table result self.new.table }
+        ensures others { (v : ℕ) → has_verdict self.new.table v ≡ has_verdict self.old.table v }
+        ensures carried { (result ≡ Err Refusal.Carried) → IsBehindVictim self.old.table key.process }
+        ensures granted { self.new.lists.granted.items ≡ grants self.old.table self.new.table }
+        ensures config { self.new.table.config ≡ self.old.table.config }
+        ensures rest { AtRest self.new.table }
+        ensures fits { Fits self.new.table.config self.new.lists }
+    {
+        self.table.keeps_laws();
+        self.lists.granted.clear();
+        if !has_room(&self.table) {
+            return Err(Refusal::CountsExhausted);
+        }
+        self.table.withdraw_waking(key, &mut self.lists.woken)?;
+        come_to_rest(&mut self.table, &self.lists.woken);
+        Ok(())
     }
-    table.withdraw_waking(key, &mut lists.woken)?;
-    come_to_rest(table, &lists.woken);
-    Ok(())
 }

@@ -2,7 +2,7 @@
 use Rattle.std.proofs.Common.{◌≡◌, ℕ, None, subst, sym, ap, ◌∙◌, arith}
 use Rattle.std.proofs.lemmas.List.FromFn.{get_or-map-range_with_len}
 use Rattle.mm_label.specs.Label.{opening_label}
-use Rattle.mm_list_lemmas.proofs.Lemmas.Set.{read_replicate}
+use Rattle.mm_lists.proofs.Lemmas.Set.{read_replicate}
 use Rattle.mm_board.specs.declared.views.Published.{Published}
 use Rattle.mm_board.specs.Views.{opening_published}
 use Rattle.mm_board.proofs.Current.{current_label_at_first}

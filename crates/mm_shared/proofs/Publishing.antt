@@ -3,7 +3,7 @@ use Rattle.std.proofs.Common.{◌≡◌, ◌≢◌, ◌<◌, ◌+◌, ℕ, zero,
 use Rattle.std.proofs.lemmas.Bool.{cases_eq}
 use Rattle.mm_label.specs.Label.{Label, label_le}
 use Rattle.mm_arena.specs.declared.key.Key.{Key}
-use Rattle.mm_list_lemmas.specs.Members.{Among}
+use Rattle.mm_lists.specs.Members.{Among}
 use Rattle.mm_board.specs.declared.views.Published.{Published}
 use Rattle.mm_board.specs.Views.{last_label, history, current_label, current_holder, with_label, with_holder, IsAnother}
 use Rattle.mm_board.proofs.Current.{current_label_stored, current_holder_stored}
@@ -21,8 +21,8 @@ use Rattle.mm_rules.specs.Laws.{Laws}
 use Rattle.mm_rules.proofs.States.Config.{event_config}
 use Rattle.mm_rules.proofs.States.EventsKeepLaws.{event_keeps}
 use Rattle.mm_rules.proofs.States.Lookups.{holder_within, holder_apart}
-use Rattle.mm_settle.specs.Shown.{Shows, shown_anew, ShownBy, ChangesShown, IdleShowTheSame}
-use Rattle.mm_settle.proofs.Lemmas.Shown.{shown_changes_are_told}
+use Rattle.mm_settle_lemmas.specs.Shown.{Shows, shown_anew, ShownBy, ChangesShown, IdleShowTheSame}
+use Rattle.mm_settle_lemmas.proofs.Lemmas.Shown.{shown_changes_are_told}
 use Rattle.mm_shared.specs.Published.{IsShown, IsPublished, AppendsOnly}
 use Rattle.mm_shared.specs.private.Publishing.{IsToPublish, HoldersAreShown, IdleAreShown}
 

@@ -5,7 +5,7 @@ ghost use Rattle.mm_board.specs.Views.{current_labels, label_at, new_seen, NoneF
 ghost use Rattle.mm_label.specs.Label.{Label};
 ghost use Rattle.mm_rules.specs.Event.{Step, Begin, Acquire, Release, Finish, Transmit, Detect, Abort, GiveUp, Settle, state_of, owner_told, tenant_of};
 ghost use Rattle.mm_rules.specs.Laws.{HasSoundVerdicts, Laws};
-ghost use Rattle.mm_settle.specs.Touched.{changed_processes};
+ghost use Rattle.mm_settle_lemmas.specs.Touched.{changed_processes};
 ghost use Rattle.mm_shared.specs.Booked.{Booked};
 ghost use Rattle.mm_shared.specs.Published.{AppendsOnly, IsPublished, holders_of};
 ghost use Rattle.mm_counts.specs.Shares.{CountsEvent};

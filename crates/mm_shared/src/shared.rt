@@ -9,7 +9,7 @@ ghost use Rattle.mm_counts.specs.Shares.{all_parts, CountsEvent};
 use crate::inside::Inside;
 use crate::pass::Pass;
 use mm_board::{Board, Name};
-use mm_lock::Lock;
+use mm_mutex::YieldingMutex;
 use mm_table::{Acquired, Detected, Key, Refusal, Released, Settled, State, Transmitted};
 use std::fmt;
 use std::fmt::{Debug, Formatter};
@@ -26,7 +26,7 @@ use std::sync::ledger::Ledger;
 pub struct SharedTable<N: Name, A: Ledger, V: Ledger, B: Ledger> {
     pub(crate) board: Board<N>,
     processes: u32,
-    lock: Lock<Inside<N, A, V, B>>,
+    lock: YieldingMutex<Inside<N, A, V, B>>,
 }
 
 // By hand, so that a crate that drops a shared table proves nothing of how its parts are dropped.
@@ -60,7 +60,7 @@ impl<N: Name, A: Ledger, V: Ledger, B: Ledger> SharedTable<N, A, V, B> {
         SharedTable {
             board,
             processes,
-            lock: Lock::new(inside),
+            lock: YieldingMutex::new(inside),
         }
     }
 

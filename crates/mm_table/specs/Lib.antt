@@ -8,8 +8,8 @@ pub use Rattle.mm_rules.specs.Laws
 pub use Rattle.mm_rules.specs.Victims
 pub use Rattle.mm_rules.specs.Rest
 pub use Rattle.mm_rules.specs.Withdraw
-pub use Rattle.mm_settle.specs.Touched
-pub use Rattle.mm_settle.specs.Shown
+pub use Rattle.mm_settle_lemmas.specs.Touched
+pub use Rattle.mm_settle_lemmas.specs.Shown
 pub use Rattle.mm_rules.specs.declared.config
 pub use Rattle.mm_rules.specs.declared.refusal
 pub use Rattle.mm_rules.specs.declared.reply

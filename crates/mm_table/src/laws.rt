@@ -7,4 +7,4 @@ pub use mm_rules::laws::{
     raises_are_bounded, reached_is_lawful, rest_stays, settle_ends, settle_gives_rest,
     steps_are_determined, verdicts_are_sound, victim_is_newest,
 };
-pub use mm_settle::laws::shown_changes_are_told;
+pub use mm_settle_lemmas::laws::shown_changes_are_told;

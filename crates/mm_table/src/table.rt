@@ -1,12 +1,12 @@
 ghost use Rattle.std.specs.Prelude.{◌≡◌, ◌≢◌, ◌≤◌, ◌<◌, ◌^◌, ◌↔◌, ◌||◌, ℕ, Ok, Some, false, length, replicate, IfOk, IfErr, IfSome, IfNone, None, OnOk, vec_capacity};
-ghost use Rattle.mm_list_lemmas.specs.Members.{Among, NoRepeat};
+ghost use Rattle.mm_lists.specs.Members.{Among, NoRepeat};
 ghost use Rattle.mm_bit_set.specs.BitSet.{has, members};
 ghost use Rattle.mm_rules.specs.TableState.{owner_of, public_of, holder_of, wait_of};
 ghost use Rattle.mm_rules.specs.Event.{Opens, Step, Begin, Acquire, Release, Finish, Transmit, Detect, Abort, GiveUp, Settle, allowed, resource_tests, state_of, owner_told, tenant_of};
 ghost use Rattle.mm_rules.specs.declared.reply.Acquired.TheVariants as Acquired;
 ghost use Rattle.mm_rules.specs.Laws.{Laws, AtRest, HasSoundVerdicts};
 ghost use Rattle.mm_rules.specs.Withdraw.{Withdraws};
-ghost use Rattle.mm_settle.specs.Touched.{changed_processes};
+ghost use Rattle.mm_settle_lemmas.specs.Touched.{changed_processes};
 
 use crate::records::Records;
 use crate::sets::Sets;

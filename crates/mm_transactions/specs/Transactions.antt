@@ -3,7 +3,7 @@ use Rattle.std.specs.Prelude.{ℕ, ◌+◌, ◌<◌, Bool, true, false, not, ◌
 use Rattle.std.specs.List.{range_with_len}
 use Rattle.std.specs.Option.{option_map}
 use Rattle.mm_arena.specs.declared.key.Key.{Key}
-use Rattle.mm_list_lemmas.specs.Members.{Among, NoRepeat, head}
+use Rattle.mm_lists.specs.Members.{Among, NoRepeat, head}
 use Rattle.mm_rules.specs.TableState.{Wait, is_of, waited_for}
 use Rattle.mm_transactions.specs.declared.transaction.Transaction.{Transaction}
 

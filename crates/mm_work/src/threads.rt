@@ -2,8 +2,8 @@
 ghost use Rattle.std.specs.Prelude.{◌≡◌, ◌≤◌, ◌+◌, Err, IfOk, IfErr, length, vec_len};
 ghost use Rattle.mm_rules.specs.Event.{Opens};
 
-use mm_report::{print_outcome, print_workload};
 use mm_rules::Refusal;
+use mm_run_report::{print_outcome, print_workload};
 use mm_workers::{SharedGate, TalliedOutcome, run_tallied, shared_gates};
 use mm_workload::Workload;
 use std::alloc::Global;

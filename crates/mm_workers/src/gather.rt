@@ -4,14 +4,14 @@ ghost use Rattle.mm_clients.specs.End.{is_aborted};
 
 use crate::divisible::Divisible;
 use crate::job::{Ended, Stopped};
-use mm_clients::{Earlier, End};
+use mm_clients::{EarlierEnds, End};
 
 /// Joins the parts of the clients, lists their last ends in order, and returns the earlier ones.
 pub fn gather_clients<S: Divisible + Drop>(
     table: &mut S,
     ended: Vec<Ended<S>>,
     ends: &mut Vec<End>,
-) -> Earlier
+) -> EarlierEnds
     requires empty { vec_len ends.old ≡ 0 }
     requires room { vec_len ended ≤ vec_capacity ends.old }
     requires few { vec_len ended ≤ 64 }
@@ -19,7 +19,7 @@ pub fn gather_clients<S: Divisible + Drop>(
     ensures parts { (S.shares table.new).parts ≡ (S.shares table.old).parts + vec_len ended }
     ensures aborts { (S.shares table.new).aborts ≡ (S.shares table.old).aborts + count_by is_aborted ends.new.items + result.aborted }
 {
-    let mut earlier = Earlier::NONE;
+    let mut earlier = EarlierEnds::NONE;
     for one in ended {
         let (own, part) = one.into_parts();
         table.join(part);

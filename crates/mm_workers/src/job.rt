@@ -6,8 +6,8 @@ ghost use Rattle.mm_clients.specs.End.{aborts_of};
 
 use crate::divisible::Divisible;
 use mm_clients::{Client, ClientEnds, Gate, Steps, Transmitter};
-use mm_jobs::Job;
-use mm_workload::{Coming, WorkStep};
+use mm_thread_jobs::Job;
+use mm_workload::{TransactionStream, WorkStep};
 
 /// What a client is made of: a part of the table, at which no abort is counted, a gate, the steps of its first transaction, and the
 /// transactions that follow it.
@@ -16,7 +16,7 @@ pub struct ClientJob<S: Steps + Drop, G: Gate + Drop> {
     part: S,
     gate: G,
     work: Vec<WorkStep>,
-    coming: Coming,
+    stream: TransactionStream,
     turns: u64,
     ghost one_part: { (S.shares part).parts ≡ 1 },
     ghost no_abort: { (S.shares part).aborts ≡ 0 },
@@ -28,7 +28,7 @@ impl<S: Divisible + Drop, G: Gate + Drop> ClientJob<S, G> {
         table: &mut S,
         gate: G,
         work: Vec<WorkStep>,
-        coming: Coming,
+        stream: TransactionStream,
         turns: u64,
     ) -> ClientJob<S, G>
         requires { 1 < (S.shares table.old).parts }
@@ -38,7 +38,7 @@ impl<S: Divisible + Drop, G: Gate + Drop> ClientJob<S, G> {
             part: table.split(),
             gate,
             work,
-            coming,
+            stream,
             turns,
         }
     }
@@ -53,11 +53,11 @@ impl<S: Steps + Drop, G: Gate + Drop> Job for ClientJob<S, G> {
             part,
             gate,
             work,
-            mut coming,
+            mut stream,
             turns,
         } = self;
         let mut client = Client::new(part, gate, work, turns);
-        let ends = client.run_all(&mut coming);
+        let ends = client.run_all(&mut stream);
         Ended {
             ends,
             part: client.into_steps(),

@@ -4,7 +4,7 @@ ghost use Rattle.std.specs.Prelude.{◌≡◌, ◌+◌, ◌<◌, IfOk, length, v
 use crate::divisible::Divisible;
 use crate::job::{ClientJob, TransmitterJob};
 use mm_clients::Gate;
-use mm_workload::{Coming, WorkStep, Workload};
+use mm_workload::{TransactionStream, WorkStep, Workload};
 use std::alloc::{AllocError, Global};
 
 /// A job for each client of the workload, in order, each with a part of the table.
@@ -24,21 +24,24 @@ pub fn client_jobs<S: Divisible + Drop, G: Gate + Drop>(
     let mut jobs = Vec::with_capacity(alloc, gates.len())?;
     let mut place = 0usize;
     for gate in gates {
-        let (work, coming) = transactions_of(workload, place)?;
+        let (work, stream) = transactions_of(workload, place)?;
         place += 1;
-        jobs.push_reserved(ClientJob::new(table, gate, work, coming, turns));
+        jobs.push_reserved(ClientJob::new(table, gate, work, stream, turns));
     }
     Ok(jobs)
 }
 
 /// The first transaction of the client at this place, with room for each that follows it, and these.
-fn transactions_of(workload: &Workload, place: usize) -> Result<(Vec<WorkStep>, Coming), AllocError>
+fn transactions_of(
+    workload: &Workload,
+    place: usize,
+) -> Result<(Vec<WorkStep>, TransactionStream), AllocError>
     requires { place < length workload.now.clients }
 {
     let mut work = workload.clients()[place].clone()?;
-    let coming = workload.coming(place as u64 + 1);
-    coming.make_room(&mut work)?;
-    Ok((work, coming))
+    let stream = workload.stream_of(place as u64 + 1);
+    stream.make_room(&mut work)?;
+    Ok((work, stream))
 }
 
 /// A job for each transmitter, each with a part of the table.

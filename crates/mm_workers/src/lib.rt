@@ -4,7 +4,7 @@
 //! - `desk`: `Desk`, a shared table with a pass, as the workers of `mm_clients` call it.
 //! - `divisible`: a table of which each worker has a part.
 //! - `job`: what a worker's thread takes along, and what it gives back.
-//! - `run`: `run_threads`, all workers of a workload at once. `jobs` makes a job for each, which `mm_jobs` runs, and `gather` joins their
+//! - `run`: `run_threads`, all workers of a workload at once. `jobs` makes a job for each, which `mm_thread_jobs` runs, and `gather` joins their
 //!   parts of the table.
 #![tactic(auto)]
 
@@ -18,7 +18,7 @@ mod shared_gate;
 
 pub use desk::Desk;
 pub use mm_clients::{
-    Client, ClientEnds, Earlier, End, EndCounts, Gate, Hint, HintKind, Outcome, Steps,
+    Client, ClientEnds, EarlierEnds, End, EndCounts, Gate, Hint, HintKind, Outcome, Steps,
     TalliedOutcome, Tally, Transmitter,
 };
 pub use mm_shared::Report;

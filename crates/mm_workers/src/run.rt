@@ -10,9 +10,9 @@ use crate::divisible::Divisible;
 use crate::gather::{gather_clients, gather_transmitters};
 use crate::job::{Ended, Stopped};
 use crate::jobs::{client_jobs, transmitter_jobs};
-use mm_clients::{Earlier, End, Gate, Outcome, TalliedOutcome};
-use mm_jobs::run_jobs;
+use mm_clients::{EarlierEnds, End, Gate, Outcome, TalliedOutcome};
 use mm_shared::{Name, Prepared, Refusal};
+use mm_thread_jobs::run_jobs;
 use mm_workload::Workload;
 use std::alloc::{AllocError, Global};
 use std::marker::Brand;
@@ -117,7 +117,7 @@ fn ends_of<S: Divisible + Send + Drop, R: Threads + Wait + Sync, G: Gate + Send 
     table: &mut S,
     workload: &Workload,
     gates: Vec<G>,
-) -> Result<(Vec<End>, Earlier), AllocError>
+) -> Result<(Vec<End>, EarlierEnds), AllocError>
     requires gates { vec_len gates ≡ length workload.now.clients + workload.now.transmitters }
     requires all { ((S.shares table.old).parts ≡ all_parts) × ((S.shares table.old).aborts ≡ 0) }
     ensures each { IfOk result (λ ended. vec_len ended.0 ≡ length workload.now.clients) }
@@ -126,30 +126,30 @@ fn ends_of<S: Divisible + Send + Drop, R: Threads + Wait + Sync, G: Gate + Send 
     ensures alone { IfOk result (λ ended. workload.now.further.shape.transactions ≡ 1 → (ended.1.finished ≡ 0) × (ended.1.aborted ≡ 0)) }
 {
     let mut ends = Vec::with_capacity(alloc, workload.clients().len())?;
-    let (ended, stopped) = at_work(rt, alloc, table, workload, gates)?;
+    let (ended, stopped) = run_workers(rt, alloc, table, workload, gates)?;
     let earlier = gather_clients(table, ended, &mut ends);
     gather_transmitters(table, stopped);
-    as_they_can_be(workload, ends, earlier)
+    checked_ends(workload, ends, earlier)
 }
 
 /// The ends, and these earlier ones, which are none where each client makes one transaction. A proof knows of what a thread returns its type
 /// alone, so it needs this look; it never refuses.
-fn as_they_can_be(
+fn checked_ends(
     workload: &Workload,
     ends: Vec<End>,
-    earlier: Earlier,
-) -> Result<(Vec<End>, Earlier), AllocError>
+    earlier: EarlierEnds,
+) -> Result<(Vec<End>, EarlierEnds), AllocError>
     ensures same { IfOk result (λ own. (own.0 ≡ ends) × (own.1 ≡ earlier)) }
     ensures alone { IfOk result (λ own. workload.now.further.shape.transactions ≡ 1 → (own.1.finished ≡ 0) × (own.1.aborted ≡ 0)) }
 {
-    if workload.coming(1).count() == 0 && earlier != Earlier::NONE {
+    if workload.stream_of(1).count() == 0 && earlier != EarlierEnds::NONE {
         return Err(AllocError);
     }
     Ok((ends, earlier))
 }
 
 /// Gives each worker a part of the table, runs them all, and waits for them.
-fn at_work<S: Divisible + Send + Drop, R: Threads + Wait + Sync, G: Gate + Send + Drop>(
+fn run_workers<S: Divisible + Send + Drop, R: Threads + Wait + Sync, G: Gate + Send + Drop>(
     rt: &R,
     alloc: Global,
     table: &mut S,

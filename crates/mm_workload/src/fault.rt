@@ -10,12 +10,12 @@ pub enum WorkFault {
     /// The bytes of a file say no workload. The place is for a person: where more than one is at fault, no clause says which is
     /// given.
     #[error("malformed workload: {0}")]
-    Malformed(Place),
+    Malformed(FaultPlace),
 }
 
 /// Where a workload is malformed, and why. Clients count from 1, and so do the steps of a client.
 #[derive(Clone, Copy, Debug, PartialEq, Eq, Error)]
-pub enum Place {
+pub enum FaultPlace {
     #[error("the file is longer than {max} bytes", max = MAX_BYTES)]
     TooLong,
     /// Not a JSON text in UTF-8, or one that `serde_json` refuses. Line and column are `serde_json`'s, which often names the
@@ -65,13 +65,13 @@ pub enum StepFault {
     Number,
 }
 
-impl From<Place> for WorkFault {
+impl From<FaultPlace> for WorkFault {
     ghost use Rattle.std.specs.Prelude.{◌≡◌};
     ghost use Rattle.mm_workload.specs.declared.fault.WorkFault.TheVariants.{Malformed};
 
     ghost from_gives = { λ place e. e ≡ Malformed place };
 
-    fn from(place: Place) -> WorkFault {
+    fn from(place: FaultPlace) -> WorkFault {
         WorkFault::Malformed(place)
     }
 }

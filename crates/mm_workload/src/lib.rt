@@ -6,23 +6,23 @@
 //! - `fault`: why there is no workload, and where it is malformed.
 //! - `reading`: a workload from the bytes of a JSON file.
 //! - `storms`: a workload from a seed. `shape`: how many resources it has, how many of them a client acquires, and how many transactions it
-//!   makes. `further`: the transactions that follow its first one.
+//!   makes. `stream`: the transactions that follow its first one.
 #![tactic(auto)]
 
 mod fault;
-mod further;
 mod limits;
 mod reading;
 mod shape;
 mod step;
 mod storms;
+mod stream;
 mod workload;
 
-pub use fault::{Place, StepFault, WorkFault};
-pub use further::Coming;
+pub use fault::{FaultPlace, StepFault, WorkFault};
 pub use limits::MAX_BYTES;
 pub use mm_rules::Config;
-pub use shape::StormShape;
+pub use shape::{StormOptions, StormShape};
 pub use step::WorkStep;
 pub use storms::{shaped_storm, storm};
+pub use stream::TransactionStream;
 pub use workload::Workload;

@@ -10,9 +10,9 @@ ghost use Rattle.mm_workload.specs.declared.fault.WorkFault.TheVariants.{Memory}
 
 mod clients;
 
-use crate::fault::{Place, WorkFault};
-use crate::further::Further;
+use crate::fault::{FaultPlace, WorkFault};
 use crate::limits::{MAX_BYTES, MAX_TRANSMITTERS, MAX_TURNS};
+use crate::stream::StreamOrigin;
 use crate::workload::Workload;
 use clients::clients;
 use mm_rules::Config;
@@ -29,7 +29,7 @@ pub(crate) fn read(alloc: Global, bytes: &[u8]) -> Result<Workload, WorkFault>
     ensures memory { result ≡ Err Memory → (0 < length bytes.now) × (length bytes.now ≤ 1048576) }
 {
     if bytes.len() > MAX_BYTES {
-        return Err(WorkFault::Malformed(Place::TooLong));
+        return Err(WorkFault::Malformed(FaultPlace::TooLong));
     }
     match Value::from_slice(alloc, bytes) {
         Ok(value) => work(alloc, &value),
@@ -39,12 +39,12 @@ pub(crate) fn read(alloc: Global, bytes: &[u8]) -> Result<Workload, WorkFault>
 }
 
 /// Where the text is at fault.
-fn place_of(error: &Error) -> Place {
+fn place_of(error: &Error) -> FaultPlace {
     let (line, column) = (error.line(), error.column());
     if error.is_eof() {
-        Place::CutShort { line, column }
+        FaultPlace::CutShort { line, column }
     } else {
-        Place::Json { line, column }
+        FaultPlace::Json { line, column }
     }
 }
 
@@ -57,11 +57,17 @@ fn work(alloc: Global, value: &Value) -> Result<Workload, WorkFault>
     let transmitters = number(value, "transmitters", 0, MAX_TRANSMITTERS)?;
     let turns = number(value, "turns", 1, MAX_TURNS)?;
     let clients = clients(alloc, value)?;
-    Ok(Workload::of(config, transmitters as u32, turns, clients, Further::none()))
+    Ok(Workload::of(
+        config,
+        transmitters as u32,
+        turns,
+        clients,
+        StreamOrigin::none(),
+    ))
 }
 
 /// The table's numbers.
-fn config(value: &Value) -> Result<Config, Place>
+fn config(value: &Value) -> Result<Config, FaultPlace>
     ensures { MatchResult result (λ c. SaysConfig (view value.now) c) (λ _. (c : Config) → ¬ SaysConfig (view value.now) c) }
 {
     let processes = number(value, "processes", 0, MAX_U32)?;
@@ -77,7 +83,7 @@ fn config(value: &Value) -> Result<Config, Place>
 }
 
 /// The number under this key.
-fn number(value: &Value, key: &'static str, least: u64, most: u64) -> Result<u64, Place>
+fn number(value: &Value, key: &'static str, least: u64, most: u64) -> Result<u64, FaultPlace>
     ensures { MatchResult result (λ n. whole_at least most key.now (view value.now) ≡ Some n)
         (λ _. whole_at least most key.now (view value.now) ≡ None) }
 {
@@ -86,15 +92,15 @@ fn number(value: &Value, key: &'static str, least: u64, most: u64) -> Result<u64
     };
     match found.as_u64() {
         Some(number) if least <= number && number <= most => Ok(number),
-        _ => Err(Place::Number { key, least, most }),
+        _ => Err(FaultPlace::Number { key, least, most }),
     }
 }
 
 /// Why the value has nothing under this key.
-fn missing(value: &Value, key: &'static str) -> Place {
+fn missing(value: &Value, key: &'static str) -> FaultPlace {
     if value.is_object() {
-        Place::Missing(key)
+        FaultPlace::Missing(key)
     } else {
-        Place::NotAnObject
+        FaultPlace::NotAnObject
     }
 }

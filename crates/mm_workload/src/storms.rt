@@ -6,9 +6,9 @@ ghost use Rattle.mm_workload.specs.Storm.{acquires, after, client_of, clients_fr
 ghost use Rattle.mm_workload.specs.declared.fault.WorkFault.TheVariants.{Memory};
 
 use crate::fault::WorkFault;
-use crate::further::Further;
-use crate::shape::StormShape;
+use crate::shape::{StormOptions, StormShape};
 use crate::step::WorkStep;
+use crate::stream::StreamOrigin;
 use crate::workload::Workload;
 use mm_rules::Config;
 use rand_core::utils::NextWord;
@@ -30,11 +30,17 @@ pub fn storm(
     requires transmitters { transmitters ≤ 64 }
     ensures { MatchResult result (λ w. w ≡ storm_of seed clients transmitters) (λ e. e ≡ Memory) }
 {
-    shaped_storm(alloc, &StormShape::USUAL, seed, clients, transmitters)
+    let options = StormOptions {
+        seed,
+        clients,
+        transmitters,
+        shape: StormShape::USUAL,
+    };
+    shaped_storm(alloc, &options)
 }
 
-/// Returns the workload of this shape that is made from this seed: the same one for the same arguments. Takes memory;
-/// `O(clients * acquires)`, and for each client the square of its resources.
+/// Returns the workload that is generated from these numbers: the same one for the same numbers. Takes memory; `O(clients * acquires)`,
+/// and for each client the square of its resources.
 ///
 /// The words are those of the generator PCG-XSH-RR, `rand_pcg`'s `Lcg64Xsh32::new(seed, 0)`, in the order in which it gives
 /// them. For each client in turn one word gives a count of 1 to `acquires`, and then so many words each give one of the
@@ -42,23 +48,21 @@ pub fn storm(
 /// processes as clients.
 ///
 /// These are the first transactions. A further transaction of a client is drawn in the same way, by words of the stream of the client's
-/// number, where the first client has the number 1 (`Workload::coming`).
+/// number, where the first client has the number 1 (`Workload::stream_of`).
 ///
 /// Refused as `Memory` only where a request for memory was refused.
-pub fn shaped_storm(
-    alloc: Global,
-    shape: &StormShape,
-    seed: u64,
-    clients: u32,
-    transmitters: u32,
-) -> Result<Workload, WorkFault>
-    requires clients { (1 ≤ clients) × (clients ≤ 64) }
-    requires transmitters { transmitters ≤ 64 }
-    ensures { MatchResult result (λ w. w ≡ storm_with (shape_of shape.now) seed clients transmitters) (λ e. e ≡ Memory) }
+pub fn shaped_storm(alloc: Global, options: &StormOptions) -> Result<Workload, WorkFault>
+    ensures { MatchResult result (λ w. w ≡ storm_with (shape_of options.now.shape) options.now.seed options.now.clients options.now.transmitters) (λ e. e ≡ Memory) }
 {
-    let config = config_of(shape, clients);
-    let further = Further::new(seed, *shape);
-    let clients = acquiring_clients(alloc, shape, seed, clients)?;
+    let StormOptions {
+        seed,
+        clients,
+        transmitters,
+        shape,
+    } = *options;
+    let config = config_of(&shape, clients);
+    let further = StreamOrigin::new(seed, shape);
+    let clients = acquiring_clients(alloc, &shape, seed, clients)?;
     Ok(Workload::of(config, transmitters, 10_000_000, clients, further))
 }
 

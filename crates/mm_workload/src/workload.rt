@@ -1,7 +1,7 @@
 use crate::fault::WorkFault;
-use crate::further::{Coming, Further};
 use crate::reading;
 use crate::step::WorkStep;
+use crate::stream::{StreamOrigin, TransactionStream};
 use mm_rules::Config;
 use std::alloc::Global;
 use std::marker::Model;
@@ -15,7 +15,7 @@ pub struct Workload {
     transmitters: u32,
     turns: u64,
     clients: Vec<Vec<WorkStep>>,
-    further: Further,
+    further: StreamOrigin,
 }
 
 impl Model for Workload {
@@ -55,7 +55,7 @@ impl Workload {
         transmitters: u32,
         turns: u64,
         clients: Vec<Vec<WorkStep>>,
-        further: Further,
+        further: StreamOrigin,
     ) -> Workload
         requires { IsWithinLimits (record {
           config = config;
@@ -120,7 +120,7 @@ impl Workload {
 
     /// Returns the transactions that the client of this number makes after its first one; clients count from 1. Of a workload that was read
     /// there are none. Constant time.
-    pub fn coming(&self, client: u64) -> Coming
+    pub fn stream_of(&self, client: u64) -> TransactionStream
         ensures { result ≡ stream_of self.now.further client }
     {
         self.further.of_client(client)

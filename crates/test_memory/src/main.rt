@@ -1,5 +1,5 @@
 //! `test_memory CALL`: makes one call of the libraries that takes memory, and then calls that take none. It prints `ok`, or how it was refused.
-//! `tests/refuse_memory` runs it with each of its requests for memory refused. The calls: `none`, `open`, `lists`, `names`, `manager`, `prepare`,
+//! `tests/program/test_memory.py` runs it with each of its requests for memory refused. The calls: `none`, `open`, `lists`, `names`, `manager`, `prepare`,
 //! `shared`, `read`, `storm`, `gates` and `run`. Without a word it prints nothing.
 //!
 //! - `alone`: a table that nobody shares, and the lists that its callers lend.

@@ -7,7 +7,7 @@ use std::alloc::Global;
 /// How many names there can be.
 const NAMES: u32 = 1_000;
 
-/// `Names::open`; then more names than there can be are interned, found and forgotten.
+/// `Names::open`; then more names than there can be are entered, found and forgotten.
 pub fn named(alloc: Global) -> Result<(), Refusal> {
     let config = NamesConfig {
         names: NAMES,
@@ -28,7 +28,7 @@ pub fn named(alloc: Global) -> Result<(), Refusal> {
 fn use_all(names: &mut Names) {
     for number in 0..2 * NAMES {
         let name = number.to_le_bytes();
-        if names.intern(&name) == Err(NamesError::Full) {
+        if names.enter(&name) == Err(NamesError::Full) {
             names.forget(number % NAMES);
         }
         let _number = names.find(&name);

@@ -2,7 +2,7 @@
 ghost use Rattle.std.specs.Prelude.{◌≡◌};
 
 use crate::alone::CONFIG;
-use mm_shared::{Key, Name, Prepared, Refusal};
+use mm_shared::{Name, Prepared, Refusal};
 use std::alloc::Global;
 use std::marker::Brand;
 use std::sync::Wait;
@@ -44,39 +44,18 @@ fn used<N: Name, A: Ledger, V: Ledger, B: Ledger, R: Wait>(
     }
 }
 
-/// Begins two transactions, each at a seat of its own.
-fn begin_both<C: Calls>(seat: &mut C, other: &mut C) -> Result<(Key, Key), Refusal> {
+/// Two transactions that wait for each other, each at a seat of its own; the second one gets a verdict and is aborted, and the first one finishes.
+fn wait_crosswise<C: Calls>(seat: &mut C, other: &mut C) -> Result<(), Refusal> {
     let first = seat.begin()?;
     let second = other.begin()?;
-    Ok((first, second))
-}
-
-/// Acquires a resource for each of the two.
-fn acquire_both<C: Calls>(
-    seat: &mut C,
-    other: &mut C,
-    keys: (Key, Key),
-    resources: (u32, u32),
-) -> Result<(), Refusal> {
-    seat.acquire(keys.0, resources.0)?;
-    other.acquire(keys.1, resources.1)?;
-    Ok(())
-}
-
-/// The second of the two gets a verdict and is aborted, and the first one finishes.
-fn end_both<C: Calls>(seat: &mut C, other: &mut C, keys: (Key, Key)) -> Result<(), Refusal> {
-    seat.transmit(keys.0)?;
-    other.detect(keys.1)?;
-    other.abort(keys.1)?;
-    seat.finish(keys.0)
-}
-
-/// Two transactions that wait for each other, each at a seat of its own; the second one is aborted.
-fn wait_crosswise<C: Calls>(seat: &mut C, other: &mut C) -> Result<(), Refusal> {
-    let keys = begin_both(seat, other)?;
-    acquire_both(seat, other, keys, (0, 1))?;
-    acquire_both(seat, other, keys, (1, 0))?;
-    end_both(seat, other, keys)
+    seat.acquire(first, 0)?;
+    other.acquire(second, 1)?;
+    seat.acquire(first, 1)?;
+    other.acquire(second, 0)?;
+    seat.transmit(first)?;
+    other.detect(second)?;
+    other.abort(second)?;
+    seat.finish(first)
 }
 
 /// The same, and then a scan and a peek at the board.

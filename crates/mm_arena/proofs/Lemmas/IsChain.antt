@@ -1,7 +1,7 @@
 -- The processes along the links of the slots, and what a write of one slot leaves of it.
 use Rattle.std.proofs.Common.{◌≡◌, ◌≢◌, ℕ, zero, suc, ◌≤◌, List, [], ◌∷◌, Option, Some, None, length, set, slice_get, refl, ap, subst, ◌∙◌, arith}
 use Rattle.std.specs.List.{AllByRecursion}
-use Rattle.mm_list_lemmas.proofs.Lemmas.Set.{slice_get-set_other}
+use Rattle.mm_lists.proofs.Lemmas.Set.{slice_get-set_other}
 use Rattle.mm_arena.specs.declared.slot.Slot.{Slot}
 use Rattle.mm_arena.specs.private.Layout.{HasFree, IsLink, IsChain, link_of, walk}
 

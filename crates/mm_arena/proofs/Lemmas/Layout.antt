@@ -6,7 +6,7 @@ use Rattle.std.proofs.lemmas.List.{map-set, length-map, get_or-map}
 use Rattle.std.proofs.lemmas.List.Elements.{All-set, All-get_or}
 use Rattle.std.proofs.lemmas.List.Sums.{sum_by-set, count_by-le-length}
 use Rattle.std.proofs.lemmas.Option.{slice_get_within, get_or_from_slice_get, slice_get_read}
-use Rattle.mm_list_lemmas.proofs.Lemmas.Set.{slice_get-set_same, slice_get-set_other}
+use Rattle.mm_lists.proofs.Lemmas.Set.{slice_get-set_same, slice_get-set_other}
 use Rattle.mm_arena.specs.declared.slot.Slot.{Slot}
 use Rattle.mm_arena.specs.declared.slot.State.TheVariants.{Free, Live, Retired}
 use Rattle.mm_arena.specs.declared.key.Key.{Key}

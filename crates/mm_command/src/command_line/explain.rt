@@ -33,17 +33,20 @@ pub static ARGUMENTS: [Argument; 5] = [
 
 /// What is explained of a script: the wait-for graph as Mermaid or as Graphviz reads it, or else its lines; of the graph all resources; and
 /// after which line.
-#[derive(Clone, Copy)]
+#[derive(Drop)]
 pub struct ExplainOptions {
+    /// The file of the script; none if it is read from standard input.
+    pub file: Option<String>,
     pub mermaid: bool,
     pub dot: bool,
     pub all: bool,
     pub at: Option<u64>,
 }
 
-/// What is to be explained, by what clap found.
-pub fn options_of(own: &ArgMatches<'_>) -> ExplainOptions {
+/// What is to be explained, by what clap found, and the script: that of this file, or of standard input if it is none.
+pub fn options_of(own: &ArgMatches<'_>, file: Option<String>) -> ExplainOptions {
     ExplainOptions {
+        file,
         mermaid: own.get_flag("mermaid"),
         dot: own.get_flag("dot"),
         all: own.get_flag("all"),

@@ -7,8 +7,8 @@ ghost use Rattle.mm_command.specs.private.Words.{app_by, with_parts};
 use super::arguments::{Argument, ArgumentKind, with_arguments};
 use super::explain;
 use crate::help::{
-    ABOUT, AFTER, EXPLAIN, EXPLAIN_AFTER, LOCKS, REPORT, SCRIPT, SCRIPT_VERBOSE, STORM, THREADS,
-    VERBOSE,
+    ABOUT, AFTER, EXPLAIN, EXPLAIN_AFTER, LOCKS, LOCKS_AFTER, REPORT, SCRIPT, SCRIPT_VERBOSE,
+    STORM, THREADS, VERBOSE,
 };
 use crate::version::VERSION;
 use clap::Command;
@@ -32,10 +32,10 @@ pub const MAX_TRANSACTIONS: u32 = mm_limits::MAX_TRANSACTIONS;
 
 /// A subcommand: its name, what help says of it before its arguments and after them, and its arguments.
 #[derive(Clone, Copy)]
-struct Subcommand<'a> {
+struct Subcommand {
     name: &'static str,
     about: &'static str,
-    after: Option<&'a str>,
+    after: Option<&'static str>,
     arguments: &'static [Argument],
 }
 
@@ -90,7 +90,7 @@ static STORM_ARGUMENTS: [Argument; 8] = [
     VERBOSE_FLAG,
 ];
 
-static LOCKS_ARGUMENTS: [Argument; 4] = [
+static LOCKS_ARGUMENTS: [Argument; 5] = [
     Argument {
         name: "transactions",
         kind: ArgumentKind::NumberOr(1, MAX_PROCESSES as u64, "65536"),
@@ -111,6 +111,11 @@ static LOCKS_ARGUMENTS: [Argument; 4] = [
         kind: ArgumentKind::Number(0, u64::MAX),
         help: None,
     },
+    Argument {
+        name: "connections",
+        kind: ArgumentKind::Number(1, 65_536),
+        help: None,
+    },
 ];
 
 /// The option `--report FILE`.
@@ -127,15 +132,11 @@ const VERBOSE_FLAG: Argument = Argument {
     help: Some(VERBOSE),
 };
 
-/// The whole program. The help on `locks` ends with this text.
-pub fn command<'a>(alloc: Global, locks_after: &'a str) -> Result<Command<'a>, AllocError>
+/// Returns the whole program, as clap takes it.
+pub fn command<'a>(alloc: Global) -> Result<Command<'a>, AllocError>
     ensures { IfOk result (λ made. app_of made ≡ program) }
 {
-    with_subcommands(
-        without_subcommands(alloc)?,
-        alloc,
-        &subcommands(locks_after),
-    )
+    with_subcommands(without_subcommands(alloc)?, alloc, &subcommands())
 }
 
 /// The program's name and version, and what help says of it.
@@ -164,7 +165,7 @@ fn plain<'a>(
 }
 
 /// Each subcommand.
-fn subcommands<'a>(locks_after: &'a str) -> [Subcommand<'a>; 5]
+fn subcommands() -> [Subcommand; 5]
     ensures { with_parts (versioned_app (codes "mmdetect")) result ≡ program }
 {
     [
@@ -189,7 +190,7 @@ fn subcommands<'a>(locks_after: &'a str) -> [Subcommand<'a>; 5]
         Subcommand {
             name: "locks",
             about: LOCKS,
-            after: Some(locks_after),
+            after: Some(LOCKS_AFTER),
             arguments: &LOCKS_ARGUMENTS,
         },
         Subcommand {
@@ -205,7 +206,7 @@ fn subcommands<'a>(locks_after: &'a str) -> [Subcommand<'a>; 5]
 fn with_subcommands<'a>(
     mut program: Command<'a>,
     alloc: Global,
-    subcommands: &[Subcommand<'a>],
+    subcommands: &[Subcommand],
 ) -> Result<Command<'a>, AllocError>
     ensures { IfOk result (λ made. app_of made ≡ with_parts (app_of program.entry) subcommands.now) }
 {
@@ -216,7 +217,7 @@ fn with_subcommands<'a>(
 }
 
 /// A subcommand as clap takes it.
-fn command_of<'a>(alloc: Global, subcommand: &Subcommand<'a>) -> Result<Command<'a>, AllocError>
+fn command_of<'a>(alloc: Global, subcommand: &Subcommand) -> Result<Command<'a>, AllocError>
     ensures { IfOk result (λ made. IsLocal made (app_by subcommand.now)) }
 {
     let command = plain(alloc, subcommand.name, subcommand.about, subcommand.after);

@@ -7,9 +7,9 @@ use Rattle.std.proofs.lemmas.List.{map-id}
 use Rattle.std.proofs.lemmas.List.Elements.{filter_map-append}
 use Rattle.std.proofs.lemmas.List.FromFn.{map-range_with_len_more}
 use Rattle.mm_arena.specs.declared.key.Key.{Key}
-use Rattle.mm_list_lemmas.specs.Members.{Among, NoRepeat}
-use Rattle.mm_list_lemmas.proofs.Lemmas.Among.{among_map_gives}
-use Rattle.mm_list_lemmas.proofs.Lemmas.Range.{among_range, no_repeat_range}
+use Rattle.mm_lists.specs.Members.{Among, NoRepeat}
+use Rattle.mm_lists.proofs.Lemmas.Among.{among_map_gives}
+use Rattle.mm_lists.proofs.Lemmas.Range.{among_range, no_repeat_range}
 use Rattle.mm_rules.specs.TableState.{TableState, Wait, key_of, is_live, owner_of, wait_of, has_verdict, private_of, public_of}
 use Rattle.mm_rules.specs.Event.{tenant_of, state_of, mode_of, owner_told}
 use Rattle.mm_rules.specs.declared.reply.State.{State}

@@ -1,7 +1,7 @@
 -- A walk along the waits finds the cycle that it began on, or shows that there is none.
 use Rattle.std.proofs.Common.{◌≡◌, ◌≢◌, ◌⊎◌, ◌+◌, below_more, ℕ, ◌<◌, ◌≤◌, List, [], ◌∷◌, ◌++◌, length, Some, None, inl, inr, refl, sym, ◌∙◌, arith, subst}
-use Rattle.mm_list_lemmas.specs.Members.{Among, NoRepeat}
-use Rattle.mm_list_lemmas.proofs.Lemmas.NoRepeat.{length-NoRepeat}
+use Rattle.mm_lists.specs.Members.{Among, NoRepeat}
+use Rattle.mm_lists.proofs.Lemmas.NoRepeat.{length-NoRepeat}
 use Rattle.mm_rules.specs.Graph.{Graph, WaitsFor, IsActive, Walk, Path, Cycle}
 use Rattle.mm_rules.specs.TableState.{TableState, graph_of}
 use Rattle.mm_rules.specs.Laws.{Laws}

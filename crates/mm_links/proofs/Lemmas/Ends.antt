@@ -1,7 +1,7 @@
 -- The first and the last of a list.
 use Rattle.std.proofs.Common.{◌≡◌, ℕ, List, [], ◌∷◌, ◌++◌, Option, Some, None, refl, sym, inl, inr}
 use Rattle.std.proofs.lemmas.Option.{same_Some}
-use Rattle.mm_list_lemmas.specs.Members.{Among}
+use Rattle.mm_lists.specs.Members.{Among}
 use Rattle.mm_links.specs.Chain.{head_or, last_or, first_with_next}
 
 pub head_or-append : (xs ys : List ℕ) (after : Option ℕ) → head_or (xs ++ ys) after ≡ head_or xs (head_or ys after)

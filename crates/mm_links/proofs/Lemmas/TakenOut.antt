@@ -1,10 +1,10 @@
 -- A place that is taken out of a chain.
 use Rattle.std.proofs.Common.{◌≡◌, ℕ, List, ◌∷◌, ◌++◌, Some, None, length, slice_get, set, sym, ap, subst, ◌∙◌, inr, length-set}
 use Rattle.std.proofs.lemmas.Option.{slice_get_within}
-use Rattle.mm_list_lemmas.specs.Members.{Among, NoRepeat, without}
-use Rattle.mm_list_lemmas.proofs.Lemmas.Among.{among_left, among_right}
-use Rattle.mm_list_lemmas.proofs.Lemmas.Cut.{Cut, cut_at, AreApart, AreApart-cut, without-cut}
-use Rattle.mm_list_lemmas.proofs.Lemmas.Set.{slice_get-set_other, slice_get-set_same}
+use Rattle.mm_lists.specs.Members.{Among, NoRepeat, without}
+use Rattle.mm_lists.proofs.Lemmas.Among.{among_left, among_right}
+use Rattle.mm_lists.proofs.Lemmas.Cut.{Cut, cut_at, AreApart, AreApart-cut, without-cut}
+use Rattle.mm_lists.proofs.Lemmas.Set.{slice_get-set_other, slice_get-set_same}
 use Rattle.mm_links.specs.declared.links.Links.{Links}
 use Rattle.mm_links.specs.Links.{unlinked, with_next, taken_out}
 use Rattle.mm_links.specs.Chain.{head_or, last_or, first_with_next, IsChain}

@@ -2,7 +2,7 @@
 use Rattle.std.proofs.Common.{◌≡◌, ℕ, List, Option, Some, None, length, slice_get, refl, sym, ap, ◌∙◌, length-set}
 use Rattle.std.specs.Option.{option_and_then}
 use Rattle.std.proofs.lemmas.Option.{slice_get_within}
-use Rattle.mm_list_lemmas.proofs.Lemmas.Set.{slice_get-set_other, slice_get-set_same}
+use Rattle.mm_lists.proofs.Lemmas.Set.{slice_get-set_other, slice_get-set_same}
 use Rattle.mm_links.specs.declared.links.Links.{Links}
 use Rattle.mm_links.specs.Links.{with_before, with_next}
 

@@ -1,5 +1,5 @@
 -- From the answers by number to what a request for a name says.
-use Rattle.std.proofs.Common.{◌≡◌, ◌⊎◌, ℕ, Bool, List, Some, None, Result, Ok, Err, IfOk, IfErr, OnOk, OnErr, inl, inr, refl, sym, ap, subst, ◌∙◌, if◌then◌else◌, slice_set}
+use Rattle.std.proofs.Common.{◌≡◌, ◌⊎◌, ℕ, Bool, List, Some, None, Result, Ok, Err, IfOk, OnOk, inl, inr, refl, sym, ap, subst, ◌∙◌, if◌then◌else◌, slice_set}
 use Rattle.std.proofs.lemmas.Bool.{not-false}
 use Rattle.std.proofs.lemmas.List.{set-set, set-get_or}
 use Rattle.mm_arena.specs.declared.key.Key.{Key}
@@ -85,18 +85,6 @@ module _ (s u : TableState) (t named : NameTable) (k : Key) (name : List ℕ) wh
   pub requested_may : (reply : Result Lock Refusal) → Requested s t k name reply u named → OnOk reply (may_request s t.name_bytes k name ≡ Ok tt)
   requested_may (Ok answer) is = is.0
   requested_may (Err refusal) is = tt
-
-  pub requested_refused : (reply : Result Lock Refusal) → Requested s t k name reply u named → IfErr reply (λ refusal. LockRefused (bare s t) k name refusal)
-  requested_refused (Ok answer) is = tt
-  requested_refused (Err refusal) is = is.0
-
-  pub requested_table : (reply : Result Lock Refusal) → Requested s t k name reply u named → OnErr reply (u ≡ s)
-  requested_table (Ok answer) is = tt
-  requested_table (Err refusal) is = is.1
-
-  pub requested_names : (reply : Result Lock Refusal) → Requested s t k name reply u named → OnErr reply (named ≡ t)
-  requested_names (Ok answer) is = tt
-  requested_names (Err refusal) is = is.2
 
 -- ---- a name that is new
 

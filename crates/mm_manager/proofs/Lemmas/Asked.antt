@@ -2,8 +2,8 @@
 use Rattle.std.proofs.Common.{◌≡◌, ◌≢◌, ◌∷◌, ◌<◌, ◌≤◌, ◌+◌, ◌*◌, ◌/◌, ℕ, true, Bool, List, [], Some, None, Result, Ok, Err, inl, inr, refl, sym, ap, subst, ◌∙◌, slice_index_or, get_or-set_same, get_or-set_other, arith, length}
 use Rattle.std.proofs.lemmas.Bool.{cases_eq, ltb-true}
 use Rattle.mm_arena.specs.declared.key.Key.{Key}
-use Rattle.mm_list_lemmas.specs.Members.{Among}
-use Rattle.mm_list_lemmas.proofs.Lemmas.Among.{among_right}
+use Rattle.mm_lists.specs.Members.{Among}
+use Rattle.mm_lists.proofs.Lemmas.Among.{among_right}
 use Rattle.mm_names.specs.Names.{NameTable, name_of, with_name, IsNamed, Interns}
 use Rattle.mm_rules.specs.declared.reply.Acquired.TheVariants as acquired
 use Rattle.mm_rules.specs.TableState.{TableState, owner_of, wait_of, waited_for}
@@ -11,7 +11,7 @@ use Rattle.mm_rules.specs.Event.{Acquire, Settle}
 use Rattle.mm_rules.specs.Laws.{Laws}
 use Rattle.mm_rules.proofs.States.EventsKeepLaws.{event_keeps}
 use Rattle.mm_rules.proofs.States.Lookups.{waiter_waits}
-use Rattle.mm_settle.proofs.Lemmas.Acquired.{queue_else}
+use Rattle.mm_settle_lemmas.proofs.Lemmas.Acquired.{queue_else}
 use Rattle.mm_settled.specs.Calls.{Locks, WaitsFrom, OthersKeepVerdicts}
 use Rattle.mm_settled.specs.declared.reply.Locked.TheVariants as locked
 use Rattle.mm_manager.specs.LockState.{LockState}

@@ -4,11 +4,11 @@ use Rattle.std.proofs.Math.ListN.{length-map}
 use Rattle.std.proofs.lemmas.Bool.{cases_Bool, cases_lt}
 use Rattle.std.proofs.lemmas.List.Sums.{sum_by-set, count_by-le-length}
 use Rattle.mm_arena.specs.declared.key.Key.{Key}
-use Rattle.mm_list_lemmas.specs.Members.{Among}
-use Rattle.mm_list_lemmas.proofs.Lemmas.Among.{among_map_gives}
-use Rattle.mm_list_lemmas.proofs.Lemmas.Filter.{filter_gives}
-use Rattle.mm_list_lemmas.proofs.Lemmas.NoRepeat.{length-NoRepeat}
-use Rattle.mm_list_lemmas.proofs.Lemmas.Set.{true_within}
+use Rattle.mm_lists.specs.Members.{Among}
+use Rattle.mm_lists.proofs.Lemmas.Among.{among_map_gives}
+use Rattle.mm_lists.proofs.Lemmas.Filter.{filter_gives}
+use Rattle.mm_lists.proofs.Lemmas.NoRepeat.{length-NoRepeat}
+use Rattle.mm_lists.proofs.Lemmas.Set.{true_within}
 use Rattle.mm_rules.specs.TableState.{TableState, Wait, owner_of, wait_of, waiters_of}
 use Rattle.mm_rules.specs.Change.{block, activate, give_to, hand_over, free_slot}
 use Rattle.mm_rules.specs.Laws.{Laws}

@@ -3,10 +3,10 @@ use Rattle.std.proofs.Common.{◌≡◌, ◌≢◌, ◌≤◌, ◌<◌, ℕ, Lis
 use Rattle.std.specs.List.{filter_map, range_with_len, cons_option}
 use Rattle.std.proofs.Math.ListN.{length-map}
 use Rattle.mm_arena.specs.declared.key.Key.{Key}
-use Rattle.mm_list_lemmas.specs.Members.{Among, NoRepeat}
-use Rattle.mm_list_lemmas.proofs.Lemmas.Among.{among_append, among_map, among_map_gives}
-use Rattle.mm_list_lemmas.proofs.Lemmas.NoRepeat.{length-NoRepeat}
-use Rattle.mm_list_lemmas.proofs.Lemmas.Range.{no_repeat_range}
+use Rattle.mm_lists.specs.Members.{Among, NoRepeat}
+use Rattle.mm_lists.proofs.Lemmas.Among.{among_append, among_map, among_map_gives}
+use Rattle.mm_lists.proofs.Lemmas.NoRepeat.{length-NoRepeat}
+use Rattle.mm_lists.proofs.Lemmas.Range.{no_repeat_range}
 use Rattle.mm_rules.specs.TableState.{TableState, wait_of}
 use Rattle.mm_rules.specs.Laws.{Laws}
 use Rattle.mm_rules.proofs.States.Lookups.{waits_here, waiter_within}

@@ -5,8 +5,8 @@ use Rattle.std.specs.List.{range_with_len}
 use Rattle.std.proofs.lemmas.Bool.{cases_Bool, cases_eq, eq-eqb, ne_eqb, not-false}
 use Rattle.std.proofs.lemmas.Option.{same_Some}
 use Rattle.mm_arena.specs.declared.key.Key.{Key}
-use Rattle.mm_list_lemmas.specs.Members.{Among}
-use Rattle.mm_list_lemmas.proofs.Lemmas.Range.{among_range}
+use Rattle.mm_lists.specs.Members.{Among}
+use Rattle.mm_lists.proofs.Lemmas.Range.{among_range}
 use Rattle.mm_rules.specs.declared.reply.Released.{Released}
 use Rattle.mm_rules.specs.TableState.{TableState, is_live, has_verdict, owner_of, owns, wait_of, waited_for, waiters_of}
 use Rattle.mm_rules.specs.Change.{hand_over}

@@ -4,9 +4,9 @@ use Rattle.std.specs.Option.{option_map_or}
 use Rattle.std.proofs.lemmas.Bool.{cases_Bool, cases_eq, cases_lt, eq-eqb}
 use Rattle.std.proofs.lemmas.List.{get_or_past}
 use Rattle.mm_label.specs.Label.{Label, label_lt, opening_label}
-use Rattle.mm_list_lemmas.specs.Members.{Among, NoRepeat}
-use Rattle.mm_list_lemmas.proofs.Lemmas.Filter.{filter_gives}
-use Rattle.mm_list_lemmas.proofs.Lemmas.NoRepeat.{no_repeat_filter}
+use Rattle.mm_lists.specs.Members.{Among, NoRepeat}
+use Rattle.mm_lists.proofs.Lemmas.Filter.{filter_gives}
+use Rattle.mm_lists.proofs.Lemmas.NoRepeat.{no_repeat_filter}
 use Rattle.mm_rules.specs.TableState.{TableState, Wait, is_of, public_of, holder_of, waiters_of, waiting_processes}
 use Rattle.mm_rules.specs.Change.{label_against, block, activate, give_to, hand_over, free_slot, transmit, can_detect, detect, swept}
 use Rattle.mm_rules.proofs.States.Block.{process_of, blocked_all}

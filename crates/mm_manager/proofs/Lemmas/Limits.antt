@@ -5,9 +5,9 @@ use Rattle.std.specs.Option.{option_map_or}
 use Rattle.std.proofs.lemmas.Bool.{and_parts, not-false, eq-eqb, lt-leb, le-leb, lt-ltb}
 use Rattle.std.proofs.lemmas.List.Sums.{count_by-le-length}
 use Rattle.mm_arena.specs.declared.key.Key.{Key}
-use Rattle.mm_list_lemmas.specs.Members.{Among}
-use Rattle.mm_list_lemmas.proofs.Lemmas.Among.{list_all_from}
-use Rattle.mm_list_lemmas.proofs.Lemmas.Filter.{filter_gives}
+use Rattle.mm_lists.specs.Members.{Among}
+use Rattle.mm_lists.proofs.Lemmas.Among.{list_all_from}
+use Rattle.mm_lists.proofs.Lemmas.Filter.{filter_gives}
 use Rattle.mm_rules.specs.declared.refusal.Refusal.{Refusal}
 use Rattle.mm_rules.specs.declared.refusal.Refusal.TheVariants.{CountsExhausted, Stale, NoResource, Waiting, Carried}
 use Rattle.mm_rules.specs.TableState.{TableState, Wait, is_live, is_waiting, has_verdict, holder_of, owner_of, owns, resources_of, wait_of, waiters_of}

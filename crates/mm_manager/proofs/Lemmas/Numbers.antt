@@ -2,7 +2,7 @@
 use Rattle.std.proofs.Common.{◌≡◌, ◌↔◌, ◌<◌, ℕ, zero, suc, List, [], ◌∷◌, length, true, false, is_some, Option, Some, None, refl, sym, ap, ◌∙◌, inl, inr, arith, slice_set, slice_index_or, length-set, get_or-set_same, get_or-set_other}
 use Rattle.std.proofs.lemmas.Bool.{cases_eq}
 use Rattle.mm_arena.specs.declared.key.Key.{Key}
-use Rattle.mm_list_lemmas.specs.Members.{Among}
+use Rattle.mm_lists.specs.Members.{Among}
 use Rattle.mm_names.specs.Names.{NameTable, name_of, with_name}
 use Rattle.mm_rules.specs.TableState.{TableState, owner_of}
 use Rattle.mm_rules.specs.Laws.{Laws}

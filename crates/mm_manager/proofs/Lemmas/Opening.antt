@@ -1,17 +1,18 @@
 -- A manager that was just opened.
-use Rattle.std.proofs.Common.{◌≡◌, ◌+◌, ℕ, zero, suc, Bool, true, false, cond, None, is_some, count_by, map, replicate, refl, sym, ap, subst, ◌∙◌, arith, slice_index_or}
+use Rattle.std.proofs.Common.{◌≡◌, ◌+◌, ℕ, zero, suc, Bool, true, false, cond, None, is_some, count_by, map, replicate, refl, sym, ap, ◌∙◌, arith, slice_index_or}
 use Rattle.std.specs.List.{range_with_len}
 use Rattle.std.proofs.lemmas.List.Sums.{sum_by-cons}
 use Rattle.std.proofs.lemmas.List.{length-replicate}
-use Rattle.mm_list_lemmas.proofs.Lemmas.Set.{read_replicate}
+use Rattle.mm_lists.proofs.Lemmas.Set.{read_replicate}
 use Rattle.mm_bit_set.specs.BitSet.{has}
 use Rattle.mm_label.specs.Label.{Label, opening_label}
-use Rattle.mm_names.specs.Names.{NameTable, nameless}
+use Rattle.mm_names.specs.Names.{nameless}
 use Rattle.mm_rules.specs.declared.config.Config.{Config}
-use Rattle.mm_rules.specs.TableState.{TableState, IsInRange, opening, public_of}
-use Rattle.mm_manager.specs.declared.lists.Lists.{Lists}
+use Rattle.mm_rules.specs.TableState.{IsInRange, opening, public_of}
+use Rattle.mm_manager.specs.declared.parts.Parts.{Parts}
 use Rattle.mm_manager.specs.private.Handed.{AreParts}
 use Rattle.mm_manager.specs.private.Lists.{Fits}
+use Rattle.mm_manager.specs.private.Numbers.{AreNumbered}
 use Rattle.mm_manager.specs.private.Room.{HasReserve}
 
 abbrev one : Bool → ℕ
@@ -42,17 +43,17 @@ opening_room c range =
       aborts = omega arith;
     }
 
-opening_by : (c : Config) (name_bytes count : ℕ) (l : Lists) → IsInRange c → Fits c l → l.due.items ≡ replicate count false → AreParts (opening c) (nameless c.resources name_bytes) l
-opening_by c name_bytes count l range fits due = record {
-  numbered = record {
-    as_many = length-replicate c.resources None;
-    named = λ n. ((λ none. read_replicate None c.resources n), (λ none. read_replicate None c.resources n));
-  };
-  fits = fits;
-  room = opening_room c range;
-  due = λ p marked. (let never : true ≡ false = sym marked ∙ ap (λ ds. has ds p) due ∙ read_replicate false count p in absurd (cc));
+opening_numbered : (c : Config) (name_bytes : ℕ) → AreNumbered (opening c) (nameless c.resources name_bytes)
+opening_numbered c name_bytes = record {
+  as_many = length-replicate c.resources None;
+  named = λ n. ((λ none. read_replicate None c.resources n), (λ none. read_replicate None c.resources n));
 }
 
-pub opening_parts : (c : Config) (name_bytes count : ℕ) (s : TableState) (t : NameTable) (l : Lists) → IsInRange c → s ≡ opening c → t ≡ nameless c.resources name_bytes → Fits c l → l.due.items ≡ replicate count false → AreParts s t l
-opening_parts c name_bytes count s t l range table names fits due =
-    subst (λ v. AreParts v t l) (sym table) (subst (λ v. AreParts (opening c) v l) (sym names) (opening_by c name_bytes count l range fits due))
+pub opening_parts : (c : Config) (name_bytes count : ℕ) (p : Parts) → IsInRange c → p.named.table.table ≡ opening c → p.named.names ≡ nameless c.resources name_bytes
+    → Fits c p.lists → p.lists.due.items ≡ replicate count false → AreParts p
+opening_parts c name_bytes count p range table names fits due = record {
+  numbered = rw (table, names) (opening_numbered c name_bytes);
+  fits = rw table fits;
+  due = λ q marked. (let never : true ≡ false = sym marked ∙ ap (λ ds. has ds q) due ∙ read_replicate false count q in absurd (cc));
+  room = rw table (opening_room c range);
+}

@@ -1,7 +1,7 @@
 -- Who waits, and for what.
 use Rattle.std.proofs.Common.{◌≡◌, ◌+◌, ◌-◌, ◌<◌, ◌∷◌, ℕ, suc, Bool, true, false, Option, Some, None, is_some, option_and_then, slice_index_or, if◌then◌else◌, refl, sym, ap, ◌∙◌, arith}
 use Rattle.std.specs.List.{cons_option, filter_map, range_with_len}
-use Rattle.mm_list_lemmas.proofs.Lemmas.Among.{all_at}
+use Rattle.mm_lists.proofs.Lemmas.Among.{all_at}
 use Rattle.mm_rules.specs.TableState.{TableState, key_of, is_live, owner_of, wait_of}
 use Rattle.mm_rules.specs.Event.{tenant_of}
 use Rattle.mm_rules.specs.Laws.{Laws, IsHeld}

@@ -3,8 +3,8 @@ use Rattle.std.proofs.Common.{◌≡◌, ◌≤◌, ◌<◌, ◌+◌, ◌*◌, �
 use Rattle.std.specs.Option.{option_map_or}
 use Rattle.std.proofs.lemmas.Bool.{cases_eq, not-false}
 use Rattle.mm_arena.specs.declared.key.Key.{Key}
-use Rattle.mm_list_lemmas.specs.Members.{NoRepeat}
-use Rattle.mm_list_lemmas.proofs.Lemmas.NoRepeat.{no_repeat_filter}
+use Rattle.mm_lists.specs.Members.{NoRepeat}
+use Rattle.mm_lists.proofs.Lemmas.NoRepeat.{no_repeat_filter}
 use Rattle.mm_rules.specs.declared.reply.Acquired.TheVariants as acquired
 use Rattle.mm_rules.specs.declared.reply.Acquired.{Acquired}
 use Rattle.mm_rules.specs.declared.reply.Released.{Released}

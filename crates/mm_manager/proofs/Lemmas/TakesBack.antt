@@ -15,7 +15,7 @@ use Rattle.mm_settled.specs.Calls.{MadeWithdrawal}
 use Rattle.mm_settled.proofs.Lemmas.Accepted.{IsAccepted, accepted}
 use Rattle.mm_manager.specs.LockState.{LockState, untold}
 use Rattle.mm_manager.specs.Calls.{TakesBack}
-use Rattle.mm_manager.specs.declared.lists.Lists.{Lists}
+use Rattle.mm_manager.specs.declared.parts.Parts.{Parts}
 use Rattle.mm_manager.specs.declared.reply.Cancel.{Cancel}
 use Rattle.mm_manager.specs.declared.reply.Cancel.TheVariants as cancels
 use Rattle.mm_manager.specs.private.Aborts.{TookBack}
@@ -105,7 +105,7 @@ module _ (s u : TableState) (k : Key) (made : MadeWithdrawal k s u) where
 
 -- ---- by names
 
-pub takes_back : (old new : LockState) (k : Key) (due : List Bool) → MadeWithdrawal k old.table new.table → new ≡ record (untold old) { table = new.table; due = due } → TakesBack old k due new
+pub takes_back : (old new : LockState) (k : Key) (due : List Bool) → MadeWithdrawal k old.table new.table → new ≡ record (untold old) { table = new.table; due = due; totals = new.totals } → TakesBack old k due new
 takes_back old new k due made state = record {
   made = made;
   idle = λ name waits. some_not_none (wait_of new.table k.process) waits.0 waits.2 (taken_back_idle old.table new.table k made);
@@ -129,11 +129,13 @@ takes_back old new k due made state = record {
 
 -- ---- by the answer
 
-pub took_back_parts : (s u : TableState) (t : NameTable) (l : Lists) (k : Key) (answer : Cancel) → has l.due.items k.process ≡ false → TookBack s k answer u → HasReserve u → AreParts s t l → AreParts u t l
-took_back_parts s u t l k cancels.Withdrawn not_due made room parts = record {
-  numbered = taken_back_numbered s u k made t parts.numbered;
-  fits = rw (taken_back_config s u k made) parts.fits;
-  due = taken_back_not_due s u k made l.due.items not_due parts.due;
+pub took_back_parts : (old new : Parts) (k : Key) (answer : Cancel) → has old.lists.due.items k.process ≡ false → TookBack old.named.table.table k answer new.named.table.table → HasReserve new.named.table.table
+    → new.named.names ≡ old.named.names → new.lists ≡ old.lists → AreParts old → AreParts new
+took_back_parts old new k cancels.Withdrawn not_due made room names lists parts = record {
+  numbered = rw names (taken_back_numbered old.named.table.table new.named.table.table k made old.named.names parts.numbered);
+  fits = rw (taken_back_config old.named.table.table new.named.table.table k made, lists) parts.fits;
+  due = rw lists (taken_back_not_due old.named.table.table new.named.table.table k made old.lists.due.items not_due parts.due);
   room = room;
 }
-took_back_parts s u t l k cancels.Carried not_due (carried, same) room parts = subst (λ v. AreParts v t l) (sym same) parts
+took_back_parts old new k cancels.Carried not_due (carried, same) room names lists parts =
+    record { numbered = rw (same, names) parts.numbered; fits = rw (same, lists) parts.fits; due = rw (same, lists) parts.due; room = room }

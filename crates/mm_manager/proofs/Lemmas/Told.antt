@@ -1,7 +1,7 @@
 -- From the parts to what a contract sees: what a request, a release and an end do.
 use Rattle.std.proofs.Common.{◌≡◌, ◌≢◌, ℕ, true, List, [], Some, Result, Ok, Err, IfOk, IfErr, OnErr, inl, inr, sym, ap, subst, ◌∙◌}
 use Rattle.mm_arena.specs.declared.key.Key.{Key}
-use Rattle.mm_list_lemmas.specs.Members.{Among}
+use Rattle.mm_lists.specs.Members.{Among}
 use Rattle.mm_bit_set.specs.BitSet.{has}
 use Rattle.mm_names.specs.Names.{name_of, IsLawful as IsLawfulNames}
 use Rattle.mm_rules.specs.declared.reply.Released.{Released}
@@ -10,16 +10,19 @@ use Rattle.mm_rules.specs.Event.{Event, Answer, Release}
 use Rattle.mm_rules.specs.Laws.{Laws}
 use Rattle.mm_rules.proofs.States.Lookups.{waits_here, held}
 use Rattle.mm_manager.specs.LockState.{LockState, Owns, Waits, untold}
-use Rattle.mm_manager.specs.Calls.{LocksName, TriesName, Requests, Tries, LosesName, LosesAll, HandsOver, AbortsDue, Unlocks, EndsBy}
-use Rattle.mm_manager.specs.Refused.{TryRefused, LockRefused}
+use Rattle.mm_manager.specs.Calls.{LocksName, TriesName, Tries, LosesName, LosesAll, HandsOver, AbortsDue, Unlocks, EndsBy}
+use Rattle.mm_manager.specs.Refused.{TryRefused}
 use Rattle.mm_manager.specs.Totals.{after_lock}
-use Rattle.mm_manager.specs.declared.lists.Lists.{Lists}
+use Rattle.mm_manager.specs.declared.parts.Parts.{Parts}
+use Rattle.mm_manager.specs.declared.totals.Totals.{Totals}
 use Rattle.mm_manager.specs.declared.refusal.Refusal.{Refusal}
 use Rattle.mm_manager.specs.declared.reply.Lock.{Lock}
 use Rattle.mm_manager.specs.declared.reply.Lock.TheVariants as lock
-use Rattle.mm_manager.specs.private.Handed.{LosesOr, Handed}
+use Rattle.mm_manager.specs.private.Aborts.{seen}
+use Rattle.mm_manager.specs.private.Handed.{LosesOr, HandedFrom}
 use Rattle.mm_manager.specs.private.HandsDown.{IsEnding, IsReleased}
 use Rattle.mm_manager.specs.private.Numbers.{AreNumbered}
+use Rattle.mm_manager.specs.private.Requests.{Requested}
 use Rattle.mm_manager.specs.declared.reply.TryLock.{TryLock}
 use Rattle.mm_manager.specs.declared.reply.TryLock.TheVariants as tried
 use Rattle.mm_manager.proofs.Lemmas.Asked.{gets, queues}
@@ -38,16 +41,14 @@ same_untold : (old new : LockState) → new.table ≡ old.table → new.names �
 same_untold old new table names tells totals = λ i. record { table = table i; names = names i; due = tells.due i; granted = tells.granted i; aborted = tells.aborted i; totals = totals i }
 
 pub asked_locks : (old new : LockState) (k : Key) (name : List ℕ) (reply : Result Lock Refusal) → AreNumbered old.table old.names → Laws old.table → Laws new.table
-    → IfOk reply (λ answer. Requests old.table old.names k name answer new.table new.names) → IfErr reply (λ refusal. LockRefused old k name refusal) → OnErr reply (new.table ≡ old.table) → OnErr reply (new.names ≡ old.names) → TellsNobody old new
-    → new.totals ≡ after_lock old.totals reply → LocksName old k name reply new
-asked_locks old new k name (Ok lock.Granted) numbered laws after asks refused table names tells totals =
-    gets old new k name asks.0 numbered asks.1 laws (granted_is old.table new.table k asks.0 asks.2)
-asked_locks old new k name (Ok lock.Held) numbered laws after asks refused table names tells totals = (asks.0, same_untold old new asks.1 asks.2 tells totals)
-asked_locks old new k name (Ok (lock.Waits h)) numbered laws after asks refused table names tells totals =
+    → Requested old.table old.names k name reply new.table new.names → TellsNobody old new → new.totals ≡ after_lock old.totals reply → LocksName old k name reply new
+asked_locks old new k name (Ok lock.Granted) numbered laws after (may, asks) tells totals = gets old new k name asks.0 numbered asks.1 laws (granted_is old.table new.table k asks.0 asks.2)
+asked_locks old new k name (Ok lock.Held) numbered laws after (may, asks) tells totals = (asks.0, same_untold old new asks.1 asks.2 tells totals)
+asked_locks old new k name (Ok (lock.Waits h)) numbered laws after (may, asks) tells totals =
     (queues old new k name asks.1.0 numbered asks.1.1 laws h (queued_is old.table new.table k h asks.1.0 asks.1.2.0) after, asks.1.2.1)
-asked_locks old new k name (Ok (lock.Deadlock h)) numbered laws after asks refused table names tells totals =
+asked_locks old new k name (Ok (lock.Deadlock h)) numbered laws after (may, asks) tells totals =
     (queues old new k name asks.1.0 numbered asks.1.1 laws h (queued_is old.table new.table k h asks.1.0 asks.1.2.0) after, asks.1.2.1)
-asked_locks old new k name (Err e) numbered laws after asks refused table names tells totals = (same_untold old new table names tells totals, refused)
+asked_locks old new k name (Err e) numbered laws after (refused, table, names) tells totals = (same_untold old new table names tells totals, refused)
 
 pub tried_locks : (old new : LockState) (k : Key) (name : List ℕ) (reply : Result TryLock Refusal) → AreNumbered old.table old.names → Laws old.table
     → IfOk reply (λ answer. Tries old.table old.names k name answer new.table new.names) → IfErr reply (λ refusal. TryRefused old k name refusal) → OnErr reply (new.table ≡ old.table) → OnErr reply (new.names ≡ old.names) → TellsNobody old new
@@ -60,62 +61,49 @@ tried_locks old new k name (Err e) numbered laws asks refused table names tells 
 
 -- ---- hand-overs
 
-module _ (old new : LockState) (k : Key) (m : Lists) (granted : new.granted ≡ m.granted.items) (aborted : new.aborted ≡ m.aborted.items) (marks : new.due ≡ m.due.items) where
-  abbrev hands_over : (e : Event) (answer : Answer e) (n : ℕ) (Loses : ℕ → Key → Type 0) → Handed e old.table old.names old.due answer n Loses new.table new.names m → HandsOver e old answer new
-  hands_over e answer n Loses handed = record {
-    mid = handed.mid;
-    made = handed.made;
-    later = handed.later;
-    granted = granted ∙ handed.granted;
-    ends = rw aborted handed.ends;
-    names = handed.names;
-  }
+module _ (old : LockState) (now : Parts) (after : Totals) (k : Key) where
+  abbrev new : LockState
+  new = seen now after
 
-  aborts_due : (e : Event) (answer : Answer e) (n : ℕ) (Loses : ℕ → Key → Type 0) (handed : Handed e old.table old.names old.due answer n Loses new.table new.names m) → AbortsDue old new
+  hands_over : (e : Event) (answer : Answer e) (n : ℕ) (Loses : ℕ → Key → Type 0) → HandedFrom e old.table old.names old.due answer n Loses now → HandsOver e old answer new
+  hands_over e answer n Loses handed =
+      record { mid = handed.mid; made = handed.made; later = handed.later; granted = handed.granted; ends = handed.ends; names = handed.names }
+
+  aborts_due : (e : Event) (answer : Answer e) (n : ℕ) (Loses : ℕ → Key → Type 0) → HandedFrom e old.table old.names old.due answer n Loses now → AbortsDue old new
   aborts_due e answer n Loses handed = record {
-    aborted = λ k. (
-      (λ among. rw granted (handed.was_due k (rw aborted at among))),
-      (λ due.
-          let g = due.1.0 in
-          let given : Among g m.granted.items = rw granted at due.1.1 in
-          let marked : has old.due g.key.process ≡ true = ap (λ (h : Key). has old.due h.process) due.1.2 ∙ due.0 in
-          rw aborted (subst (λ h. Among h m.aborted.items) due.1.2 (handed.all g given marked))),
+    aborted = λ h. (
+      handed.was_due h,
+      λ due.
+          let marked : has old.due due.1.0.key.process ≡ true = ap (λ (i : Key). has old.due i.process) due.1.2 ∙ due.0 in
+          subst (λ i. Among i now.lists.aborted.items) due.1.2 (handed.all due.1.0 due.1.1 marked),
     );
-    stay = rw (granted, marks) handed.stay;
+    stay = handed.stay;
   }
 
   pub released_unlocks : (name : List ℕ) (n : ℕ) (answer : Released) → IsLawfulNames old.names → owner_of old.table n ≡ Some k → name_of old.names n ≡ Some name
-      → Handed (Release k n) old.table old.names old.due answer k.process (IsReleased k n) new.table new.names m → Unlocks old k name new
+      → HandedFrom (Release k n) old.table old.names old.due answer k.process (IsReleased k n) now → Unlocks old k name new
   released_unlocks name n answer names owned named handed = record {
     number = n;
     named = named;
     owned = owned;
     answer = answer;
     over = hands_over (Release k n) answer k.process (IsReleased k n) handed;
-    passes = passes old new k (LosesOr (IsReleased k n) m.aborted.items) (LosesName k name new.aborted) handed.laws (rw granted handed.down) handed.names
+    passes = passes old new k (LosesOr (IsReleased k n) new.aborted) (LosesName k name new.aborted) handed.laws handed.down handed.names
         (λ q h other is lost. elim lost [
           | inl same ↦ inl (same.0, (let both : Some other ≡ Some name = sym is ∙ ap (name_of old.names) same.1 ∙ named in cc))
-          | inr ended ↦ inr (subst (Among h) (sym aborted) ended)
+          | inr ended ↦ inr ended
         ])
         (λ q h other is lost. elim lost [
           | inl same ↦ inl (same.0, names.distinct q n name (is ∙ ap Some same.1) named)
-          | inr ended ↦ inr (subst (Among h) aborted ended)
+          | inr ended ↦ inr ended
         ]);
     due = aborts_due (Release k n) answer k.process (IsReleased k n) handed;
   }
 
-  pub ended_by : (e : Event) (answer : Answer e) → Handed e old.table old.names old.due answer k.process (IsEnding k) new.table new.names m → EndsBy e old answer k new
+  pub ended_by : (e : Event) (answer : Answer e) → HandedFrom e old.table old.names old.due answer k.process (IsEnding k) now → EndsBy e old answer k new
   ended_by e answer handed = record {
     over = hands_over e answer k.process (IsEnding k) handed;
-    passes = passes old new k (LosesOr (IsEnding k) m.aborted.items) (LosesAll k new.aborted) handed.laws (rw granted handed.down) handed.names
-        (λ q h other is lost. elim lost [
-          | inl same ↦ inl same
-          | inr ended ↦ inr (subst (Among h) (sym aborted) ended)
-        ])
-        (λ q h other is lost. elim lost [
-          | inl same ↦ inl same
-          | inr ended ↦ inr (subst (Among h) aborted ended)
-        ]);
+    passes = passes old new k (LosesOr (IsEnding k) new.aborted) (LosesAll k new.aborted) handed.laws handed.down handed.names (λ q h other is lost. lost) (λ q h other is lost. lost);
     due = aborts_due e answer k.process (IsEnding k) handed;
   }
 

@@ -1,7 +1,7 @@
 -- What hand-overs leave of owners and waits, by number.
 use Rattle.std.specs.Prelude.{◌≡◌, ◌≢◌, ◌⊎◌, ℕ, List, Some, None}
 use Rattle.mm_arena.specs.declared.key.Key.{Key}
-use Rattle.mm_list_lemmas.specs.Members.{Among}
+use Rattle.mm_lists.specs.Members.{Among}
 use Rattle.mm_rules.specs.TableState.{TableState, owner_of, wait_of, has_verdict}
 use Rattle.mm_settled.specs.declared.reply.Grant.{Grant}
 

@@ -1,16 +1,16 @@
 -- Which number stands in which list.
-use Rattle.std.proofs.Common.{◌≡◌, ◌≢◌, ◌↔◌, ℕ, zero, suc, ◌+◌, ◌<◌, ◌≤◌, List, [], ◌∷◌, ◌++◌, length, set, get_or, cond, Option, Some, None, option_map, is_some, IsSome, true, false, count_by, refl, sym, ap, subst, ◌∙◌, inl, inr, arith, length-set, length-append, append-nil, replicate}
+use Rattle.std.proofs.Common.{◌≡◌, ◌≢◌, ◌↔◌, ℕ, ◌+◌, ◌<◌, ◌≤◌, List, [], ◌∷◌, ◌++◌, length, set, get_or, Option, Some, None, option_map, is_some, IsSome, true, false, refl, sym, ap, subst, ◌∙◌, inl, inr, arith, length-set, length-append, append-nil}
 use Rattle.std.proofs.lemmas.Bool.{cases_eq, cases_lt}
 use Rattle.std.proofs.lemmas.List.{get_or-set_same, get_or-set_other, get_or_past, length-map, length-replicate}
-use Rattle.std.proofs.lemmas.List.Sums.{sum_by-set}
-use Rattle.mm_list_lemmas.specs.Members.{Among, NoRepeat, without}
-use Rattle.mm_list_lemmas.proofs.Lemmas.Among.{among_append, among_left, among_right}
-use Rattle.mm_list_lemmas.proofs.Lemmas.Cut.{no_repeat_around}
-use Rattle.mm_list_lemmas.proofs.Lemmas.Set.{read_replicate}
+use Rattle.mm_lists.specs.Members.{Among, NoRepeat, without}
+use Rattle.mm_lists.proofs.Lemmas.Among.{among_append, among_left, among_right}
+use Rattle.mm_lists.proofs.Lemmas.Cut.{no_repeat_around}
+use Rattle.mm_lists.proofs.Lemmas.NoRepeat.{length-NoRepeat}
+use Rattle.mm_lists.proofs.Lemmas.Set.{read_replicate}
 use Rattle.mm_owned.specs.Owned.{Ownership, unowned, owner_at, given, freed}
 use Rattle.mm_names.specs.declared.config.TheConstants.NamesConfig.{MAX_NAMES}
 use Rattle.mm_names.specs.declared.spots.Spots.{Spots}
-use Rattle.mm_names.specs.Names.{NameTable, name_of, named_count, nameless, with_name, IsNamed, IsFree, IsFull}
+use Rattle.mm_names.specs.Names.{NameTable, name_of, nameless, with_name, IsNamed, IsFree, IsFull}
 use Rattle.mm_names.specs.private.Spots.{spot_of}
 use Rattle.mm_names.specs.private.Index.{AreAll, AreIndexed}
 
@@ -30,10 +30,6 @@ some_in_range t n some = elim (cases_lt n (length t.names)) [
 -- where a number is free, not each has a name
 pub free_not_full : (t : NameTable) (n : ℕ) → IsFree t n → IsFull t → ⊥
 free_not_full t n free full = let never : is_some (name_of t n) ≡ false = ap is_some free.1 in absurd (let both : true ≡ false = sym (full n free.0) ∙ never in cc)
-
--- how many have a name after one was given or taken
-named_count-set : (t : NameTable) (n : ℕ) (name : Option (List ℕ)) → n < length t.names → named_count (with_name t n name) + cond (is_some (name_of t n)) 1 0 ≡ named_count t + cond (is_some name) 1 0
-named_count-set t n name below = sum_by-set (λ o. cond (is_some o) 1 0) t.names n name None below
 
 module _ (t : NameTable) (index : Ownership) (spots : Spots) (free : List ℕ) (indexed : AreIndexed t index spots free) where
   -- a free number stands nowhere
@@ -68,8 +64,8 @@ module _ (t : NameTable) (index : Ownership) (spots : Spots) (free : List ℕ) (
       owner-elsewhere m apart = ap (λ os. get_or os m None) owners ∙ get_or-set_other index.owners n m _ None apart
 
       AreIndexed-set : length after.lists ≡ length index.lists → (left : List ℕ) → ((m : ℕ) → Among m left ↔ IsFree (with_name t n name) m) → NoRepeat left
-          → length left + named_count (with_name t n name) ≡ length t.names → AreIndexed (with_name t n name) after spots left
-      AreIndexed-set lists left is_free once counted =
+          → AreIndexed (with_name t n name) after spots left
+      AreIndexed-set lists left is_free once =
           let long = length-set t.names n name in
           record {
             few = omega (arith, long, indexed.few);
@@ -82,7 +78,6 @@ module _ (t : NameTable) (index : Ownership) (spots : Spots) (free : List ℕ) (
             distinct = distinct;
             listed = is_free;
             once = once;
-            counted = counted ∙ sym long;
           }
 
 -- one more, which the list has not yet
@@ -106,7 +101,6 @@ module _ (t : NameTable) (index : Ownership) (spots : Spots) (free : List ℕ) (
       let long = length-set t.names n (Some name) in
       let once = no_repeat_around n rest [] (subst NoRepeat is indexed.once) in
       let rest_is : rest ++ [] ≡ rest = append-nil rest in
-      let none : cond {A = ℕ} (is_some (name_of t n)) 1 0 ≡ 0 = ap (λ (o : Option (List ℕ)). cond {A = ℕ} (is_some o) 1 0) was.1 in
       AreIndexed-set t index spots free indexed n was.0 (Some name) (λ m x same has. new (m, has ∙ sym same)) (given index (spot_of spots name) n) refl
       (length-set index.lists (spot_of spots name).process _) rest
       (λ m. (
@@ -123,21 +117,25 @@ module _ (t : NameTable) (index : Ownership) (spots : Spots) (free : List ℕ) (
         ],
       ))
       (subst NoRepeat rest_is once.0)
-      (omega (arith, named_count-set t n (Some name) was.0, none, indexed.counted, ap length is, length-append rest (n ∷ [])))
+
+  module _ (some : IsSome (name_of t n)) where
+    named : name_of t n ≡ None → ⊥
+    named none = let never : true ≡ false = sym some ∙ ap is_some none in cc
+
+    once_more : NoRepeat (free ++ n ∷ [])
+    once_more = NoRepeat-push free n indexed.once (λ among. named ((indexed.listed n).0 among).1)
 
   -- after a name was taken from its number
   pub AreIndexed-taken : n < length t.names → IsSome (name_of t n) → AreIndexed (with_name t n None) (freed index n) spots (free ++ n ∷ [])
   AreIndexed-taken below some =
       let long = length-set t.names n None in
-      let one : cond {A = ℕ} (is_some (name_of t n)) 1 0 ≡ 1 = ap (λ b. cond {A = ℕ} b 1 0) some in
-      let named : name_of t n ≡ None → ⊥ = λ none. (let never : true ≡ false = sym some ∙ ap is_some none in cc) in
       AreIndexed-set t index spots free indexed n below None (λ m x is has. cc) (freed index n) refl
       (length-map index.lists (without n)) (free ++ n ∷ [])
       (λ m. (
         λ among. elim (among_append free (n ∷ []) m among) [
           | inl before ↦
               let old : IsFree t m = (indexed.listed m).0 before in
-              let apart : m ≢ n = λ same. named (ap (name_of t) (sym same) ∙ old.1) in
+              let apart : m ≢ n = λ same. named some (ap (name_of t) (sym same) ∙ old.1) in
               (omega (arith, old.0, long), get_or-set_other t.names n m None None apart ∙ old.1)
           | inr here ↦ elim here [
             | inl same ↦ (omega (arith, below, same, long), ap (λ i. get_or (set t.names n None) i None) same ∙ get_or-set_same t.names n None None below)
@@ -149,15 +147,16 @@ module _ (t : NameTable) (index : Ownership) (spots : Spots) (free : List ℕ) (
           | inr apart ↦ among_left free (n ∷ []) m ((indexed.listed m).1 (omega (arith, now.0, long), sym (get_or-set_other t.names n m None None apart) ∙ now.1))
         ],
       ))
-      (NoRepeat-push free n indexed.once (λ among. named ((indexed.listed n).0 among).1))
-      (omega (arith, named_count-set t n None below, one, indexed.counted, length-append free (n ∷ [])))
+      (once_more some)
 
   -- there is room for one more free number
   pub few_free : IsSome (name_of t n) → length free + 1 ≤ length t.names
   few_free some =
-      let below = some_in_range t n some in
-      let one : cond {A = ℕ} (is_some (name_of t n)) 1 0 ≡ 1 = ap (λ b. cond {A = ℕ} b 1 0) some in
-      omega (arith, named_count-set t n None below, one, indexed.counted)
+      let within : (m : ℕ) → Among m (free ++ n ∷ []) → m < length t.names = λ m among. elim (among_append free (n ∷ []) m among) [
+        | inl before ↦ ((indexed.listed m).0 before).0
+        | inr here ↦ elim here [ inl same ↦ subst (λ i. i < length t.names) (sym same) (some_in_range t n some) | inr never ↦ absurd never ]
+      ] in
+      omega (arith, length-append free (n ∷ []), length-NoRepeat (free ++ n ∷ []) (length t.names) (once_more some) within)
 
 -- at the opening
 pub AreIndexed-nameless : (t : NameTable) (index : Ownership) (spots : Spots) (free : List ℕ) (numbers name_bytes : ℕ) → numbers ≤ MAX_NAMES → t ≡ nameless numbers name_bytes
@@ -166,7 +165,6 @@ AreIndexed-nameless t index spots free numbers name_bytes small is owned all =
     let long : length t.names ≡ numbers = ap (λ (s : NameTable). length s.names) is ∙ length-replicate numbers None in
     let none : (n : ℕ) → name_of t n ≡ None = λ n. ap (λ s. name_of s n) is ∙ read_replicate None numbers n in
     let nothing : (n : ℕ) (name : List ℕ) → name_of t n ≡ Some name → ⊥ = λ n name has. (let never : None ≡ Some name = sym (none n) ∙ has in cc) in
-    let named : named_count t ≡ 0 = ap named_count is ∙ count_by-none numbers in
     record {
       few = omega (arith, long, small);
       size = ap (λ (o : Ownership). length o.owners) owned ∙ length-replicate numbers None ∙ sym long;
@@ -175,8 +173,4 @@ AreIndexed-nameless t index spots free numbers name_bytes small is owned all =
       distinct = λ m n name has _. absurd (nothing m name has);
       listed = λ n. (λ among. (let below : n < numbers = (all.all n).0 among in (omega (arith, below, long), none n)), λ now. (all.all n).1 (omega (arith, now.0, long)));
       once = all.once;
-      counted = omega (arith, all.count, named, long);
-    } where
-      count_by-none : (n : ℕ) → count_by {X = Option (List ℕ)} is_some (replicate n None) ≡ 0
-      count_by-none zero = refl
-      count_by-none (suc n) = count_by-none n
+    }

@@ -1,17 +1,16 @@
 -- Which number stands in which list.
-use Rattle.std.specs.Prelude.{◌≡◌, ◌↔◌, ℕ, ◌+◌, ◌≤◌, ◌<◌, length, List, Some, option_map}
-use Rattle.mm_list_lemmas.specs.Members.{Among, NoRepeat}
+use Rattle.std.specs.Prelude.{◌≡◌, ◌↔◌, ℕ, ◌≤◌, ◌<◌, length, List, Some, option_map}
+use Rattle.mm_lists.specs.Members.{Among, NoRepeat}
 use Rattle.mm_owned.specs.Owned.{Ownership, owner_at}
 use Rattle.mm_names.specs.declared.config.TheConstants.NamesConfig.{MAX_NAMES}
 use Rattle.mm_names.specs.declared.spots.Spots.{Spots}
-use Rattle.mm_names.specs.Names.{NameTable, name_of, named_count, IsFree}
+use Rattle.mm_names.specs.Names.{NameTable, name_of, IsFree}
 use Rattle.mm_names.specs.private.Spots.{spot_of}
 
 -- all numbers below this one, each once
 pub record AreAll (numbers : ℕ) (free : List ℕ) : Type 0 where
   pub all : (n : ℕ) → Among n free ↔ (n < numbers)
   pub once : NoRepeat free
-  pub count : length free ≡ numbers
 
 -- each number stands at the spot of its name, no name is that of two numbers, and the free ones are listed
 pub record AreIndexed (t : NameTable) (index : Ownership) (spots : Spots) (free : List ℕ) : Type 0 where
@@ -22,4 +21,3 @@ pub record AreIndexed (t : NameTable) (index : Ownership) (spots : Spots) (free 
   pub distinct : (m n : ℕ) (name : List ℕ) → name_of t m ≡ Some name → name_of t n ≡ Some name → m ≡ n
   pub listed : (n : ℕ) → Among n free ↔ IsFree t n
   pub once : NoRepeat free
-  pub counted : length free + named_count t ≡ length t.names

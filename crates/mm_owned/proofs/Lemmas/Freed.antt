@@ -5,8 +5,8 @@ use Rattle.std.proofs.lemmas.Bool.{cases_eq}
 use Rattle.std.proofs.lemmas.List.{get_or-set_other, map-set}
 use Rattle.std.proofs.lemmas.Option.{same_Some}
 use Rattle.mm_arena.specs.declared.key.Key.{Key}
-use Rattle.mm_list_lemmas.specs.Members.{Among, without}
-use Rattle.mm_list_lemmas.proofs.Lemmas.Filter.{without-absent}
+use Rattle.mm_lists.specs.Members.{Among, without}
+use Rattle.mm_lists.proofs.Lemmas.Filter.{without-absent}
 use Rattle.mm_links.specs.declared.links.Links.{Links}
 use Rattle.mm_links.specs.Links.{next_of, taken_out}
 use Rattle.mm_links.specs.Chain.{head_or, first_with_next, IsChain}

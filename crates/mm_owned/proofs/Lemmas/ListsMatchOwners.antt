@@ -5,9 +5,9 @@ use Rattle.std.proofs.lemmas.List.{get_or-set_same, get_or-set_other, get_or_pas
 use Rattle.std.proofs.lemmas.Option.{same_Some}
 use Rattle.std.proofs.Math.ListN.{get_or-map}
 use Rattle.mm_arena.specs.declared.key.Key.{Key}
-use Rattle.mm_list_lemmas.specs.Members.{Among, NoRepeat, without}
-use Rattle.mm_list_lemmas.proofs.Lemmas.Filter.{Among-without, Among-without_other, NoRepeat-without, without-absent}
-use Rattle.mm_list_lemmas.proofs.Lemmas.Set.{get_or-set_cases}
+use Rattle.mm_lists.specs.Members.{Among, NoRepeat, without}
+use Rattle.mm_lists.proofs.Lemmas.Filter.{Among-without, Among-without_other, NoRepeat-without, without-absent}
+use Rattle.mm_lists.proofs.Lemmas.Set.{get_or-set_cases}
 use Rattle.mm_owned.specs.Owned.{Ownership, ListsMatchOwners, owner_at, process_at, list_at, unowned, given, freed}
 
 -- ---- what is in the lists

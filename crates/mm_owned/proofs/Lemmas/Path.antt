@@ -4,10 +4,10 @@ use Rattle.std.specs.Option.{option_and_then}
 use Rattle.std.proofs.lemmas.List.{set-set, get_or-set_same, set-get_or, length-map, get_or_default}
 use Rattle.std.proofs.lemmas.Option.{same_Some, slice_get-get_or, slice_get_within}
 use Rattle.mm_arena.specs.declared.key.Key.{Key}
-use Rattle.mm_list_lemmas.specs.Members.{Among, NoRepeat, without}
-use Rattle.mm_list_lemmas.proofs.Lemmas.Filter.{without-absent}
-use Rattle.mm_list_lemmas.proofs.Lemmas.NoRepeat.{length-NoRepeat}
-use Rattle.mm_list_lemmas.proofs.Lemmas.Set.{slice_get-set_other}
+use Rattle.mm_lists.specs.Members.{Among, NoRepeat, without}
+use Rattle.mm_lists.proofs.Lemmas.Filter.{without-absent}
+use Rattle.mm_lists.proofs.Lemmas.NoRepeat.{length-NoRepeat}
+use Rattle.mm_lists.proofs.Lemmas.Set.{slice_get-set_other}
 use Rattle.mm_links.specs.declared.links.Links.{Links}
 use Rattle.mm_links.specs.Links.{unlinked, next_of, with_before, with_next, taken_out}
 use Rattle.mm_links.specs.Chain.{head_or, walk, IsChain}

@@ -4,10 +4,10 @@ use Rattle.std.proofs.Common.{◌≡◌, ◌≢◌, ◌<◌, ◌≤◌, ℕ, Lis
 use Rattle.std.proofs.lemmas.Bool.{eq-eqb, ne_eqb, cases_eq, cases_lt}
 use Rattle.std.proofs.lemmas.List.{get_or_past}
 use Rattle.mm_arena.specs.declared.key.Key.{Key}
-use Rattle.mm_list_lemmas.specs.Members.{Among, NoRepeat, head}
-use Rattle.mm_list_lemmas.proofs.Lemmas.Among.{among_right}
-use Rattle.mm_list_lemmas.proofs.Lemmas.NoRepeat.{length-NoRepeat}
-use Rattle.mm_list_lemmas.proofs.Lemmas.Cut.{cut_at, AreApart, AreApart-cut}
+use Rattle.mm_lists.specs.Members.{Among, NoRepeat, head}
+use Rattle.mm_lists.proofs.Lemmas.Among.{among_right}
+use Rattle.mm_lists.proofs.Lemmas.NoRepeat.{length-NoRepeat}
+use Rattle.mm_lists.proofs.Lemmas.Cut.{cut_at, AreApart, AreApart-cut}
 use Rattle.mm_links.proofs.Lemmas.Ends.{Among-head_or}
 use Rattle.mm_owned.specs.Owned.{Ownership, ListsMatchOwners, process_at, list_at, FollowsInList}
 use Rattle.mm_owned.proofs.Lemmas.Linked.{head_or-None}

@@ -4,9 +4,9 @@ use Rattle.std.proofs.lemmas.Bool.{cases_lt}
 use Rattle.std.proofs.lemmas.List.{get_or_past, get_or_default, get_or-map, length-map}
 use Rattle.std.proofs.lemmas.Option.{none-some, same_Some}
 use Rattle.mm_arena.specs.declared.key.Key.{Key}
-use Rattle.mm_list_lemmas.specs.Members.{Among}
-use Rattle.mm_list_lemmas.proofs.Lemmas.Among.{among_map_gives}
-use Rattle.mm_list_lemmas.proofs.Lemmas.NoRepeat.{length-NoRepeat}
+use Rattle.mm_lists.specs.Members.{Among}
+use Rattle.mm_lists.proofs.Lemmas.Among.{among_map_gives}
+use Rattle.mm_lists.proofs.Lemmas.NoRepeat.{length-NoRepeat}
 use Rattle.mm_links.specs.declared.links.Links.{Links}
 use Rattle.mm_links.specs.Chain.{IsChain}
 use Rattle.mm_links.proofs.Lemmas.Chain.{IsChain-kept, walk-IsChain}

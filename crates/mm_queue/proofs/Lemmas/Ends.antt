@@ -5,7 +5,7 @@ use Rattle.mm_arena.specs.declared.key.Key.{Key}
 use Rattle.mm_links.specs.Chain.{head_or, last_or, first_with_next}
 use Rattle.mm_links.proofs.Lemmas.Ends.{first_with_next-cut, first_with_next-last}
 use Rattle.mm_queue.specs.declared.ends.Ends.{Ends}
-use Rattle.mm_list_lemmas.specs.Members.{head}
+use Rattle.mm_lists.specs.Members.{head}
 use Rattle.mm_queue.specs.private.Linked.{processes_of, ends_of}
 
 pub processes_of-append : (xs ys : List Key) → processes_of (xs ++ ys) ≡ processes_of xs ++ processes_of ys

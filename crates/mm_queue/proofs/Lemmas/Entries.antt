@@ -7,9 +7,9 @@ use Rattle.std.proofs.lemmas.Option.{none-some, same_Some, cond_some, slice_get-
 use Rattle.std.proofs.Math.ListN.{get_or-map}
 use Rattle.mm_arena.specs.declared.key.Key.{Key}
 use Rattle.mm_arena.specs.Shelf.{Entries, key_eq, entry_at, value_under, value_at, HasValue, with_stored}
-use Rattle.mm_list_lemmas.specs.Members.{Among, NoRepeat, head}
-use Rattle.mm_list_lemmas.proofs.Lemmas.Among.{among_right, among_map_gives}
-use Rattle.mm_list_lemmas.proofs.Lemmas.Cut.{Cut, cut_at}
+use Rattle.mm_lists.specs.Members.{Among, NoRepeat, head}
+use Rattle.mm_lists.proofs.Lemmas.Among.{among_right, among_map_gives}
+use Rattle.mm_lists.proofs.Lemmas.Cut.{Cut, cut_at}
 use Rattle.mm_links.specs.declared.links.Links.{Links}
 use Rattle.mm_links.specs.Links.{unlinked, with_before, with_next, taken_out}
 use Rattle.mm_links.specs.Chain.{head_or, last_or, first_with_next, IsChain}

@@ -4,10 +4,10 @@ use Rattle.std.proofs.lemmas.Bool.{cases_eq}
 use Rattle.std.proofs.lemmas.List.{get_or-set_same, get_or-set_other, map-set}
 use Rattle.std.proofs.lemmas.Option.{same_Some}
 use Rattle.mm_arena.specs.declared.key.Key.{Key}
-use Rattle.mm_list_lemmas.specs.Members.{Among, NoRepeat}
-use Rattle.mm_list_lemmas.proofs.Lemmas.Among.{among_append, among_left, among_right, among_map}
-use Rattle.mm_list_lemmas.proofs.Lemmas.NoRepeat.{no_repeat_push}
-use Rattle.mm_list_lemmas.proofs.Lemmas.Set.{get_or-set_cases, slice_get-set_other, slice_get-set_same}
+use Rattle.mm_lists.specs.Members.{Among, NoRepeat}
+use Rattle.mm_lists.proofs.Lemmas.Among.{among_append, among_left, among_right, among_map}
+use Rattle.mm_lists.proofs.Lemmas.NoRepeat.{no_repeat_push}
+use Rattle.mm_lists.proofs.Lemmas.Set.{get_or-set_cases, slice_get-set_other, slice_get-set_same}
 use Rattle.mm_links.specs.declared.links.Links.{Links}
 use Rattle.mm_links.specs.Links.{with_next}
 use Rattle.mm_links.specs.Chain.{last_or, IsChain}

@@ -4,10 +4,10 @@ use Rattle.std.proofs.lemmas.Bool.{cases_eq}
 use Rattle.std.proofs.lemmas.List.{get_or-set_same, get_or-set_other, map-set}
 use Rattle.std.proofs.lemmas.Option.{none-some, same_Some}
 use Rattle.mm_arena.specs.declared.key.Key.{Key}
-use Rattle.mm_list_lemmas.specs.Members.{Among, NoRepeat, without}
-use Rattle.mm_list_lemmas.proofs.Lemmas.Among.{among_left, among_right, among_map, among_map_gives}
-use Rattle.mm_list_lemmas.proofs.Lemmas.Cut.{AreApart-cut, without-cut, among_around, among_around_gives, no_repeat_around}
-use Rattle.mm_list_lemmas.proofs.Lemmas.Set.{get_or-set_cases}
+use Rattle.mm_lists.specs.Members.{Among, NoRepeat, without}
+use Rattle.mm_lists.proofs.Lemmas.Among.{among_left, among_right, among_map, among_map_gives}
+use Rattle.mm_lists.proofs.Lemmas.Cut.{AreApart-cut, without-cut, among_around, among_around_gives, no_repeat_around}
+use Rattle.mm_lists.proofs.Lemmas.Set.{get_or-set_cases}
 use Rattle.mm_links.specs.declared.links.Links.{Links}
 use Rattle.mm_links.specs.Links.{taken_out}
 use Rattle.mm_links.specs.Chain.{head_or, last_or, IsChain}

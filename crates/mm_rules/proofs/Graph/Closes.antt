@@ -2,8 +2,8 @@
 use Rattle.std.specs.Prelude.{ℕ, ◌≡◌, ◌≢◌, ◌<◌, ◌⊎◌, List, [], ◌∷◌, ⊤}
 use Rattle.std.proofs.Common.{inl, inr, arith, sym, ◌∙◌}
 use Rattle.std.proofs.Math.Decide.{ℕ_discrete}
-use Rattle.mm_list_lemmas.specs.Members.{Among}
-use Rattle.mm_list_lemmas.proofs.Lemmas.Among.{among_or_not}
+use Rattle.mm_lists.specs.Members.{Among}
+use Rattle.mm_lists.proofs.Lemmas.Among.{among_or_not}
 use Rattle.mm_rules.specs.Graph.{Graph, WaitsFor, IsWaiting, IsActive, Path, Cycle, IsSettled}
 use Rattle.mm_rules.proofs.Graph.Laws.{IsLawful}
 use Rattle.mm_rules.proofs.Graph.Change.{Blocks}

@@ -1,7 +1,7 @@
 -- Paths and cycles: each process has one holder, so two paths to one end have one length, and a cycle holds each process that its members reach.
 use Rattle.std.specs.Prelude.{ℕ, suc, ◌≡◌, ◌≢◌, ◌≤◌, ◌⊎◌, List, [], ◌∷◌, length, ⊤}
 use Rattle.std.proofs.Common.{inl, inr, arith, sym, ap, subst, ◌∙◌, refl}
-use Rattle.mm_list_lemmas.specs.Members.{Among, NoRepeat}
+use Rattle.mm_lists.specs.Members.{Among, NoRepeat}
 use Rattle.mm_rules.specs.Graph.{Graph, WaitsFor, Walk, Path, Cycle}
 use Rattle.mm_rules.proofs.Graph.Walks.{one_holder}
 

@@ -3,7 +3,7 @@
 use Rattle.std.specs.Prelude.{ℕ, ◌<◌, ◌≡◌, ◌≢◌, ◌≤◌, List, [], ◌∷◌, ⊤}
 use Rattle.std.proofs.Common.{inl, inr, arith, sym, ap, ◌∙◌, refl}
 use Rattle.std.proofs.Math.Decide.{ℕ_discrete}
-use Rattle.mm_list_lemmas.specs.Members.{Among}
+use Rattle.mm_lists.specs.Members.{Among}
 use Rattle.mm_rules.specs.Graph.{Graph, Walk, Cycle, Relays, Propagated, LabelReturned, Deadlocked, RisingLaw}
 use Rattle.mm_rules.proofs.Graph.Laws.{IsLawful}
 use Rattle.mm_rules.proofs.Graph.Walks.{walk_again, OnTheWay}

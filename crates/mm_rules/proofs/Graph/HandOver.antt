@@ -2,7 +2,7 @@
 use Rattle.std.specs.Prelude.{ℕ, None, ◌≡◌, ◌≢◌, ◌<◌, List, [], ◌∷◌}
 use Rattle.std.proofs.Common.{inl, inr, arith, sym, subst, ◌∙◌, refl}
 use Rattle.std.proofs.Math.Decide.{ℕ_discrete}
-use Rattle.mm_list_lemmas.specs.Members.{Among, NoRepeat}
+use Rattle.mm_lists.specs.Members.{Among, NoRepeat}
 use Rattle.mm_rules.specs.Graph.{Graph, WaitsFor, IsActive, LabelReturned}
 use Rattle.mm_rules.proofs.Graph.Laws.{IsLawful, HasLabelMakers}
 use Rattle.mm_rules.proofs.Graph.Change.{SameAt, Blocks, Activates, MayActivate, same_then, same_back}

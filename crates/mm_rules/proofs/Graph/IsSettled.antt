@@ -1,7 +1,7 @@
 -- Where no raise applies, each cycle shows one label, and the process that tops it there has it as its own: so its label returned.
 use Rattle.std.specs.Prelude.{ℕ, ◌≡◌, ◌≢◌, ◌≤◌, ◌<◌, List, [], ◌∷◌, ⊤}
 use Rattle.std.proofs.Common.{inl, inr, arith, sym, ap, ◌∙◌}
-use Rattle.mm_list_lemmas.specs.Members.{Among}
+use Rattle.mm_lists.specs.Members.{Among}
 use Rattle.mm_rules.specs.Graph.{Graph, WaitsFor, IsWaiting, Path, Cycle, Tops, Topped, LabelReturned, IsSettled}
 use Rattle.mm_rules.proofs.Graph.Laws.{IsLawful}
 use Rattle.mm_rules.proofs.Graph.Walks.{active_waits_not, begins_waiting}

@@ -1,7 +1,7 @@
 -- A label that returned stays so: no change but the activation of the process itself touches its labels, its wait or its holder's label.
 use Rattle.std.specs.Prelude.{ℕ, ◌≡◌, ◌≢◌}
 use Rattle.std.proofs.Common.{arith, sym, ap, ◌∙◌}
-use Rattle.mm_list_lemmas.specs.Members.{Among}
+use Rattle.mm_lists.specs.Members.{Among}
 use Rattle.mm_rules.specs.Graph.{Graph, IsWaiting, Propagated, LabelReturned, Deadlocked}
 use Rattle.mm_rules.proofs.Graph.Laws.{IsLawful}
 use Rattle.mm_rules.proofs.Graph.Change.{SameAt, Blocks, Raises, Activates}

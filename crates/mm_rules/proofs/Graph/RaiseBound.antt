@@ -1,7 +1,7 @@
 -- How many raises there can be: each lifts a waiting process over one at least of the labels that were shown at the start, and raises make no label.
 use Rattle.std.specs.Prelude.{ℕ, zero, suc, ◌+◌, ◌*◌, ◌-◌, min, length, ◌≡◌, ◌≤◌, ◌<◌, ◌⊎◌, List, [], ◌∷◌}
 use Rattle.std.proofs.Common.{inl, inr, arith, sym, ap, ◌∙◌, refl}
-use Rattle.mm_list_lemmas.specs.Members.{Among}
+use Rattle.mm_lists.specs.Members.{Among}
 use Rattle.mm_rules.specs.Graph.{Graph, WaitsFor}
 use Rattle.mm_rules.proofs.Graph.Laws.{WithinLaw}
 use Rattle.mm_rules.proofs.Graph.Change.{Raises}

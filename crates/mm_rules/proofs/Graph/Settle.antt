@@ -1,7 +1,7 @@
 -- Settling, which is sweeps of raises until one raises nothing: the last sweep shows that no raise applies, and all of them are one run of raises.
 use Rattle.std.specs.Prelude.{ℕ, zero, suc, ◌+◌, ◌*◌, ◌≡◌, ◌≤◌, ◌<◌, ◌⊎◌, List, [], ◌∷◌, length}
 use Rattle.std.proofs.Common.{inl, inr, arith, sym, ◌∙◌, refl}
-use Rattle.mm_list_lemmas.specs.Members.{Among}
+use Rattle.mm_lists.specs.Members.{Among}
 use Rattle.mm_rules.specs.Graph.{Graph, WaitsFor, LabelReturned, IsGreatest, IsSettled}
 use Rattle.mm_rules.proofs.Graph.Laws.{IsLawful, HasLabelMakers}
 use Rattle.mm_rules.proofs.Graph.Change.{Raises}

@@ -1,7 +1,7 @@
 -- Settling ends: as long as each sweep raises something, no more sweeps are made than raises are possible.
 use Rattle.std.specs.Prelude.{ℕ, zero, suc, ◌+◌, ◌*◌, ◌≡◌, ◌≤◌, ◌<◌, ◌⊎◌, List, length}
 use Rattle.std.proofs.Common.{inl, inr, arith, ap, refl}
-use Rattle.mm_list_lemmas.specs.Members.{Among}
+use Rattle.mm_lists.specs.Members.{Among}
 use Rattle.mm_rules.specs.Graph.{Graph, WaitsFor}
 use Rattle.mm_rules.proofs.Graph.Laws.{IsLawful}
 use Rattle.mm_rules.proofs.Graph.RaiseRun.{RaiseRun, runs_join, run_keeps_laws}

@@ -3,8 +3,8 @@ use Rattle.std.proofs.Common.{◌≡◌, ◌≢◌, ℕ, nat_eq, not, Some, IsTr
 use Rattle.std.specs.List.{range_with_len}
 use Rattle.std.proofs.lemmas.Bool.{eqb-true, ne_eqb, not-false, not_from_false}
 use Rattle.mm_arena.specs.declared.key.Key.{Key}
-use Rattle.mm_list_lemmas.proofs.Lemmas.Filter.{filter_filter, filter_gives}
-use Rattle.mm_list_lemmas.proofs.Lemmas.Among.{list_all_at, list_all_from}
+use Rattle.mm_lists.proofs.Lemmas.Filter.{filter_filter, filter_gives}
+use Rattle.mm_lists.proofs.Lemmas.Among.{list_all_at, list_all_from}
 use Rattle.mm_rules.specs.TableState.{TableState, is_of, is_live, owner_of, owns, has_verdict, resources_of, waiters_of}
 use Rattle.mm_rules.specs.Change.{take_back, abort, hand_over_fits, vacate_fits}
 use Rattle.mm_rules.specs.Event.{aborted, abort_tests}

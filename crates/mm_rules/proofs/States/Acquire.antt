@@ -5,9 +5,9 @@ use Rattle.std.proofs.lemmas.Bool.{cases_eq, eqb-false, eq-eqb, ne_eqb, not-fals
 use Rattle.std.proofs.lemmas.List.Folds.{find-append}
 use Rattle.mm_label.specs.Label.{word_of}
 use Rattle.mm_arena.specs.declared.key.Key.{Key}
-use Rattle.mm_list_lemmas.specs.Members.{Among}
-use Rattle.mm_list_lemmas.proofs.Lemmas.Among.{all_at, all_from, among_append}
-use Rattle.mm_list_lemmas.proofs.Lemmas.NoRepeat.{no_repeat_push}
+use Rattle.mm_lists.specs.Members.{Among}
+use Rattle.mm_lists.proofs.Lemmas.Among.{all_at, all_from, among_append}
+use Rattle.mm_lists.proofs.Lemmas.NoRepeat.{no_repeat_push}
 use Rattle.mm_rules.specs.Graph.{LabelReturned}
 use Rattle.mm_rules.specs.TableState.{TableState, Wait, is_live, is_of, owner_of, wait_of, public_of, graph_of}
 use Rattle.mm_rules.specs.Change.{label_against, block, block_fits}

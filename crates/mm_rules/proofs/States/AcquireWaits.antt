@@ -5,7 +5,7 @@ use Rattle.std.specs.List.{AllByRecursion}
 use Rattle.std.proofs.lemmas.Bool.{eqb-false, not-false}
 use Rattle.mm_label.specs.Label.{Label, word_of, label_le, fresh_label, process_range}
 use Rattle.mm_arena.specs.declared.key.Key.{Key}
-use Rattle.mm_list_lemmas.specs.Members.{Among}
+use Rattle.mm_lists.specs.Members.{Among}
 use Rattle.mm_rules.specs.declared.refusal.Refusal.{Refusal}
 use Rattle.mm_rules.specs.declared.reply.Acquired.{Acquired}
 use Rattle.mm_rules.specs.declared.reply.Acquired.TheVariants.{Waits}

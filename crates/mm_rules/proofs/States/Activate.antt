@@ -3,10 +3,10 @@ use Rattle.std.proofs.Common.{◌≡◌, ◌≢◌, ◌+◌, ℕ, List, length, 
 use Rattle.std.specs.List.{count_by}
 use Rattle.std.proofs.lemmas.Bool.{eqb-false, ne_eqb, eqb-true, not-true, not_from_false}
 use Rattle.mm_arena.specs.declared.key.Key.{Key}
-use Rattle.mm_list_lemmas.specs.Members.{Among}
-use Rattle.mm_list_lemmas.proofs.Lemmas.Filter.{filter_all, filter_gives}
-use Rattle.mm_list_lemmas.proofs.Lemmas.Find.{find_filter, none_found}
-use Rattle.mm_list_lemmas.proofs.Lemmas.NoRepeat.{no_repeat_filter}
+use Rattle.mm_lists.specs.Members.{Among}
+use Rattle.mm_lists.proofs.Lemmas.Filter.{filter_all, filter_gives}
+use Rattle.mm_lists.proofs.Lemmas.Find.{find_filter, none_found}
+use Rattle.mm_lists.proofs.Lemmas.NoRepeat.{no_repeat_filter}
 use Rattle.mm_rules.specs.declared.reply.Totals.{Totals}
 use Rattle.mm_rules.specs.Graph.{WaitsFor}
 use Rattle.mm_rules.specs.TableState.{TableState, Wait, is_of, is_live, wait_of, owner_of, has_verdict, public_of, graph_of}

@@ -2,9 +2,9 @@
 use Rattle.std.proofs.Common.{◌≡◌, ℕ, true, false, drop, nat_eq, slice_index, slice_index_or, slice_set, slice_get, Some, IsTrue, refl, ◌∙◌, length-set}
 use Rattle.std.proofs.lemmas.Bool.{and_parts, and_from}
 use Rattle.mm_arena.specs.declared.key.Key.{Key}
-use Rattle.mm_list_lemmas.proofs.Lemmas.Among.{all_at, all_from, all_rest}
-use Rattle.mm_list_lemmas.proofs.Lemmas.NoRepeat.{first_apart, no_repeat_rest}
-use Rattle.mm_list_lemmas.proofs.Lemmas.Set.{slice_get-set_other, true_still}
+use Rattle.mm_lists.proofs.Lemmas.Among.{all_at, all_from, all_rest}
+use Rattle.mm_lists.proofs.Lemmas.NoRepeat.{first_apart, no_repeat_rest}
+use Rattle.mm_lists.proofs.Lemmas.Set.{slice_get-set_other, true_still}
 use Rattle.mm_rules.specs.TableState.{TableState, is_live, public_of}
 use Rattle.mm_rules.specs.Event.{begun, begin_tests}
 use Rattle.mm_rules.specs.Laws.{IsHeld, Laws}

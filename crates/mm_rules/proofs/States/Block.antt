@@ -1,7 +1,7 @@
 -- Several processes block on one, each in turn: only labels change, and each of these gets the label that the first state gives it.
 use Rattle.std.proofs.Common.{◌≡◌, ◌≢◌, ℕ, ◌<◌, List, [], ◌∷◌, length, map, fold, inl, inr, refl, ◌∙◌, arith, length-set, get_or-set_same}
 use Rattle.mm_label.specs.Label.{fresh_label, opening_label}
-use Rattle.mm_list_lemmas.specs.Members.{Among, NoRepeat}
+use Rattle.mm_lists.specs.Members.{Among, NoRepeat}
 use Rattle.mm_rules.specs.TableState.{TableState, Wait, private_of, public_of}
 use Rattle.mm_rules.specs.Change.{label_against, block}
 use Rattle.mm_rules.proofs.States.Relabels.{KeepsLabels, other_labels}

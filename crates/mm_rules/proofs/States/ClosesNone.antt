@@ -1,7 +1,7 @@
 -- A change that closes no cycle of waits, and after which whoever begins to wait shows at least its holder's label.
 use Rattle.std.proofs.Common.{◌≡◌, ◌⊎◌, ℕ, List, IsTrue, inl, inr, refl, sym, ◌∙◌}
 use Rattle.mm_label.specs.Label.{label_le}
-use Rattle.mm_list_lemmas.specs.Members.{Among}
+use Rattle.mm_lists.specs.Members.{Among}
 use Rattle.mm_rules.specs.Graph.{WaitsFor, IsWaiting, Cycle}
 use Rattle.mm_rules.specs.TableState.{TableState, holder_of, public_of, has_verdict, graph_of}
 use Rattle.mm_rules.proofs.Graph.Closes.{KeepsInnerWaits, cycle_before, cycle_waits, same_holders_keep}

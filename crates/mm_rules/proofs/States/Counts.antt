@@ -12,8 +12,8 @@ use Rattle.mm_rules.specs.TableState.{TableState, private_of, public_of, has_ver
 use Rattle.mm_rules.specs.Change.{take_back, can_detect, detect, swept}
 use Rattle.mm_rules.specs.Event.{Event, Begin, Acquire, Release, Finish, Transmit, Detect, Abort, Settle, GiveUp, Answer, Outcome, Gives, Settles, decided, settled, acquire_change, counts_exhausted}
 use Rattle.mm_rules.specs.Laws.{verdicts_made, aborts_made, Counts, CountsAreExact}
-use Rattle.mm_list_lemmas.specs.Members.{Among, NoRepeat}
-use Rattle.mm_list_lemmas.proofs.Lemmas.Range.{no_repeat_filter_range}
+use Rattle.mm_lists.specs.Members.{Among, NoRepeat}
+use Rattle.mm_lists.proofs.Lemmas.Range.{no_repeat_filter_range}
 use Rattle.mm_rules.proofs.States.Detect.{convicted, detect_still, detect_convicts}
 use Rattle.mm_rules.proofs.States.Totals.{hand_over_totals, vacate_totals, transmit_totals, swept_totals, detects_accepted, detects_aborts}
 

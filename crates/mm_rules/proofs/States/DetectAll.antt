@@ -3,8 +3,8 @@ use Rattle.std.proofs.Common.{◌≡◌, ◌&&◌, ℕ, ◌<◌, List, [], ◌�
 use Rattle.std.specs.Option.{option_map_or}
 use Rattle.std.proofs.lemmas.Bool.{cases_Bool, and_from, not_from_false}
 use Rattle.mm_label.specs.Label.{label_eq}
-use Rattle.mm_list_lemmas.specs.Members.{Among}
-use Rattle.mm_list_lemmas.proofs.Lemmas.Set.{true_still}
+use Rattle.mm_lists.specs.Members.{Among}
+use Rattle.mm_lists.proofs.Lemmas.Set.{true_still}
 use Rattle.mm_rules.specs.Graph.{LabelReturned}
 use Rattle.mm_rules.specs.TableState.{TableState, holder_of, private_of, public_of, has_verdict, graph_of}
 use Rattle.mm_rules.specs.Change.{can_detect, detect}

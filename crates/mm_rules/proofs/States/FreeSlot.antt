@@ -4,9 +4,9 @@ use Rattle.std.specs.List.{AllByRecursion}
 use Rattle.std.proofs.lemmas.Bool.{cases_Bool, and_parts, and_from}
 use Rattle.std.proofs.lemmas.Option.{slice_get-get_or}
 use Rattle.mm_arena.specs.declared.key.Key.{Key}
-use Rattle.mm_list_lemmas.specs.Members.{NoRepeat, Among}
-use Rattle.mm_list_lemmas.proofs.Lemmas.Among.{all_at, all_from}
-use Rattle.mm_list_lemmas.proofs.Lemmas.Set.{slice_get-set_other, slice_get-set_same, true_within}
+use Rattle.mm_lists.specs.Members.{NoRepeat, Among}
+use Rattle.mm_lists.proofs.Lemmas.Among.{all_at, all_from}
+use Rattle.mm_lists.proofs.Lemmas.Set.{slice_get-set_other, slice_get-set_same, true_within}
 use Rattle.mm_rules.specs.TableState.{TableState, is_live, owner_of, wait_of, public_of}
 use Rattle.mm_rules.specs.Change.{free_slot}
 use Rattle.mm_rules.specs.Laws.{IsHeld, Laws}

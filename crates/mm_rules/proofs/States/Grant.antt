@@ -3,8 +3,8 @@ use Rattle.std.proofs.Common.{◌≡◌, ◌≢◌, ℕ, ◌<◌, length, slice_
 use Rattle.std.proofs.lemmas.Bool.{cases_eq, cases_lt}
 use Rattle.std.proofs.lemmas.List.{set_past}
 use Rattle.mm_arena.specs.declared.key.Key.{Key}
-use Rattle.mm_list_lemmas.specs.Members.{Among}
-use Rattle.mm_list_lemmas.proofs.Lemmas.Among.{all_at, all_from}
+use Rattle.mm_lists.specs.Members.{Among}
+use Rattle.mm_lists.proofs.Lemmas.Among.{all_at, all_from}
 use Rattle.mm_rules.specs.TableState.{TableState, Wait, is_live, owner_of, wait_of, public_of, graph_of}
 use Rattle.mm_rules.specs.Laws.{IsHeld, Laws}
 use Rattle.mm_rules.proofs.States.IsSized.{same_lengths}

@@ -4,9 +4,9 @@ use Rattle.std.specs.List.{list_all}
 use Rattle.std.proofs.lemmas.Bool.{cases_eq, eqb-true, ne_eqb, not_from_false}
 use Rattle.mm_label.specs.Label.{Label}
 use Rattle.mm_arena.specs.declared.key.Key.{Key}
-use Rattle.mm_list_lemmas.specs.Members.{Among}
-use Rattle.mm_list_lemmas.proofs.Lemmas.Among.{among_map_gives, list_all_at, list_all_from}
-use Rattle.mm_list_lemmas.proofs.Lemmas.Filter.{filter_filter, filter_gives}
+use Rattle.mm_lists.specs.Members.{Among}
+use Rattle.mm_lists.proofs.Lemmas.Among.{among_map_gives, list_all_at, list_all_from}
+use Rattle.mm_lists.proofs.Lemmas.Filter.{filter_filter, filter_gives}
 use Rattle.mm_rules.specs.Graph.{Graph}
 use Rattle.mm_rules.specs.TableState.{TableState, Wait, is_of, owner_of, wait_of, waiters_of, public_of}
 use Rattle.mm_rules.specs.Change.{activate, block_fits, give_to, give_to_fits, hand_over, hand_over_fits}

@@ -3,12 +3,12 @@ use Rattle.std.proofs.Common.{◌≡◌, ◌≢◌, ℕ, ◌<◌, ◌≤◌, Boo
 use Rattle.std.specs.List.{range_with_len}
 use Rattle.std.proofs.lemmas.Bool.{cases_eq, cases_Bool, eq-eqb}
 use Rattle.mm_arena.specs.declared.key.Key.{Key}
-use Rattle.mm_list_lemmas.specs.Members.{NoRepeat, Among}
+use Rattle.mm_lists.specs.Members.{NoRepeat, Among}
 use Rattle.mm_rules.specs.TableState.{TableState, is_live, has_verdict, owner_of, owns, wait_of, resources_of}
 use Rattle.mm_rules.specs.Change.{hand_over, vacate_fits}
 use Rattle.mm_rules.specs.Laws.{Laws}
-use Rattle.mm_list_lemmas.proofs.Lemmas.Filter.{filter_gives, filter_keeps}
-use Rattle.mm_list_lemmas.proofs.Lemmas.Range.{no_repeat_filter_range}
+use Rattle.mm_lists.proofs.Lemmas.Filter.{filter_gives, filter_keeps}
+use Rattle.mm_lists.proofs.Lemmas.Range.{no_repeat_filter_range}
 use Rattle.mm_rules.proofs.States.HandOverLaws.{MayHandOver}
 use Rattle.mm_rules.proofs.States.HandOver.{HandedOver, hand_over_keeps}
 use Rattle.mm_rules.proofs.States.Release.{owns_gives, may_hand_over}

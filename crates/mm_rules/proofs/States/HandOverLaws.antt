@@ -5,10 +5,10 @@ use Rattle.std.proofs.lemmas.Bool.{cases_eq, cases_lt, eq-eqb, eqb-true, leb-tru
 use Rattle.std.proofs.lemmas.List.{get_or_past}
 use Rattle.mm_label.specs.Label.{Label, word_of}
 use Rattle.mm_arena.specs.declared.key.Key.{Key}
-use Rattle.mm_list_lemmas.specs.Members.{Among, NoRepeat}
-use Rattle.mm_list_lemmas.proofs.Lemmas.Among.{all_at, all_from, among_map, among_map_gives, among_or_not, list_all_at}
-use Rattle.mm_list_lemmas.proofs.Lemmas.Filter.{filter_gives, filter_keeps}
-use Rattle.mm_list_lemmas.proofs.Lemmas.NoRepeat.{no_repeat_filter}
+use Rattle.mm_lists.specs.Members.{Among, NoRepeat}
+use Rattle.mm_lists.proofs.Lemmas.Among.{all_at, all_from, among_map, among_map_gives, among_or_not, list_all_at}
+use Rattle.mm_lists.proofs.Lemmas.Filter.{filter_gives, filter_keeps}
+use Rattle.mm_lists.proofs.Lemmas.NoRepeat.{no_repeat_filter}
 use Rattle.mm_rules.specs.Graph.{WaitsFor, LabelReturned}
 use Rattle.mm_rules.specs.TableState.{TableState, Wait, is_of, is_live, owner_of, wait_of, has_verdict, waiters_of, public_of, graph_of}
 use Rattle.mm_rules.specs.Change.{label_against, activate, block_fits}

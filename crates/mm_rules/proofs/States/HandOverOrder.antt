@@ -5,11 +5,11 @@ use Rattle.std.proofs.lemmas.Bool.{cases_Bool, ne_eqb, eqb-true}
 use Rattle.std.specs.List.{AllByRecursion}
 use Rattle.mm_label.specs.Label.{Label, opening_label}
 use Rattle.mm_arena.specs.declared.key.Key.{Key}
-use Rattle.mm_list_lemmas.specs.Members.{Among, NoRepeat}
-use Rattle.mm_list_lemmas.proofs.Lemmas.Among.{among_map}
-use Rattle.mm_list_lemmas.proofs.Lemmas.Filter.{filter_gives}
-use Rattle.mm_list_lemmas.proofs.Lemmas.NoRepeat.{no_repeat_filter}
-use Rattle.mm_list_lemmas.proofs.Lemmas.Cut.{cut_at, AreApart-cut, among_around, among_around_gives, no_repeat_around}
+use Rattle.mm_lists.specs.Members.{Among, NoRepeat}
+use Rattle.mm_lists.proofs.Lemmas.Among.{among_map}
+use Rattle.mm_lists.proofs.Lemmas.Filter.{filter_gives}
+use Rattle.mm_lists.proofs.Lemmas.NoRepeat.{no_repeat_filter}
+use Rattle.mm_lists.proofs.Lemmas.Cut.{cut_at, AreApart-cut, among_around, among_around_gives, no_repeat_around}
 use Rattle.mm_rules.specs.TableState.{TableState, Wait, is_of, waiters_of}
 use Rattle.mm_rules.specs.Change.{label_against, block, activate, give_to, hand_over}
 

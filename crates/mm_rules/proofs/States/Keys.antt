@@ -6,8 +6,8 @@ use Rattle.std.proofs.lemmas.Bool.{eqb-false, eq-eqb, and_from, and_left, not-fa
 use Rattle.std.proofs.lemmas.Option.{slice_get_within, get_or_from_slice_get}
 use Rattle.mm_label.specs.Label.{Label}
 use Rattle.mm_arena.specs.declared.key.Key.{Key}
-use Rattle.mm_list_lemmas.specs.Members.{Among}
-use Rattle.mm_list_lemmas.proofs.Lemmas.Among.{all_at, among_rest_gives, first_among}
+use Rattle.mm_lists.specs.Members.{Among}
+use Rattle.mm_lists.proofs.Lemmas.Among.{all_at, among_rest_gives, first_among}
 use Rattle.mm_rules.specs.declared.refusal.Refusal.{Refusal}
 use Rattle.mm_rules.specs.declared.reply.Settled.{Settled}
 use Rattle.mm_rules.specs.declared.reply.Transmitted.TheVariants.{Raised, Still}

@@ -2,11 +2,11 @@
 use Rattle.std.proofs.Common.{◌≡◌, ◌≢◌, ℕ, ◌<◌, true, false, map, find, nat_eq, Option, Some, None, MatchOption, is_some, option_map, option_and_then, slice_index, slice_index_or, IsTrue, refl, sym, ap, ◌∙◌, arith}
 use Rattle.std.proofs.lemmas.Bool.{eqb-true, eqb-false, and_parts}
 use Rattle.mm_arena.specs.declared.key.Key.{Key}
-use Rattle.mm_list_lemmas.specs.Members.{NoRepeat, Among}
-use Rattle.mm_list_lemmas.proofs.Lemmas.Among.{all_at}
-use Rattle.mm_list_lemmas.proofs.Lemmas.Find.{found_among, not_found}
-use Rattle.mm_list_lemmas.proofs.Lemmas.NoRepeat.{found_by_number}
-use Rattle.mm_list_lemmas.proofs.Lemmas.Set.{true_within}
+use Rattle.mm_lists.specs.Members.{NoRepeat, Among}
+use Rattle.mm_lists.proofs.Lemmas.Among.{all_at}
+use Rattle.mm_lists.proofs.Lemmas.Find.{found_among, not_found}
+use Rattle.mm_lists.proofs.Lemmas.NoRepeat.{found_by_number}
+use Rattle.mm_lists.proofs.Lemmas.Set.{true_within}
 use Rattle.mm_rules.specs.Graph.{WaitsFor, IsWaiting}
 use Rattle.mm_rules.specs.TableState.{TableState, Wait, IsSized, is_live, owner_of, is_of, wait_of, is_waiting, holder_of, graph_of}
 use Rattle.mm_rules.specs.Laws.{IsHeld, WellFormed}

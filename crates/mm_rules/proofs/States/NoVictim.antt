@@ -3,8 +3,8 @@ use Rattle.std.proofs.Common.{◌≡◌, ◌≢◌, ◌+◌, ℕ, ◌<◌, List,
 use Rattle.std.proofs.lemmas.Bool.{cases_eq}
 use Rattle.std.proofs.lemmas.List.{ext_get_or}
 use Rattle.std.proofs.lemmas.List.Sums.{sum_by-set}
-use Rattle.mm_list_lemmas.specs.Members.{Among}
-use Rattle.mm_list_lemmas.proofs.Lemmas.Set.{true_within}
+use Rattle.mm_lists.specs.Members.{Among}
+use Rattle.mm_lists.proofs.Lemmas.Set.{true_within}
 use Rattle.mm_rules.specs.declared.reply.Settled.{Settled}
 use Rattle.mm_rules.specs.Graph.{Cycle, Deadlocked}
 use Rattle.mm_rules.specs.TableState.{TableState, has_verdict, graph_of}

@@ -4,9 +4,9 @@ use Rattle.std.proofs.lemmas.List.{length-replicate}
 use Rattle.std.proofs.lemmas.List.FromFn.{length-map-range_with_len}
 use Rattle.std.specs.List.{range_with_len, count_by}
 use Rattle.mm_label.specs.Label.{opening_label}
-use Rattle.mm_list_lemmas.proofs.Lemmas.Among.{all_from}
-use Rattle.mm_list_lemmas.proofs.Lemmas.Range.{among_range_gives, no_repeat_range}
-use Rattle.mm_list_lemmas.proofs.Lemmas.Set.{read_replicate, slice_get-replicate}
+use Rattle.mm_lists.proofs.Lemmas.Among.{all_from}
+use Rattle.mm_lists.proofs.Lemmas.Range.{among_range_gives, no_repeat_range}
+use Rattle.mm_lists.proofs.Lemmas.Set.{read_replicate, slice_get-replicate}
 use Rattle.mm_rules.proofs.States.LabelOrder.{label_le_same}
 use Rattle.mm_rules.specs.declared.config.Config.{Config}
 use Rattle.mm_rules.specs.TableState.{IsInRange, opening, public_of}

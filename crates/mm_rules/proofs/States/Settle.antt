@@ -2,7 +2,7 @@
 use Rattle.std.proofs.Common.{◌≡◌, ◌+◌, ℕ, List, fold, Bool, true, false, Ok, Err, MatchBool, count_by, refl, sym, ap, subst, arith}
 use Rattle.mm_label.specs.Label.{word_of}
 use Rattle.mm_rules.specs.declared.reply.Settled.{Settled}
-use Rattle.mm_list_lemmas.specs.Members.{Among}
+use Rattle.mm_lists.specs.Members.{Among}
 use Rattle.mm_rules.specs.Graph.{Graph, Cycle, LabelReturned, IsGreatest, IsSettled}
 use Rattle.mm_rules.specs.TableState.{TableState, waiting_processes, public_of, graph_of}
 use Rattle.mm_rules.specs.Change.{can_detect, detect, swept, total_raises}

@@ -4,7 +4,7 @@ use Rattle.std.specs.Option.{option_map_or}
 use Rattle.std.proofs.lemmas.Bool.{cases_Bool}
 use Rattle.mm_label.specs.Label.{Label}
 use Rattle.mm_arena.specs.declared.key.Key.{Key}
-use Rattle.mm_list_lemmas.proofs.Lemmas.Set.{true_still}
+use Rattle.mm_lists.proofs.Lemmas.Set.{true_still}
 use Rattle.mm_rules.specs.declared.refusal.Refusal.{Refusal}
 use Rattle.mm_rules.specs.declared.reply.Settled.{Settled}
 use Rattle.mm_rules.specs.TableState.{TableState, waited_for, holder_of, private_of, has_verdict, waiting_processes}

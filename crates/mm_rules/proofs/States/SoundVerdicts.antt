@@ -1,8 +1,8 @@
 -- What the laws say of verdicts, in plain words.
 use Rattle.std.proofs.Common.{◌≡◌, ◌≢◌, ◌<◌, ℕ, List, true, false, IsTrue, sym, ap, ◌∙◌}
 use Rattle.mm_label.specs.Label.{Label, label_lt}
-use Rattle.mm_list_lemmas.specs.Members.{Among}
-use Rattle.mm_list_lemmas.proofs.Lemmas.Among.{all_at, all_from}
+use Rattle.mm_lists.specs.Members.{Among}
+use Rattle.mm_lists.proofs.Lemmas.Among.{all_at, all_from}
 use Rattle.mm_rules.specs.Graph.{Cycle}
 use Rattle.mm_rules.specs.TableState.{TableState, is_live, has_verdict, private_of, graph_of}
 use Rattle.mm_rules.specs.Laws.{IsHeld, Laws, Quiet, HasSoundVerdicts}

@@ -2,8 +2,8 @@
 use Rattle.std.proofs.Common.{◌≡◌, ◌≢◌, ◌⊎◌, ◌+◌, ℕ, ◌<◌, ◌∷◌, length, nat_eq, nat_lt, slice_index, slice_index_or, slice_set, true, false, IsTrue, IsFalse, inl, inr, sym, ap, subst, ◌∙◌, arith, get_or-set_same, get_or-set_other}
 use Rattle.std.proofs.lemmas.Bool.{cases_eq, cases_Bool, and_parts, and_left, and_right, eqb-true, ne_eqb}
 use Rattle.mm_arena.specs.declared.key.Key.{Key}
-use Rattle.mm_list_lemmas.specs.Members.{Among}
-use Rattle.mm_list_lemmas.proofs.Lemmas.Set.{true_within}
+use Rattle.mm_lists.specs.Members.{Among}
+use Rattle.mm_lists.proofs.Lemmas.Set.{true_within}
 use Rattle.mm_rules.specs.TableState.{TableState, is_live}
 use Rattle.mm_rules.specs.Change.{free_slot}
 

@@ -4,9 +4,9 @@ use Rattle.std.specs.Option.{option_map_or}
 use Rattle.std.specs.List.{range_with_len}
 use Rattle.std.proofs.lemmas.Bool.{cases_Bool}
 use Rattle.mm_label.specs.Label.{Label}
-use Rattle.mm_list_lemmas.specs.Members.{Among}
-use Rattle.mm_list_lemmas.proofs.Lemmas.Range.{among_range}
-use Rattle.mm_list_lemmas.proofs.Lemmas.Filter.{filter_keeps}
+use Rattle.mm_lists.specs.Members.{Among}
+use Rattle.mm_lists.proofs.Lemmas.Range.{among_range}
+use Rattle.mm_lists.proofs.Lemmas.Filter.{filter_keeps}
 use Rattle.mm_rules.specs.Graph.{Graph, WaitsFor}
 use Rattle.mm_rules.specs.TableState.{TableState, waited_for, is_waiting, waiting_processes, graph_of}
 use Rattle.mm_rules.specs.Change.{greater_label, can_transmit, transmit, raises_along, sweep_raises, swept, total_raises}

@@ -1,7 +1,7 @@
 -- How many labels sweeps raise at most, however many sweeps there are.
 use Rattle.std.proofs.Common.{ℕ, zero, suc, ◌≤◌, ◌*◌, length, refl, arith}
 use Rattle.std.proofs.Math.Nat.{mul-le-mul_left}
-use Rattle.mm_list_lemmas.proofs.Lemmas.Range.{length_filter_range}
+use Rattle.mm_lists.proofs.Lemmas.Range.{length_filter_range}
 use Rattle.mm_rules.specs.TableState.{TableState, is_waiting, waiting_processes, graph_of}
 use Rattle.mm_rules.specs.Change.{sweep_raises, swept, total_raises}
 use Rattle.mm_rules.specs.Laws.{Laws, most_raises}

@@ -3,10 +3,10 @@ use Rattle.std.proofs.Common.{◌≡◌, ◌≢◌, ℕ, ◌<◌, List, [], ◌�
 use Rattle.std.specs.List.{range_with_len}
 use Rattle.std.proofs.lemmas.Bool.{cases_eq, eq-eqb, and_parts, not-false}
 use Rattle.mm_arena.specs.declared.key.Key.{Key}
-use Rattle.mm_list_lemmas.specs.Members.{NoRepeat, Among}
-use Rattle.mm_list_lemmas.proofs.Lemmas.Range.{among_range, no_repeat_filter_range}
-use Rattle.mm_list_lemmas.proofs.Lemmas.Filter.{filter_gives, filter_keeps}
-use Rattle.mm_list_lemmas.proofs.Lemmas.Among.{list_all_at}
+use Rattle.mm_lists.specs.Members.{NoRepeat, Among}
+use Rattle.mm_lists.proofs.Lemmas.Range.{among_range, no_repeat_filter_range}
+use Rattle.mm_lists.proofs.Lemmas.Filter.{filter_gives, filter_keeps}
+use Rattle.mm_lists.proofs.Lemmas.Among.{list_all_at}
 use Rattle.mm_rules.specs.TableState.{TableState, is_live, owner_of, owns, wait_of, resources_of}
 use Rattle.mm_rules.specs.Change.{hand_over, hand_over_fits, vacate, vacate_fits}
 use Rattle.mm_rules.specs.Event.{finished, finish_tests}

@@ -2,12 +2,12 @@
 use Rattle.std.proofs.Common.{◌≡◌, ◌<◌, ℕ, true, [], inl, inr, subst, arith}
 use Rattle.std.specs.List.{range_with_len}
 use Rattle.std.proofs.lemmas.Bool.{cases_Bool}
-use Rattle.mm_list_lemmas.specs.Members.{Among}
-use Rattle.mm_list_lemmas.proofs.Lemmas.Filter.{filter_keeps}
-use Rattle.mm_list_lemmas.proofs.Lemmas.Range.{among_range}
+use Rattle.mm_lists.specs.Members.{Among}
+use Rattle.mm_lists.proofs.Lemmas.Filter.{filter_keeps}
+use Rattle.mm_lists.proofs.Lemmas.Range.{among_range}
 use Rattle.mm_rules.specs.TableState.{TableState}
-use Rattle.mm_settle.specs.Touched.{IsUnchanged, is_changed, changed_processes}
-use Rattle.mm_settle.proofs.Lemmas.Told.{unchanged_is}
+use Rattle.mm_settle_lemmas.specs.Touched.{IsUnchanged, is_changed, changed_processes}
+use Rattle.mm_settle_lemmas.proofs.Lemmas.Told.{unchanged_is}
 
 pub listed_changed : (s t : TableState) (n : ℕ) → n < s.config.processes → is_changed s t n ≡ true → Among n (changed_processes s t)
 listed_changed s t n within changed = filter_keeps (is_changed s t) (range_with_len 0 s.config.processes) n (among_range 0 s.config.processes n (omega arith) (omega arith)) changed

@@ -10,8 +10,8 @@ use Rattle.mm_rules.specs.Change.{vacate, abort}
 use Rattle.mm_rules.specs.Event.{Finish, Abort, finish_tests, abort_tests, counts_exhausted}
 use Rattle.mm_rules.specs.Laws.{Laws, AtRest}
 use Rattle.mm_rules.proofs.States.EventsKeepLaws.{event_keeps}
-use Rattle.mm_settle.specs.Touched.{changed_processes}
-use Rattle.mm_settle.proofs.Lemmas.Shown.{shown_changes_are_told}
+use Rattle.mm_settle_lemmas.specs.Touched.{changed_processes}
+use Rattle.mm_settle_lemmas.proofs.Lemmas.Shown.{shown_changes_are_told}
 use Rattle.mm_settled.specs.Calls.{MakesEnd, Rests, has_room}
 use Rattle.mm_settled.specs.Grants.{grants}
 use Rattle.mm_settled.specs.declared.lists.Lists.{Lists}

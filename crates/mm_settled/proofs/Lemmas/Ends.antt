@@ -4,9 +4,9 @@ use Rattle.std.specs.List.{range_with_len}
 use Rattle.std.proofs.lemmas.Bool.{cases_lt, eqb-true, eqb-false, not-false}
 use Rattle.std.proofs.lemmas.List.{get_or_past}
 use Rattle.mm_arena.specs.declared.key.Key.{Key}
-use Rattle.mm_list_lemmas.specs.Members.{Among}
-use Rattle.mm_list_lemmas.proofs.Lemmas.Filter.{filter_gives, filter_keeps}
-use Rattle.mm_list_lemmas.proofs.Lemmas.Range.{among_range, no_repeat_filter_range}
+use Rattle.mm_lists.specs.Members.{Among}
+use Rattle.mm_lists.proofs.Lemmas.Filter.{filter_gives, filter_keeps}
+use Rattle.mm_lists.proofs.Lemmas.Range.{among_range, no_repeat_filter_range}
 use Rattle.mm_rules.specs.declared.reply.Released.{Released}
 use Rattle.mm_rules.specs.TableState.{TableState, has_verdict, owner_of, owns, resources_of, wait_of, waited_for, waiters_of}
 use Rattle.mm_rules.specs.Change.{activate, free_slot, hand_over, hand_over_fits, vacate, vacate_fits, take_back, abort}

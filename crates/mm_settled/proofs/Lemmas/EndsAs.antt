@@ -8,8 +8,8 @@ use Rattle.mm_rules.specs.TableState.{TableState}
 use Rattle.mm_rules.specs.Event.{Event, Answer, Step}
 use Rattle.mm_rules.specs.Laws.{Laws, AtRest}
 use Rattle.mm_rules.specs.Victims.{BeginsWait}
-use Rattle.mm_settle.specs.Shown.{IdleShowTheSame}
-use Rattle.mm_settle.specs.Touched.{changed_processes}
+use Rattle.mm_settle_lemmas.specs.Shown.{IdleShowTheSame}
+use Rattle.mm_settle_lemmas.specs.Touched.{changed_processes}
 use Rattle.mm_settled.specs.declared.lists.Lists.{Lists}
 use Rattle.mm_settled.specs.Calls.{has_room, Made, Makes, Refuses}
 use Rattle.mm_settled.specs.Grants.{grants}

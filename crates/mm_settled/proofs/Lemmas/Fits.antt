@@ -1,15 +1,15 @@
 -- The room for the lists of a call, and what is listed.
-use Rattle.std.proofs.Common.{◌≡◌, ◌↔◌, ◌<◌, ◌≤◌, ◌||◌, ℕ, Bool, true, false, List, length, filter, replicate, nat_eq, Option, Some, None, slice_index_or, vec_capacity, IsTrue, inl, inr, refl, sym, ap, ◌∙◌, arith}
+use Rattle.std.proofs.Common.{◌≡◌, ◌↔◌, ◌<◌, ◌||◌, ℕ, Bool, true, false, List, length, filter, replicate, nat_eq, Option, Some, None, slice_index_or, vec_capacity, IsTrue, inl, inr, refl, sym, ap, ◌∙◌, arith}
 use Rattle.std.specs.Prelude.{slice_index}
 use Rattle.std.specs.Option.{option_map_or}
 use Rattle.std.specs.List.{range_with_len, AllByRecursion}
 use Rattle.std.proofs.lemmas.Bool.{cases_Bool, cases_lt, and_parts, eqb-true, eq-eqb}
 use Rattle.std.proofs.lemmas.List.{length-replicate, get_or-replicate, get_or_past}
 use Rattle.mm_arena.specs.declared.key.Key.{Key}
-use Rattle.mm_list_lemmas.specs.Members.{Among}
-use Rattle.mm_list_lemmas.proofs.Lemmas.Among.{all_from}
-use Rattle.mm_list_lemmas.proofs.Lemmas.Filter.{filter_gives, filter_keeps}
-use Rattle.mm_list_lemmas.proofs.Lemmas.Range.{among_range}
+use Rattle.mm_lists.specs.Members.{Among}
+use Rattle.mm_lists.proofs.Lemmas.Among.{all_from}
+use Rattle.mm_lists.proofs.Lemmas.Filter.{filter_gives, filter_keeps}
+use Rattle.mm_lists.proofs.Lemmas.Range.{among_range}
 use Rattle.mm_bit_set.specs.BitSet.{has, members}
 use Rattle.mm_rules.specs.declared.config.Config.{Config}
 use Rattle.mm_rules.specs.TableState.{TableState, is_live, owner_of, owns}
@@ -24,6 +24,7 @@ use Rattle.mm_settled.proofs.Lemmas.Numbers.{filter_agree_on, is_listed_among, a
 pub record HasSameRoom (l m : Lists) : Type 0 where
   pub granted : vec_capacity m.granted ≡ vec_capacity l.granted
   pub woken : vec_capacity m.woken ≡ vec_capacity l.woken
+  pub owned : vec_capacity m.owned ≡ vec_capacity l.owned
   pub resources : m.resources ≡ l.resources
 
 pub fits_again : (c d : Config) (l m : Lists) → d ≡ c → Fits c l → HasSameRoom l m → Fits d m
@@ -33,12 +34,9 @@ fits_again c d l m same fits room =
     record {
       granted = omega (arith, fits.granted, room.granted, processes);
       woken = omega (arith, fits.woken, room.woken, processes);
+      owned = omega (arith, fits.owned, room.owned, resources);
       resources = room.resources ∙ fits.resources ∙ ap (λ n. replicate n false) (sym resources);
     }
-
--- room for each resource is room for each of them after a call
-pub room_again : (c d : Config) (room : ℕ) → d ≡ c → c.resources ≤ room → d.resources ≤ room
-room_again c d room same enough = omega (arith, enough, ap (λ (e : Config). e.resources) same)
 
 -- ---- what is listed
 

@@ -5,17 +5,17 @@ use Rattle.std.specs.List.{filter_map, range_with_len, cons_option}
 use Rattle.std.proofs.Math.ListN.{length-map}
 use Rattle.std.proofs.lemmas.Bool.{cases_Bool, cases_eq, lt-ltb, eqb-true, eq-eqb}
 use Rattle.mm_arena.specs.declared.key.Key.{Key}
-use Rattle.mm_list_lemmas.specs.Members.{Among, NoRepeat}
-use Rattle.mm_list_lemmas.proofs.Lemmas.Among.{among_map_gives}
-use Rattle.mm_list_lemmas.proofs.Lemmas.NoRepeat.{length-NoRepeat}
-use Rattle.mm_list_lemmas.proofs.Lemmas.Range.{among_range, among_range_gives, no_repeat_range}
+use Rattle.mm_lists.specs.Members.{Among, NoRepeat}
+use Rattle.mm_lists.proofs.Lemmas.Among.{among_map_gives}
+use Rattle.mm_lists.proofs.Lemmas.NoRepeat.{length-NoRepeat}
+use Rattle.mm_lists.proofs.Lemmas.Range.{among_range, among_range_gives, no_repeat_range}
 use Rattle.mm_rules.specs.TableState.{TableState, owner_of, wait_of}
 use Rattle.mm_rules.specs.Laws.{Laws}
 use Rattle.mm_rules.proofs.States.Lookups.{WaitsHere, waits_here, waiter_within, holder_is, holder_apart}
 use Rattle.mm_settled.specs.declared.reply.Grant.{Grant}
 use Rattle.mm_settled.specs.Grants.{waits_for, to_waiter, grant_of, grants, EndsWaits}
 use Rattle.mm_settled.specs.private.Lists.{given_to, given}
-use Rattle.mm_settle.specs.Touched.{changed_processes}
+use Rattle.mm_settle_lemmas.specs.Touched.{changed_processes}
 use Rattle.mm_settled.proofs.Lemmas.Changed.{nobody_is_changed}
 use Rattle.mm_settled.proofs.Lemmas.Ends.{HandsOn, owner_in_range}
 

@@ -3,8 +3,8 @@ use Rattle.std.proofs.Common.{◌≡◌, ◌≢◌, ◌⊎◌, ◌<◌, ℕ, Lis
 use Rattle.std.proofs.lemmas.Bool.{cases_Bool, cases_eq, eqb-true}
 use Rattle.std.proofs.Common.{nat_eq, slice_index_or, get_or-set_same, get_or-set_other}
 use Rattle.mm_arena.specs.declared.key.Key.{Key}
-use Rattle.mm_list_lemmas.specs.Members.{Among, NoRepeat}
-use Rattle.mm_list_lemmas.proofs.Lemmas.Filter.{filter_gives}
+use Rattle.mm_lists.specs.Members.{Among, NoRepeat}
+use Rattle.mm_lists.proofs.Lemmas.Filter.{filter_gives}
 use Rattle.mm_rules.specs.Stages.{blocked_on}
 use Rattle.mm_rules.specs.TableState.{TableState, Wait, owner_of, wait_of, waited_for, waiters_of}
 use Rattle.mm_rules.specs.Change.{block, activate, give_to, hand_over, free_slot}

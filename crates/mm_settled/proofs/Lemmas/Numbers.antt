@@ -1,9 +1,9 @@
 -- Numbers in lists, and lists of those that pass a test.
 use Rattle.std.proofs.Common.{◌≡◌, ◌≢◌, ◌||◌, ℕ, Bool, true, false, List, [], ◌∷◌, length, filter, nat_eq, inl, inr, refl, sym, ap, ◌∙◌, arith}
 use Rattle.std.proofs.lemmas.Bool.{cases_Bool, eqb-true, eq-eqb}
-use Rattle.mm_list_lemmas.specs.Members.{Among, NoRepeat}
-use Rattle.mm_list_lemmas.proofs.Lemmas.Among.{all_from}
-use Rattle.mm_list_lemmas.proofs.Lemmas.Filter.{filter_none}
+use Rattle.mm_lists.specs.Members.{Among, NoRepeat}
+use Rattle.mm_lists.proofs.Lemmas.Among.{all_from}
+use Rattle.mm_lists.proofs.Lemmas.Filter.{filter_none}
 use Rattle.mm_settled.specs.private.Lists.{is_listed}
 
 -- two tests that agree on a list

@@ -3,7 +3,7 @@ use Rattle.std.proofs.Common.{◌≡◌, ◌<◌, ℕ, List, [], ◌∷◌, filt
 use Rattle.std.specs.List.{filter_map, range_with_len, cons_option}
 use Rattle.std.proofs.lemmas.Bool.{eq-eqb, ne_eqb, lt-ltb, not-false}
 use Rattle.mm_arena.specs.declared.key.Key.{Key}
-use Rattle.mm_list_lemmas.proofs.Lemmas.Range.{among_range, no_repeat_range}
+use Rattle.mm_lists.proofs.Lemmas.Range.{among_range, no_repeat_range}
 use Rattle.mm_rules.specs.declared.reply.Released.{Released}
 use Rattle.mm_rules.specs.declared.reply.Released.TheVariants.{Free, To}
 use Rattle.mm_rules.specs.TableState.{TableState, Wait, owner_of, owns, waiters_of}

@@ -15,9 +15,9 @@ use Rattle.mm_rules.proofs.States.Outcome.{KeepsLaws}
 use Rattle.mm_rules.proofs.States.Rest.{rest_stays}
 use Rattle.mm_rules.proofs.States.Settle.{settle_gives_rest}
 use Rattle.mm_rules.proofs.States.SettleKeeps.{SettleKeeps, settle_keeps}
-use Rattle.mm_settle.specs.Touched.{is_changed, changed_processes}
-use Rattle.mm_settle.specs.Shown.{IdleShowTheSame}
-use Rattle.mm_settle.proofs.Lemmas.Told.{unchanged_is}
+use Rattle.mm_settle_lemmas.specs.Touched.{is_changed, changed_processes}
+use Rattle.mm_settle_lemmas.specs.Shown.{IdleShowTheSame}
+use Rattle.mm_settle_lemmas.proofs.Lemmas.Told.{unchanged_is}
 use Rattle.mm_settled.specs.Calls.{has_room, NoneWaits, Rests, Made, OthersKeepVerdicts}
 use Rattle.mm_settled.specs.Grants.{grants, EndsWaits}
 use Rattle.mm_settled.specs.declared.reply.Grant.{Grant}

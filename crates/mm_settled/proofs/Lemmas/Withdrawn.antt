@@ -17,10 +17,10 @@ use Rattle.mm_rules.proofs.States.Outcome.{KeepsLaws, outcome_keeps}
 use Rattle.mm_rules.proofs.States.SettleKeeps.{SettleKeeps, settle_keeps}
 use Rattle.mm_rules.proofs.States.Withdraw.{ShowsWaiting, shows_waiting_gives, withdraw_keeps}
 use Rattle.mm_rules.proofs.States.WithdrawLaws.{Leaves, withdraw_leaves, withdraw_has_no_victim, withdraw_stays_at_rest, carried_is_behind_victim}
-use Rattle.mm_settle.specs.Touched.{is_changed, changed_processes}
-use Rattle.mm_settle.specs.Shown.{IdleShowTheSame}
-use Rattle.mm_settle.proofs.Lemmas.Told.{unchanged_is}
-use Rattle.mm_settle.proofs.Lemmas.Touched.{block_else}
+use Rattle.mm_settle_lemmas.specs.Touched.{is_changed, changed_processes}
+use Rattle.mm_settle_lemmas.specs.Shown.{IdleShowTheSame}
+use Rattle.mm_settle_lemmas.proofs.Lemmas.Told.{unchanged_is}
+use Rattle.mm_settle_lemmas.proofs.Lemmas.Touched.{block_else}
 use Rattle.mm_settled.specs.Calls.{has_room, NoneWaits, MadeWithdrawal, MakesWithdrawal}
 use Rattle.mm_settled.specs.Grants.{grants}
 use Rattle.mm_settled.specs.private.Lists.{ComesToRest}

@@ -1,8 +1,9 @@
 -- What `release`, `finish` and `abort` do, by which resources are handed over.
-use Rattle.std.specs.Prelude.{◌≡◌, ℕ, Result}
+use Rattle.std.specs.Prelude.{◌≡◌, ◌↔◌, ℕ, List, Some, Result}
 use Rattle.mm_arena.specs.declared.key.Key.{Key}
+use Rattle.mm_lists.specs.Members.{Among, NoRepeat}
 use Rattle.mm_rules.specs.declared.refusal.Refusal.{Refusal}
-use Rattle.mm_rules.specs.TableState.{TableState}
+use Rattle.mm_rules.specs.TableState.{TableState, owner_of}
 use Rattle.mm_rules.specs.Event.{Finish, Abort, Step}
 use Rattle.mm_rules.specs.Laws.{AtRest}
 use Rattle.mm_settled.specs.Calls.{OthersKeepVerdicts}
@@ -16,6 +17,11 @@ use Rattle.mm_settled.specs.private.Lists.{Fits}
 abbrev pub EndStep : EndKind → Key → TableState → Result (Unit {0}) Refusal → TableState → Type 0
 EndStep way.Finish k old reply new = Step (Finish k) old reply new
 EndStep way.Abort k old reply new = Step (Abort k) old reply new
+
+-- the list has what k owned, each resource once
+pub record ListsOwned (s : TableState) (k : Key) (ended : List ℕ) : Type 0 where
+  pub owned : (r : ℕ) → Among r ended ↔ (owner_of s r ≡ Some k)
+  pub once : NoRepeat ended
 
 -- a call of process n that hands over, and settles the table where that is needed, leaves it at rest, and the list of grants tells of both
 pub record Ends (old new : TableState) (n : ℕ) (lists : Lists) : Type 0 where

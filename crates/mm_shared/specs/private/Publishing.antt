@@ -3,7 +3,7 @@ use Rattle.std.specs.Prelude.{ℕ, ◌≡◌, ◌<◌, List, length, None, IsTru
 use Rattle.mm_board.specs.declared.views.Published.{Published}
 use Rattle.mm_board.specs.Views.{current_label, current_holder}
 use Rattle.mm_label.specs.Label.{label_le}
-use Rattle.mm_list_lemmas.specs.Members.{Among}
+use Rattle.mm_lists.specs.Members.{Among}
 use Rattle.mm_rules.specs.TableState.{TableState, public_of, holder_of, wait_of}
 use Rattle.mm_shared.specs.Published.{IsShown}
 

@@ -2,11 +2,11 @@
 use Rattle.std.proofs.Common.{◌≡◌, ◌⊎◌, ◌<◌, ◌++◌, ℕ, Bool, true, List, [], ◌∷◌, length, map, slice_set, inl, inr, refl, ap, sym, subst, ◌∙◌}
 use Rattle.std.proofs.lemmas.Bool.{cases_eq}
 use Rattle.mm_bit_set.specs.BitSet.{has}
-use Rattle.mm_list_lemmas.specs.Members.{Among}
-use Rattle.mm_list_lemmas.proofs.Lemmas.Among.{among_append, among_left, among_right, among_map, among_map_gives}
+use Rattle.mm_lists.specs.Members.{Among}
+use Rattle.mm_lists.proofs.Lemmas.Among.{among_append, among_left, among_right, among_map, among_map_gives}
 use Rattle.mm_rules.specs.TableState.{Wait}
-use Rattle.mm_settle.specs.Steps.Added.{AddsAll}
-use Rattle.mm_settle.proofs.Lemmas.Added.{adds_set}
+use Rattle.mm_settle_lemmas.specs.Steps.Added.{AddsAll}
+use Rattle.mm_settle_lemmas.proofs.Lemmas.Added.{adds_set}
 use Rattle.mm_table.specs.private.Labels.{added_each}
 
 -- these were added, and nobody else

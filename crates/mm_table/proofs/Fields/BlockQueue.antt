@@ -4,7 +4,7 @@ use Rattle.std.proofs.lemmas.Bool.{and_parts, leb-true}
 use Rattle.std.specs.List.{list_all}
 use Rattle.std.proofs.lemmas.List.{map-set}
 use Rattle.mm_label.specs.Label.{Label, opening_label, counter_range, process_range}
-use Rattle.mm_list_lemmas.specs.Members.{Among, NoRepeat}
+use Rattle.mm_lists.specs.Members.{Among, NoRepeat}
 use Rattle.mm_rules.specs.TableState.{TableState, Wait, public_of}
 use Rattle.mm_rules.specs.Change.{block, block_fits, label_against}
 use Rattle.mm_rules.specs.Stages.{blocked_on, NoneIs}

@@ -8,10 +8,10 @@ use Rattle.mm_rules.specs.Change.{give_to, hand_over}
 use Rattle.mm_rules.specs.Laws.{Laws}
 use Rattle.mm_rules.proofs.States.HandOverOrder.{any_order}
 use Rattle.mm_rules.proofs.States.Lookups.{no_holder}
-use Rattle.mm_list_lemmas.proofs.Lemmas.Range.{no_repeat_filter_range}
-use Rattle.mm_settle.specs.Touched.{IsUnchanged}
-use Rattle.mm_settle.specs.Steps.Vacating.{IsVacating}
-use Rattle.mm_settle.proofs.Lemmas.Touched.{touches_nobody}
+use Rattle.mm_lists.proofs.Lemmas.Range.{no_repeat_filter_range}
+use Rattle.mm_settle_lemmas.specs.Touched.{IsUnchanged}
+use Rattle.mm_settle_lemmas.specs.Steps.Vacating.{IsVacating}
+use Rattle.mm_settle_lemmas.proofs.Lemmas.Touched.{touches_nobody}
 use Rattle.mm_table.specs.declared.records.Records.TheInside.{Inside}
 use Rattle.mm_table.specs.declared.labels.ProcessLabels.{ProcessLabels}
 use Rattle.mm_table.specs.private.Records.{FieldsAreSized, IsConsistent, state_of_records}

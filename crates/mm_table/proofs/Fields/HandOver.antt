@@ -3,16 +3,16 @@ use Rattle.std.proofs.Common.{◌≡◌, ◌≢◌, ℕ, zero, suc, ◌<◌, ◌
 use Rattle.std.proofs.lemmas.Bool.{eq-eqb, ne_eqb}
 use Rattle.std.specs.List.{list_all}
 use Rattle.mm_arena.specs.declared.key.Key.{Key}
-use Rattle.mm_list_lemmas.specs.Members.{Among, NoRepeat}
-use Rattle.mm_list_lemmas.proofs.Lemmas.Among.{all_map}
-use Rattle.mm_list_lemmas.proofs.Lemmas.Filter.{filter_gives, filter_swap, filter_not}
-use Rattle.mm_list_lemmas.proofs.Lemmas.NoRepeat.{no_repeat_filter, found_by_number}
+use Rattle.mm_lists.specs.Members.{Among, NoRepeat}
+use Rattle.mm_lists.proofs.Lemmas.Among.{all_map}
+use Rattle.mm_lists.proofs.Lemmas.Filter.{filter_gives, filter_swap, filter_not}
+use Rattle.mm_lists.proofs.Lemmas.NoRepeat.{no_repeat_filter, found_by_number}
 use Rattle.mm_rules.specs.TableState.{TableState, Wait, is_of, is_live, is_waiting, waiters_of}
 use Rattle.mm_rules.specs.Change.{activate, block_fits, give_to, give_to_fits, hand_over, hand_over_fits}
 use Rattle.mm_rules.specs.Stages.{blocked_on, NoneIs}
 use Rattle.mm_transactions.specs.Transactions.{first_key, WaitsAreLawful}
-use Rattle.mm_settle.specs.Steps.Added.{Adds, AddsAll}
-use Rattle.mm_settle.proofs.Lemmas.Added.{adds_first}
+use Rattle.mm_settle_lemmas.specs.Steps.Added.{Adds, AddsAll}
+use Rattle.mm_settle_lemmas.proofs.Lemmas.Added.{adds_first}
 use Rattle.mm_table.specs.declared.records.Records.TheInside.{Inside}
 use Rattle.mm_table.specs.private.Records.{IsConsistent, state_of_records}
 use Rattle.mm_table.proofs.Fields.Walk.{process, queued}

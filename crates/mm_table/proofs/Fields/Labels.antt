@@ -4,7 +4,7 @@ use Rattle.std.proofs.lemmas.List.{map-set}
 use Rattle.mm_arena.specs.declared.key.Key.{Key}
 use Rattle.std.proofs.lemmas.Bool.{le-leb}
 use Rattle.mm_label.specs.Label.{Label, opening_label}
-use Rattle.mm_list_lemmas.proofs.Lemmas.Among.{list_all_from}
+use Rattle.mm_lists.proofs.Lemmas.Among.{list_all_from}
 use Rattle.mm_rules.specs.declared.config.Config.{Config}
 use Rattle.mm_rules.specs.declared.reply.Totals.{Totals}
 use Rattle.mm_rules.specs.TableState.{TableState, Wait, public_of, waiters_of, resources_of}

@@ -5,7 +5,7 @@ use Rattle.std.proofs.lemmas.List.{length-map}
 use Rattle.std.specs.List.{range_with_len}
 use Rattle.std.specs.Option.{option_map_or}
 use Rattle.mm_arena.specs.declared.key.Key.{Key}
-use Rattle.mm_list_lemmas.specs.Members.{Among, NoRepeat, head, without}
+use Rattle.mm_lists.specs.Members.{Among, NoRepeat, head, without}
 use Rattle.mm_owned.specs.Owned.{Ownership, ListsMatchOwners, FollowsInList, owner_at, list_at, given, freed}
 use Rattle.mm_owned.proofs.Lemmas.Walk.{Among-next, next-apart}
 use Rattle.mm_owned.proofs.Lemmas.ListsMatchOwners.{in_range}
@@ -16,9 +16,9 @@ use Rattle.mm_transactions.specs.Transactions.{Transactions}
 use Rattle.mm_rules.specs.TableState.{TableState, owns, resources_of}
 use Rattle.mm_rules.specs.Change.{hand_over_fits, vacate_fits}
 use Rattle.mm_table.specs.private.Records.{FieldsAreSized, IsConsistent, state_of_records}
-use Rattle.mm_list_lemmas.proofs.Lemmas.Filter.{filter_gives, filter_keeps}
-use Rattle.mm_list_lemmas.proofs.Lemmas.Among.{list_all_at, list_all_from}
-use Rattle.mm_list_lemmas.proofs.Lemmas.Range.{among_range, among_range_gives}
+use Rattle.mm_lists.proofs.Lemmas.Filter.{filter_gives, filter_keeps}
+use Rattle.mm_lists.proofs.Lemmas.Among.{list_all_at, list_all_from}
+use Rattle.mm_lists.proofs.Lemmas.Range.{among_range, among_range_gives}
 
 -- ---- sizes
 

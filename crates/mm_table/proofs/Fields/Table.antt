@@ -14,14 +14,14 @@ use Rattle.mm_rules.specs.Event.{Event, Answer, Step, Settle, decided}
 use Rattle.mm_rules.specs.Laws.{Laws}
 use Rattle.mm_rules.proofs.States.EventsKeepLaws.{event_keeps}
 use Rattle.mm_rules.proofs.States.Config.{event_config}
-use Rattle.mm_settle.specs.Touched.{Touches, changed_processes}
-use Rattle.mm_settle.specs.Steps.Changed.{AreChanged}
-use Rattle.mm_settle.specs.Steps.Marked.{SetsAreSized}
-use Rattle.mm_settle.proofs.Lemmas.Changed.{changes_keep, none_changed}
-use Rattle.mm_settle.proofs.Lemmas.Frames.{idle_transmits_not, idle_detects_not}
-use Rattle.mm_settle.proofs.Lemmas.Told.{told, touches_union}
-use Rattle.mm_settle.proofs.Lemmas.Touched.{touches_changes}
-use Rattle.mm_settle.proofs.Lemmas.Untouched.{nothing, none_touched}
+use Rattle.mm_settle_lemmas.specs.Touched.{Touches, changed_processes}
+use Rattle.mm_settle_lemmas.specs.Steps.Changed.{AreChanged}
+use Rattle.mm_settle_lemmas.specs.Steps.Marked.{SetsAreSized}
+use Rattle.mm_settle_lemmas.proofs.Lemmas.Changed.{changes_keep, none_changed}
+use Rattle.mm_settle_lemmas.proofs.Lemmas.Frames.{idle_transmits_not, idle_detects_not}
+use Rattle.mm_settle_lemmas.proofs.Lemmas.Told.{told, touches_union}
+use Rattle.mm_settle_lemmas.proofs.Lemmas.Touched.{touches_changes}
+use Rattle.mm_settle_lemmas.proofs.Lemmas.Untouched.{nothing, none_touched}
 use Rattle.mm_table.specs.declared.table.Table.TheInside.{Inside}
 use Rattle.mm_table.specs.private.Table.{IsLawfulTable}
 

@@ -1,9 +1,9 @@
 -- A walk through a queue: the processes that were passed, and those that are left.
 use Rattle.std.proofs.Common.{◌≡◌, ℕ, ◌<◌, List, [], ◌∷◌, ◌++◌, map, nat_eq, inl, refl, ap, sym, subst, ◌∙◌}
 use Rattle.std.proofs.lemmas.List.{append-nil, append_assoc}
-use Rattle.mm_list_lemmas.specs.Members.{Among}
-use Rattle.mm_list_lemmas.proofs.Lemmas.Among.{among_map_gives, among_right}
-use Rattle.mm_list_lemmas.proofs.Lemmas.Filter.{filter_gives}
+use Rattle.mm_lists.specs.Members.{Among}
+use Rattle.mm_lists.proofs.Lemmas.Among.{among_map_gives, among_right}
+use Rattle.mm_lists.proofs.Lemmas.Filter.{filter_gives}
 use Rattle.mm_rules.specs.TableState.{TableState, Wait, waiters_of}
 
 abbrev pub process : Wait → ℕ

@@ -6,9 +6,9 @@ use Rattle.mm_rules.specs.declared.refusal.Refusal.{Refusal}
 use Rattle.mm_rules.specs.TableState.{TableState, is_waiting}
 use Rattle.mm_rules.specs.Change.{activate, block}
 use Rattle.mm_rules.specs.Laws.{Laws}
-use Rattle.mm_settle.specs.Touched.{Touches}
-use Rattle.mm_settle.specs.Steps.Added.{Adds}
-use Rattle.mm_settle.proofs.Lemmas.Touched.{touches_then, touches_one, touches_activate, block_else, block_rises}
+use Rattle.mm_settle_lemmas.specs.Touched.{Touches}
+use Rattle.mm_settle_lemmas.specs.Steps.Added.{Adds}
+use Rattle.mm_settle_lemmas.proofs.Lemmas.Touched.{touches_then, touches_one, touches_activate, block_else, block_rises}
 use Rattle.mm_table.specs.declared.records.withdraw.Renewal.{Renewal}
 use Rattle.mm_rules.specs.Laws.{AtRest}
 use Rattle.mm_rules.specs.Withdraw.{Withdraws}

@@ -1,8 +1,8 @@
 -- What holds of every `Table`.
 use Rattle.std.specs.Prelude.{◌≡◌, length}
 use Rattle.mm_rules.specs.Laws.{Laws}
-use Rattle.mm_settle.specs.Steps.Changed.{AreChanged}
-use Rattle.mm_settle.specs.Steps.Marked.{SetsAreSized, IsNoneMarked}
+use Rattle.mm_settle_lemmas.specs.Steps.Changed.{AreChanged}
+use Rattle.mm_settle_lemmas.specs.Steps.Marked.{SetsAreSized, IsNoneMarked}
 use Rattle.mm_table.specs.declared.table.Table.TheInside.{Inside}
 
 -- all laws; whoever may transmit or newly detect is among the changed, or its holder is; each set has a place for each process

@@ -4,7 +4,7 @@ ghost use Rattle.mm_rules.specs.TableState.{is_live, has_verdict, is_waiting};
 ghost use Rattle.mm_rules.specs.Change.{vacate_fits, take_back};
 ghost use Rattle.mm_rules.specs.Event.{Gives, allowed, aborted, abort_tests};
 ghost use Rattle.mm_rules.specs.Laws.{Laws};
-ghost use Rattle.mm_settle.specs.Touched.{Touches};
+ghost use Rattle.mm_settle_lemmas.specs.Touched.{Touches};
 
 use super::Records;
 use crate::{Key, Refusal};

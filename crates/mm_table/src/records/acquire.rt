@@ -5,8 +5,8 @@ ghost use Rattle.mm_rules.specs.Change.{block_fits, label_against};
 ghost use Rattle.mm_rules.specs.Event.{Gives, acquired, allowed, resource_tests};
 ghost use Rattle.mm_rules.specs.declared.reply.Acquired.TheVariants as Acquired;
 ghost use Rattle.mm_rules.specs.Laws.{Laws};
-ghost use Rattle.mm_settle.specs.Touched.{Touches};
-ghost use Rattle.mm_settle.specs.Steps.Added.{Adds};
+ghost use Rattle.mm_settle_lemmas.specs.Touched.{Touches};
+ghost use Rattle.mm_settle_lemmas.specs.Steps.Added.{Adds};
 ghost use Rattle.mm_table.specs.private.LabelLimit.{waiting};
 
 use super::Records;

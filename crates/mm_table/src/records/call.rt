@@ -5,10 +5,8 @@ ghost use Rattle.mm_rules.specs.Event.{allowed, resource_tests, counts_exhausted
 
 use super::Records;
 use crate::{Key, Refusal};
+use mm_limits::COUNT_LIMIT;
 use mm_transactions::Transaction;
-
-/// Where the accepted or the verdict count is this or more, every event is refused.
-const COUNT_LIMIT: u64 = 1 << 62;
 
 impl Records {
     pub(super) fn counts_exhausted(&self) -> bool

@@ -5,8 +5,8 @@ ghost use Rattle.mm_rules.specs.TableState.{is_live};
 ghost use Rattle.mm_rules.specs.Change.{can_detect, detect};
 ghost use Rattle.mm_rules.specs.Event.{Gives, detected};
 ghost use Rattle.mm_rules.specs.Laws.{Laws};
-ghost use Rattle.mm_settle.specs.Steps.Detects.{IsDetected};
-ghost use Rattle.mm_settle.specs.Steps.Settling.{IsSettling};
+ghost use Rattle.mm_settle_lemmas.specs.Steps.Detects.{IsDetected};
+ghost use Rattle.mm_settle_lemmas.specs.Steps.Settling.{IsSettling};
 
 use super::Records;
 use crate::{Detected, Key, Refusal};

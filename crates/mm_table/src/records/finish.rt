@@ -1,12 +1,12 @@
 //! A transaction ends: all that it owns is handed over, and its process is freed.
 ghost use Rattle.std.specs.Prelude.{◌≡◌, ◌<◌, ◌≤◌, ◌↔◌, ℕ, List, Bool, [], IsTrue, None, Some, IsFalse, fold, length, vec_capacity, OnOk};
-ghost use Rattle.mm_list_lemmas.specs.Members.{Among, NoRepeat};
+ghost use Rattle.mm_lists.specs.Members.{Among, NoRepeat};
 ghost use Rattle.mm_rules.specs.TableState.{owner_of, wait_of, is_live, has_verdict, resources_of};
 ghost use Rattle.mm_rules.specs.Change.{hand_over, free_slot, vacate, vacate_fits};
 ghost use Rattle.mm_rules.specs.Event.{Gives, allowed, finished, finish_tests};
 ghost use Rattle.mm_rules.specs.Laws.{Laws};
-ghost use Rattle.mm_settle.specs.Touched.{Touches};
-ghost use Rattle.mm_settle.specs.Steps.Vacating.{IsVacating};
+ghost use Rattle.mm_settle_lemmas.specs.Touched.{Touches};
+ghost use Rattle.mm_settle_lemmas.specs.Steps.Vacating.{IsVacating};
 
 use super::Records;
 use crate::{Key, Refusal};

@@ -2,7 +2,7 @@
 ghost use Rattle.std.specs.Prelude.{◌≡◌, ◌<◌, IsTrue, OnOk, length};
 ghost use Rattle.mm_rules.specs.TableState.{is_live, is_waiting};
 ghost use Rattle.mm_rules.specs.Event.{Gives, allowed, given_up, give_up_tests};
-ghost use Rattle.mm_settle.specs.Touched.{Touches};
+ghost use Rattle.mm_settle_lemmas.specs.Touched.{Touches};
 
 use super::Records;
 use crate::{Key, Refusal};

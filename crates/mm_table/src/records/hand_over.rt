@@ -6,7 +6,7 @@ ghost use Rattle.mm_rules.specs.Change.{block_fits, hand_over, hand_over_fits};
 ghost use Rattle.mm_rules.specs.Event.{release_answer};
 ghost use Rattle.mm_rules.specs.Stages.{blocked_on, NoneIs};
 ghost use Rattle.mm_transactions.specs.Transactions.{first_key};
-ghost use Rattle.mm_settle.specs.Steps.Added.{AddsAll};
+ghost use Rattle.mm_settle_lemmas.specs.Steps.Added.{AddsAll};
 
 use super::Records;
 use crate::{Key, Released};

@@ -1,6 +1,6 @@
 //! Reads, which change nothing: those that a caller makes, and those that events are made of.
 ghost use Rattle.std.specs.Prelude.{◌≡◌, ◌≤◌, ◌<◌, ◌↔◌, ℕ, IsTrue, IfSome, IfNone, None, Some, option_map, vec_capacity};
-ghost use Rattle.mm_list_lemmas.specs.Members.{Among, NoRepeat};
+ghost use Rattle.mm_lists.specs.Members.{Among, NoRepeat};
 ghost use Rattle.mm_rules.specs.TableState.{wait_of, holder_of, is_live, has_verdict, public_of, owner_of, owns};
 ghost use Rattle.mm_rules.specs.Laws.{Laws};
 ghost use Rattle.mm_rules.specs.Event.{state_of, owner_told, tenant_of};

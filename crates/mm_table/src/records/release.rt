@@ -3,7 +3,7 @@ ghost use Rattle.std.specs.Prelude.{◌≡◌, ◌<◌, IsTrue, OnOk, length};
 ghost use Rattle.mm_rules.specs.Change.{hand_over_fits};
 ghost use Rattle.mm_rules.specs.Event.{Gives, allowed, released, release_tests};
 ghost use Rattle.mm_rules.specs.Laws.{Laws};
-ghost use Rattle.mm_settle.specs.Touched.{Touches};
+ghost use Rattle.mm_settle_lemmas.specs.Touched.{Touches};
 
 use super::Records;
 use crate::{Key, Refusal, Released};

@@ -3,9 +3,9 @@ ghost use Rattle.std.specs.Prelude.{◌≡◌, ◌<◌, ◌≤◌, Ok, List, Boo
 ghost use Rattle.mm_bit_set.specs.BitSet.{has};
 ghost use Rattle.mm_rules.specs.Event.{Step, Settle, counts_exhausted};
 ghost use Rattle.mm_rules.specs.Laws.{Laws};
-ghost use Rattle.mm_settle.specs.Touched.{Touches};
-ghost use Rattle.mm_settle.specs.Steps.Changed.{AreChanged};
-ghost use Rattle.mm_settle.specs.Steps.Marked.{AddsWaiters, AreMarked, IsNoneMarked, NoneCan, SameLengths, SetsAreSized};
+ghost use Rattle.mm_settle_lemmas.specs.Touched.{Touches};
+ghost use Rattle.mm_settle_lemmas.specs.Steps.Changed.{AreChanged};
+ghost use Rattle.mm_settle_lemmas.specs.Steps.Marked.{AddsWaiters, AreMarked, IsNoneMarked, NoneCan, SameLengths, SetsAreSized};
 
 use super::Records;
 use crate::sets::Sets;

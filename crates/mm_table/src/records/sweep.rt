@@ -3,9 +3,9 @@ ghost use Rattle.std.specs.Prelude.{◌≡◌, ◌<◌, length};
 ghost use Rattle.mm_rules.specs.Change.{can_transmit, transmit};
 ghost use Rattle.mm_rules.specs.Laws.{Laws};
 ghost use Rattle.mm_rules.specs.Stages.{IsSwept};
-ghost use Rattle.mm_settle.specs.Steps.Marked.{AreMarked, IsNoneMarked};
-ghost use Rattle.mm_settle.specs.Steps.Pass.{IsTurn, IsPassed};
-ghost use Rattle.mm_settle.specs.Steps.Settling.{IsSettling};
+ghost use Rattle.mm_settle_lemmas.specs.Steps.Marked.{AreMarked, IsNoneMarked};
+ghost use Rattle.mm_settle_lemmas.specs.Steps.Pass.{IsTurn, IsPassed};
+ghost use Rattle.mm_settle_lemmas.specs.Steps.Settling.{IsSettling};
 
 use super::Records;
 use mm_bit_set::BitSet;

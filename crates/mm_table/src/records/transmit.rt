@@ -4,7 +4,7 @@ ghost use Rattle.mm_rules.specs.TableState.{is_live};
 ghost use Rattle.mm_rules.specs.Change.{greater_label, can_transmit, transmit};
 ghost use Rattle.mm_rules.specs.Event.{Gives, transmitted};
 ghost use Rattle.mm_rules.specs.Laws.{Laws};
-ghost use Rattle.mm_settle.specs.Touched.{Touches};
+ghost use Rattle.mm_settle_lemmas.specs.Touched.{Touches};
 
 use super::Records;
 use crate::{Key, Refusal, Transmitted};

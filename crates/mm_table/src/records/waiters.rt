@@ -1,8 +1,8 @@
 //! Who waits for what a process owns.
 ghost use Rattle.std.specs.Prelude.{◌≡◌, ◌<◌, length};
 ghost use Rattle.mm_rules.specs.TableState.{waiters_of};
-ghost use Rattle.mm_settle.specs.Steps.Added.{AddsAll};
-ghost use Rattle.mm_settle.specs.Steps.Marked.{AddsWaiters};
+ghost use Rattle.mm_settle_lemmas.specs.Steps.Added.{AddsAll};
+ghost use Rattle.mm_settle_lemmas.specs.Steps.Marked.{AddsWaiters};
 
 use super::Records;
 use mm_bit_set::BitSet;

@@ -5,8 +5,8 @@ ghost use Rattle.mm_rules.specs.TableState.{is_live, is_waiting, private_of};
 ghost use Rattle.mm_rules.specs.Event.{Gives, allowed};
 ghost use Rattle.mm_rules.specs.Laws.{Laws};
 ghost use Rattle.mm_rules.specs.Withdraw.{renew, renew_fits, shown_process, shows_waiting, withdraw_tests, withdrawn};
-ghost use Rattle.mm_settle.specs.Touched.{Touches};
-ghost use Rattle.mm_settle.specs.Steps.Added.{Adds};
+ghost use Rattle.mm_settle_lemmas.specs.Touched.{Touches};
+ghost use Rattle.mm_settle_lemmas.specs.Steps.Added.{Adds};
 ghost use Rattle.mm_table.specs.private.Renewal.{renewed, IsRenewal, let_go};
 
 use super::Records;

@@ -3,8 +3,8 @@ use Rattle.std.proofs.Common.{◌≡◌, List, ℕ, ◌<◌, ◌≤◌, true, fa
 use Rattle.std.proofs.lemmas.List.{get_or-map, length-map}
 use Rattle.std.proofs.lemmas.Bool.{eq-eqb, ne_eqb}
 use Rattle.mm_arena.specs.Slots.{Slots, Place, never_used, place_at}
-use Rattle.mm_list_lemmas.proofs.Lemmas.Among.{all_at, all_map}
-use Rattle.mm_list_lemmas.proofs.Lemmas.Filter.{filter_none}
+use Rattle.mm_lists.proofs.Lemmas.Among.{all_at, all_map}
+use Rattle.mm_lists.proofs.Lemmas.Filter.{filter_none}
 use Rattle.mm_queue.specs.Queues.{Queues}
 use Rattle.mm_rules.specs.TableState.{Wait}
 use Rattle.mm_transactions.specs.declared.transaction.Entry.{Entry}

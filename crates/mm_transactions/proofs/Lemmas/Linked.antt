@@ -5,10 +5,10 @@ use Rattle.std.proofs.lemmas.List.{map-append, length-replicate, get_or-replicat
 use Rattle.std.proofs.lemmas.List.Elements.{filter-append}
 use Rattle.std.specs.Option.{option_map}
 use Rattle.mm_arena.specs.declared.key.Key.{Key}
-use Rattle.mm_list_lemmas.specs.Members.{Among, head}
-use Rattle.mm_list_lemmas.proofs.Lemmas.Among.{all_at, among_map}
-use Rattle.mm_list_lemmas.proofs.Lemmas.Cut.{cut_at}
-use Rattle.mm_list_lemmas.proofs.Lemmas.Filter.{filter_keeps, filter_swap, filter_not, filter_only, only_among, none_pass, filter_map}
+use Rattle.mm_lists.specs.Members.{Among, head}
+use Rattle.mm_lists.proofs.Lemmas.Among.{all_at, among_map}
+use Rattle.mm_lists.proofs.Lemmas.Cut.{cut_at}
+use Rattle.mm_lists.proofs.Lemmas.Filter.{filter_keeps, filter_swap, filter_not, filter_only, only_among, none_pass, filter_map}
 use Rattle.mm_queue.specs.Queues.{Queues, queue, with_queue, IsOccupied, IsNextProcess, Removes}
 use Rattle.mm_rules.specs.TableState.{Wait, is_of, waited_for}
 use Rattle.mm_transactions.specs.Transactions.{queue_of, first_key}

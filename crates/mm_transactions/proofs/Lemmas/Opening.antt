@@ -3,7 +3,7 @@ use Rattle.std.proofs.Common.{◌≡◌, ℕ, zero, suc, ◌≤◌, List, [], le
 use Rattle.std.proofs.lemmas.List.{length-replicate}
 use Rattle.mm_arena.specs.declared.key.Key.{Key}
 use Rattle.mm_arena.specs.Slots.{Place, never_used, opening_slots}
-use Rattle.mm_list_lemmas.proofs.Lemmas.Set.{read_replicate}
+use Rattle.mm_lists.proofs.Lemmas.Set.{read_replicate}
 use Rattle.mm_queue.specs.Queues.{empty_queues}
 use Rattle.mm_transactions.specs.declared.transaction.Entry.{Entry}
 use Rattle.mm_transactions.specs.Transactions.{opening}

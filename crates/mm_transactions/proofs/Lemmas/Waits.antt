@@ -5,11 +5,11 @@ use Rattle.std.proofs.lemmas.List.{map-append, length-map, get_or_past, set_spli
 use Rattle.std.proofs.lemmas.List.Elements.{filter_map-append, filter-append}
 use Rattle.std.specs.List.{AllByRecursion, cons_option, filter_map}
 use Rattle.std.specs.Option.{option_map, option_to_list}
-use Rattle.mm_list_lemmas.specs.Members.{Among, NoRepeat, head}
-use Rattle.mm_list_lemmas.specs.Order.{in_order}
-use Rattle.mm_list_lemmas.proofs.Lemmas.Among.{all_at, all_map, among_map_gives}
-use Rattle.mm_list_lemmas.proofs.Lemmas.Filter as filters
-use Rattle.mm_list_lemmas.proofs.Lemmas.Order.{all_in_order, filter_in_order, greatest_last, length_in_order}
+use Rattle.mm_lists.specs.Members.{Among, NoRepeat, head}
+use Rattle.mm_lists.specs.Order.{in_order}
+use Rattle.mm_lists.proofs.Lemmas.Among.{all_at, all_map, among_map_gives}
+use Rattle.mm_lists.proofs.Lemmas.Filter as filters
+use Rattle.mm_lists.proofs.Lemmas.Order.{all_in_order, filter_in_order, greatest_last, length_in_order}
 use Rattle.mm_rules.specs.TableState.{Wait, is_of}
 use Rattle.mm_transactions.specs.private.Layout.{Arrival, Each, waits_of}
 use Rattle.mm_transactions.proofs.Lemmas.Arrivals.{ArePlaced}

@@ -1,11 +1,11 @@
 -- A queue that is walked from one waiter to the next, by their processes.
 use Rattle.std.proofs.Common.{◌≡◌, ◌≢◌, ℕ, List, [], ◌∷◌, ◌++◌, map, nat_eq, Option, Some, None, option_map, inl, refl, ap, sym, subst, ◌∙◌}
-use Rattle.mm_list_lemmas.specs.Members.{Among, NoRepeat}
-use Rattle.mm_list_lemmas.specs.Walk.{first_number, rest_from}
-use Rattle.mm_list_lemmas.proofs.Lemmas.Among.{among_right}
-use Rattle.mm_list_lemmas.proofs.Lemmas.Filter.{filter_gives}
-use Rattle.mm_list_lemmas.proofs.Lemmas.NoRepeat.{no_repeat_filter, found_by_number}
-use Rattle.mm_list_lemmas.proofs.Lemmas.Walk.{rest_from-part}
+use Rattle.mm_lists.specs.Members.{Among, NoRepeat}
+use Rattle.mm_lists.specs.Walk.{first_number, rest_from}
+use Rattle.mm_lists.proofs.Lemmas.Among.{among_right}
+use Rattle.mm_lists.proofs.Lemmas.Filter.{filter_gives}
+use Rattle.mm_lists.proofs.Lemmas.NoRepeat.{no_repeat_filter, found_by_number}
+use Rattle.mm_lists.proofs.Lemmas.Walk.{rest_from-part}
 use Rattle.mm_rules.specs.TableState.{Wait, waited_for}
 use Rattle.mm_transactions.specs.Transactions.{queue_of, first_key}
 use Rattle.mm_transactions.specs.private.Walk.{IsNextWaiter, process, left_from, IsAt, StandsAt, processes_from}

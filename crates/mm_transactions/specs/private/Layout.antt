@@ -4,7 +4,7 @@ use Rattle.std.specs.Option.{option_map, option_map_or}
 use Rattle.std.specs.List.{filter_map}
 use Rattle.mm_arena.specs.declared.key.Key.{Key}
 use Rattle.mm_arena.specs.Slots.{Slots, Place}
-use Rattle.mm_list_lemmas.specs.Order.{in_order}
+use Rattle.mm_lists.specs.Order.{in_order}
 use Rattle.mm_queue.specs.Queues.{Queues, queue}
 use Rattle.mm_rules.specs.TableState.{Wait}
 use Rattle.mm_transactions.specs.declared.transaction.Entry.{Entry}

@@ -1,8 +1,8 @@
 -- How far a walk through a queue has come.
 use Rattle.std.specs.Prelude.{◌≡◌, ℕ, List, ◌∷◌, ◌++◌, map, Option}
 use Rattle.std.specs.Option.{option_map}
-use Rattle.mm_list_lemmas.specs.Members.{NoRepeat}
-use Rattle.mm_list_lemmas.specs.Walk.{first_number, rest_from}
+use Rattle.mm_lists.specs.Members.{NoRepeat}
+use Rattle.mm_lists.specs.Walk.{first_number, rest_from}
 use Rattle.mm_rules.specs.TableState.{Wait}
 use Rattle.mm_transactions.specs.Transactions.{queue_of, first_key}
 

@@ -6,7 +6,7 @@ ghost use Rattle.mm_workload.specs.Work.{IsShort};
 ghost use Rattle.mm_workload.specs.Json.{clients_in, steps_of, step_of, step_by};
 ghost use Rattle.mm_workload.specs.declared.fault.WorkFault.TheVariants.{Memory};
 
-use crate::fault::{Place, StepFault, WorkFault};
+use crate::fault::{FaultPlace, StepFault, WorkFault};
 use crate::limits::{MAX_CLIENTS, MAX_STEPS};
 use crate::step::WorkStep;
 use serde_json::Value;
@@ -20,13 +20,13 @@ pub(crate) fn clients(alloc: Global, value: &Value) -> Result<Vec<Vec<WorkStep>>
     ensures short { IfOk result (λ v. All IsShort (map (λ c. c.items) v.items)) }
 {
     let Some(found) = value.get("clients") else {
-        return Err(WorkFault::Malformed(Place::Missing("clients")));
+        return Err(WorkFault::Malformed(FaultPlace::Missing("clients")));
     };
     let Some(items) = found.as_array() else {
-        return Err(WorkFault::Malformed(Place::Clients));
+        return Err(WorkFault::Malformed(FaultPlace::Clients));
     };
     if items.is_empty() || items.len() > MAX_CLIENTS {
-        return Err(WorkFault::Malformed(Place::Clients));
+        return Err(WorkFault::Malformed(FaultPlace::Clients));
     }
     let mut made = Vec::new(alloc);
     'clients: for (index, item) in items.iter().enumerate() {
@@ -42,10 +42,10 @@ fn steps(alloc: Global, value: &Value, client: usize) -> Result<Vec<WorkStep>, W
     ensures short { IfOk result (λ v. IsShort v.items) }
 {
     let Some(items) = value.as_array() else {
-        return Err(WorkFault::Malformed(Place::Client(client)));
+        return Err(WorkFault::Malformed(FaultPlace::Client(client)));
     };
     if items.len() > MAX_STEPS {
-        return Err(WorkFault::Malformed(Place::Client(client)));
+        return Err(WorkFault::Malformed(FaultPlace::Client(client)));
     }
     let mut made = Vec::new(alloc);
     'steps: for (index, item) in items.iter().enumerate() {
@@ -53,7 +53,7 @@ fn steps(alloc: Global, value: &Value, client: usize) -> Result<Vec<WorkStep>, W
             Ok(step) => made.push(step)?,
             Err(fault) => {
                 let step = index + 1;
-                return Err(WorkFault::Malformed(Place::Step {
+                return Err(WorkFault::Malformed(FaultPlace::Step {
                     client,
                     step,
                     fault,

@@ -1,14 +1,12 @@
-ghost use Rattle.std.specs.Prelude.{◌≡◌, ◌<◌, ◌≤◌, ◌^◌};
-ghost use Rattle.mm_label.specs.Label.{opening_label};
-ghost use Rattle.mm_board.specs.Views.{processes_of, current_label};
+ghost use Rattle.std.specs.Prelude.{◌≡◌};
+ghost use Rattle.mm_board.specs.Views.{processes_of};
 
 use crate::tests::same::same;
-use mm_board::{Board, Name, Publisher, RawBoard, Reader, Waiter};
-use mm_label::{COUNTER_RANGE, Label};
+use mm_board::{Board, Name, RawBoard, Reader, Waiter};
+use mm_label::COUNTER_RANGE;
 use std::marker::Brand;
 use std::process::Abort;
 use std::test::Fail;
-use std::thread::{Threads, join};
 use test_support::label;
 
 // The example of README.md.
@@ -126,61 +124,4 @@ fn let_six_wait<N: Name, R: Abort>(rt: &R, raw: RawBoard)
 /// This process waits for process 0.
 fn waits(process: u32) -> Option<Waiter> {
     Some(Waiter { process, holder: 0 })
-}
-
-const TURNS: u32 = 100_000;
-
-// One thread stores rising labels of a process while another one loads them. What each load gives is proved: no label is below the one
-// before. The test shows that the program that was built does it.
-#[test]
-fn no_label_falls(rt: HostRuntime) -> Result<(), Fail> {
-    let raw = RawBoard::new(rt.alloc(), 2)?;
-    let (none_fell, last) = store_beside_a_reader::<Brand, _>(&rt, raw);
-    assert!(rt; none_fell);
-    same(&rt, last, label(u64::from(TURNS), 0));
-    Ok(())
-}
-
-/// Whether no label fell, and which one stands there at the end.
-fn store_beside_a_reader<N: Name + Send + Sync, R: Threads + Sync>(
-    rt: &R,
-    raw: RawBoard,
-) -> (bool, Label)
-    requires named { raw ≡ N.board }
-    requires processes { processes_of raw ≡ 2 }
-{
-    let (board, publisher, mut reader) = raw.open::<N>();
-    let other = reader.split(&board);
-    let shared = &board;
-    let ((), none_fell) = join(
-        rt,
-        || store_rising(shared, publisher),
-        || none_falls(shared, other),
-    );
-    (none_fell, reader.read_label(&board, 0))
-}
-
-/// Stores so many labels of process 0 as there are turns, each above the one before.
-fn store_rising<N: Name>(board: &Board<N>, mut publisher: Publisher<N>)
-    requires process { 0 < board.now }
-    requires opening { current_label publisher 0 ≡ opening_label 0 }
-{
-    for turn in 0..TURNS {
-        publisher.store_label(board, 0, label(u64::from(turn) + 1, 0));
-    }
-}
-
-/// Loads the label of process 0 in each turn, and returns whether none was below the one before.
-fn none_falls<N: Name>(board: &Board<N>, mut reader: Reader<N>) -> bool
-    requires { 0 < board.now }
-{
-    let mut last = reader.read_label(board, 0);
-    for _ in 0..TURNS {
-        let label = reader.read_label(board, 0);
-        if label < last {
-            return false;
-        }
-        last = label;
-    }
-    true
 }

@@ -1,8 +1,7 @@
 //! A table that threads share. `on_a_table` opens one for each piece of work, under names of its own, lends it, and closes it: so the
-//! tests here own no table, but for those of `close`.
+//! tests here own no table.
 ghost use Rattle.std.specs.Prelude.{◌≡◌};
 
-mod close;
 mod look;
 mod wakes;
 
@@ -53,31 +52,24 @@ impl Work {
     }
 }
 
-/// Ends the test unless the table is not closed for want of a pass, and gives both back.
+/// Ends the test unless the table is not closed for want of a pass, with this text, and gives both back.
 fn refused_close<N: Name, A: Ledger, V: Ledger, B: Ledger>(
     rt: &impl Abort,
+    alloc: Global,
     table: SharedTable<N, A, V, B>,
     pass: Pass<N, A, V, B>,
 ) -> CloseRefused<N, A, V, B> {
     let refused = table.close(pass).err().expect(rt, "a pass is missing");
     same(rt, refused.refusal, Refusal::SharesMissing);
-    same(rt, refused.refusal.number(), 12);
+    let text = format!(in alloc; "{refused}").expect(rt, "memory");
+    same(rt, text.as_str(), "the pass does not have all parts");
     refused
-}
-
-/// Ends the test unless the table is closed with this report.
-fn closes_with<N: Name, A: Ledger, V: Ledger, B: Ledger>(
-    rt: &impl Abort,
-    table: SharedTable<N, A, V, B>,
-    pass: Pass<N, A, V, B>,
-    report: Option<Report>,
-) {
-    same(rt, table.close(pass).ok(), report);
 }
 
 /// Ends the test unless the table is not closed with one pass alone, and is closed with this report once the other is joined to it.
 fn closes_with_both<N: Name, A: Ledger, V: Ledger, B: Ledger>(
     rt: &impl Abort,
+    alloc: Global,
     table: SharedTable<N, A, V, B>,
     pass: Pass<N, A, V, B>,
     other: Pass<N, A, V, B>,
@@ -87,9 +79,9 @@ fn closes_with_both<N: Name, A: Ledger, V: Ledger, B: Ledger>(
         refusal: _,
         table,
         mut pass,
-    } = refused_close(rt, table, pass);
+    } = refused_close(rt, alloc, table, pass);
     pass.join(&table, other);
-    closes_with(rt, table, pass, report);
+    same(rt, table.close(pass).ok(), report);
 }
 
 /// Opens the table, does the work with two passes, and closes it.
@@ -107,7 +99,7 @@ fn on_named<N: Name, A: Ledger, V: Ledger, B: Ledger, R: Wait + Abort>(
     let (table, mut pass) = prepared.open::<N, A, V, B>();
     let mut other = pass.split(&table, PARTS);
     let done = work.done(rt, alloc, &table, &mut pass, &mut other);
-    closes_with_both(rt, table, pass, other, done.ok());
+    closes_with_both(rt, alloc, table, pass, other, done.ok());
     done.map(|_| ())
 }
 

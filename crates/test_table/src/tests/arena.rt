@@ -1,30 +1,15 @@
-ghost use Rattle.std.specs.Prelude.{◌≡◌, ◌≢◌, ◌≤◌, ◌+◌, Some, IfOk, OnOk};
-ghost use Rattle.mm_arena.specs.Slots.{lookup, live_count};
+ghost use Rattle.std.specs.Prelude.{◌≤◌};
 
 use crate::tests::same::{holds, same};
 use mm_arena::{Arena, Key, MAX_CAPACITY, Memory};
 use std::alloc::Global;
 use std::process::Abort;
 
-// What a caller knows of two inserts.
-fn store_pair(arena: &mut Arena<u64>, a: u64, b: u64) -> Result<(Key, Key), u64>
-    ensures differ { IfOk result (λ keys. keys.0 ≢ keys.1) }
-    ensures first { IfOk result (λ keys. lookup arena.new keys.0 ≡ Some a) }
-    ensures second { IfOk result (λ keys. lookup arena.new keys.1 ≡ Some b) }
-    ensures count { OnOk result (live_count arena.new ≡ live_count arena.old + 2) }
-{
-    let first = arena.insert(a)?;
-    let second = arena.insert(b)?;
-    Ok((first, second))
-}
-
 /// A call on an arena, and its answer.
 #[derive(Clone, Copy)]
 enum Step {
     /// An insert that gives this key.
     Inserts(u64, Key),
-    /// Two inserts that give these keys.
-    InsertsTwo(u64, u64, Key, Key),
     /// An insert into a full arena, which gives the value back.
     IsFull(u64),
     Removes(Key, Option<u64>),
@@ -32,23 +17,11 @@ enum Step {
     HasNoKey(u32),
 }
 
-/// Ends the test unless two inserts give these keys.
-fn inserts_two(rt: &impl Abort, arena: &mut Arena<u64>, values: (u64, u64), keys: (Key, Key)) {
-    let (first, second) = store_pair(arena, values.0, values.1)
-        .ok()
-        .expect(rt, "room");
-    same(rt, Some(first), Some(keys.0));
-    same(rt, Some(second), Some(keys.1));
-}
-
 /// Makes the calls one after the other, and ends the test at the first with another answer.
 fn make(rt: &impl Abort, arena: &mut Arena<u64>, steps: &[Step]) {
     for step in steps {
         match *step {
             Step::Inserts(value, key) => same(rt, arena.insert(value).ok(), Some(key)),
-            Step::InsertsTwo(a, b, first, second) => {
-                inserts_two(rt, arena, (a, b), (first, second));
-            }
             Step::IsFull(value) => same(rt, arena.insert(value).err(), Some(value)),
             Step::Removes(key, value) => same(rt, arena.remove(key), value),
             Step::Has(key, value) => same(rt, arena.get(key).copied(), value),
@@ -83,12 +56,14 @@ fn gives_each_generation_once(rt: HostRuntime) {
     on_an_arena(&rt, rt.alloc(), 1, 2, &ONE_PROCESS);
 }
 
-static THREE_PROCESSES: [Step; 7] = [
-    Step::InsertsTwo(10, 11, key!(0, 1), key!(1, 1)),
+static THREE_PROCESSES: [Step; 9] = [
+    Step::Inserts(10, key!(0, 1)),
+    Step::Inserts(11, key!(1, 1)),
     Step::Removes(key!(0, 1), Some(10)),
     Step::Removes(key!(0, 1), None),
     Step::Removes(key!(1, 1), Some(11)),
-    Step::InsertsTwo(12, 13, key!(1, 2), key!(0, 2)),
+    Step::Inserts(12, key!(1, 2)),
+    Step::Inserts(13, key!(0, 2)),
     Step::Inserts(14, key!(2, 1)),
     Step::Removes(key!(3, 1), None),
 ];
@@ -133,53 +108,6 @@ fn fill_twice(rt: &impl Abort, arena: &mut Arena<u64>) {
 fn fills_the_largest_capacity_twice(rt: HostRuntime) {
     let mut arena = Arena::<u64>::new(rt.alloc(), MAX_CAPACITY, u32::MAX).expect(&rt, "memory");
     fill_twice(&rt, &mut arena);
-}
-
-/// Writes at the end of a text.
-fn add_mark(rt: &impl Abort, arena: &mut Arena<String>, key: Key) {
-    let text = arena.get_mut(key).expect(rt, "a text");
-    text.push('!').expect(rt, "memory");
-}
-
-/// Ends the test unless the arena has this text under the key.
-fn has_text(rt: &impl Abort, arena: &Arena<String>, key: Key, text: &str) {
-    holds(rt, "it is live", arena.contains(key));
-    holds(
-        rt,
-        text,
-        arena.get(key).expect(rt, "a text").as_str() == text,
-    );
-}
-
-/// Takes a text out. Ends the test unless it is this one.
-fn removes_text(rt: &impl Abort, arena: &mut Arena<String>, key: Key, text: &str) {
-    let removed = arena.remove(key).expect(rt, "a text");
-    holds(rt, text, removed.as_str() == text);
-    drop(removed);
-    holds(rt, "it is removed", arena.get_mut(key).is_none());
-}
-
-/// Inserts a text.
-fn insert_text(rt: &impl Abort, alloc: Global, arena: &mut Arena<String>, text: &str) -> Key {
-    let text = format!(in alloc; "{text}").expect(rt, "memory");
-    arena.insert(text).ok().expect(rt, "room")
-}
-
-/// Inserts a text, and writes at its end. A second text is left in the arena.
-fn keep_two_texts(rt: &impl Abort, alloc: Global, arena: &mut Arena<String>) {
-    let first = insert_text(rt, alloc, arena, "hello");
-    add_mark(rt, arena, first);
-    has_text(rt, arena, first, "hello!");
-    insert_text(rt, alloc, arena, "kept");
-    holds(rt, "two are live", arena.live() == 2);
-    removes_text(rt, arena, first, "hello!");
-}
-
-// The values are not `Copy`, and those left are dropped with the arena.
-#[test]
-fn keeps_texts(rt: HostRuntime) {
-    let mut arena = Arena::<String>::new(rt.alloc(), 2, 1).expect(&rt, "memory");
-    keep_two_texts(&rt, rt.alloc(), &mut arena);
 }
 
 /// The error of memory, a key, and two keys with a space between them are printed so.

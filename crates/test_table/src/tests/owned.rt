@@ -1,6 +1,5 @@
-ghost use Rattle.std.specs.Prelude.{◌≡◌, ◌<◌, ◌↔◌, length, IsTrue};
-ghost use Rattle.mm_list_lemmas.specs.Members.{Among};
-ghost use Rattle.mm_owned.specs.Owned.{list_at, unowned};
+ghost use Rattle.std.specs.Prelude.{◌≡◌};
+ghost use Rattle.mm_owned.specs.Owned.{unowned};
 
 use crate::tests::same::same;
 use mm_arena::Key;
@@ -17,21 +16,6 @@ const LATER: Key = Key {
     process: 0,
     generation: 2,
 };
-
-// A walk through a list.
-fn is_in_list(owned: &Owned, process: u32, resource: u32) -> bool
-    requires { process < length owned.now.lists }
-    ensures { IsTrue result ↔ Among resource (list_at owned.now process) }
-{
-    let mut next = owned.first(process);
-    while let Some(other) = next {
-        if other == resource {
-            return true;
-        }
-        next = owned.next(other);
-    }
-    false
-}
 
 #[test]
 fn keeps_each_list_in_order(rt: HostRuntime) -> Result<(), Fail> {
@@ -51,10 +35,8 @@ fn keep_two_lists(rt: &impl Abort, owned: &mut Owned)
     same(rt, owned.next(1), Some(2));
     same(rt, owned.next(2), Some(0));
     same(rt, owned.next(0), None);
-    same(rt, is_in_list(owned, 1, 0), true);
     same(rt, owned.owner(2), Some(EARLIER));
     owned.remove(2);
-    same(rt, is_in_list(owned, 1, 2), false);
     same(rt, owned.owner(2), None);
     same(rt, owned.next(1), Some(0));
     same(rt, owned.next(2), None);

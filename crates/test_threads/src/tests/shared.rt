@@ -4,8 +4,8 @@
 //! - `caller`: one thread that makes calls of a table.
 //! - `team`: threads that are at work at once, each with a part of a pass.
 //! - `lockers`: threads that acquire two resources in each transaction.
-//! - `threads`, `old_key`, `deadlocks`, `labels`, `exhausted`, `retired`, `peeks`: the tests, one each.
-ghost use Rattle.std.specs.Prelude.{◌≡◌, ◌<◌};
+//! - `old_key`, `deadlocks`, `labels`, `exhausted`, `retired`: the tests, one each.
+ghost use Rattle.std.specs.Prelude.{◌≡◌};
 
 mod caller;
 mod deadlocks;
@@ -13,10 +13,8 @@ mod exhausted;
 mod labels;
 mod lockers;
 mod old_key;
-mod peeks;
 mod retired;
 mod team;
-mod threads;
 
 use crate::tests::same::same;
 use caller::{Job, Made};
@@ -29,7 +27,7 @@ use std::sync::Wait;
 use std::sync::ledger::Ledger;
 use std::test::Fail;
 use std::thread::Threads;
-use team::{work_all, work_both, work_in_turn};
+use team::{work_all, work_in_turn};
 use test_seats::accepted;
 
 /// How many parts the pass has that is split off at the opening. Work that needs a pass of its own has as many.
@@ -38,13 +36,11 @@ const PARTS: u64 = 1000;
 /// What is done with a table, by two passes that have all its parts together.
 #[derive(Clone, Copy)]
 pub enum Work {
-    TwoThreads,
     KeptKey,
     Deadlocks,
     ReadLabels,
     AllLabels,
     AllSlots,
-    Peeks,
 }
 
 impl Work {
@@ -62,12 +58,9 @@ impl Work {
         table: &SharedTable<N, A, V, B>,
         pass: &mut Pass<N, A, V, B>,
         other: &mut Pass<N, A, V, B>,
-    ) -> Result<Made, AllocError>
-        requires { (1 < pass.old.parts) × (1 < other.old.parts) }
-    {
+    ) -> Result<Made, AllocError> {
         match self {
-            Work::TwoThreads => Ok(work_both(rt, table, pass, other, Job::Transactions)),
-            Work::KeptKey => Ok(work_both(rt, table, pass, other, Job::OldKey)),
+            Work::KeptKey => work_all(rt, alloc, table, pass, old_key::THREADS, Job::OldKey),
             Work::Deadlocks => {
                 work_all(rt, alloc, table, pass, deadlocks::THREADS, Job::Deadlocks)
             }
@@ -80,17 +73,15 @@ impl Work {
                 let jobs = [Job::Slots, Job::AfterSlots];
                 work_in_turn(rt, alloc, table, pass, retired::THREADS, jobs)
             }
-            Work::Peeks => work_all(rt, alloc, table, pass, peeks::THREADS, Job::PeeksBeside),
         }
     }
 
     /// Ends the test unless so much was to be made, and returns what the table is to have counted.
     fn judged(self, rt: &impl Abort, made: Made) -> Report {
         match self {
-            Work::TwoThreads => return accepted(4000),
             Work::KeptKey => return accepted(3),
             Work::Deadlocks => deadlocks::are_broken(rt, made),
-            Work::ReadLabels | Work::Peeks => {}
+            Work::ReadLabels => {}
             Work::AllLabels => exhausted::are_used_up(rt, made),
             Work::AllSlots => return retired::are_given_once(rt, made),
         }

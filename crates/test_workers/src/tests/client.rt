@@ -3,10 +3,11 @@
 
 mod refused;
 mod several;
-mod waits;
 
 use crate::tests::passes::all_pass;
-use crate::tests::script::{Answer, Call, Script};
+use crate::tests::script::{
+    ABORT, Answer, BEGIN, CLEAR, Call, DEADLOCK, FINISH, LEAVE, Line, Script, TRANSMIT, WAITS,
+};
 use crate::tests::scripted::{ScriptedGate, ScriptedSteps};
 use mm_shared::Refusal;
 use mm_workers::{Client, End};
@@ -14,12 +15,12 @@ use mm_workload::WorkStep;
 use std::alloc::Global;
 
 /// A client's work and turns, the calls that it makes with their answers, and its end.
-pub struct Case {
-    pub name: &'static str,
-    pub work: &'static [WorkStep],
-    pub turns: u64,
-    pub calls: &'static [(Call, Answer)],
-    pub end: End,
+struct Case {
+    name: &'static str,
+    work: &'static [WorkStep],
+    turns: u64,
+    calls: &'static [Line],
+    end: End,
 }
 
 /// Whether a client with this work and so many turns makes just the calls of the script, and ends so.
@@ -45,9 +46,132 @@ pub fn client<'a>(
     )
 }
 
+const TWO: [WorkStep; 2] = [WorkStep::Acquire(0), WorkStep::Acquire(1)];
+
+const MEETS: [WorkStep; 3] = [
+    WorkStep::Acquire(3),
+    WorkStep::Release(3),
+    WorkStep::Meet(2),
+];
+
+const FULL: Line = (Call::Begin, Answer::Refused(Refusal::Full));
+
+const GRANTED: Line = (Call::Acquire(1), Answer::Done);
+
+const TAKES: Line = (Call::Acquire(3), Answer::Done);
+
+const FREES: Line = (Call::Release(3), Answer::Done);
+
+const ARRIVES: Line = (Call::Arrive, Answer::Done);
+
+const MAY_NOT: Line = (Call::MayPass(2), Answer::Done);
+
+const PASSES: Line = (Call::MayPass(2), Answer::Passes);
+
+const STANDING: Line = (Call::Detect, Answer::Standing);
+
+const IS_GRANTED: Line = (Call::Transmit, Answer::Refused(Refusal::NotWaiting));
+
+const IS_GRANTED_LATER: Line = (Call::Detect, Answer::Refused(Refusal::NotWaiting));
+
+/// A turn for the begin, one for each asking at the gate, and one for each round of waiting, a transmit and a detect. A begin that finds no free
+/// slot is tried again, a turn each. A verdict, new or standing, leads to an abort, and what is left of the work is not done. Where a client waits
+/// no longer, the resource is its own, and it goes on with its next step. Where its turns are used up, it makes no further call of the table.
+static CASES: [Case; 11] = [
+    Case {
+        name: "it goes on to its end, past a meeting",
+        work: &MEETS,
+        turns: 3,
+        calls: &[BEGIN, TAKES, FREES, ARRIVES, MAY_NOT, PASSES, FINISH, LEAVE],
+        end: End::Finished,
+    },
+    Case {
+        name: "without a turn for the second asking",
+        work: &MEETS,
+        turns: 2,
+        calls: &[BEGIN, TAKES, FREES, ARRIVES, MAY_NOT, LEAVE],
+        end: End::Spent,
+    },
+    Case {
+        name: "without a turn for the asking",
+        work: &MEETS,
+        turns: 1,
+        calls: &[BEGIN, TAKES, FREES, ARRIVES, LEAVE],
+        end: End::Spent,
+    },
+    Case {
+        name: "without a step, it begins at the third try",
+        work: &[],
+        turns: 3,
+        calls: &[FULL, FULL, BEGIN, FINISH, LEAVE],
+        end: End::Finished,
+    },
+    Case {
+        name: "of two tries to begin at neither",
+        work: &[],
+        turns: 2,
+        calls: &[FULL, FULL, LEAVE],
+        end: End::Spent,
+    },
+    Case {
+        name: "a verdict, new in the second round",
+        work: &TWO,
+        turns: 3,
+        calls: &[
+            BEGIN, WAITS, TRANSMIT, CLEAR, TRANSMIT, DEADLOCK, ABORT, LEAVE,
+        ],
+        end: End::Aborted,
+    },
+    Case {
+        name: "a verdict that stands",
+        work: &TWO,
+        turns: 2,
+        calls: &[BEGIN, WAITS, TRANSMIT, STANDING, ABORT, LEAVE],
+        end: End::Aborted,
+    },
+    Case {
+        name: "the resource is its own, by its first transmit",
+        work: &TWO,
+        turns: 2,
+        calls: &[BEGIN, WAITS, IS_GRANTED, GRANTED, FINISH, LEAVE],
+        end: End::Finished,
+    },
+    Case {
+        name: "the resource is its own, by its second detect",
+        work: &TWO,
+        turns: 3,
+        calls: &[
+            BEGIN,
+            WAITS,
+            TRANSMIT,
+            CLEAR,
+            TRANSMIT,
+            IS_GRANTED_LATER,
+            GRANTED,
+            FINISH,
+            LEAVE,
+        ],
+        end: End::Finished,
+    },
+    Case {
+        name: "it waits until it is spent, by its begin",
+        work: &TWO,
+        turns: 1,
+        calls: &[BEGIN, WAITS, LEAVE],
+        end: End::Spent,
+    },
+    Case {
+        name: "it waits until it is spent, by its first round",
+        work: &TWO,
+        turns: 2,
+        calls: &[BEGIN, WAITS, TRANSMIT, CLEAR, LEAVE],
+        end: End::Spent,
+    },
+];
+
 /// The first case in which a client makes other calls, or ends otherwise.
-pub fn wrong_case(alloc: Global, cases: &[Case]) -> Option<&'static str> {
-    for case in cases {
+fn wrong_case(alloc: Global) -> Option<&'static str> {
+    for case in &CASES {
         let script = Script::new(case.calls, &[]);
         if !runs_so(alloc, &script, case.work, case.turns, case.end) {
             return Some(case.name);
@@ -56,98 +180,7 @@ pub fn wrong_case(alloc: Global, cases: &[Case]) -> Option<&'static str> {
     None
 }
 
-const MEETS: [WorkStep; 3] = [
-    WorkStep::Acquire(3),
-    WorkStep::Release(3),
-    WorkStep::Meet(2),
-];
-
-const FULL: (Call, Answer) = (Call::Begin, Answer::Refused(Refusal::Full));
-
-/// A turn for the begin, and one for each asking at the gate. A begin that finds no free slot is tried again, a turn each.
-static CASES: [Case; 7] = [
-    Case {
-        name: "a_client_goes_on_to_its_end, past a meeting",
-        work: &MEETS,
-        turns: 3,
-        calls: &[
-            (Call::Begin, Answer::Done),
-            (Call::Acquire(3), Answer::Done),
-            (Call::Release(3), Answer::Done),
-            (Call::Arrive, Answer::Done),
-            (Call::MayPass(2), Answer::Done),
-            (Call::MayPass(2), Answer::Passes),
-            (Call::Finish, Answer::Done),
-            (Call::Leave, Answer::Done),
-        ],
-        end: End::Finished,
-    },
-    Case {
-        name: "a_client_goes_on_to_its_end, without a turn for the second asking",
-        work: &MEETS,
-        turns: 2,
-        calls: &[
-            (Call::Begin, Answer::Done),
-            (Call::Acquire(3), Answer::Done),
-            (Call::Release(3), Answer::Done),
-            (Call::Arrive, Answer::Done),
-            (Call::MayPass(2), Answer::Done),
-            (Call::Leave, Answer::Done),
-        ],
-        end: End::Spent,
-    },
-    Case {
-        name: "a_client_goes_on_to_its_end, without a turn for the asking",
-        work: &[WorkStep::Meet(1)],
-        turns: 1,
-        calls: &[
-            (Call::Begin, Answer::Done),
-            (Call::Arrive, Answer::Done),
-            (Call::Leave, Answer::Done),
-        ],
-        end: End::Spent,
-    },
-    Case {
-        name: "a_client_goes_on_to_its_end, without a step",
-        work: &[],
-        turns: 1,
-        calls: &[
-            (Call::Begin, Answer::Done),
-            (Call::Finish, Answer::Done),
-            (Call::Leave, Answer::Done),
-        ],
-        end: End::Finished,
-    },
-    Case {
-        name: "a_client_begins_where_a_slot_is_free, at the third try",
-        work: &[],
-        turns: 3,
-        calls: &[
-            FULL,
-            FULL,
-            (Call::Begin, Answer::Done),
-            (Call::Finish, Answer::Done),
-            (Call::Leave, Answer::Done),
-        ],
-        end: End::Finished,
-    },
-    Case {
-        name: "a_client_begins_where_a_slot_is_free, of two tries at neither",
-        work: &[],
-        turns: 2,
-        calls: &[FULL, FULL, (Call::Leave, Answer::Done)],
-        end: End::Spent,
-    },
-    Case {
-        name: "a_client_begins_where_a_slot_is_free, without a turn",
-        work: &[],
-        turns: 0,
-        calls: &[(Call::Leave, Answer::Done)],
-        end: End::Spent,
-    },
-];
-
 #[test]
-fn a_client_begins_and_goes_on_to_its_end(rt: HostRuntime) {
-    all_pass(&rt, wrong_case(rt.alloc(), &CASES));
+fn a_client_goes_on_waits_and_ends(rt: HostRuntime) {
+    all_pass(&rt, wrong_case(rt.alloc()));
 }

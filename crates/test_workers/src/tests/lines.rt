@@ -1,7 +1,7 @@
 //! The two lines that say what came of a workload, with six different numbers.
 
 use crate::tests::passes::all_pass;
-use mm_workers::{Earlier, End, Outcome, Report};
+use mm_workers::{EarlierEnds, End, Outcome, Report};
 use std::alloc::Global;
 use std::test::Fail;
 
@@ -19,15 +19,15 @@ static ENDS: [End; 10] = [
 ];
 
 /// How earlier transactions ended, and the lines of these and of `ENDS`.
-static CASES: [(&str, Earlier, &str); 2] = [
+static CASES: [(&str, EarlierEnds, &str); 2] = [
     (
         "an_outcome_is_two_lines",
-        Earlier::NONE,
+        EarlierEnds::NONE,
         "clients finished 1 aborted 2 spent 3 refused 4\ntable verdicts 6 aborts 5",
     ),
     (
         "the_lines_count_earlier_ends_too",
-        Earlier {
+        EarlierEnds {
             finished: 40,
             aborted: u32::MAX,
         },
@@ -47,7 +47,7 @@ fn is_lines(alloc: Global, outcome: &Outcome, lines: &str) -> bool {
 fn wrong_lines(alloc: Global, ends: Vec<End>) -> Option<&'static str> {
     let mut outcome = Outcome {
         ends,
-        earlier: Earlier::NONE,
+        earlier: EarlierEnds::NONE,
         report: Report {
             accepted: 7,
             verdicts: 6,

@@ -32,18 +32,37 @@ pub enum Answer {
     Refused(Refusal),
 }
 
+/// A call with its answer.
+pub type Line = (Call, Answer);
+
+pub const BEGIN: Line = (Call::Begin, Answer::Done);
+
+pub const WAITS: Line = (Call::Acquire(0), Answer::Waits);
+
+pub const TRANSMIT: Line = (Call::Transmit, Answer::Done);
+
+pub const CLEAR: Line = (Call::Detect, Answer::Done);
+
+pub const DEADLOCK: Line = (Call::Detect, Answer::Deadlock);
+
+pub const FINISH: Line = (Call::Finish, Answer::Done);
+
+pub const ABORT: Line = (Call::Abort, Answer::Done);
+
+pub const LEAVE: Line = (Call::Leave, Answer::Done);
+
 /// The script, and how far it is. The lines of `rest` follow those of `front`.
 #[derive(Drop)]
 pub struct Script<'a> {
-    front: &'a [(Call, Answer)],
-    rest: &'a [(Call, Answer)],
+    front: &'a [Line],
+    rest: &'a [Line],
     place: Cell<usize>,
     /// Whether another call came than was expected.
     is_wrong: Cell<bool>,
 }
 
 impl<'a> Script<'a> {
-    pub fn new(front: &'a [(Call, Answer)], rest: &'a [(Call, Answer)]) -> Script<'a> {
+    pub fn new(front: &'a [Line], rest: &'a [Line]) -> Script<'a> {
         Script {
             front,
             rest,
@@ -53,7 +72,7 @@ impl<'a> Script<'a> {
     }
 
     /// The line at this place.
-    fn line(&self, place: usize) -> Option<&(Call, Answer)> {
+    fn line(&self, place: usize) -> Option<&Line> {
         match self.front.get(place) {
             Some(line) => Some(line),
             None => self.rest.get(place.saturating_sub(self.front.len())),

@@ -1,5 +1,5 @@
 use Rattle.std.proofs.Common.{length, subst, sym, ap, ◌∙◌, arith}
-use Rattle.mm_list_lemmas.specs.Members.{Among}
+use Rattle.mm_lists.specs.Members.{Among}
 use Rattle.example_calls.specs.Wake.{active_keys}
 use Rattle.example_calls.proofs.Woken.{changed_fit, all_woken}
 use Rattle.example_calls.proofs.wake.abort_and_wake.Goals as goal

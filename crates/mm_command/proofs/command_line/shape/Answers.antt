@@ -13,26 +13,26 @@ never r n some none =
 same : (r : Option ℕ) (n m : ℕ) → r ≡ Some n → r ≡ Some m → n ≡ m
 same r n m first second = cc
 
-pub returns-in_default-clause-some : goal.returns-in_default-clause-some
-returns-in_default-clause-some c = λ has.
+pub returns-in_default : goal.returns-in_default
+returns-in_default c = λ has.
     let transactions = one_read _ (λ bs r. ParsesUnsigned 32 10 bs r × ExplainsUnsignedError 10 bs r × HasUnsignedDigitsIfOk bs r) 32 1 1000000 (found_of c.args.own.now) (codes "transactions")
     c.get_one-3.result c.get_one-3.ensures.value (λ u x g. g.0) (omega arith) has.2 in
     absurd (never _ _ transactions.1 c.in_default.is-2)
 
-pub returns-in_default-2-clause-some : goal.returns-in_default-2-clause-some
-returns-in_default-2-clause-some c = λ has.
+pub returns-in_default-2 : goal.returns-in_default-2
+returns-in_default-2 c = λ has.
     let acquires = one_read _ (λ bs r. ParsesUnsigned 32 10 bs r × ExplainsUnsignedError 10 bs r × HasUnsignedDigitsIfOk bs r) 32 1 256 (found_of c.args.own.now) (codes "acquires")
     c.get_one-2.result c.get_one-2.ensures.value (λ u x g. g.0) (omega arith) has.1 in
     absurd (never _ _ acquires.1 c.in_default.is-1)
 
-pub returns-in_default-3-clause-some : goal.returns-in_default-3-clause-some
-returns-in_default-3-clause-some c = λ has.
+pub returns-in_default-3 : goal.returns-in_default-3
+returns-in_default-3 c = λ has.
     let resources = one_read _ (λ bs r. ParsesUnsigned 32 10 bs r × ExplainsUnsignedError 10 bs r × HasUnsignedDigitsIfOk bs r) 32 1 65536 (found_of c.args.own.now) (codes "resources")
     c.get_one.result c.get_one.ensures.value (λ u x g. g.0) (omega arith) has.0 in
     absurd (never _ _ resources.1 c.in_default.is-0)
 
-pub returns-then-not-are_shape-clause-some : goal.returns-then-not-are_shape-clause-some
-returns-then-not-are_shape-clause-some c = λ has.
+pub returns-then-not-are_shape : goal.returns-then-not-are_shape
+returns-then-not-are_shape c = λ has.
     let resources = one_read _ (λ bs r. ParsesUnsigned 32 10 bs r × ExplainsUnsignedError 10 bs r × HasUnsignedDigitsIfOk bs r) 32 1 65536 (found_of c.args.own.now) (codes "resources")
     c.get_one.result c.get_one.ensures.value (λ u x g. g.0) (omega arith) has.0 in
     let acquires = one_read _ (λ bs r. ParsesUnsigned 32 10 bs r × ExplainsUnsignedError 10 bs r × HasUnsignedDigitsIfOk bs r) 32 1 256 (found_of c.args.own.now) (codes "acquires")

@@ -1,7 +1,7 @@
 use Rattle.std.proofs.Common.{◌-◌, [], ◌∷◌, length, ap, sym, subst, inl, inr, arith, length-append}
 use Rattle.std.proofs.lemmas.Bool.{cases_eq}
-use Rattle.mm_list_lemmas.specs.Members.{Among, NoRepeat}
-use Rattle.mm_list_lemmas.proofs.Lemmas.Among.{among_append, among_left, among_right}
+use Rattle.mm_lists.specs.Members.{Among, NoRepeat}
+use Rattle.mm_lists.proofs.Lemmas.Among.{among_append, among_left, among_right}
 use Rattle.mm_names.proofs.Lemmas.Index.{NoRepeat-push}
 use Rattle.mm_names.proofs.names.all_free.Goals as goal
 
@@ -33,5 +33,4 @@ returns-clause-all c =
     record {
       all = λ n. (λ among. ((so_far.all n).0 among).1, λ below. (so_far.all n).1 (omega arith, below));
       once = so_far.once;
-      count = omega (arith, so_far.count);
     }

@@ -1,12 +1,12 @@
 use Rattle.std.proofs.Common.{ap, sym, subst, ◌∙◌}
-use Rattle.mm_list_lemmas.specs.Members.{Among}
+use Rattle.mm_lists.specs.Members.{Among}
 use Rattle.mm_owned.specs.Owned.{list_at}
 use Rattle.mm_owned.proofs.Lemmas.ListsMatchOwners.{in_range, in_its_list}
 use Rattle.mm_owned.proofs.Lemmas.Walk.{rest_from, rest_from-head, Among-head}
 use Rattle.mm_names.proofs.names.find_at.Goals as goal
 
-pub is_name_of-requires-clause-in_range : goal.is_name_of-requires-clause-in_range
-is_name_of-requires-clause-in_range c =
+pub has_tag-requires : goal.has_tag-requires
+has_tag-requires c =
     let list = list_at c.args.index.now c.args.spot.process in
     in_range c.args.index.now c.first.ensures.matched c.args.spot.process c.in-Some.first (Among-head list c.in-Some.first (sym c.first.ensures.first ∙ c.in-Some.is))
 

@@ -1,10 +1,11 @@
-use Rattle.std.proofs.Common.{length, arith, ap, sym, subst, ◌∙◌, inl, inr, IsTrue, rules}
-use Rattle.mm_list_lemmas.specs.Members.{Among}
+use Rattle.std.proofs.Common.{◌≡◌, Some, option_map, length, arith, ap, sym, subst, ◌∙◌, inl, inr, IsTrue, rules}
+use Rattle.mm_lists.specs.Members.{Among}
 use Rattle.mm_owned.specs.Owned.{list_at}
 use Rattle.mm_owned.proofs.Lemmas.ListsMatchOwners.{in_range, in_its_list}
 use Rattle.mm_owned.proofs.Lemmas.Walk.{rest_from, rest_from-head, Among-head, Among-next, rest_from-next}
 use Rattle.mm_names.specs.Names.{name_of}
 use Rattle.mm_names.proofs.names.find_in_list.Goals as goal
+use Rattle.mm_names.proofs.names.find_in_list.Goals.{else-has_tag-via-then-has_tag+else-has, else-has_tag-via-else-has_tag}
 
 pub list-init : goal.list-init
 list-init c =
@@ -15,8 +16,8 @@ list-init c =
       left = λ n is. subst (Among n) (sym (ap (rest_from list) first ∙ rest_from-head list)) (in_its_list c.args.index.now c.first-next.ensures.matched n c.args.spot (c.requires.at_spot n is));
     }
 
-pub is_name_of-requires-clause-in_range : goal.is_name_of-requires-clause-in_range
-is_name_of-requires-clause-in_range c =
+pub has_tag-requires : goal.has_tag-requires
+has_tag-requires c =
     in_range c.args.index.now c.first-next.ensures.matched c.args.spot.process c.in-Some.number (c.list.invariant.among c.in-Some.number c.in-Some.is)
 
 pub next-next-requires : goal.next-next-requires
@@ -40,7 +41,13 @@ list-preserved c =
     record {
       among = λ q is. Among-next s c.args.spot.process c.in-Some.number c.next-next.result among c.next-next.ensures.listed q is;
       left = λ n is. elim (subst (Among n) here (c.list.invariant.left n is)) [
-        | inl same ↦ (let yes : IsTrue c.is_name_of.result = c.is_name_of.ensures.1 (ap (name_of c.args.places.now) (sym same) ∙ is) in absurd (search (rules, yes, c.if-is_name_of.false)))
+        | inl same ↦
+            let there : name_of c.args.places.now c.in-Some.number ≡ Some c.args.name.now = ap (name_of c.args.places.now) (sym same) ∙ is in
+            let tagged : IsTrue c.has_tag.result = c.has_tag.ensures.1 (ap (option_map (λ spot. spot.generation)) (c.requires.at_spot c.in-Some.number there)) in
+            absurd (elim c.else-has_tag.branch [
+              | else-has_tag-via-then-has_tag+else-has w ↦ (let yes : IsTrue w.has.result = w.has.ensures.1 there in search (rules, yes, w.if-has.false))
+              | else-has_tag-via-else-has_tag w ↦ search (rules, tagged, w.if-has_tag.false)
+            ])
         | inr later ↦ later
       ];
     }

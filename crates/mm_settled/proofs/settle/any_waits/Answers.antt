@@ -2,8 +2,8 @@ use Rattle.std.proofs.Common.{◌≡◌, true, false, None, option_map, slice_in
 use Rattle.std.specs.Prelude.{is_some, option_and_then}
 use Rattle.std.proofs.lemmas.List.{take_all}
 use Rattle.mm_arena.specs.declared.key.Key.{Key}
-use Rattle.mm_list_lemmas.specs.Members.{Among}
-use Rattle.mm_list_lemmas.proofs.Lemmas.Among.{all_from}
+use Rattle.mm_lists.specs.Members.{Among}
+use Rattle.mm_lists.proofs.Lemmas.Among.{all_from}
 use Rattle.mm_rules.specs.TableState.{owner_of, wait_of}
 use Rattle.mm_rules.proofs.States.Lookups.{none_of_is_some}
 use Rattle.mm_settled.proofs.Lemmas.Loops.{all_index, among_more}

@@ -2,7 +2,7 @@ use Rattle.std.proofs.Common.{ℕ, ◌≡◌, ◌+◌, ◌≤◌, List, length, 
 use Rattle.std.proofs.lemmas.List.{length-map}
 use Rattle.std.proofs.lemmas.Result.{IfOk-weaker}
 use Rattle.mm_clients.specs.End.{is_aborted}
-use Rattle.mm_clients.specs.declared.earlier.Earlier.{Earlier}
+use Rattle.mm_clients.specs.declared.earlier.EarlierEnds.{EarlierEnds}
 use Rattle.mm_counts.specs.Shares.{all_parts}
 use Rattle.mm_workers.proofs.run.ends_of.Goals as goal
 
@@ -15,18 +15,18 @@ all_counted before count earlier own mid last p q r s = omega arith
 pub returns : goal.returns
 returns g c =
     let all : (g.S.Steps.shares c.gather_transmitters.new.table).parts ≡ all_parts =
-    all_back (g.S.Steps.shares c.at_work.new.table).parts (vec_len c.in_ok-ended.ended) (vec_len c.in_ok-ended.stopped) (g.S.Steps.shares c.gather_clients-earlier.new.table).parts (g.S.Steps.shares c.gather_transmitters.new.table).parts all_parts
+    all_back (g.S.Steps.shares c.run_workers.new.table).parts (vec_len c.in_ok-ended.ended) (vec_len c.in_ok-ended.stopped) (g.S.Steps.shares c.gather_clients-earlier.new.table).parts (g.S.Steps.shares c.gather_transmitters.new.table).parts all_parts
     c.in_ok-ended.ensures.parts c.gather_clients-earlier.ensures.parts c.gather_transmitters.ensures.parts in
     let counted : (n : ℕ) → n ≡ c.gather_clients-earlier.result.aborted → count_by is_aborted c.gather_clients-earlier.new.ends.items + n ≡ (g.S.Steps.shares c.gather_transmitters.new.table).aborts =
     λ n same.
-    all_counted (g.S.Steps.shares c.at_work.new.table).aborts (count_by is_aborted c.gather_clients-earlier.new.ends.items) c.gather_clients-earlier.result.aborted n
+    all_counted (g.S.Steps.shares c.run_workers.new.table).aborts (count_by is_aborted c.gather_clients-earlier.new.ends.items) c.gather_clients-earlier.result.aborted n
     (g.S.Steps.shares c.gather_clients-earlier.new.table).aborts (g.S.Steps.shares c.gather_transmitters.new.table).aborts
-    c.at_work.ensures.aborts c.gather_clients-earlier.ensures.aborts c.gather_transmitters.ensures.aborts same in
+    c.run_workers.ensures.aborts c.gather_clients-earlier.ensures.aborts c.gather_transmitters.ensures.aborts same in
     record {
-      each = IfOk-weaker c.as_they_can_be.result _ _ (λ own same. rw same.0 (c.gather_clients-earlier.ensures.each ∙ c.in_ok-ended.ensures.each)) c.as_they_can_be.ensures.same;
-      parts = IfOk-weaker c.as_they_can_be.result _ _ (λ own same. all) c.as_they_can_be.ensures.same;
-      aborts = IfOk-weaker c.as_they_can_be.result _ _ (λ own same. rw same.0 (counted own.1.aborted (ap (λ (e : Earlier). e.aborted) same.1))) c.as_they_can_be.ensures.same;
-      alone = c.as_they_can_be.ensures.alone;
+      each = IfOk-weaker c.checked_ends.result _ _ (λ own same. rw same.0 (c.gather_clients-earlier.ensures.each ∙ c.in_ok-ended.ensures.each)) c.checked_ends.ensures.same;
+      parts = IfOk-weaker c.checked_ends.result _ _ (λ own same. all) c.checked_ends.ensures.same;
+      aborts = IfOk-weaker c.checked_ends.result _ _ (λ own same. rw same.0 (counted own.1.aborted (ap (λ (e : EarlierEnds). e.aborted) same.1))) c.checked_ends.ensures.same;
+      alone = c.checked_ends.ensures.alone;
     }
 
 -- ---- what is listed has room, and is of few clients

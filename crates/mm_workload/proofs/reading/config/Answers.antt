@@ -4,14 +4,14 @@ use Rattle.serde_json.specs.Data.{Data}
 use Rattle.serde_json.specs.View.{view}
 use Rattle.mm_rules.specs.declared.config.Config.{Config}
 use Rattle.mm_workload.specs.Json.{SaysConfig}
-use Rattle.mm_workload.specs.declared.fault.Place.{Place}
+use Rattle.mm_workload.specs.declared.fault.FaultPlace.{FaultPlace}
 use Rattle.mm_workload.proofs.reading.config.Goals as goal
 
 never : {X : Type 0} → (o : Option X) (x : X) → o ≡ None → ¬ (o ≡ Some x)
 never o x none some = cc
 
 -- a value that says no table
-says_none : (r : Result Config Place) (place : Place) (d : Data) → r ≡ Err place → ((c : Config) → ¬ SaysConfig d c) →
+says_none : (r : Result Config FaultPlace) (place : FaultPlace) (d : Data) → r ≡ Err place → ((c : Config) → ¬ SaysConfig d c) →
     MatchResult r (λ c. SaysConfig d c) (λ _. (c : Config) → ¬ SaysConfig d c)
 says_none r place d is none = subst (λ r. MatchResult r (λ c. SaysConfig d c) (λ _. (c : Config) → ¬ SaysConfig d c)) (sym is) none
 

@@ -9,14 +9,14 @@ use Rattle.mm_workload.proofs.storms.shaped_storm.Goals as goal
 pub of-requires : goal.of-requires
 of-requires c =
     let is = c.in_ok-clients.ensures in
-    let shape = shape_of c.args.shape.now in
-    let count : length (map (λ k. k.items) c.in_ok-clients.clients.items) ≡ c.args.clients =
-    ap length is ∙ clients-length shape c.args.clients (generator c.args.seed) in
+    let shape = shape_of c.args.options.now.shape in
+    let count : length (map (λ k. k.items) c.in_ok-clients.clients.items) ≡ c.args.options.now.clients =
+    ap length is ∙ clients-length shape c.args.options.now.clients (generator c.args.options.now.seed) in
     record {
-      transmitters = c.requires.transmitters;
+      transmitters = omega arith;
       some_turns = omega arith;
       turns = omega arith;
-      some_clients = omega (arith, count, c.requires.clients.0);
-      clients = omega (arith, count, c.requires.clients.1);
-      steps = subst (All IsShort) (sym is) (clients-are_short shape c.args.clients (generator c.args.seed) (search rules) (search rules));
+      some_clients = omega (arith, count);
+      clients = omega (arith, count);
+      steps = subst (All IsShort) (sym is) (clients-are_short shape c.args.options.now.clients (generator c.args.options.now.seed) (search rules) (search rules));
     }

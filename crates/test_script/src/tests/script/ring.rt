@@ -42,7 +42,7 @@ fn replies_to(lines: usize) -> &'static [u8] {
 
 /// Whether the script is at fault where the read behind so many calls fails, each of which gives so many bytes: the lines whose newline was read
 /// are answered, and nothing is read after it.
-fn read_fails(alloc: Global, piece: usize, calls: u32) -> bool {
+fn read_fails(alloc: Global, piece: usize, calls: u32, kind: ErrorKind) -> bool {
     let script = SCRIPT.as_bytes();
     let read = piece.saturating_mul(calls as usize).min(script.len());
     let (front, rest) = script.split_at(read);
@@ -50,16 +50,17 @@ fn read_fails(alloc: Global, piece: usize, calls: u32) -> bool {
         bytes: script,
         piece,
         calls,
-        kind: ErrorKind::Other,
+        kind,
     };
     let written = replies_to(whole_lines(front));
     read_fails_so(alloc, &mut reader, written, rest.len())
 }
 
-/// The same of each read in turn, up to the one behind the last byte.
+/// The same of each read in turn, up to the one behind the last byte, with two kinds of fault.
 fn reads_fail(alloc: Global, piece: usize) -> bool {
     for calls in 0..1000_u32 {
-        if !read_fails(alloc, piece, calls) {
+        let fails = read_fails(alloc, piece, calls, ErrorKind::Other);
+        if !fails || !read_fails(alloc, piece, calls, ErrorKind::Interrupted) {
             return false;
         }
         if piece.saturating_mul(calls as usize) >= SCRIPT.len() {

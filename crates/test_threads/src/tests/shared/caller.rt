@@ -4,7 +4,7 @@ use crate::tests::same::same;
 use mm_shared::{Key, Refusal, Report, State};
 use std::process::Abort;
 use std::sync::Wait;
-use std::sync::atomic::{AtomicBool, AtomicU64};
+use std::sync::atomic::AtomicBool;
 use test_seats::Calls;
 
 /// What came of the calls of a thread, or of several.
@@ -48,8 +48,6 @@ impl Made {
 /// What a thread does.
 #[derive(Clone, Copy)]
 pub enum Job {
-    /// Begins and finishes transactions, one after the other.
-    Transactions,
     /// Gives a process its second transaction, or calls by the key of the first.
     OldKey,
     /// Makes deadlocks with its partner, and breaks those in which it gets the verdict.
@@ -62,29 +60,6 @@ pub enum Job {
     Slots,
     /// The same, and tries to begin more.
     AfterSlots,
-    /// Waits, and then reads its own label on the board, or looks about meanwhile.
-    PeeksBeside,
-}
-
-/// What threads tell each other.
-#[derive(Drop)]
-pub struct Signals {
-    /// Labels are used up.
-    pub used_up: AtomicBool,
-    /// How often a thread has looked about.
-    pub looks: AtomicU64,
-    /// Nobody needs to look about any more.
-    pub done: AtomicBool,
-}
-
-impl Signals {
-    pub fn new() -> Signals {
-        Signals {
-            used_up: AtomicBool::new(false),
-            looks: AtomicU64::new(0),
-            done: AtomicBool::new(false),
-        }
-    }
 }
 
 /// A thread's number, its calls, and what came of them.
@@ -103,18 +78,15 @@ impl<C: Calls> Caller<C> {
         }
     }
 
-    /// Does the job.
-    pub fn does<R: Wait + Abort>(&mut self, rt: &R, job: Job, signals: &Signals) {
-        let used_up = &signals.used_up;
+    /// Does the job. Threads tell each other when labels are used up.
+    pub fn does<R: Wait + Abort>(&mut self, rt: &R, job: Job, used_up: &AtomicBool) {
         match job {
-            Job::Transactions => self.makes_a_thousand(rt),
             Job::OldKey => self.keeps_a_key(rt),
             Job::Deadlocks => self.meets_its_partner(rt, used_up),
             Job::Labels => self.spends_labels(rt, used_up),
             Job::AfterLabels => self.goes_on(rt),
             Job::Slots => self.uses_slots(rt),
             Job::AfterSlots => self.finds_no_slot(rt),
-            Job::PeeksBeside => self.peeks_beside(rt, signals),
         }
     }
 

@@ -10,6 +10,9 @@ use std::test::Fail;
 use std::thread;
 use test_seats::{Calls, config};
 
+/// How many threads there are.
+pub const THREADS: u32 = 2;
+
 /// How many processes there are.
 const PROCESSES: u32 = 2;
 

@@ -1,13 +1,14 @@
 //! Threads that are at work at one table at once, each with a part of a pass.
 ghost use Rattle.std.specs.Prelude.{◌<◌};
 
-use crate::tests::shared::caller::{Caller, Job, Made, Signals};
+use crate::tests::shared::caller::{Caller, Job, Made};
 use mm_shared::{Name, Pass, SharedTable};
 use std::alloc::{AllocError, Global};
 use std::process::Abort;
 use std::sync::Wait;
+use std::sync::atomic::AtomicBool;
 use std::sync::ledger::Ledger;
-use std::thread::{Threads, join, map_vec};
+use std::thread::{Threads, map_vec};
 use test_seats::Seat;
 
 /// A thread's number and pass, and what came of its calls.
@@ -25,10 +26,10 @@ fn works<N: Name, A: Ledger, V: Ledger, B: Ledger, R: Wait + Abort>(
     number: u32,
     pass: Pass<N, A, V, B>,
     job: Job,
-    signals: &Signals,
+    used_up: &AtomicBool,
 ) -> Member<N, A, V, B> {
     let mut caller = Caller::new(number, Seat::new(rt, table, pass));
-    caller.does(rt, job, signals);
+    caller.does(rt, job, used_up);
     let Caller {
         number,
         calls,
@@ -91,11 +92,11 @@ pub fn work_all<
     job: Job,
 ) -> Result<Made, AllocError> {
     let members = members(alloc, table, pass, threads)?;
-    let signals = &Signals::new();
+    let used_up = &AtomicBool::new(false);
     let ended = map_vec(
         rt,
         members,
-        &|member: Member<N, A, V, B>| works(rt, table, member.number, member.pass, job, signals),
+        &|member: Member<N, A, V, B>| works(rt, table, member.number, member.pass, job, used_up),
     )?;
     Ok(joined(table, pass, ended))
 }
@@ -118,35 +119,4 @@ pub fn work_in_turn<
     let mut made = work_all(rt, alloc, table, pass, threads, jobs[0])?;
     made.add(work_all(rt, alloc, table, pass, 1, jobs[1])?);
     Ok(made)
-}
-
-/// Lets two threads do this job, each with a part of one of the passes, and returns what they made together.
-pub fn work_both<
-    N: Name + Send + Sync,
-    A: Ledger + Send + Sync,
-    V: Ledger + Send + Sync,
-    B: Ledger + Send + Sync,
-    R: Threads + Wait + Abort + Sync,
->(
-    rt: &R,
-    table: &SharedTable<N, A, V, B>,
-    pass: &mut Pass<N, A, V, B>,
-    other: &mut Pass<N, A, V, B>,
-    job: Job,
-) -> Made
-    requires { (1 < pass.old.parts) × (1 < other.old.parts) }
-{
-    let signals = &Signals::new();
-    let mine = pass.split(table, 1);
-    let theirs = other.split(table, 1);
-    let (mine, theirs) = join(
-        rt,
-        || works(rt, table, 0, mine, job, signals),
-        || works(rt, table, 1, theirs, job, signals),
-    );
-    pass.join(table, mine.pass);
-    other.join(table, theirs.pass);
-    let mut made = mine.made;
-    made.add(theirs.made);
-    made
 }

@@ -2,19 +2,20 @@
 
 use super::client;
 use crate::tests::passes::all_pass;
-use crate::tests::script::{Answer, Call, Script};
+use crate::tests::script::{
+    ABORT, Answer, BEGIN, Call, DEADLOCK, FINISH, LEAVE, Line, Script, TRANSMIT, WAITS,
+};
 use mm_shared::Refusal;
-use mm_workers::{ClientEnds, Earlier, End};
-use mm_workload::{StormShape, WorkStep, Workload, shaped_storm};
+use mm_workers::{ClientEnds, EarlierEnds, End};
+use mm_workload::{StormOptions, StormShape, WorkStep, Workload, shaped_storm};
 use std::alloc::Global;
-use std::process::Abort;
 use std::test::Fail;
 
 /// The turns of a transaction, the calls that the client makes with their answers, and how its transactions end.
 struct Case {
     name: &'static str,
     turns: u64,
-    calls: &'static [(Call, Answer)],
+    calls: &'static [Line],
     ends: ClientEnds,
 }
 
@@ -31,14 +32,14 @@ fn runs_so(alloc: Global, workload: &Workload, case: &Case) -> bool {
         return false;
     };
     let script = Script::new(case.calls, &[]);
-    let mut coming = workload.coming(1);
+    let mut stream = workload.stream_of(1);
     let mut client = client(&script, work, case.turns);
-    client.run_all(&mut coming) == case.ends && script.is_over()
+    client.run_all(&mut stream) == case.ends && script.is_over()
 }
 
 /// The first case in which the client of the workload makes other calls, or a transaction ends otherwise.
-fn wrong_case(alloc: Global, workload: &Workload, cases: &[Case]) -> Option<&'static str> {
-    for case in cases {
+fn wrong_case(alloc: Global, workload: &Workload) -> Option<&'static str> {
+    for case in &CASES {
         if !runs_so(alloc, workload, case) {
             return Some(case.name);
         }
@@ -46,34 +47,13 @@ fn wrong_case(alloc: Global, workload: &Workload, cases: &[Case]) -> Option<&'st
     None
 }
 
-/// Ends the test where a client of this shape fails in a case.
-fn all_run(rt: &impl Abort, alloc: Global, shape: &StormShape, cases: &[Case]) -> Result<(), Fail> {
-    let workload = shaped_storm(alloc, shape, 1, 1, 0)?;
-    let wrong = wrong_case(alloc, &workload, cases);
-    drop(workload);
-    all_pass(rt, wrong);
-    Ok(())
-}
+const GRANTED: Line = (Call::Acquire(0), Answer::Done);
 
-const BEGIN: (Call, Answer) = (Call::Begin, Answer::Done);
-
-const GRANTED: (Call, Answer) = (Call::Acquire(0), Answer::Done);
-
-const WAITS: (Call, Answer) = (Call::Acquire(0), Answer::Waits);
-
-const TRANSMIT: (Call, Answer) = (Call::Transmit, Answer::Done);
-
-const DEADLOCK: (Call, Answer) = (Call::Detect, Answer::Deadlock);
-
-const FINISH: (Call, Answer) = (Call::Finish, Answer::Done);
-
-const ABORT: (Call, Answer) = (Call::Abort, Answer::Done);
-
-const LEAVE: (Call, Answer) = (Call::Leave, Answer::Done);
+const CANNOT_BEGIN: Line = (Call::Begin, Answer::Refused(Refusal::CountsExhausted));
 
 /// A transaction that finished or was aborted is followed by the next one, which has all turns anew. One that used up its turns or was refused is
 /// the last one.
-static CASES: [Case; 5] = [
+static CASES: [Case; 4] = [
     Case {
         name: "transactions_follow_one_another, each finished",
         turns: 1,
@@ -81,7 +61,7 @@ static CASES: [Case; 5] = [
             BEGIN, GRANTED, FINISH, BEGIN, GRANTED, FINISH, BEGIN, GRANTED, FINISH, LEAVE,
         ],
         ends: ClientEnds {
-            earlier: Earlier {
+            earlier: EarlierEnds {
                 finished: 2,
                 aborted: 0,
             },
@@ -96,7 +76,7 @@ static CASES: [Case; 5] = [
             TRANSMIT, DEADLOCK, ABORT, LEAVE,
         ],
         ends: ClientEnds {
-            earlier: Earlier {
+            earlier: EarlierEnds {
                 finished: 1,
                 aborted: 1,
             },
@@ -108,7 +88,7 @@ static CASES: [Case; 5] = [
         turns: 1,
         calls: &[BEGIN, GRANTED, FINISH, BEGIN, WAITS, LEAVE],
         ends: ClientEnds {
-            earlier: Earlier {
+            earlier: EarlierEnds {
                 finished: 1,
                 aborted: 0,
             },
@@ -118,47 +98,28 @@ static CASES: [Case; 5] = [
     Case {
         name: "a_client_stops_where_one_did_not_end, but was refused",
         turns: 2,
-        calls: &[
-            BEGIN,
-            WAITS,
-            TRANSMIT,
-            DEADLOCK,
-            ABORT,
-            (Call::Begin, Answer::Refused(Refusal::CountsExhausted)),
-            LEAVE,
-        ],
+        calls: &[BEGIN, WAITS, TRANSMIT, DEADLOCK, ABORT, CANNOT_BEGIN, LEAVE],
         ends: ClientEnds {
-            earlier: Earlier {
+            earlier: EarlierEnds {
                 finished: 0,
                 aborted: 1,
             },
             last: End::Refused(15),
         },
     },
-    Case {
-        name: "a_client_stops_where_one_did_not_end, without a turn",
-        turns: 0,
-        calls: &[LEAVE],
-        ends: ClientEnds {
-            earlier: Earlier::NONE,
-            last: End::Spent,
-        },
-    },
 ];
-
-/// With one transaction alone it makes the calls of `run`.
-static ONE_ALONE: [Case; 1] = [Case {
-    name: "no_transaction_follows_the_only_one",
-    turns: 1,
-    calls: &[BEGIN, GRANTED, FINISH, LEAVE],
-    ends: ClientEnds {
-        earlier: Earlier::NONE,
-        last: End::Finished,
-    },
-}];
 
 #[test]
 fn transactions_follow_one_another(rt: HostRuntime) -> Result<(), Fail> {
-    all_run(&rt, rt.alloc(), &THREE, &CASES)?;
-    all_run(&rt, rt.alloc(), &StormShape::USUAL, &ONE_ALONE)
+    let options = StormOptions {
+        seed: 1,
+        clients: 1,
+        transmitters: 0,
+        shape: THREE,
+    };
+    let workload = shaped_storm(rt.alloc(), &options)?;
+    let wrong = wrong_case(rt.alloc(), &workload);
+    drop(workload);
+    all_pass(&rt, wrong);
+    Ok(())
 }

@@ -5,11 +5,11 @@ use Rattle.mm_manager.proofs.manager.LockManager.cancel.Goals as goal
 pub count_cancel-requires : goal.count_cancel-requires
 count_cancel-requires c =
     let i = c.self.inside in
-    let done = c.cancel_any-answer in
-    rw (c.is_due-was_due.ensures, c.came_due.ensures) (counts_fit _ done.new.table.table (cancel_counted i.totals (seen i.table.table i.names i.lists i.totals) c.args.key (seen done.new.table.table done.new.names done.new.lists _) c.self.invariant.counted done.result (done.ensures.cancels i.totals)) done.ensures.parts.room)
+    let done = c.cancel-answer in
+    rw (c.is_due-was_due.ensures, c.came_due.ensures) (counts_fit _ done.new.self.named.table.table (cancel_counted i.totals (seen i.parts i.totals) c.args.key (seen done.new.self _) c.self.invariant.counted c.self.invariant.parts.due done.result (done.ensures.cancels i.totals)) done.ensures.parts.room)
 
 pub invariant_of-self : goal.invariant_of-self
 invariant_of-self c =
     let i = c.self.inside in
-    let done = c.cancel_any-answer in
-    record { parts = done.ensures.parts; counted = rw (c.count_cancel.ensures, c.is_due-was_due.ensures, c.came_due.ensures) (cancel_counted i.totals (seen i.table.table i.names i.lists i.totals) c.args.key (seen done.new.table.table done.new.names done.new.lists _) c.self.invariant.counted done.result (done.ensures.cancels i.totals)) }
+    let done = c.cancel-answer in
+    record { parts = done.ensures.parts; counted = rw (c.count_cancel.ensures, c.is_due-was_due.ensures, c.came_due.ensures) (cancel_counted i.totals (seen i.parts i.totals) c.args.key (seen done.new.self _) c.self.invariant.counted c.self.invariant.parts.due done.result (done.ensures.cancels i.totals)) }

@@ -10,11 +10,11 @@ pub returns-clause-tries : goal.returns-clause-tries
 returns-clause-tries c =
     let i = c.self.inside in
     let done = c.try_lock.ensures in
-    let old = seen i.table.table i.names i.lists i.totals in
-    let new = seen c.try_lock.new.table.table c.try_lock.new.names c.try_lock.new.lists i.totals in
+    let old = seen i.parts i.totals in
+    let new = seen c.try_lock.new.self i.totals in
     subst (λ (m : LockState). TriesName m c.args.key c.args.name.now c.try_lock.result new) c.self.view_is
     (tried_locks old new c.args.key c.args.name.now c.try_lock.result c.self.invariant.parts.numbered done.laws done.tried done.refused done.table done.names
-    record { due = ap (λ v. v.items) done.due; granted = done.granted; aborted = done.aborted } refl)
+    record { due = ap (λ v. v.items) done.due; granted = done.cleared.granted; aborted = done.cleared.aborted } refl)
 
 pub invariant_of-self : goal.invariant_of-self
 invariant_of-self c =
@@ -22,6 +22,6 @@ invariant_of-self c =
     let now = c.try_lock.new in
     let done = c.try_lock.ensures in
     record {
-      parts = done.parts;
-      counted = try_counted i.totals i.table.table now.table.table i.names now.names c.args.key c.args.name.now c.try_lock.result c.self.invariant.counted done.tried done.table;
+      parts = done.cleared.parts;
+      counted = try_counted i.totals i.parts.named.table.table now.self.named.table.table i.parts.named.names now.self.named.names c.args.key c.args.name.now c.try_lock.result c.self.invariant.counted done.tried done.table;
     }

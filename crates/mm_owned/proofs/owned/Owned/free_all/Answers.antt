@@ -1,5 +1,5 @@
 use Rattle.std.proofs.Common.{refl, ◌≡◌, ℕ, List, ◌++◌, None, length, fold, set, take, drop, sym, ap, subst, ◌∙◌, arith}
-use Rattle.mm_list_lemmas.specs.Members.{NoRepeat}
+use Rattle.mm_lists.specs.Members.{NoRepeat}
 use Rattle.mm_owned.specs.Owned.{freed, list_at}
 use Rattle.mm_owned.specs.private.Linked.{links_of, owners_of, AreLinked}
 use Rattle.mm_owned.specs.private.Path.{IsPath, freed_in}

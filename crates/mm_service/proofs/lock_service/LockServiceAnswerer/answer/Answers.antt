@@ -28,9 +28,9 @@ returns-in-Silent-clause-answered g c =
 pub returns-in-Request-clause-answered : goal.returns-in-Request-clause-answered
 returns-in-Request-clause-answered g c =
     let line = sym c.in-Request.is ∙ c.line_of-named.ensures.line in
-    let made = c.make-outcome.ensures.made in
+    let made = c.answer_request-outcome.ensures.answered in
     let name = (line_of c.args.line.now).name in
-    let new = c.make-outcome.new.manager in
+    let new = c.answer_request-outcome.new.manager in
     let M = λ (m : LockState). IsLawful m × AnswersRequest c.in-Request.request c.line_of-named.result.name.now m made.0 new in
     let before = subst M c.self.view_is (c.keeps_laws.ensures, made.2) in
     let N = λ (n : List ℕ). AnswersLine (kind.Request c.in-Request.request) n c.args.self.now made.0 0 new in

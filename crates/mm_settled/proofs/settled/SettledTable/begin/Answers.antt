@@ -1,4 +1,4 @@
-use Rattle.std.proofs.Common.{◌≡◌, ◌≤◌, ◌+◌, ℕ, Ok, Err, [], if◌then◌else◌, vec_capacity, inl, inr, refl, sym, ap, subst, arith}
+use Rattle.std.proofs.Common.{◌≡◌, ◌≤◌, ◌+◌, ℕ, Ok, Err, [], if◌then◌else◌, inl, inr, refl, sym, ap, subst, arith}
 use Rattle.mm_rules.specs.declared.config.Config.{Config}
 use Rattle.mm_rules.specs.Event.{Begin, Step}
 use Rattle.mm_rules.specs.Laws.{AtRest}
@@ -9,7 +9,7 @@ use Rattle.mm_settled.specs.Grants.{Tells}
 use Rattle.mm_settled.specs.SettledState.{SettledState}
 use Rattle.mm_settled.specs.private.Lists.{Fits}
 use Rattle.mm_settled.specs.private.Told.{GrantsNothing, is_told}
-use Rattle.mm_settled.proofs.Lemmas.Fits.{fits_again, room_again}
+use Rattle.mm_settled.proofs.Lemmas.Fits.{fits_again}
 use Rattle.mm_settled.proofs.Lemmas.Quiet.{begin_quiet, quiet_rests, same_is_quiet}
 use Rattle.mm_settled.proofs.Lemmas.Refused.{begin_refused}
 use Rattle.mm_settled.proofs.Lemmas.Told.{tells_nothing, stamped_before}
@@ -17,25 +17,24 @@ use Rattle.mm_settled.proofs.settled.SettledTable.begin.Goals as goal
 
 -- ---- it is accepted
 
-is_accepted : (c : goal.In-Ok) → Step Begin c.self.inside.table (Ok c.in-Ok.key) c.begin.new.self
+is_accepted : (c : goal.In-Ok) → Step Begin c.self.inside.parts.table (Ok c.in-Ok.key) c.begin.new.self
 is_accepted c = rw c.in-Ok.is at c.begin.ensures
 
-nothing : (c : goal.In-Ok) → GrantsNothing c.self.inside.table c.begin.new.self c.self.inside.lists.granted.items
+nothing : (c : goal.In-Ok) → GrantsNothing c.self.inside.parts.table c.begin.new.self c.self.inside.parts.lists.granted.items
 nothing c =
-    let s = c.self.inside.table in
+    let s = c.self.inside.parts.table in
     let t = c.begin.new.self in
     let counted : t.totals.accepted ≡ s.totals.accepted + 1 = (event_counts Begin s t (Ok c.in-Ok.key) (is_accepted c)).0 in
     record { none = (begin_quiet s t c.begin.result c.keeps_laws.ensures c.begin.ensures).granted; silent = inl (omega (arith, counted)) }
 
 pub invariant_of-self : goal.invariant_of-self
 invariant_of-self c =
-    let s = c.self.inside.table in
+    let s = c.self.inside.parts.table in
     let quiet = begin_quiet s c.begin.new.self c.begin.result c.keeps_laws.ensures c.begin.ensures in
     record {
       rest = quiet_rests Begin s c.begin.new.self c.begin.result c.begin.ensures c.keeps_laws.ensures c.self.invariant.rest quiet;
-      fits = subst (λ (f : Config). Fits f c.self.inside.lists) (sym (event_config Begin s c.begin.new.self c.begin.result c.begin.ensures)) c.self.invariant.fits;
-      owned = room_again s.config c.begin.new.self.config (vec_capacity c.self.inside.owned) (event_config Begin s c.begin.new.self c.begin.result c.begin.ensures) c.self.invariant.owned;
-      told_at = stamped_before c.self.inside.told_at s c.begin.new.self c.self.inside.lists.granted.items c.self.invariant.told_at (nothing c);
+      fits = subst (λ (f : Config). Fits f c.self.inside.parts.lists) (sym (event_config Begin s c.begin.new.self c.begin.result c.begin.ensures)) c.self.invariant.fits;
+      told_at = stamped_before c.self.inside.told_at s c.begin.new.self c.self.inside.parts.lists.granted.items c.self.invariant.told_at (nothing c);
     }
 
 pub returns-in-Ok-clause-step : goal.returns-in-Ok-clause-step
@@ -43,35 +42,34 @@ returns-in-Ok-clause-step c = subst (λ (old : SettledState). Step Begin old.tab
 
 pub returns-in-Ok-clause-others : goal.returns-in-Ok-clause-others
 returns-in-Ok-clause-others c =
-    let quiet = begin_quiet c.self.inside.table c.begin.new.self c.begin.result c.keeps_laws.ensures c.begin.ensures in
+    let quiet = begin_quiet c.self.inside.parts.table c.begin.new.self c.begin.result c.keeps_laws.ensures c.begin.ensures in
     subst (λ (old : SettledState). (v : ℕ) → has_verdict c.begin.new.self v ≡ has_verdict old.table v) c.self.view_is (λ v. quiet.verdicts v)
 
 pub returns-in-Ok-clause-told : goal.returns-in-Ok-clause-told
 returns-in-Ok-clause-told c =
     let t = c.begin.new.self in
     let at = c.self.inside.told_at in
-    let granted = c.self.inside.lists.granted.items in
-    subst (λ (old : SettledState). Tells old.table record { table = t; granted = if is_told at t then granted else [] }) c.self.view_is
-    record { granted = tells_nothing at c.self.inside.table t granted c.self.invariant.told_at (nothing c) }
+    let granted = c.self.inside.parts.lists.granted.items in
+    subst (λ (old : SettledState). Tells old.table record { table = t; granted = if is_told at t then granted else []; ended = c.self.inside.parts.lists.owned.items }) c.self.view_is
+    record { granted = tells_nothing at c.self.inside.parts.table t granted c.self.invariant.told_at (nothing c) }
 
 -- ---- it is refused
 
-is_refused : (c : goal.After-clear) → Step Begin c.self.inside.table (Err c.in-Err.refusal) c.begin.new.self
+is_refused : (c : goal.After-clear) → Step Begin c.self.inside.parts.table (Err c.in-Err.refusal) c.begin.new.self
 is_refused c = rw c.in-Err.is at c.begin.ensures
 
-same : (c : goal.After-clear) → c.begin.new.self ≡ c.self.inside.table
-same c = begin_refused c.self.inside.table c.begin.new.self c.in-Err.refusal (is_refused c)
+same : (c : goal.After-clear) → c.begin.new.self ≡ c.self.inside.parts.table
+same c = begin_refused c.self.inside.parts.table c.begin.new.self c.in-Err.refusal (is_refused c)
 
 pub invariant_of-self-in-Err : goal.invariant_of-self-in-Err
 invariant_of-self-in-Err c =
-    let s = c.self.inside.table in
+    let s = c.self.inside.parts.table in
     let t = c.begin.new.self in
     let config = ap (λ (u : TableState). u.config) (same c) in
     record {
       rest = subst (λ (u : TableState). AtRest u) (sym (same c)) c.self.invariant.rest;
-      fits = fits_again s.config t.config c.self.inside.lists (record c.self.inside.lists { granted = c.clear.new.self }) config c.self.invariant.fits
-          record { granted = c.clear.ensures.capacity; woken = refl; resources = refl };
-      owned = room_again s.config t.config (vec_capacity c.self.inside.owned) config c.self.invariant.owned;
+      fits = fits_again s.config t.config c.self.inside.parts.lists (record c.self.inside.parts.lists { granted = c.clear.new.self }) config c.self.invariant.fits
+          record { granted = c.clear.ensures.capacity; woken = refl; owned = refl; resources = refl };
       told_at = subst (λ (u : TableState). c.self.inside.told_at ≤ u.totals.accepted) (sym (same c)) c.self.invariant.told_at;
     }
 
@@ -80,15 +78,15 @@ returns-in-Err-clause-step c = subst (λ (old : SettledState). Step Begin old.ta
 
 pub returns-in-Err-clause-others : goal.returns-in-Err-clause-others
 returns-in-Err-clause-others c =
-    let quiet = same_is_quiet c.self.inside.table c.begin.new.self c.keeps_laws.ensures (same c) in
+    let quiet = same_is_quiet c.self.inside.parts.table c.begin.new.self c.keeps_laws.ensures (same c) in
     subst (λ (old : SettledState). (v : ℕ) → has_verdict c.begin.new.self v ≡ has_verdict old.table v) c.self.view_is (λ v. quiet.verdicts v)
 
 pub returns-in-Err-clause-told : goal.returns-in-Err-clause-told
 returns-in-Err-clause-told c =
-    let s = c.self.inside.table in
+    let s = c.self.inside.parts.table in
     let t = c.begin.new.self in
     let at = c.self.inside.told_at in
     let granted = c.clear.new.self.items in
     let nothing : GrantsNothing s t granted = record { none = (same_is_quiet s t c.keeps_laws.ensures (same c)).granted; silent = inr (same c, c.clear.ensures.items) } in
-    subst (λ (old : SettledState). Tells old.table record { table = t; granted = if is_told at t then granted else [] }) c.self.view_is
+    subst (λ (old : SettledState). Tells old.table record { table = t; granted = if is_told at t then granted else []; ended = c.self.inside.parts.lists.owned.items }) c.self.view_is
     record { granted = tells_nothing at s t granted c.self.invariant.told_at nothing }

@@ -1,4 +1,4 @@
-use Rattle.std.proofs.Common.{◌≡◌, ◌+◌, Ok, [], if◌then◌else◌, vec_capacity, inl, sym, subst, arith}
+use Rattle.std.proofs.Common.{◌≡◌, ◌+◌, Ok, [], if◌then◌else◌, inl, sym, subst, arith}
 use Rattle.mm_rules.specs.declared.config.Config.{Config}
 use Rattle.mm_rules.specs.declared.reply.Acquired.TheVariants.{Granted}
 use Rattle.mm_rules.specs.TableState.{has_verdict}
@@ -9,17 +9,16 @@ use Rattle.mm_settled.specs.Grants.{Tells}
 use Rattle.mm_settled.specs.SettledState.{SettledState}
 use Rattle.mm_settled.specs.private.Lists.{Fits}
 use Rattle.mm_settled.specs.private.Told.{GrantsNothing, is_told}
-use Rattle.mm_settled.proofs.Lemmas.Fits.{room_again}
 use Rattle.mm_settled.proofs.Lemmas.Quiet.{GrantsNow, granted_quiet, quiet_rests}
 use Rattle.mm_settled.proofs.Lemmas.Told.{tells_nothing, stamped_before}
 use Rattle.mm_settled.proofs.settled.SettledTable.grant_free.Goals as goal
 
-grants : (c : goal.After-grant_free) → GrantsNow c.self.inside.table c.args.key c.grant_free.new.self
-grants c = granted_quiet c.self.inside.table c.grant_free.new.self c.args.key c.args.resource c.keeps_laws.ensures c.grant_free.ensures
+grants : (c : goal.After-grant_free) → GrantsNow c.self.inside.parts.table c.args.key c.grant_free.new.self
+grants c = granted_quiet c.self.inside.parts.table c.grant_free.new.self c.args.key c.args.resource c.keeps_laws.ensures c.grant_free.ensures
 
-nothing : (c : goal.After-grant_free) → GrantsNothing c.self.inside.table c.grant_free.new.self c.self.inside.lists.granted.items
+nothing : (c : goal.After-grant_free) → GrantsNothing c.self.inside.parts.table c.grant_free.new.self c.self.inside.parts.lists.granted.items
 nothing c =
-    let s = c.self.inside.table in
+    let s = c.self.inside.parts.table in
     let t = c.grant_free.new.self in
     let counted : t.totals.accepted ≡ s.totals.accepted + 1 = (event_counts (Acquire c.args.key c.args.resource) s t (Ok Granted) c.grant_free.ensures).0 in
     record { none = (grants c).quiet.granted; silent = inl (omega (arith, counted)) }
@@ -32,18 +31,17 @@ pub returns-clause-told : goal.returns-clause-told
 returns-clause-told c =
     let t = c.grant_free.new.self in
     let at = c.self.inside.told_at in
-    let granted = c.self.inside.lists.granted.items in
-    subst (λ (old : SettledState). Tells old.table record { table = t; granted = if is_told at t then granted else [] }) c.self.view_is
-    record { granted = tells_nothing at c.self.inside.table t granted c.self.invariant.told_at (nothing c) }
+    let granted = c.self.inside.parts.lists.granted.items in
+    subst (λ (old : SettledState). Tells old.table record { table = t; granted = if is_told at t then granted else []; ended = c.self.inside.parts.lists.owned.items }) c.self.view_is
+    record { granted = tells_nothing at c.self.inside.parts.table t granted c.self.invariant.told_at (nothing c) }
 
 pub invariant_of-self : goal.invariant_of-self
 invariant_of-self c =
-    let s = c.self.inside.table in
+    let s = c.self.inside.parts.table in
     let t = c.grant_free.new.self in
     let now = event_config (Acquire c.args.key c.args.resource) s t (Ok Granted) c.grant_free.ensures in
     record {
       rest = quiet_rests (Acquire c.args.key c.args.resource) s t (Ok Granted) c.grant_free.ensures c.keeps_laws.ensures c.self.invariant.rest (grants c).quiet;
-      fits = subst (λ (f : Config). Fits f c.self.inside.lists) (sym now) c.self.invariant.fits;
-      owned = room_again s.config t.config (vec_capacity c.self.inside.owned) now c.self.invariant.owned;
-      told_at = stamped_before c.self.inside.told_at s t c.self.inside.lists.granted.items c.self.invariant.told_at (nothing c);
+      fits = subst (λ (f : Config). Fits f c.self.inside.parts.lists) (sym now) c.self.invariant.fits;
+      told_at = stamped_before c.self.inside.told_at s t c.self.inside.parts.lists.granted.items c.self.invariant.told_at (nothing c);
     }

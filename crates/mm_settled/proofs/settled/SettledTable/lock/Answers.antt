@@ -1,31 +1,30 @@
-use Rattle.std.proofs.Common.{[], if◌then◌else◌, vec_capacity, refl, subst}
+use Rattle.std.proofs.Common.{[], if◌then◌else◌, refl, subst}
 use Rattle.mm_settled.specs.Grants.{Tells}
 use Rattle.mm_settled.specs.SettledState.{SettledState}
 use Rattle.mm_settled.specs.private.Told.{is_told}
-use Rattle.mm_settled.proofs.Lemmas.Fits.{fits_again, room_again}
+use Rattle.mm_settled.proofs.Lemmas.Fits.{fits_again}
 use Rattle.mm_settled.proofs.Lemmas.Lock.{deadlock_iff}
 use Rattle.mm_settled.proofs.Lemmas.Told.{tells_nothing, stamped_before}
 use Rattle.mm_settled.proofs.settled.SettledTable.lock.Goals as goal
 
 pub returns-clause-deadlock : goal.returns-clause-deadlock
-returns-clause-deadlock c = deadlock_iff c.self.inside.table c.lock.new.table c.args.key c.args.resource c.lock.result c.keeps_laws.ensures c.lock.ensures.locks
+returns-clause-deadlock c = deadlock_iff c.self.inside.parts.table c.lock.new.table c.args.key c.args.resource c.lock.result c.keeps_laws.ensures c.lock.ensures.locks
 
 pub returns-clause-told : goal.returns-clause-told
 returns-clause-told c =
     let t = c.lock.new.table in
     let at = c.self.inside.told_at in
     let granted = c.lock.new.granted.items in
-    subst (λ (old : SettledState). Tells old.table record { table = t; granted = if is_told at t then granted else [] }) c.self.view_is
-    record { granted = tells_nothing at c.self.inside.table t granted c.self.invariant.told_at c.lock.ensures.nothing }
+    subst (λ (old : SettledState). Tells old.table record { table = t; granted = if is_told at t then granted else []; ended = c.self.inside.parts.lists.owned.items }) c.self.view_is
+    record { granted = tells_nothing at c.self.inside.parts.table t granted c.self.invariant.told_at c.lock.ensures.nothing }
 
 pub invariant_of-self : goal.invariant_of-self
 invariant_of-self c =
-    let s = c.self.inside.table in
+    let s = c.self.inside.parts.table in
     let t = c.lock.new.table in
     record {
       rest = c.lock.ensures.rest;
-      fits = fits_again s.config t.config c.self.inside.lists (record c.self.inside.lists { granted = c.lock.new.granted }) c.lock.ensures.config c.self.invariant.fits
-          record { granted = c.lock.ensures.room; woken = refl; resources = refl };
-      owned = room_again s.config t.config (vec_capacity c.self.inside.owned) c.lock.ensures.config c.self.invariant.owned;
+      fits = fits_again s.config t.config c.self.inside.parts.lists (record c.self.inside.parts.lists { granted = c.lock.new.granted }) c.lock.ensures.config c.self.invariant.fits
+          record { granted = c.lock.ensures.room; woken = refl; owned = refl; resources = refl };
       told_at = stamped_before c.self.inside.told_at s t c.lock.new.granted.items c.self.invariant.told_at c.lock.ensures.nothing;
     }

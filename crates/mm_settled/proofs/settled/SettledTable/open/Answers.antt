@@ -1,10 +1,9 @@
-use Rattle.std.proofs.Common.{vec_capacity, sym, ap, subst, arith}
+use Rattle.std.proofs.Common.{sym, ap, subst, arith}
 use Rattle.mm_rules.specs.declared.config.Config.{Config}
 use Rattle.mm_rules.specs.TableState.{TableState}
 use Rattle.mm_rules.specs.Laws.{AtRest}
 use Rattle.mm_rules.proofs.States.Rest.{opening_at_rest}
 use Rattle.mm_settled.specs.private.Lists.{Fits}
-use Rattle.mm_settled.proofs.Lemmas.Fits.{room_again}
 use Rattle.mm_settled.proofs.settled.SettledTable.open.Goals as goal
 
 pub invariant_of-result : goal.invariant_of-result
@@ -13,6 +12,5 @@ invariant_of-result c =
     record {
       rest = subst (λ (s : TableState). AtRest s) (sym opened.1) (opening_at_rest c.args.config opened.0);
       fits = subst (λ (f : Config). Fits f c.in_ok-lists.lists) (sym (ap (λ (s : TableState). s.config) opened.1)) c.in_ok-lists.ensures.fits;
-      owned = room_again c.args.config c.in_ok-table.table.config (vec_capacity c.in_ok-owned.owned) (ap (λ (s : TableState). s.config) opened.1) c.in_ok-owned.ensures.list.1;
       told_at = omega (arith);
     }

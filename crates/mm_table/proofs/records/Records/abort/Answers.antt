@@ -9,12 +9,12 @@ use Rattle.mm_rules.proofs.States.GiveUp.{take_back_keeps}
 use Rattle.mm_rules.proofs.States.Abort.{fits_still}
 use Rattle.mm_rules.proofs.States.Totals.{vacate_totals}
 use Rattle.mm_rules.proofs.States.Lookups.{waiting_is_some, live_within}
-use Rattle.mm_settle.specs.Touched.{Touches}
-use Rattle.mm_settle.specs.Steps.Vacating.{IsVacating}
-use Rattle.mm_settle.proofs.Lemmas.Added.{adds_set}
-use Rattle.mm_settle.proofs.Lemmas.Told.{touches_counted}
-use Rattle.mm_settle.proofs.Lemmas.Touched.{unchanged, touches_nobody}
-use Rattle.mm_settle.proofs.Lemmas.Vacated.{abort_touches}
+use Rattle.mm_settle_lemmas.specs.Touched.{Touches}
+use Rattle.mm_settle_lemmas.specs.Steps.Vacating.{IsVacating}
+use Rattle.mm_settle_lemmas.proofs.Lemmas.Added.{adds_set}
+use Rattle.mm_settle_lemmas.proofs.Lemmas.Told.{touches_counted}
+use Rattle.mm_settle_lemmas.proofs.Lemmas.Touched.{unchanged, touches_nobody}
+use Rattle.mm_settle_lemmas.proofs.Lemmas.Vacated.{abort_touches}
 use Rattle.mm_table.proofs.Fields.Gives.{gives_refused}
 use Rattle.mm_table.proofs.records.Records.abort.Goals as goal
 

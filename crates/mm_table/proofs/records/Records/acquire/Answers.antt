@@ -2,10 +2,10 @@ use Rattle.std.proofs.Common.{◌≡◌, ◌+◌, Some, ap, sym, subst, ◌∙�
 use Rattle.mm_rules.specs.TableState.{TableState, owner_of}
 use Rattle.mm_rules.specs.Event.{resource_tests, acquire_tests, acquire_answer, acquire_change}
 use Rattle.mm_rules.proofs.States.Outcome.{refused_first, counting}
-use Rattle.mm_settle.specs.Touched.{Touches}
-use Rattle.mm_settle.proofs.Lemmas.Acquired.{touches_grant, touches_wait}
-use Rattle.mm_settle.proofs.Lemmas.Told.{touches_counted}
-use Rattle.mm_settle.proofs.Lemmas.Touched.{unchanged, touches_nobody}
+use Rattle.mm_settle_lemmas.specs.Touched.{Touches}
+use Rattle.mm_settle_lemmas.proofs.Lemmas.Acquired.{touches_grant, touches_wait}
+use Rattle.mm_settle_lemmas.proofs.Lemmas.Told.{touches_counted}
+use Rattle.mm_settle_lemmas.proofs.Lemmas.Touched.{unchanged, touches_nobody}
 use Rattle.mm_table.specs.private.LabelLimit.{waiting}
 use Rattle.mm_table.proofs.Fields.Gives.{gives_refused, gives_granted, gives_owned, gives_exhausted, gives_waits}
 use Rattle.mm_table.proofs.records.Records.acquire.Goals as goal

@@ -1,7 +1,7 @@
 use Rattle.std.proofs.Common.{◌≡◌, ◌+◌, ◌<◌, ℕ, Bool, List, if◌then◌else◌, ap, ◌∙◌, sym, subst, arith}
-use Rattle.mm_settle.specs.Steps.Detects.{IsDetected}
-use Rattle.mm_settle.proofs.Lemmas.Checks.{detects_start, detects_turn, detects_end, check_within}
-use Rattle.mm_settle.proofs.Lemmas.Settling.{settling_starts, settling_then}
+use Rattle.mm_settle_lemmas.specs.Steps.Detects.{IsDetected}
+use Rattle.mm_settle_lemmas.proofs.Lemmas.Checks.{detects_start, detects_turn, detects_end, check_within}
+use Rattle.mm_settle_lemmas.proofs.Lemmas.Settling.{settling_starts, settling_then}
 use Rattle.mm_table.proofs.records.Records.detect_all.Goals as goal
 use Rattle.mm_table.proofs.records.Records.detect_all.Goals.{then-detect_at, else-detect_at}
 

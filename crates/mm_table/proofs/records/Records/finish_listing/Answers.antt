@@ -1,8 +1,8 @@
 use Rattle.std.proofs.Common.{◌<◌, rules, ap, sym, subst, ◌∙◌}
 use Rattle.mm_rules.specs.TableState.{TableState}
 use Rattle.mm_rules.proofs.States.Totals.{vacate_totals}
-use Rattle.mm_settle.specs.Touched.{Touches}
-use Rattle.mm_settle.proofs.Lemmas.Told.{touches_counted}
+use Rattle.mm_settle_lemmas.specs.Touched.{Touches}
+use Rattle.mm_settle_lemmas.proofs.Lemmas.Told.{touches_counted}
 use Rattle.mm_table.proofs.records.Records.finish_listing.Goals as goal
 
 pub count-requires : goal.count-requires

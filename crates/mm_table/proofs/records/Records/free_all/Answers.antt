@@ -1,7 +1,7 @@
 use Rattle.std.proofs.Common.{sym, ap, ◌∙◌, subst}
 use Rattle.mm_owned.specs.Owned.{list_at}
 use Rattle.mm_rules.specs.TableState.{TableState, resources_of}
-use Rattle.mm_settle.specs.Steps.Vacating.{IsVacating}
+use Rattle.mm_settle_lemmas.specs.Steps.Vacating.{IsVacating}
 use Rattle.mm_table.proofs.Fields.FreedAll.{all_freed_sized, all_freed_state, all_freed_changes_nobody}
 use Rattle.mm_table.proofs.records.Records.free_all.Goals as goal
 

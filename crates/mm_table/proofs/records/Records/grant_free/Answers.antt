@@ -1,9 +1,9 @@
 use Rattle.std.proofs.Common.{◌+◌, sym, ap, subst, ◌∙◌}
 use Rattle.mm_rules.specs.TableState.{TableState}
 use Rattle.mm_rules.proofs.States.Outcome.{counting}
-use Rattle.mm_settle.specs.Touched.{Touches}
-use Rattle.mm_settle.proofs.Lemmas.Acquired.{touches_grant}
-use Rattle.mm_settle.proofs.Lemmas.Told.{touches_counted}
+use Rattle.mm_settle_lemmas.specs.Touched.{Touches}
+use Rattle.mm_settle_lemmas.proofs.Lemmas.Acquired.{touches_grant}
+use Rattle.mm_settle_lemmas.proofs.Lemmas.Told.{touches_counted}
 use Rattle.mm_table.proofs.Fields.Gives.{gives_granted}
 use Rattle.mm_table.proofs.records.Records.grant_free.Goals as goal
 

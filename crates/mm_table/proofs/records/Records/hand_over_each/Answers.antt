@@ -1,12 +1,12 @@
 use Rattle.std.proofs.Common.{◌≡◌, ℕ, ◌<◌, ap, sym, subst, ◌∙◌, arith, fold, length, Some, None}
-use Rattle.mm_list_lemmas.specs.Members.{Among}
+use Rattle.mm_lists.specs.Members.{Among}
 use Rattle.mm_owned.specs.Owned.{list_at}
 use Rattle.mm_owned.proofs.Lemmas.Walk.{Among-head}
 use Rattle.mm_rules.specs.TableState.{TableState, resources_of}
 use Rattle.mm_rules.specs.Change.{hand_over}
 use Rattle.mm_rules.proofs.States.HandOverAll.{IsUnderWay, starts, handed_one, fewer_left, stays_in}
-use Rattle.mm_settle.specs.Steps.Vacating.{IsVacating}
-use Rattle.mm_settle.proofs.Lemmas.Vacated.{vacating_starts, vacating_next}
+use Rattle.mm_settle_lemmas.specs.Steps.Vacating.{IsVacating}
+use Rattle.mm_settle_lemmas.proofs.Lemmas.Vacated.{vacating_starts, vacating_next}
 use Rattle.mm_table.proofs.Fields.Ownership.{listed, in_resources, none_left, below, follows}
 use Rattle.mm_table.proofs.records.Records.hand_over_each.Goals as goal
 use Rattle.mm_table.proofs.records.Records.hand_over_each.Goals.{in-Some-following, in-None}

@@ -1,8 +1,8 @@
 use Rattle.std.proofs.Common.{◌≡◌, ℕ, [], Some, None, length}
-use Rattle.mm_list_lemmas.specs.Members.{Among}
+use Rattle.mm_lists.specs.Members.{Among}
 use Rattle.mm_rules.specs.TableState.{resources_of}
 use Rattle.mm_rules.proofs.States.HandOverAll.{IsUnderWay}
-use Rattle.mm_settle.specs.Steps.Vacating.{IsVacating}
+use Rattle.mm_settle_lemmas.specs.Steps.Vacating.{IsVacating}
 use Rattle.mm_table.proofs.records.Records.hand_over_each.Given as goal
 
 -- `next` is owned still; where there is none, nothing is

@@ -1,5 +1,5 @@
 use Rattle.std.proofs.Common.{◌≡◌, ◌∷◌, refl, sym, ap, subst, ◌∙◌, inl}
-use Rattle.mm_list_lemmas.specs.Members.{Among}
+use Rattle.mm_lists.specs.Members.{Among}
 use Rattle.mm_table.proofs.Fields.Walk.{queued, walks_among, queued_within}
 use Rattle.mm_table.proofs.Fields.HandOver.{lawful_waits, fits_behind}
 use Rattle.mm_table.proofs.Fields.Labels.{hand_over_then_fits}

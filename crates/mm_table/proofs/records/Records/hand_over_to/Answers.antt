@@ -1,6 +1,6 @@
 use Rattle.std.proofs.Common.{◌≡◌, ap, sym, ◌∙◌, arith}
 use Rattle.mm_rules.specs.TableState.{is_live, is_waiting}
-use Rattle.mm_settle.proofs.Lemmas.Added.{adds_set}
+use Rattle.mm_settle_lemmas.proofs.Lemmas.Added.{adds_set}
 use Rattle.mm_table.proofs.Fields.HandOver.{added_all, HasLawfulWaits, lawful_waits, taken_over, first_within, first_lives, waiting, others_apart, others_fit, handed_over, freed_then_owned}
 use Rattle.mm_table.proofs.records.Records.hand_over_to.Goals as goal
 

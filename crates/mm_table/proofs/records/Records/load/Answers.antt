@@ -2,12 +2,12 @@ use Rattle.std.proofs.Common.{◌≡◌, ◌≤◌, ◌<◌, ℕ, Bool, false, L
 use Rattle.std.proofs.lemmas.Grind.{common_steps}
 use Rattle.std.proofs.lemmas.Bool.{cases_lt}
 use Rattle.std.specs.Option.{option_map_or}
-use Rattle.mm_list_lemmas.proofs.Lemmas.Set.{true_within}
+use Rattle.mm_lists.proofs.Lemmas.Set.{true_within}
 use Rattle.mm_bit_set.specs.BitSet.{has}
 use Rattle.mm_rules.specs.TableState.{holder_of}
-use Rattle.mm_settle.specs.Steps.Marked.{IsNoneMarked}
-use Rattle.mm_settle.proofs.Lemmas.Changed.{loading_starts, loading_turn}
-use Rattle.mm_settle.proofs.Lemmas.Quiet.{quiet_unchanged}
+use Rattle.mm_settle_lemmas.specs.Steps.Marked.{IsNoneMarked}
+use Rattle.mm_settle_lemmas.proofs.Lemmas.Changed.{loading_starts, loading_turn}
+use Rattle.mm_settle_lemmas.proofs.Lemmas.Quiet.{quiet_unchanged}
 use Rattle.mm_table.proofs.records.Records.load.Goals as goal
 
 -- nobody is left in a set that has none below a number and none from there on

@@ -1,5 +1,5 @@
 use Rattle.std.proofs.Common.{◌-◌, ◌≤◌, ◌≡◌, length}
-use Rattle.mm_settle.specs.Steps.Changed.{IsLoading}
+use Rattle.mm_settle_lemmas.specs.Steps.Changed.{IsLoading}
 use Rattle.mm_table.proofs.records.Records.load.Given as goal
 
 abbrev pub invariant-loop-process : goal.invariant-loop-process

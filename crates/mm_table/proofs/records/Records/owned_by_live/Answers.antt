@@ -3,7 +3,7 @@ use Rattle.std.proofs.lemmas.Bool.{and_parts, eq-eqb, eqb-true}
 use Rattle.std.specs.Option.{option_map_or}
 use Rattle.std.specs.Prelude.{slice_index, slice_index_or}
 use Rattle.mm_arena.specs.declared.key.Key.{Key}
-use Rattle.mm_list_lemmas.specs.Members.{Among, NoRepeat}
+use Rattle.mm_lists.specs.Members.{Among, NoRepeat}
 use Rattle.mm_rules.specs.TableState.{TableState, is_live, owns}
 use Rattle.mm_rules.proofs.States.Release.{owns_gives}
 use Rattle.mm_table.proofs.Fields.Ownership.{listed}

@@ -1,9 +1,9 @@
 use Rattle.std.proofs.Common.{◌<◌, rules, ap, sym, subst, ◌∙◌}
 use Rattle.mm_rules.specs.TableState.{TableState}
 use Rattle.mm_rules.proofs.States.Totals.{hand_over_totals}
-use Rattle.mm_settle.specs.Touched.{Touches}
-use Rattle.mm_settle.proofs.Lemmas.Touched.{touches_hand_over}
-use Rattle.mm_settle.proofs.Lemmas.Told.{touches_counted}
+use Rattle.mm_settle_lemmas.specs.Touched.{Touches}
+use Rattle.mm_settle_lemmas.proofs.Lemmas.Touched.{touches_hand_over}
+use Rattle.mm_settle_lemmas.proofs.Lemmas.Told.{touches_counted}
 use Rattle.mm_table.proofs.records.Records.release.Goals as goal
 
 pub count-requires : goal.count-requires

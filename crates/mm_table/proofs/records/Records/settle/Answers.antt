@@ -2,8 +2,8 @@ use Rattle.std.proofs.Common.{ap, sym, ◌∙◌, Ok}
 use Rattle.mm_rules.specs.Change.{can_transmit, can_detect}
 use Rattle.mm_rules.specs.Event.{Settle}
 use Rattle.mm_rules.proofs.States.Config.{event_config}
-use Rattle.mm_settle.proofs.Lemmas.Changed.{none_changed}
-use Rattle.mm_settle.proofs.Lemmas.Quiet.{quiet_settles, quiet_touches}
+use Rattle.mm_settle_lemmas.proofs.Lemmas.Changed.{none_changed}
+use Rattle.mm_settle_lemmas.proofs.Lemmas.Quiet.{quiet_settles, quiet_touches}
 use Rattle.mm_table.proofs.records.Records.settle.Goals as goal
 
 pub returns-then-load-clause-changed : goal.returns-then-load-clause-changed

@@ -5,10 +5,10 @@ use Rattle.mm_rules.proofs.States.Outcome.{counting}
 use Rattle.mm_rules.proofs.States.SettleStep.{below_limit, settle_gives}
 use Rattle.mm_rules.proofs.States.SweepLoop.{swept_config}
 use Rattle.mm_rules.proofs.States.Totals.{sweeps_totals, detects_accepted}
-use Rattle.mm_settle.specs.Touched.{Touches}
-use Rattle.mm_settle.proofs.Lemmas.Checks.{detects_transmit}
-use Rattle.mm_settle.proofs.Lemmas.Settling.{settling_then, settling_touches}
-use Rattle.mm_settle.proofs.Lemmas.Told.{touches_counted}
+use Rattle.mm_settle_lemmas.specs.Touched.{Touches}
+use Rattle.mm_settle_lemmas.proofs.Lemmas.Checks.{detects_transmit}
+use Rattle.mm_settle_lemmas.proofs.Lemmas.Settling.{settling_then, settling_touches}
+use Rattle.mm_settle_lemmas.proofs.Lemmas.Told.{touches_counted}
 use Rattle.mm_table.proofs.records.Records.settle_pending.Goals as goal
 
 pub detect_all-verdicts-requires-clause-count : goal.detect_all-verdicts-requires-clause-count

@@ -1,9 +1,9 @@
 use Rattle.std.proofs.Common.{◌≡◌, ◌+◌, ◌<◌, ℕ, Bool, List, if◌then◌else◌, length, length-set, ap, ◌∙◌, sym, subst, arith}
-use Rattle.mm_list_lemmas.proofs.Lemmas.Set.{true_within}
-use Rattle.mm_settle.specs.Steps.Pass.{IsPassed}
-use Rattle.mm_settle.proofs.Lemmas.Passes.{pass_starts, pass_ends}
-use Rattle.mm_settle.proofs.Lemmas.Settling.{settling_starts, settling_then}
-use Rattle.mm_settle.proofs.Lemmas.Turns.{pass_turn}
+use Rattle.mm_lists.proofs.Lemmas.Set.{true_within}
+use Rattle.mm_settle_lemmas.specs.Steps.Pass.{IsPassed}
+use Rattle.mm_settle_lemmas.proofs.Lemmas.Passes.{pass_starts, pass_ends}
+use Rattle.mm_settle_lemmas.proofs.Lemmas.Settling.{settling_starts, settling_then}
+use Rattle.mm_settle_lemmas.proofs.Lemmas.Turns.{pass_turn}
 use Rattle.mm_table.proofs.records.Records.sweep.Goals as goal
 use Rattle.mm_table.proofs.records.Records.sweep.Goals.{then-turn, else-turn}
 

@@ -1,6 +1,6 @@
 use Rattle.std.proofs.Common.{◌-◌}
-use Rattle.mm_settle.specs.Steps.Pass.{IsPassing}
-use Rattle.mm_settle.specs.Steps.Settling.{IsSettling}
+use Rattle.mm_settle_lemmas.specs.Steps.Pass.{IsPassing}
+use Rattle.mm_settle_lemmas.specs.Steps.Settling.{IsSettling}
 use Rattle.mm_table.proofs.records.Records.sweep.Given as goal
 
 abbrev pub invariant-loop-process : goal.invariant-loop-process

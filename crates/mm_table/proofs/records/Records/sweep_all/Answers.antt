@@ -1,6 +1,6 @@
 use Rattle.std.proofs.Common.{refl, ap, arith}
 use Rattle.mm_rules.proofs.States.SweepLoop.{sweeping_config, ends, fits, falls, goes_on}
-use Rattle.mm_settle.proofs.Lemmas.Settling.{settling_starts, settling_then}
+use Rattle.mm_settle_lemmas.proofs.Lemmas.Settling.{settling_starts, settling_then}
 use Rattle.mm_table.proofs.records.Records.sweep_all.Goals as goal
 
 pub loop-raises-init : goal.loop-raises-init

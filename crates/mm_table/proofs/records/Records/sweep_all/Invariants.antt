@@ -1,8 +1,8 @@
 use Rattle.std.proofs.Common.{◌-◌}
 use Rattle.mm_rules.specs.Laws.{most_raises}
 use Rattle.mm_rules.proofs.States.SweepLoop.{IsSweeping}
-use Rattle.mm_settle.specs.Steps.Marked.{AreMarked}
-use Rattle.mm_settle.specs.Steps.Settling.{IsSettling}
+use Rattle.mm_settle_lemmas.specs.Steps.Marked.{AreMarked}
+use Rattle.mm_settle_lemmas.specs.Steps.Settling.{IsSettling}
 use Rattle.mm_table.proofs.records.Records.sweep_all.Given as goal
 
 abbrev pub invariant-loop-raises : goal.invariant-loop-raises

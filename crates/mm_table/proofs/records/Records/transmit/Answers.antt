@@ -3,10 +3,10 @@ use Rattle.std.specs.Option.{option_map_or}
 use Rattle.mm_rules.specs.TableState.{TableState}
 use Rattle.mm_rules.specs.Change.{transmit}
 use Rattle.mm_rules.proofs.States.Transmit.{shown}
-use Rattle.mm_settle.specs.Touched.{Touches}
-use Rattle.mm_settle.proofs.Lemmas.Added.{adds_set}
-use Rattle.mm_settle.proofs.Lemmas.Touched.{touches_transmit, touches_nobody, unchanged}
-use Rattle.mm_settle.proofs.Lemmas.Told.{touches_counted}
+use Rattle.mm_settle_lemmas.specs.Touched.{Touches}
+use Rattle.mm_settle_lemmas.proofs.Lemmas.Added.{adds_set}
+use Rattle.mm_settle_lemmas.proofs.Lemmas.Touched.{touches_transmit, touches_nobody, unchanged}
+use Rattle.mm_settle_lemmas.proofs.Lemmas.Told.{touches_counted}
 use Rattle.mm_table.proofs.records.Records.transmit.Goals as goal
 use Rattle.mm_table.proofs.records.Records.transmit.Goals.{in-Some, in-None}
 

@@ -1,10 +1,10 @@
 use Rattle.std.proofs.Common.{◌<◌, refl, sym, ap, subst, ◌∙◌, arith}
 use Rattle.mm_rules.specs.TableState.{TableState}
-use Rattle.mm_settle.specs.Steps.Pass.{IsTurn}
-use Rattle.mm_settle.specs.Steps.Settling.{IsSettling}
-use Rattle.mm_settle.proofs.Lemmas.Added.{adds_set}
-use Rattle.mm_settle.proofs.Lemmas.Frames.{cannot_still, transmit_config}
-use Rattle.mm_settle.proofs.Lemmas.Settling.{settling_starts, settling_transmit}
+use Rattle.mm_settle_lemmas.specs.Steps.Pass.{IsTurn}
+use Rattle.mm_settle_lemmas.specs.Steps.Settling.{IsSettling}
+use Rattle.mm_settle_lemmas.proofs.Lemmas.Added.{adds_set}
+use Rattle.mm_settle_lemmas.proofs.Lemmas.Frames.{cannot_still, transmit_config}
+use Rattle.mm_settle_lemmas.proofs.Lemmas.Settling.{settling_starts, settling_transmit}
 use Rattle.mm_table.proofs.records.Records.turn.Goals as goal
 
 pub returns-then-raised-clause-touched : goal.returns-then-raised-clause-touched

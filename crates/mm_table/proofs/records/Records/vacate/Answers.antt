@@ -2,8 +2,8 @@ use Rattle.std.proofs.Common.{ap, sym, subst, ◌∙◌, IsTrue, IsFalse}
 use Rattle.mm_rules.specs.TableState.{TableState, is_live, wait_of, has_verdict}
 use Rattle.mm_rules.specs.Change.{free_slot}
 use Rattle.mm_rules.proofs.States.HandOverAll.{live_still, active_still, no_verdict_then}
-use Rattle.mm_settle.specs.Steps.Vacating.{IsVacating}
-use Rattle.mm_settle.proofs.Lemmas.Vacated.{vacating_ends}
+use Rattle.mm_settle_lemmas.specs.Steps.Vacating.{IsVacating}
+use Rattle.mm_settle_lemmas.proofs.Lemmas.Vacated.{vacating_ends}
 use Rattle.mm_table.proofs.records.Records.vacate.Goals as goal
 
 pub free_slot-requires-clause-live : goal.free_slot-requires-clause-live

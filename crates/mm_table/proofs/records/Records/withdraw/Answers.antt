@@ -1,9 +1,9 @@
 use Rattle.std.proofs.Common.{◌≡◌, sym, ap, subst, ◌∙◌, arith}
 use Rattle.mm_rules.specs.TableState.{TableState}
 use Rattle.mm_rules.specs.Change.{activate}
-use Rattle.mm_settle.specs.Touched.{Touches}
-use Rattle.mm_settle.proofs.Lemmas.Added.{adds_set}
-use Rattle.mm_settle.proofs.Lemmas.Told.{touches_counted}
+use Rattle.mm_settle_lemmas.specs.Touched.{Touches}
+use Rattle.mm_settle_lemmas.proofs.Lemmas.Added.{adds_set}
+use Rattle.mm_settle_lemmas.proofs.Lemmas.Told.{touches_counted}
 use Rattle.mm_table.proofs.Fields.Withdraw.{touches_withdraw, adds_sized}
 use Rattle.mm_table.specs.private.Renewal.{renewed}
 use Rattle.mm_table.proofs.records.Records.withdraw.Goals as goal

@@ -1,7 +1,7 @@
 use Rattle.std.proofs.Common.{sym, subst, refl}
 use Rattle.mm_rules.specs.TableState.{TableState}
 use Rattle.mm_rules.specs.Event.{Begin}
-use Rattle.mm_settle.specs.Steps.Changed.{AreChanged}
+use Rattle.mm_settle_lemmas.specs.Steps.Changed.{AreChanged}
 use Rattle.mm_table.proofs.Fields.Table.{begun_changed, counted_changed, step_keeps_table}
 use Rattle.mm_table.proofs.table.Table.begin.Goals as goal
 

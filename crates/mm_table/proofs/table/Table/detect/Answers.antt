@@ -2,8 +2,8 @@ use Rattle.std.proofs.Common.{sym, subst, refl}
 use Rattle.mm_rules.specs.TableState.{TableState}
 use Rattle.mm_rules.specs.Change.{detect}
 use Rattle.mm_rules.specs.Event.{Detect}
-use Rattle.mm_settle.specs.Steps.Changed.{AreChanged}
-use Rattle.mm_settle.proofs.Lemmas.Changed.{changes_keep, changes_detect}
+use Rattle.mm_settle_lemmas.specs.Steps.Changed.{AreChanged}
+use Rattle.mm_settle_lemmas.proofs.Lemmas.Changed.{changes_keep, changes_detect}
 use Rattle.mm_table.proofs.Fields.Table.{counted_changed, step_keeps_table}
 use Rattle.mm_table.proofs.table.Table.detect.Goals as goal
 

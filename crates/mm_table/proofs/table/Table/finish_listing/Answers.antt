@@ -1,8 +1,8 @@
 use Rattle.std.proofs.Common.{◌≡◌, ◌↔◌, ℕ, Some, OnOk, subst}
-use Rattle.mm_list_lemmas.specs.Members.{Among}
+use Rattle.mm_lists.specs.Members.{Among}
 use Rattle.mm_rules.specs.TableState.{TableState, owner_of}
 use Rattle.mm_rules.specs.Event.{Finish}
-use Rattle.mm_settle.specs.Touched.{changed_processes}
+use Rattle.mm_settle_lemmas.specs.Touched.{changed_processes}
 use Rattle.mm_table.proofs.Fields.Table.{listing_keeps_table, listed}
 use Rattle.mm_table.proofs.table.Table.finish_listing.Goals as goal
 

@@ -1,7 +1,7 @@
 use Rattle.std.proofs.Common.{◌≡◌, subst}
 use Rattle.mm_rules.specs.TableState.{TableState}
 use Rattle.mm_rules.specs.Event.{Finish}
-use Rattle.mm_settle.specs.Touched.{changed_processes}
+use Rattle.mm_settle_lemmas.specs.Touched.{changed_processes}
 use Rattle.mm_table.proofs.Fields.Table.{listing_keeps_table, listed}
 use Rattle.mm_table.proofs.table.Table.finish_waking.Goals as goal
 

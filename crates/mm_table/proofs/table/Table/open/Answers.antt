@@ -3,7 +3,7 @@ use Rattle.std.proofs.lemmas.List.{length-replicate}
 use Rattle.mm_rules.specs.TableState.{TableState}
 use Rattle.mm_rules.specs.Laws.{Laws}
 use Rattle.mm_rules.proofs.States.Opening.{opening_lawful}
-use Rattle.mm_settle.specs.Steps.Changed.{AreChanged}
+use Rattle.mm_settle_lemmas.specs.Steps.Changed.{AreChanged}
 use Rattle.mm_table.proofs.Fields.Table.{emptied, opened_changed}
 use Rattle.mm_table.proofs.table.Table.open.Goals as goal
 

@@ -1,7 +1,7 @@
 use Rattle.std.proofs.Common.{◌≡◌, ◌∙◌, Ok, subst, sym}
 use Rattle.mm_rules.specs.TableState.{TableState}
 use Rattle.mm_rules.specs.Event.{Step, Settle}
-use Rattle.mm_settle.proofs.Lemmas.Untouched.{nothing}
+use Rattle.mm_settle_lemmas.proofs.Lemmas.Untouched.{nothing}
 use Rattle.mm_table.proofs.Fields.Table.{settled_keeps_table, still_keeps_table, answer_is}
 use Rattle.mm_table.proofs.table.Table.settle.Goals as goal
 

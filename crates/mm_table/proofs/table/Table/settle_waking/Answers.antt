@@ -1,7 +1,7 @@
 use Rattle.std.proofs.Common.{◌≡◌, ◌≤◌, vec_capacity, ap, sym, subst, ◌∙◌}
 use Rattle.mm_rules.specs.TableState.{TableState}
 use Rattle.mm_rules.specs.Event.{Step, Settle}
-use Rattle.mm_settle.specs.Touched.{changed_processes}
+use Rattle.mm_settle_lemmas.specs.Touched.{changed_processes}
 use Rattle.mm_table.proofs.Fields.Table.{settled_keeps_table, listed}
 use Rattle.mm_table.proofs.table.Table.settle_waking.Goals as goal
 

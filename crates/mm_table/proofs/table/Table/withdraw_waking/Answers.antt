@@ -1,7 +1,7 @@
 use Rattle.std.proofs.Common.{◌≡◌, sym, subst}
 use Rattle.mm_rules.specs.TableState.{TableState}
 use Rattle.mm_rules.specs.Laws.{AtRest}
-use Rattle.mm_settle.specs.Touched.{changed_processes}
+use Rattle.mm_settle_lemmas.specs.Touched.{changed_processes}
 use Rattle.mm_table.proofs.Fields.Table.{are_listed}
 use Rattle.mm_table.proofs.Fields.Withdraw.{withdraw_lists_table}
 use Rattle.mm_table.proofs.table.Table.withdraw_waking.Goals as goal

@@ -1,0 +1,11 @@
+-- what events leave of the slots of others
+pub mod Slots
+pub mod Events
+-- the ends of those whose abort is due
+pub mod Chain
+-- what a hand-over leaves of another transaction
+pub mod Left
+-- each request
+pub mod Requests
+-- who is live no longer
+pub mod Dead

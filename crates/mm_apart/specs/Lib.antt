@@ -1,0 +1,2 @@
+-- what a request leaves of the transactions that it does not name
+pub mod Apart

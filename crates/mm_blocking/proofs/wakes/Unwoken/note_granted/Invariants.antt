@@ -1,9 +1,0 @@
-use Rattle.std.proofs.Common.{◌≡◌, map, take}
-use Rattle.mm_blocking.specs.Wakes.{Notes}
-use Rattle.mm_blocking.proofs.wakes.Unwoken.note_granted.Given as goal
-
-abbrev pub invariant-loop-grant : goal.invariant-loop-grant
-invariant-loop-grant l = record {
-  noted : Notes (map (λ g. g.key.process) (take l.grant-index l.granted)) l.fn.wakes.processes.items l.fn.self.set l.wakes.processes.items l.self.set;
-  overdue : l.self.overdue ≡ l.fn.self.overdue;
-}

@@ -1,0 +1,25 @@
+use Rattle.std.proofs.Common.{◌≡◌, ℕ, List, ◌++◌, length, OnOk, IsOkUnless}
+use Rattle.mm_lines.specs.declared.fault.Fault.TheVariants.{Write}
+use Rattle.mm_lines.specs.Output.{Writes}
+use Rattle.mm_owned.specs.Owned.{ListsMatchOwners, list_at}
+use Rattle.mm_connections.specs.private.Served.{hub_of}
+use Rattle.mm_connections.proofs.Lemmas.Drops.{DropsOn}
+use Rattle.mm_connections.proofs.served.ServedManager.drop_all.Given as goal
+
+-- those at the front of the list were dropped, what is told of them is written, kept or lost, and the others are left
+abbrev pub invariant-key : goal.invariant-key
+invariant-key g l = record {
+  lists : length l.self.begun.lists ≡ length l.initial.self.begun.lists;
+  owners : length l.self.begun.owners ≡ length l.initial.self.begun.owners;
+  matched : ListsMatchOwners l.self.begun;
+  config : l.self.manager.table.config ≡ l.initial.self.manager.table.config;
+  told : List ℕ;
+  lost : List ℕ;
+  drops : DropsOn l.connection (hub_of l.initial.self) told (hub_of l.self);
+  writes : Writes (g.W.Write.contents l.initial.writer) (g.W.Write.contents l.writer) (l.initial.output.items ++ told) lost;
+  kept : OnOk l.written (lost ≡ l.output.items);
+  fault : IsOkUnless l.written Write;
+}
+
+abbrev pub decreases-key : goal.decreases-key
+decreases-key g l = length (list_at l.self.begun l.connection)

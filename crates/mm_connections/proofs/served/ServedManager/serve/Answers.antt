@@ -1,0 +1,25 @@
+use Rattle.std.proofs.Common.{◌∙◌, sym, subst, refl, codes, ◌++◌}
+use Rattle.mm_manager.specs.declared.refusal.Refusal.TheVariants as refusal
+use Rattle.mm_service.specs.Reply.{line_text, refusal_word}
+use Rattle.mm_service.proofs.Lemmas.Pieces.{writes_printed}
+use Rattle.mm_connections.specs.declared.permission.Permission.{Permission}
+use Rattle.mm_connections.specs.Text.{Hub, ServesBy, to}
+use Rattle.mm_connections.specs.private.Served.{hub_of}
+use Rattle.mm_connections.proofs.Lemmas.Lines.{printed_both}
+use Rattle.mm_connections.proofs.served.ServedManager.serve.Goals as goal
+
+pub returns-in-NoTransaction-clause-serves : goal.returns-in-NoTransaction-clause-serves
+returns-in-NoTransaction-clause-serves g c =
+    let becomes = sym c.in-NoTransaction.is ∙ c.permission_of.ensures in
+    let n = c.args.connection in
+    let h : Hub = hub_of c.args.self.now in
+    let kept = c.args.output.now.items in
+    let text = to n (line_text (codes "refused " ++ refusal_word refusal.NoTransaction)) in
+    let P = λ (p : Permission). ServesBy p n c.args.asked.request c.args.asked.name.now h text h in (
+      text,
+      c.print_line.new.output.items,
+      record { manager = c.keeps_laws.ensures; lists = c.keeps_laws-2.ensures },
+      subst P becomes (refl, refl),
+      writes_printed _ kept text c.print_line.new.output.items (printed_both kept _ c.print_to.new.output.items _ c.print_line.new.output.items c.print_to.ensures.added c.print_line.ensures),
+      refl,
+    )

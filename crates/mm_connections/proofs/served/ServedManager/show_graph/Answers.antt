@@ -1,0 +1,21 @@
+use Rattle.std.proofs.Common.{◌≡◌, ◌∙◌, ap, ◌++◌, length, codes, decimal, append_assoc}
+use Rattle.mm_manager.specs.Reads.{waits_of}
+use Rattle.mm_service.specs.Reply.{line_text}
+use Rattle.mm_service.proofs.Lemmas.Pieces.{writes_after}
+use Rattle.mm_connections.proofs.Lemmas.Lines.{printed_both}
+use Rattle.mm_connections.specs.Text.{to}
+use Rattle.mm_connections.proofs.served.ServedManager.show_graph.Goals as goal
+
+pub returns-clause-written : goal.returns-clause-written
+returns-clause-written g c =
+    let written = c.write_edges.ensures.written in
+    let old = c.args.output.now.items in
+    let n = c.args.connection in
+    let count = length (waits_of c.args.self.now.manager.table) in
+    let head = decimal n ++ codes " " in
+    let number : c.print_number.new.output.items ≡ old ++ (head ++ (codes "graph " ++ decimal count)) =
+    printed_both old head c.print_to.new.output.items _ _ c.print_to.ensures.added (c.print_number.ensures.added ∙ ap (λ k. c.print_to.new.output.items ++ (codes "graph " ++ decimal k)) c.count_waits.ensures) in
+    let line : c.end_line.new.output.items ≡ old ++ to n (line_text (codes "graph " ++ decimal count)) =
+    c.end_line.ensures ∙ ap (λ l. l ++ codes "\n") number ∙ append_assoc old (head ++ (codes "graph " ++ decimal count)) (codes "\n")
+    ∙ ap (λ l. old ++ l) (append_assoc head (codes "graph " ++ decimal count) (codes "\n")) in
+    (written.0, writes_after _ _ old _ _ _ _ line written.1, written.2)

@@ -1,0 +1,39 @@
+-- Connections are apart: what one of them says leaves the transactions of the others.
+use Rattle.std.specs.Prelude.{◌≡◌, ◌⊎◌, ℕ, true, false, List, length}
+use Rattle.mm_arena.specs.declared.key.Key.{Key}
+use Rattle.mm_bit_set.specs.BitSet.{has}
+use Rattle.mm_owned.specs.Owned.{Ownership}
+use Rattle.mm_rules.specs.TableState.{is_live}
+use Rattle.mm_apart.specs.Apart.{IsLeft}
+use Rattle.mm_connections.specs.Begun.{connection_of, IsOf}
+use Rattle.mm_connections.specs.Line.{said_of}
+use Rattle.mm_connections.specs.Text.{Hub, HangsUp, Answers, IsLawfulHub}
+use Rattle.mm_connections.specs.declared.line.Said.{Said}
+use Rattle.mm_connections.specs.declared.line.Said.TheVariants as said
+
+-- t is left (`IsLeft`: it is live, owns what it owned, and its wait is the same or ended by a grant) and is whose it was; or its abort was due, and it has ended
+abbrev pub StaysApart : Hub → Key → Hub → Type 0
+StaysApart old t new =
+    (IsLeft old.manager t new.manager × (connection_of new.begun t ≡ connection_of old.begun t))
+    ⊎ ((has old.manager.due t.process ≡ true) × (is_live new.manager.table t ≡ false))
+
+-- this is said by the connection that began t, or asked by the operator
+abbrev pub MayTouch : Ownership → Said → Key → Type 0
+MayTouch begun said.Nobody t = ⊥
+MayTouch begun (said.Malformed c) t = ⊥
+MayTouch begun (said.HangsUp c) t = IsOf begun c t
+MayTouch begun (said.Asks c request) t = (c ≡ 0) ⊎ IsOf begun c t
+
+-- so any line of another connection leaves each live transaction, whatever its bytes are
+abbrev pub LinesAreApart : Type 0
+LinesAreApart = (line out : List ℕ) (malformed : ℕ) (old new : Hub) → Answers old line out malformed new
+    → (t : Key) → is_live old.manager.table t ≡ true → ¬ MayTouch old.begun (said_of (length old.begun.lists) line).said t → StaysApart old t new
+
+-- after a hang-up each transaction of the connection has ended, or ends as soon as its wait does
+abbrev pub HangUpEndsAll : Type 0
+HangUpEndsAll = (c : ℕ) (old new : Hub) (out : List ℕ) → HangsUp c old out new → IsLawfulHub old → (t : Key) → IsOf old.begun c t
+    → (is_live new.manager.table t ≡ false) ⊎ (has new.manager.due t.process ≡ true)
+
+-- and none is the connection's any more: so no event is told to it until it begins one
+abbrev pub HangUpLeavesNone : Type 0
+HangUpLeavesNone = (c : ℕ) (old new : Hub) (out : List ℕ) → HangsUp c old out new → IsLawfulHub old → (t : Key) → ¬ IsOf new.begun c t

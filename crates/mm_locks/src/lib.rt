@@ -1,0 +1,27 @@
+//! A lock manager that threads share: a request for a name returns when the name is owned, or with `Deadlock`. A thread that waits sleeps.
+//!
+//! - `locks`: `Locks`, what threads share.
+//! - `transaction`: `Transaction`, which locks names, and gives all back at its end.
+//! - `run`: work that is done again after a deadlock, and `backoff`: the pauses before that.
+//! - `error`: why a call is refused.
+//! - `monitor`: the manager behind the lock, with whom it is to wake.
+//! - `wakes`: whom a call is to wake once the lock is free.
+//! - `parkers`: where the thread of each transaction sleeps.
+//! - `patience`: how long a thread is to wait.
+#![tactic(auto)]
+
+mod backoff;
+mod error;
+mod locks;
+mod monitor;
+mod parkers;
+mod patience;
+mod run;
+mod transaction;
+mod wakes;
+
+pub use error::LockError;
+pub use locks::Locks;
+pub use mm_manager::{ManagerConfig, OpenError, Totals};
+pub use monitor::{Granted, GrantedUpTo};
+pub use transaction::Transaction;

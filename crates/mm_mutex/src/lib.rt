@@ -1,0 +1,96 @@
+//! A lock round a value. A thread that finds it taken stays away from it for a while before it asks again.
+#![tactic(auto)]
+
+use crossbeam_utils::CachePadded;
+use std::sync::{Mutex, MutexGuard, Wait};
+use std::thread;
+
+/// How often a thread that finds the lock taken yields its processor before it asks for the lock again.
+const FIRST_YIELDS: u32 = 2;
+
+/// How often a thread asks again before it sleeps until the lock is free. Before each further time it yields twice as often.
+const TURNS: u32 = 8;
+
+/// A value that one thread at a time may use. What its type promises of all its values, a thread finds there whenever it takes the lock.
+///
+/// The word of the lock has a cache line of its own: a thread that waits for it slows down neither the one that has the lock nor those who
+/// read what stands beside it.
+pub struct YieldingMutex<T> {
+    inside: CachePadded<Mutex<CachePadded<T>>>,
+}
+
+// By hand, so that a crate that drops a lock proves nothing of how its parts are dropped.
+impl<T: Drop> Drop for YieldingMutex<T> {
+    fn drop(self) {
+        drop(self.into_inner());
+    }
+}
+
+impl<T> YieldingMutex<T> {
+    /// A free lock with this value behind it. Constant time, and it takes no memory.
+    pub fn new(value: T) -> YieldingMutex<T> {
+        YieldingMutex {
+            inside: CachePadded::new(Mutex::new(CachePadded::new(value))),
+        }
+    }
+
+    /// What stands behind the lock, which nobody else can take any more. Constant time.
+    pub fn into_inner(self) -> T {
+        let YieldingMutex { inside } = self;
+        inside.into_inner().into_inner().into_inner()
+    }
+
+    /// Takes the lock. Constant time where it is free; else the thread waits until whoever has it lets go.
+    // In place where it is free, since `Mutex::lock` itself is too long for that.
+    #[inline(always)]
+    pub fn take<R: Wait>(&self, rt: &R) -> Guard<'_, T> {
+        match self.inside.try_lock() {
+            Some(guard) => Guard { guard },
+            None => self.contended(rt),
+        }
+    }
+
+    /// Waits for the lock, and takes it. Asking again at once would slow down the one that has it, who is done soon: so the thread stays away
+    /// for longer and longer, and the other one makes several calls in the meantime.
+    #[inline(never)]
+    fn contended<R: Wait>(&self, rt: &R) -> Guard<'_, T> {
+        let mut yields = FIRST_YIELDS;
+        for _ in 0..TURNS {
+            stay_away(yields);
+            if let Some(guard) = self.inside.try_lock() {
+                return Guard { guard };
+            }
+            yields = yields.saturating_mul(2);
+        }
+        let guard = self.inside.lock(rt);
+        Guard { guard }
+    }
+}
+
+/// Has the lock, until it is dropped, and lends the value behind it.
+pub struct Guard<'a, T> {
+    guard: MutexGuard<'a, CachePadded<T>>,
+}
+
+impl<T> Guard<'_, T> {
+    /// What stands behind the lock. Constant time.
+    #[inline(always)]
+    pub fn inside(&mut self) -> &mut T {
+        &mut self.guard
+    }
+}
+
+// By hand, so that a crate that drops a guard proves nothing of how its parts are dropped.
+impl<T> Drop for Guard<'_, T> {
+    fn drop(self) {
+        let Guard { guard } = self;
+        drop(guard);
+    }
+}
+
+/// Yields the processor so often, which takes the time of several calls each.
+pub fn stay_away(yields: u32) {
+    for _ in 0..yields {
+        thread::yield_now();
+    }
+}

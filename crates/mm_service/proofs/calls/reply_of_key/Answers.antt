@@ -1,0 +1,38 @@
+use Rattle.std.proofs.Common.{sym, subst, refl}
+use Rattle.mm_service.specs.declared.requests.KeyRequest.{KeyRequest}
+use Rattle.mm_service.specs.declared.effect.Effect.TheVariants.{Nothing, EndedWaits}
+use Rattle.mm_manager.specs.Made.{Committed, Aborted, Cancelled}
+use Rattle.mm_service.specs.Reply.{line_text, answer_text, committed_text, abort_text, cancel_text, status_text}
+use Rattle.mm_service.specs.Text.{RepliesKey}
+use Rattle.mm_service.proofs.calls.reply_of_key.Goals as goal
+
+pub returns-in-Commit : goal.returns-in-Commit
+returns-in-Commit c =
+    let answer = c.commit.result in
+    let text = line_text (answer_text committed_text answer) in
+    let Answer = λ (r : KeyRequest). RepliesKey r c.args.key c.args.manager.now text EndedWaits c.commit.new.self in
+    let made : Committed c.args.manager.now c.args.key answer c.commit.new.self = record { commits = c.commit.ensures.commits; totals = c.commit.ensures.totals } in
+    (text, subst Answer (sym c.in-Commit.is) (answer, made, refl, refl), c.print_committed.ensures.added)
+
+pub returns-in-Abort : goal.returns-in-Abort
+returns-in-Abort c =
+    let answer = c.abort.result in
+    let text = line_text (answer_text abort_text answer) in
+    let Answer = λ (r : KeyRequest). RepliesKey r c.args.key c.args.manager.now text EndedWaits c.abort.new.self in
+    let made : Aborted c.args.manager.now c.args.key answer c.abort.new.self = record { aborts = c.abort.ensures.aborts; totals = c.abort.ensures.totals } in
+    (text, subst Answer (sym c.in-Abort.is) (answer, made, refl, refl), c.print_abort.ensures.added)
+
+pub returns-in-Cancel : goal.returns-in-Cancel
+returns-in-Cancel c =
+    let answer = c.cancel-answer.result in
+    let text = line_text (answer_text cancel_text answer) in
+    let Answer = λ (r : KeyRequest). RepliesKey r c.args.key c.args.manager.now text c.cancel_effect.result c.cancel-answer.new.self in
+    let made : Cancelled c.args.manager.now c.args.key answer c.cancel-answer.new.self = record { cancels = c.cancel-answer.ensures.cancels; totals = c.cancel-answer.ensures.totals } in
+    (text, subst Answer (sym c.in-Cancel.is) (answer, made, refl, c.cancel_effect.ensures), c.print_cancel.ensures.added)
+
+pub returns-in-Status : goal.returns-in-Status
+returns-in-Status c =
+    let answer = c.status.result in
+    let text = line_text (answer_text (status_text c.args.manager.now) answer) in
+    let Answer = λ (r : KeyRequest). RepliesKey r c.args.key c.args.manager.now text Nothing c.args.manager.now in
+    (text, subst Answer (sym c.in-Status.is) (answer, c.status.ensures, refl, refl, refl), c.print_status.ensures.added)

@@ -1,0 +1,381 @@
+//! The cases. `on_locks` opens locks for each, lends them to its threads, and drops them: so no case owns locks.
+
+use crate::tests::helpers::{holds, same};
+use crate::tests::steps::{END, Row, take};
+use crate::tests::{again, asleep, crosswise, crowd, many, patience, wakes};
+use mm_locks::{Locks, ManagerConfig};
+use std::alloc::{AllocError, Global};
+use std::process::Abort;
+use std::sync::atomic::AtomicU64;
+use std::sync::{Barrier, Wait};
+use std::thread;
+use std::thread::Threads;
+use std::time::{Clock, CpuClock};
+
+/// What threads do with locks.
+#[derive(Clone, Copy)]
+enum Work {
+    /// Each makes its steps.
+    Rows(&'static [Row]),
+    Outcomes,
+    BothCommit,
+    /// One makes so many attempts, and gives up.
+    GiveUp(u32),
+    Pause,
+    Patience,
+    BehindVictim,
+    Sleep,
+    Crosswise,
+    Crowd,
+    /// Each of many commits so many transactions.
+    Many(u64),
+    Wakes,
+}
+
+/// What is to be seen when the threads have ended. Each has returned a number.
+#[derive(Clone, Copy)]
+enum Ended {
+    /// Nothing that the threads have not looked at.
+    Nothing,
+    /// What the steps behind the last thread look at.
+    Rows(&'static [Row]),
+    /// So many transactions were committed. All others were told of a deadlock and rolled back: as many as the sum of the numbers, which
+    /// is within these bounds.
+    Deadlocks {
+        committed: u64,
+        least: u64,
+        most: u64,
+    },
+    /// The sum of the numbers is below this.
+    Below(u64),
+    /// The sum of the numbers is this or above.
+    AtLeast(u64),
+}
+
+#[derive(Clone, Copy)]
+struct Case {
+    name: &'static str,
+    transactions: u32,
+    names: u32,
+    seed: u64,
+    /// For how many numbers of names it is counted how many transactions believe that they own them.
+    owners: usize,
+    threads: usize,
+    work: Work,
+    ended: Ended,
+}
+
+/// So many names that nobody owns.
+fn nobody(alloc: Global, count: usize) -> Result<Vec<AtomicU64>, AllocError> {
+    let mut owners = Vec::with_capacity(alloc, count)?;
+    for _ in 0..count {
+        owners.push(AtomicU64::new(0))?;
+    }
+    Ok(owners)
+}
+
+impl Work {
+    /// What the thread of this number does. Returns a number, of which the sum over all threads is looked at.
+    fn part<R: Wait + Clock + CpuClock + Abort>(
+        self,
+        rt: &R,
+        locks: &Locks,
+        gate: &Barrier,
+        owners: &[AtomicU64],
+        number: usize,
+    ) -> u64 {
+        match self {
+            Work::Rows(rows) => {
+                take(rt, locks, gate, rows, number);
+                0
+            }
+            Work::Outcomes => {
+                again::outcomes(rt, locks, gate, owners);
+                0
+            }
+            Work::BothCommit => again::cross_often(rt, locks, gate, owners, number),
+            Work::GiveUp(attempts) => again::give_up(rt, locks, gate, owners, number, attempts),
+            Work::Pause => again::pause(rt, locks, gate, owners, number),
+            Work::Patience => {
+                patience::each_time_passes(rt, locks);
+                0
+            }
+            Work::BehindVictim => {
+                patience::behind_a_victim(rt, locks, gate, owners, number);
+                0
+            }
+            Work::Sleep => asleep::one_of_nine(rt, locks, gate, number),
+            Work::Crosswise => crosswise::cross_often(rt, locks, gate, number),
+            Work::Crowd => crowd::client(rt, locks, owners, number),
+            Work::Many(commits) => many::client(rt, locks, gate, owners, number, commits),
+            Work::Wakes => {
+                wakes::one_wakes_all(rt, locks, gate, number);
+                0
+            }
+        }
+    }
+}
+
+/// Ends the test unless so many were committed, and all others told of a deadlock and rolled back.
+fn deadlocks_are<R: Wait + Abort>(rt: &R, locks: &Locks, committed: u64, deadlocks: u64) {
+    let totals = locks.totals(rt);
+    same(rt, totals.committed, committed);
+    same(rt, totals.begun, committed.wrapping_add(deadlocks));
+    same(rt, totals.deadlocks, deadlocks);
+    same(rt, totals.aborted, deadlocks);
+}
+
+impl Ended {
+    /// Ends the test unless this is seen.
+    fn look<R: Wait + Clock + Abort>(self, rt: &R, locks: &Locks, gate: &Barrier, sum: u64) {
+        match self {
+            Ended::Nothing => {}
+            Ended::Rows(rows) => take(rt, locks, gate, rows, END),
+            Ended::Deadlocks {
+                committed,
+                least,
+                most,
+            } => {
+                holds(
+                    rt,
+                    "the sum is within its bounds",
+                    least <= sum && sum <= most,
+                );
+                deadlocks_are(rt, locks, committed, sum);
+            }
+            Ended::Below(bound) => holds(rt, "the sum is below its bound", sum < bound),
+            Ended::AtLeast(bound) => holds(rt, "the sum is not below its bound", bound <= sum),
+        }
+    }
+}
+
+impl Case {
+    /// Lets the threads do the work at once, and looks at what came of it.
+    fn done<R: Threads + Wait + Clock + CpuClock + Abort + Sync>(
+        &self,
+        rt: &R,
+        alloc: Global,
+        locks: &Locks,
+        owners: &[AtomicU64],
+    ) {
+        let gate = &Barrier::new(self.threads);
+        let work = self.work;
+        let parts = thread::map_indices(
+            rt,
+            alloc,
+            self.threads,
+            &|number| work.part(rt, locks, gate, owners, number),
+        )
+        .expect(rt, "memory");
+        let mut sum: u64 = 0;
+        for part in parts.as_slice() {
+            sum = sum.wrapping_add(*part);
+        }
+        self.ended.look(rt, locks, gate, sum);
+    }
+}
+
+/// Opens locks for the case, lets its threads do the work, and looks at what came of it.
+fn on_locks<R: Threads + Wait + Clock + CpuClock + Abort + Sync>(
+    rt: &R,
+    alloc: Global,
+    case: &Case,
+) {
+    let owners = nobody(alloc, case.owners).expect(rt, "memory");
+    let config = ManagerConfig {
+        transactions: case.transactions,
+        names: case.names,
+        name_bytes: 8,
+        seed: case.seed,
+    };
+    let locks = Locks::open(alloc, config).expect(rt, "memory");
+    case.done(rt, alloc, &locks, owners.as_slice());
+    drop(locks);
+}
+
+/// Two threads over two names.
+const TWO: Case = Case {
+    name: "",
+    transactions: 2,
+    names: 2,
+    seed: 11,
+    owners: 0,
+    threads: 2,
+    work: Work::Patience,
+    ended: Ended::Nothing,
+};
+
+static CROWDS: [Case; 12] = [
+    // The last thread owns twelve names, and commits once each has a waiter. Each of the thirteen has ended then.
+    Case {
+        name: "a_commit_wakes_all",
+        transactions: 13,
+        names: 12,
+        threads: 13,
+        work: Work::Wakes,
+        ended: Ended::Deadlocks {
+            committed: 13,
+            least: 0,
+            most: 0,
+        },
+        ..TWO
+    },
+    // A value is returned once its transaction is committed; an error of the work is returned, and its transaction rolled back.
+    Case {
+        name: "returns_what_came",
+        transactions: 1,
+        names: 1,
+        threads: 1,
+        work: Work::Outcomes,
+        ..TWO
+    },
+    // Each of a thousand times both have committed in the end, and each deadlock was one more attempt.
+    Case {
+        name: "both_commit",
+        work: Work::BothCommit,
+        ended: Ended::Deadlocks {
+            committed: 2_000,
+            least: 1_000,
+            most: u64::MAX,
+        },
+        ..TWO
+    },
+    // Where each attempt meets a deadlock, the last one's error is returned. Each attempt was made, and rolled back.
+    Case {
+        name: "ends_after_so_many_attempts",
+        work: Work::GiveUp(3),
+        ended: Ended::Deadlocks {
+            committed: 3,
+            least: 3,
+            most: 3,
+        },
+        ..TWO
+    },
+    // Between the attempts there are pauses.
+    Case {
+        name: "pauses_between_attempts",
+        work: Work::Pause,
+        ended: Ended::AtLeast(again::LEAST),
+        ..TWO
+    },
+    // A request for a name that stays owned is not taken back before its time.
+    Case {
+        name: "waits_its_time",
+        names: 1,
+        threads: 1,
+        work: Work::Patience,
+        ..TWO
+    },
+    // A request behind a victim whose time is up is taken back once the victim has aborted. The two numbers are its clock.
+    Case {
+        name: "behind_a_victim",
+        transactions: 4,
+        owners: 2,
+        threads: 3,
+        work: Work::BehindVictim,
+        ..TWO
+    },
+    // All who waited used so much processor time.
+    Case {
+        name: "sleeps",
+        transactions: 9,
+        names: 1,
+        threads: 9,
+        work: Work::Sleep,
+        ended: Ended::Below(asleep::MOST),
+        ..TWO
+    },
+    // Each of a thousand times one of the two was told of the deadlock, and the other one owned both names.
+    Case {
+        name: "one_of_two_is_told",
+        names: 3,
+        work: Work::Crosswise,
+        ended: Ended::Deadlocks {
+            committed: 1_000,
+            least: 1_000,
+            most: 1_000,
+        },
+        ..TWO
+    },
+    // No name has two owners at a time, all threads end, and each deadlock is told to one.
+    Case {
+        name: "a_crowd_ends",
+        transactions: 6,
+        names: 4,
+        owners: 4,
+        threads: 6,
+        work: Work::Crowd,
+        ended: Ended::Deadlocks {
+            committed: 600,
+            least: 0,
+            most: u64::MAX,
+        },
+        ..TWO
+    },
+    // Nobody is left over, and each deadlock was told to one who was then rolled back.
+    Case {
+        name: "over_sixteen_names",
+        transactions: 64,
+        names: 384,
+        seed: 5,
+        owners: 16,
+        threads: 64,
+        work: Work::Many(2),
+        ended: Ended::Deadlocks {
+            committed: 128,
+            least: 0,
+            most: u64::MAX,
+        },
+        ..TWO
+    },
+    Case {
+        name: "over_a_thousand_names",
+        transactions: 64,
+        names: 384,
+        seed: 5,
+        owners: 1_000,
+        threads: 64,
+        work: Work::Many(10),
+        ended: Ended::Deadlocks {
+            committed: 640,
+            least: 0,
+            most: u64::MAX,
+        },
+        ..TWO
+    },
+];
+
+/// Lets so many threads make their steps at locks for so many transactions and names.
+pub fn on_rows<R: Threads + Wait + Clock + CpuClock + Abort + Sync>(
+    rt: &R,
+    alloc: Global,
+    numbers: (u32, u32, usize),
+    rows: &'static [Row],
+) {
+    let case = Case {
+        transactions: numbers.0,
+        names: numbers.1,
+        threads: numbers.2,
+        work: Work::Rows(rows),
+        ended: Ended::Rows(rows),
+        ..TWO
+    };
+    on_locks(rt, alloc, &case);
+}
+
+/// Prints the name of each case before its threads are started: the last one that is printed is the one that failed, or does not end.
+fn on_all<R: Print + Threads + Wait + Clock + CpuClock + Abort + Sync>(
+    rt: &R,
+    alloc: Global,
+    cases: &[Case],
+) {
+    for case in cases {
+        println!(rt; "{}", case.name).expect(rt, "a name is printed");
+        on_locks(rt, alloc, case);
+    }
+}
+
+#[test]
+fn crowds_end(rt: HostRuntime) {
+    on_all(&rt, rt.alloc(), &CROWDS);
+}

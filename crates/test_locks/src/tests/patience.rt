@@ -1,0 +1,171 @@
+//! Requests that are not granted in their time, by a clock of the test's own.
+use crate::tests::helpers::{await_events, begin, commits, holds, owns, same, takes};
+use mm_locks::{LockError, Locks};
+use std::process::Abort;
+use std::sync::atomic::AtomicU64;
+use std::sync::atomic::Ordering::SeqCst;
+use std::sync::{Barrier, Wait};
+use std::time::{Clock, Duration};
+use std::{io, thread};
+
+/// The longest time, in milliseconds, that a request is given.
+const LONGEST: u64 = 6;
+
+/// A runtime with a clock of its own: each reading is a millisecond later than the one before.
+#[derive(Drop)]
+struct Ticking<'a, R: Wait> {
+    _rt: &'a R,
+    /// How often the clock was read.
+    readings: AtomicU64,
+}
+
+impl<'a, R: Wait> Wait for Ticking<'a, R> {}
+
+impl<'a, R: Wait> Clock for Ticking<'a, R> {
+    fn monotonic(&self) -> io::Result<Duration> {
+        Ok(Duration::from_millis(self.readings.fetch_add(1, SeqCst)))
+    }
+
+    fn since_1970(&self) -> io::Result<Duration> {
+        self.monotonic()
+    }
+}
+
+/// Asks for a name that another transaction owns and keeps, and gives up after so many milliseconds. Ends the test unless that time had
+/// passed when the clock was read last.
+fn is_taken_back<R: Wait + Abort>(rt: &R, locks: &Locks, limit: u64) {
+    let clock = &Ticking {
+        _rt: rt,
+        readings: AtomicU64::new(0),
+    };
+    let mut waiter = locks.begin(clock).expect(rt, "there is room");
+    let answer = owns(waiter.lock_for(b"a", Duration::from_millis(limit)));
+    same(rt, answer, Err(LockError::TimedOut));
+    drop(waiter);
+    // The first reading is at 0.
+    holds(
+        rt,
+        "the time has passed",
+        clock.readings.load(SeqCst) > limit,
+    );
+}
+
+/// A request for a name that stays owned is taken back, and not before its time.
+pub fn each_time_passes<R: Wait + Abort>(rt: &R, locks: &Locks) {
+    let mut owner = begin(rt, locks);
+    takes(rt, &mut owner, b"a");
+    for limit in 0..=LONGEST {
+        is_taken_back(rt, locks, limit);
+    }
+    commits(rt, owner);
+}
+
+/// A runtime with a clock that stands until another thread moves it.
+#[derive(Drop)]
+struct Standing<'a, R: Wait> {
+    _rt: &'a R,
+    /// The time, in milliseconds.
+    time: &'a AtomicU64,
+    /// How often the clock was read after it was moved.
+    readings: &'a AtomicU64,
+}
+
+impl<'a, R: Wait> Wait for Standing<'a, R> {}
+
+impl<'a, R: Wait> Clock for Standing<'a, R> {
+    fn monotonic(&self) -> io::Result<Duration> {
+        let time = self.time.load(SeqCst);
+        if time > 0 {
+            self.readings.fetch_add(1, SeqCst);
+        }
+        Ok(Duration::from_millis(time))
+    }
+
+    fn since_1970(&self) -> io::Result<Duration> {
+        self.monotonic()
+    }
+}
+
+/// How many transactions end while the victim has yet to abort.
+const ENDS: u32 = 100;
+
+/// Owns `a`, waits for `b`, and keeps both until all have met.
+fn wait_for_victim<R: Wait + Abort>(rt: &R, locks: &Locks, gate: &Barrier) {
+    let mut first = begin(rt, locks);
+    takes(rt, &mut first, b"a");
+    gate.wait(rt);
+    takes(rt, &mut first, b"b");
+    gate.wait(rt);
+    commits(rt, first);
+}
+
+/// Owns `b`, and is told of a deadlock once the two others wait for it. Moves the clock, lets others end, and aborts.
+fn be_victim<R: Wait + Abort>(
+    rt: &R,
+    locks: &Locks,
+    gate: &Barrier,
+    time: &AtomicU64,
+    readings: &AtomicU64,
+) {
+    let mut victim = begin(rt, locks);
+    takes(rt, &mut victim, b"b");
+    gate.wait(rt);
+    // Three begins, two locks, two waits of two events each.
+    await_events(rt, locks, 9);
+    same(rt, owns(victim.lock(b"a")), Err(LockError::Deadlock));
+    time.store(2, SeqCst);
+    for _ in rt.forever() {
+        if readings.load(SeqCst) > 0 {
+            break;
+        }
+        thread::yield_now();
+    }
+    for _ in 0..ENDS {
+        commits(rt, begin(rt, locks));
+        thread::yield_now();
+    }
+    drop(victim);
+    gate.wait(rt);
+}
+
+/// Waits for `b` behind the other one, with a time, and gives up.
+fn give_up_behind<R: Wait + Abort>(
+    rt: &R,
+    locks: &Locks,
+    gate: &Barrier,
+    time: &AtomicU64,
+    readings: &AtomicU64,
+) {
+    let clock = &Standing {
+        _rt: rt,
+        time,
+        readings,
+    };
+    let mut waiter = locks.begin(clock).expect(rt, "there is room");
+    gate.wait(rt);
+    // Three begins, two locks, and the two events of the other one's wait.
+    await_events(rt, locks, 7);
+    let answer = owns(waiter.lock_for(b"b", Duration::from_millis(1)));
+    same(rt, answer, Err(LockError::TimedOut));
+    drop(waiter);
+    gate.wait(rt);
+}
+
+/// Of three threads one is told of a deadlock, and another one waits behind it, whose time is up then: it cannot take its request back until
+/// the victim aborts. It tries again after each end, the last of which makes it possible, and does not read the clock again.
+pub fn behind_a_victim<R: Wait + Abort>(
+    rt: &R,
+    locks: &Locks,
+    gate: &Barrier,
+    numbers: &[AtomicU64],
+    thread: usize,
+) {
+    let time = numbers.get(0).expect(rt, "the time");
+    let readings = numbers.get(1).expect(rt, "the readings");
+    match thread {
+        0 => wait_for_victim(rt, locks, gate),
+        1 => be_victim(rt, locks, gate, time, readings),
+        _ => give_up_behind(rt, locks, gate, time, readings),
+    }
+    same(rt, readings.load(SeqCst), 1);
+}
