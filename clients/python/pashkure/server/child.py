@@ -27,10 +27,9 @@ class Child:
 
     def _greet(self) -> None:
         """Waits until the program answers."""
-        try:
-            os.write(self.stdin, b"totals\n")
-        except OSError:
-            raise Ended from None
+        data = b"totals\n"
+        while data:
+            data = data[self._write(data) :]
         reply = b""
         while not reply.endswith(b"\n"):
             data = os.read(self.stdout, SIZE)

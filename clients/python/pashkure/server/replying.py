@@ -31,6 +31,8 @@ class Replying:
                 connection, what = pending.popleft()
                 if what is not None and self._note(connection, what, line):
                     continue
+            if connection.is_done:
+                continue  # it hung up, and is owed nothing more: this is about its abort
             if not connection.out:
                 touched.append(connection)
             connection.out.append(line)

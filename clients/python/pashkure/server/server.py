@@ -16,6 +16,7 @@ from .replying import Replying
 
 READ, WRITE = selectors.EVENT_READ, selectors.EVENT_WRITE
 SIZE = 65536
+ENDS = signal.SIGTERM, signal.SIGINT
 
 
 class Server:
@@ -164,8 +165,9 @@ class Server:
             end.setblocking(False)
         signal.set_wakeup_fd(self._bell.fileno())
         self._selector.register(self._alarm, READ, None)
-        for number in signal.SIGTERM, signal.SIGINT:
+        for number in ENDS:
             signal.signal(number, self._end)
+        signal.pthread_sigmask(signal.SIG_UNBLOCK, ENDS)
 
     def _end(self, number: int, frame: object) -> None:
         self._is_ending = True
@@ -209,6 +211,7 @@ def _serve_locked(words: List[str], path: str, mode: int) -> Optional[str]:
 
 
 def _serve_at(child: Child, path: str, mode: int) -> None:
+    signal.pthread_sigmask(signal.SIG_BLOCK, ENDS)  # who sees the socket may end the server, so a signal waits until it is taken
     listener = Listener(path, mode)
     try:
         Server(child, listener).run()

@@ -1,0 +1,121 @@
+"""What the tests of the Python client have in common."""
+from __future__ import annotations
+
+import asyncio
+import threading
+from typing import Any, Awaitable, Callable
+
+from lib.world import LIMIT, until
+
+from pashkure import aio
+
+
+def same(told: Any, wanted: Any, what: str = "") -> None:
+    """Fails unless both are equal."""
+    if told != wanted:
+        raise AssertionError(f"{what or 'told'}: {told!r}, and {wanted!r} is wanted")
+
+
+def raises(kind: type, call: Callable[..., Any], *args: Any, **kwargs: Any) -> Any:
+    """Fails unless the call raises an exception of this very kind, and returns it."""
+    try:
+        told = call(*args, **kwargs)
+    except Exception as error:
+        if type(error) is not kind:
+            raise
+        return error
+    raise AssertionError(f"{told!r}, and {kind.__name__} is wanted")
+
+
+class Apart(threading.Thread):
+    """A call in a thread of its own, and what came of it."""
+
+    def __init__(self, call: Callable[..., Any], *args: Any, **kwargs: Any) -> None:
+        super().__init__(daemon=True)
+        self.call, self.args, self.kwargs = call, args, kwargs
+        self.told: Any = None
+        self.start()
+
+    def run(self) -> None:
+        try:
+            self.told = self.call(*self.args, **self.kwargs)
+        except BaseException as error:
+            self.told = error
+
+    def ends(self) -> Any:
+        """Waits for the end, and returns the result or the exception."""
+        self.join(LIMIT)
+        if self.is_alive():
+            raise AssertionError("the call has no end")
+        return self.told
+
+
+class Asyncio:
+    """The asyncio client, called as the one for threads: its coroutines run in a loop of their own."""
+
+    def __init__(self, *words: Any, **options: Any) -> None:
+        self._loop = asyncio.new_event_loop()
+        self._thread = threading.Thread(target=self._loop.run_forever, daemon=True)
+        self._thread.start()
+
+        async def opened() -> aio.Locks:
+            return await aio.Locks(*words, **options).__aenter__()
+
+        self._locks = self.result(opened())
+
+    def result(self, call: Awaitable[Any]) -> Any:
+        """What comes of a call, once it has an end."""
+
+        async def waits() -> Any:
+            return await call
+
+        return asyncio.run_coroutine_threadsafe(waits(), self._loop).result(LIMIT)
+
+    def transaction(self) -> "AsyncioTransaction":
+        return AsyncioTransaction(self, self.result(self._locks.transaction()))
+
+    def run(self, work: Callable[..., Any], *args: Any, **options: Any) -> Any:
+        async def works(tx: aio.Transaction, *args: Any) -> Any:
+            return await self._loop.run_in_executor(None, lambda: work(AsyncioTransaction(self, tx), *args))
+
+        return self.result(self._locks.run(works, *args, **options))
+
+    def __getattr__(self, name: str) -> Callable[..., Any]:
+        return lambda *args, **options: self.result(getattr(self._locks, name)(*args, **options))
+
+    def ends(self) -> None:
+        """Ends the loop too."""
+        self.close()
+        self.result(self._loop.shutdown_default_executor())
+        self._loop.call_soon_threadsafe(self._loop.stop)
+        self._thread.join()
+        self._loop.close()
+
+
+class AsyncioTransaction:
+    def __init__(self, locks: Asyncio, tx: aio.Transaction) -> None:
+        self._locks, self._tx, self.key = locks, tx, tx.key
+
+    def __getattr__(self, name: str) -> Callable[..., Any]:
+        return lambda *args, **options: self._locks.result(getattr(self._tx, name)(*args, **options))
+
+    def __enter__(self) -> "AsyncioTransaction":
+        return self
+
+    def __exit__(self, *error: Any) -> None:
+        self._locks.result(self._tx.__aexit__(*error))
+
+
+def waits(locks: Any, tx: Any) -> None:
+    """Returns when the transaction waits."""
+    until(lambda: locks.status(tx.key).state == "waiting", "the transaction waits")
+
+
+NO_BYTES = [*range(0x21), 0x7F]
+NO_NAMES = ["", b"", "a b", "\ud800", *(f"a{chr(byte)}b" for byte in NO_BYTES), *(bytes([byte]) for byte in NO_BYTES), bytearray(b"a\n"),
+            memoryview(b"a\nb")]  # fmt: skip
+NO_TEXTS = [None, 3, 10**20, True, 1.5, [97, 98], (97,), object(), threading.Thread]
+NO_KEYS = ["", "0", "0.", ".1", "0.1.1", "-0.1", "+0.1", "0.1 ", " 0.1", "0.1\n", "0.1\ntry 0.1 x", "0.1\r", "0,1", "ü", "0.1ü", "a.b", "٠.١",
+           "².1", "4294967296.1", "0.4294967296", "1" * 21 + ".1", "0." + "0" * 21, "1_0.1", "\ud800"]  # fmt: skip
+BAD_GRAPHS = ["graph x", "graph -1", "graph ", "graph 1 2", "graph 1_0", "graph 01", "graph 1\\n* 0.1 a", "graph 1\\n* 0.1 a b c",
+              "graph 2\\n* 0.1 a 1.1\\ngranted"]  # fmt: skip

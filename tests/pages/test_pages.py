@@ -1,0 +1,74 @@
+"""The pages: what they say of the sources, the commands that they show, and those that a reader pastes."""
+from __future__ import annotations
+
+import importlib.util
+import os
+import pathlib
+import re
+import signal
+import subprocess
+import sys
+
+from lib.world import LIMIT, PROGRAM, TOP, Case, each, run
+
+PASTED = ["README.md", "docs/SERVICE.md", "clients/python/README.md"]
+BLOCK = re.compile(r"^<!-- tested by tests/pages -->\n```sh\n(.*?)^```$.*?^```\n(.*?)^```$", re.M | re.S)
+COMMANDS = sorted(page for page in ["README.md", *(f"docs/{name}" for name in os.listdir(f"{TOP}/docs") if name.endswith(".md"))]
+                  if re.search(r"^```(text|sh)?\n\$ ", pathlib.Path(TOP, page).read_text(encoding="utf-8"), re.M))  # fmt: skip
+NEEDS = {"docs/THREADS.md": "crates/example_bank/out/example_bank"}
+PIP = {"PIP_NO_INDEX": "1", "PIP_CONFIG_FILE": os.devnull, "PYTHONDONTWRITEBYTECODE": "1"}
+
+
+class Pages(Case):
+    def passes(self, *command: str) -> None:
+        told = run(sys.executable, *command, cwd=TOP)
+        self.assertEqual((told.status, told.err), (0, b""), told.out)
+        self.assertRegex(told.out.splitlines()[-1], rb"^[0-9]+ passed, 0 failed$")
+
+    @each(["docs/contracts", "docs/citations"])
+    def test_sources(self, command: str) -> None:
+        """The contracts in the pages are those of the sources, and what the pages name is there."""
+        self.passes(command)
+
+    @each(COMMANDS)
+    def test_commands(self, page: str) -> None:
+        """The commands in a page print what it says."""
+        if page in NEEDS and not os.path.exists(os.path.join(TOP, NEEDS[page])):
+            self.skipTest(f"no program {NEEDS[page]}")
+        self.passes("docs/commands", "--program", PROGRAM, page)
+
+    def test_tour(self) -> None:
+        """The tour has what the program explains."""
+        self.passes("docs/make_tour", "--check", "--program", PROGRAM)
+
+
+class Pasted(Case):
+    """The first commands of the pages about the lock service, which stand below the line '<!-- tested by tests/pages -->', pasted into a shell
+    as a reader would. They print what is in the next block. The program stands for ./mmdetect, and a new folder for /tmp."""
+
+    @each(PASTED)
+    def test_page(self, page: str) -> None:
+        with open(os.path.join(TOP, page), encoding="utf-8") as file:
+            commands, wanted = BLOCK.findall(file.read())[0]
+        if "venv" in commands and importlib.util.find_spec("ensurepip") is None:
+            self.skipTest("this Python has no ensurepip (Debian's package python3-venv)")
+        if " cc " in f" {commands}" and run("sh", "-c", "command -v cc").status:
+            self.skipTest("no C compiler cc is on the PATH")
+        told = self.pasted(commands.replace("/tmp/", f"{self.folder}/").replace("./mmdetect", PROGRAM))
+        self.assertEqual(deadlocks_left_out(told), deadlocks_left_out(wanted))
+
+    def pasted(self, commands: str) -> str:
+        """What a shell prints that reads these commands, and the programs that they start, up to the end of the last one."""
+        environment = {name: value for name, value in os.environ.items() if name != "PYTHONPATH"}
+        with subprocess.Popen(["bash"], cwd=TOP, env={**environment, **PIP}, stdin=subprocess.PIPE, stdout=subprocess.PIPE, text=True,
+                              start_new_session=True) as shell:  # fmt: skip
+            try:
+                return shell.communicate(commands, LIMIT)[0]
+            except subprocess.TimeoutExpired:
+                os.killpg(shell.pid, signal.SIGKILL)
+                return shell.communicate()[0] + "and no end\n"
+
+
+def deadlocks_left_out(text: str) -> str:
+    """How many deadlocks there are differs from run to run."""
+    return re.sub("[0-9]+ deadlocks", "deadlocks", text)

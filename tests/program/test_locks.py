@@ -1,0 +1,101 @@
+"""The lock service over pipes. What is wanted here was worked out by hand from docs/SERVICE.md."""
+from __future__ import annotations
+
+import subprocess
+
+from lib.world import PROGRAM, Case, each
+
+LONG = "x" * 1024
+TAKEN = ["begin: begun 0.1", "begin: begun 1.1", "lock 0.1 a: granted"]
+THREE = ["begin: begun 0.1", "begin: begun 1.1", "begin: begun 2.1"]
+# 0.1 shows the label of 1.1, which waited after it did. No victim is ahead, so its wait can be taken back, and 1.1 gets a new label.
+CHAIN = [*THREE, "lock 1.1 b: granted", "lock 2.1 c: granted", "lock 0.1 b: waits 1.1", "lock 1.1 c: waits 2.1"]
+# 2.1 waits for 0.1, and 0.1 for 1.1, which closed the cycle and has yet to abort: the wait of 2.1 cannot be taken back before that.
+CARRIED = [*THREE, "lock 0.1 a: granted", "lock 1.1 b: granted", "lock 2.1 a: waits 0.1", "lock 0.1 b: waits 1.1", "lock 1.1 a: deadlock 0.1"]
+ANSWERS = [
+    ("nothing", [], ""),
+    ("each answer of lock and try", [*TAKEN, "lock 0.1 a: held", "try 0.1 a: held", "try 1.1 a: busy 0.1", "try 1.1 b: granted",
+     "lock 1.1 a: waits 0.1", "lock 0.1 b: deadlock 1.1"], ""),
+    ("a name is handed to its longest waiter", [*THREE, "lock 0.1 a: granted", "lock 1.1 a: waits 0.1", "lock 2.1 a: waits 0.1",
+     "owner a: owner 0.1", "unlock 0.1 a: unlocked/* granted 1.1 a", "owner a: owner 1.1", "commit 1.1: committed/* granted 2.1 a",
+     "owner a: owner 2.1", "commit 2.1: committed", "owner a: free"], ""),
+    ("a victim keeps its locks until its abort", [*TAKEN, "lock 1.1 b: granted", "lock 0.1 b: waits 1.1", "lock 1.1 a: deadlock 0.1",
+     "status 1.1: deadlock a 0.1", "holds 1.1: holds b", "lock 1.1 c: refused must-abort", "try 1.1 c: refused must-abort",
+     "unlock 1.1 b: refused must-abort", "commit 1.1: refused must-abort", "cancel 1.1: refused must-abort",
+     "abort 1.1: aborted/* granted 0.1 b", "status 1.1: refused no-transaction", "holds 0.1: holds a b"], ""),
+    ("who waits may cancel and abort and nothing else", [*TAKEN, "lock 1.1 a: waits 0.1", "lock 1.1 b: refused waiting",
+     "try 1.1 b: refused waiting", "unlock 1.1 a: refused waiting", "commit 1.1: refused waiting", "cancel 1.1: cancelled",
+     "status 1.1: active", "cancel 1.1: refused not-waiting", "lock 1.1 a: waits 0.1", "abort 1.1: aborted",
+     "abort 1.1: refused no-transaction"], ""),
+    ("a wait behind another one is taken back", [*CHAIN, "cancel 0.1: cancelled", "status 0.1: active", "status 1.1: waiting c 2.1",
+     "unlock 2.1 c: unlocked/* granted 1.1 c", "unlock 1.1 b: unlocked", "owner b: free"], ""),
+    ("who waits behind another one is aborted at once", [*CHAIN, "abort 0.1: aborted", "status 0.1: refused no-transaction",
+     "lock 2.1 b: deadlock 1.1", "abort 2.1: aborted/* granted 1.1 c", "totals: totals 3 0 2 1"], ""),
+    ("a cancel behind a victim and after its abort", [*CARRIED, "cancel 2.1: carried", "cancel 0.1: carried", "abort 1.1: aborted/* granted 0.1 b",
+     "cancel 2.1: cancelled", "status 2.1: active", "holds 0.1: holds a b"], ""),
+    ("an abort that comes due by a grant", [*CARRIED, "cancel 2.1: carried", "abort 2.1: later", "abort 2.1: later",
+     "status 2.1: waiting a 0.1 aborting", "abort 1.1: aborted/* granted 0.1 b", "commit 0.1: committed/* aborted 2.1",
+     "status 2.1: refused no-transaction", "owner a: free", "totals: totals 3 1 2 1"], ""),
+    ("what one whose abort comes due owned goes on", [*THREE, "begin: begun 3.1", "lock 2.1 z: granted", "lock 3.1 z: waits 2.1",
+     "lock 0.1 a: granted", "lock 1.1 b: granted", "lock 2.1 a: waits 0.1", "lock 0.1 b: waits 1.1", "lock 1.1 a: deadlock 0.1",
+     "abort 2.1: later", "abort 1.1: aborted/* granted 0.1 b", "unlock 0.1 a: unlocked/* aborted 2.1/* granted 3.1 z"], ""),
+    ("names are listed in the order of their bytes", ["begin: begun 0.1", *(f"lock 0.1 {name}: granted" for name in ("b", "a", "ab", "B", "é")),
+     "holds 0.1: holds B a ab b é", "unlock 0.1 ab: unlocked", "holds 0.1: holds B a b é", "holds 0.2: refused no-transaction"], ""),
+    ("the graph is by the keys", [*THREE, "graph: graph 0", "lock 2.1 a: granted", "lock 1.1 a: waits 2.1", "lock 0.1 b: granted",
+     "lock 2.1 b: waits 0.1", "graph: graph 2/* 1.1 a 2.1/* 2.1 b 0.1", "lock 0.1 a: deadlock 2.1",
+     "graph: graph 3/* 0.1 a 2.1/* 1.1 a 2.1/* 2.1 b 0.1"], ""),
+    ("as many transactions as there can be", [*THREE[:2], "begin: refused transactions-full", "commit 0.1: committed", "begin: begun 0.2"],
+     "--transactions 2"),
+    ("as many names as there can be", ["begin: begun 0.1", "lock 0.1 a: granted", "lock 0.1 b: granted", "lock 0.1 c: refused names-full",
+     "try 0.1 c: refused names-full", "lock 0.1 a: held", "unlock 0.1 a: unlocked", "lock 0.1 c: granted"], "--names 2"),
+    ("names as long as there can be", ["begin: begun 0.1", "lock 0.1 abc: granted", "lock 0.1 abcd: refused name-too-long",
+     "try 0.1 abcd: refused name-too-long", "unlock 0.1 abcd: refused name-too-long", "owner abcd: free",
+     "lock 1.1 abcd: refused no-transaction"], "--name-bytes 3"),
+    ("a name of 65 bytes if nothing is said", ["begin: begun 0.1", f"lock 0.1 {LONG[:64]}: granted", f"lock 0.1 {LONG[:65]}: refused name-too-long"], ""),
+    ("the longest name and longer ones", ["begin: begun 0.1", f"lock 0.1 {LONG}: granted", f"owner {LONG}: owner 0.1", f"lock 0.1 {LONG}x: malformed",
+     f"holds 0.1: holds {LONG}"], "--name-bytes 1024"),
+    ("the longest line and a longer one", [f"unlock 65535.4294967295 {LONG}\r: refused no-transaction", f"unlock 065535.4294967295 {LONG}: malformed"], ""),
+    *((f"no reply depends on the seed {seed}", [*TAKEN, "lock 0.1 b: granted", "lock 0.1 c: granted", "lock 1.1 b: waits 0.1",
+       "commit 0.1: committed/* granted 1.1 b", "holds 1.1: holds b"], f"--seed {seed}") for seed in (0, 1, 2**64 - 1)),
+]  # fmt: skip
+NO_REQUESTS = ["fly", "begin now", "lock 0.1", "lock 0.1 a b", "lock a 0.1", "lock 0 a", "lock 0.1 \ta", "lock 0.1 a\x7f", "owner", "owner a b",
+               "holds", "graph 1", "totals x", "BEGIN", "lock 0.4294967296 a", "lock 4294967296.0 a", "lock +0.1 a"]  # fmt: skip
+
+
+class Answers(Case):
+    @each(ANSWERS)
+    def test_answers(self, name: str, rows: list[str], options: str) -> None:
+        pairs = [row.rpartition(": ") for row in rows]
+        replies = "".join(f"{reply}\n".replace("/*", "\n*") for _, _, reply in pairs)
+        told = self.run_program("locks", *options.split(), given="".join(f"{request}\n" for request, _, _ in pairs))
+        self.ends(told, int("malformed" in replies), replies)
+
+    def test_lines_that_are_no_request(self) -> None:
+        self.ends(self.run_program("locks", given="\n".join(NO_REQUESTS)), 1, "malformed\n" * len(NO_REQUESTS))
+
+    def test_line_without_its_newline(self) -> None:
+        self.ends(self.run_program("locks", given="begin\nlock 0.1 a"), 0, "begun 0.1\ngranted\n")
+
+    def test_line_of_a_million_bytes(self) -> None:
+        self.ends(self.run_program("locks", given="begin\nowner " + "x" * 1_000_000 + "\nstatus 0.1\n"), 1, "begun 0.1\nmalformed\nactive\n")
+
+    def test_typed_requests(self) -> None:
+        """Each reply is there before the next request is given."""
+        with subprocess.Popen([PROGRAM, "locks"], stdin=subprocess.PIPE, stdout=subprocess.PIPE) as child:
+            assert child.stdin and child.stdout
+            for line, reply in ("begin", "begun 0.1"), ("lock 0.1 a", "granted"), ("owner a", "owner 0.1"), ("commit 0.1", "committed"):
+                child.stdin.write(line.encode() + b"\n")
+                child.stdin.flush()
+                self.assertEqual(child.stdout.readline(), reply.encode() + b"\n")
+            child.stdin.close()
+            self.assertEqual(child.stdout.read(), b"")
+        self.assertEqual(child.returncode, 0)
+
+    def test_long_replies(self) -> None:
+        """A transaction owns 3,000 names, and 3,000 wait for it: more than the program holds of a reply."""
+        names = [f"name/{number}" for number in range(10_001, 13_001)]
+        requests = ["begin"] * 3001 + [f"lock 0.1 {name}" for name in names] + [f"lock {number}.1 {name}" for number, name in enumerate(names, 1)]
+        told = self.run_program("locks", given="\n".join([*requests, "holds 0.1", "graph", "commit 0.1"])).out.decode().splitlines()
+        waits = [f"* {number}.1 {name} 0.1" for number, name in enumerate(names, 1)]
+        self.assertEqual(told[9001:12004], [" ".join(["holds", *names]), "graph 3000", *waits, "committed"])
+        self.assertEqual(sorted(told[12004:]), sorted(f"* granted {number}.1 {name}" for number, name in enumerate(names, 1)))

@@ -1,0 +1,85 @@
+"""Random scripts, requests and workloads: what is kept in tests/corpus, those of one seed, and those of a new seed, each as a model answers."""
+from __future__ import annotations
+
+import os
+
+from lib import search, service
+from lib.table import lines_of
+from lib.world import SEED, Case, each
+
+LINES, FILES = 40_000, 400
+REQUESTS, = (subject for subject in search.SUBJECTS if subject.name == "requests")
+
+
+class Kept(Case):
+    @each([(f"{subject.name}/{os.path.basename(path)}", subject, path) for subject in search.ALL for path in subject.corpus()])
+    def test_kept(self, name: str, subject: search.Subject, path: str) -> None:
+        self.assertIsNone(subject.difference(search.read(path)))
+
+
+class Drawn(Case):
+    def searches(self, subject: search.Subject, seed: int) -> None:
+        wrong = search.search(subject, seed, LINES if subject in search.SUBJECTS else FILES)
+        if wrong is not None:
+            self.fail(f"of the seed {seed}: {wrong}\n  again: tests/run -k {self.id().rpartition('.')[2]} --seed {seed}")
+
+    @each([(subject.name, subject) for subject in search.ALL])
+    def test_one_seed(self, name: str, subject: search.Subject) -> None:
+        self.searches(subject, 1)
+
+    @each([(subject.name, subject) for subject in search.ALL])
+    def test_new_seed(self, name: str, subject: search.Subject) -> None:
+        self.searches(subject, SEED)
+
+    @each([(subject.name, subject) for subject in search.SUBJECTS])
+    def test_what_is_drawn(self, name: str, subject: search.Subject) -> None:
+        """Each kind of reply comes about, so the search looks at all of them."""
+        seen = {word: 0 for word in KINDS[name]}
+        for data in search.inputs(subject, 1, LINES):
+            for line in subject.wanted(data)[1].split(b"\n"):
+                words = line.decode("latin-1").split(" ")
+                words = words[1:] if name == "connections" and len(words) > 1 and words[0] != "-" else words
+                kind = " ".join(words[:2]) if words[:1] == ["*"] else words[-1] if words[0] == "refused" else words[0]
+                if kind in seen:
+                    seen[kind] += 1
+        self.assertEqual([kind for kind, count in seen.items() if count < 20], [], seen)
+
+    def test_end_without_promise(self) -> None:
+        """The model's order of grants is the program's, by the numbers of names, which no page promises."""
+        given = b"# --names 9\nbegin\nbegin\nbegin\nlock 0.1 c\nlock 0.1 a\nunlock 0.1 c\nlock 0.1 b\nlock 1.1 a\nlock 2.1 b\ncommit 0.1\n"
+        self.assertIsNone(REQUESTS.difference(given), service.answers(given))
+
+    def test_cut_short(self) -> None:
+        """What fails is cut to what it needs: first lines, and then bytes."""
+        data = b"".join(b"line %d x\n" % number if number % 7 == 0 else b"line %d\n" % number for number in range(200)) + b"y\n"
+        self.assertEqual(search.shortest(data, lambda given: given.count(b"x") >= 2 and b"y" in given), b"xxy")
+
+    def test_wrong_services(self) -> None:
+        """A service that keeps each wait that shows another's label, and one that hands over in another order, answer otherwise than the model."""
+
+        class Carries(service.Service):
+            def withdraw(self, process: int) -> bool:
+                return self.table.private(process) == self.table.public(process) and super().withdraw(process)
+
+        class Reversed(service.Service):
+            def hand_over(self, process: int, names: list[bytes]) -> list[int]:
+                before = len(self.caused)
+                granted = super().hand_over(process, names)
+                self.caused[before:] = self.caused[before:][::-1]
+                return granted[::-1]
+
+        for kind in Carries, Reversed:
+            seen = 0
+            for data in search.inputs(REQUESTS, 1, 6_000):
+                wrong = kind(**service.limits_of(data))
+                seen += [reply for line in lines_of(data) for reply in wrong.answer(line)] != REQUESTS.wanted(data)[1].split(b"\n")[:-1]
+            self.assertGreater(seen, 2, kind)
+
+
+KINDS = {
+    "scripts": "ok key granted waits free to finished raised still deadlock standing clear aborted withdrawn settled active waiting convicted owner "
+    "totals malformed no table Stale NoResource Waiting AlreadyOwns NotOwner Full LabelsExhausted NotWaiting NoVerdict Carried UnderVerdict".split(),
+    "requests": "begun granted held waits deadlock busy unlocked committed aborted later cancelled carried owner free active waiting holds graph totals "
+    "malformed no-transaction must-abort waiting not-waiting name-too-long not-owner names-full transactions-full".split() + ["* granted", "* aborted"],
+}
+KINDS["connections"] = KINDS["requests"] + ["operator", "-"]

@@ -1,0 +1,182 @@
+"""Scripts: from files, from pipes and typed, with devices that fail, and the worked ones."""
+from __future__ import annotations
+
+import ast
+import glob
+import os
+import re
+import resource
+import subprocess
+
+from lib.world import PROGRAM, TOP, Case, each
+
+FIRST_RUN = b"table 4 4 100 9\nbegin\nbegin\nacquire 0.1 0\nacquire 1.1 1\nacquire 0.1 1\nacquire 1.1 0\nstate 0.1\nstate 1.1\n"
+FIRST_REPLIES = b"ok\nkey 0.1\nkey 1.1\ngranted\ngranted\nwaits 1.1 1.0\nwaits 0.1 2.1\nwaiting 1 1.0 1.0\nwaiting 0 2.1 2.1\n"
+LONGEST = 16_777_216
+NO_KEY = "K is not two numbers from 0 to 4294967295 with a dot between them"
+WRONG = [
+    ("fly 0.1", "no call has this word"),
+    ("0" * 129, "the line has more than 128 bytes"),
+    ("acquire 0.1", "acquire wants two words, K r, behind it, but has 1"),
+    ("begin now  please", "begin wants no word behind it, but has 2"),
+    ("settle x", "settle wants no word behind it, but has 1"),
+    ("owner", "owner wants one word, r, behind it, but has 0"),
+    ("finish 1", NO_KEY),
+    ("acquire 0. 0", NO_KEY),
+    ("acquire 0.0 -1", "r is not a whole number from 0 to 4294967295"),
+    ("owner 4294967296\r", "r is not a whole number from 0 to 4294967295"),
+    ("table 1 x 9 9", "R is not a whole number from 0 to 4294967295"),
+    ("table2 1 1 18446744073709551616 9", "L is not a whole number from 0 to 18446744073709551615"),
+    ("table 1 1 9 9.", "G is not a whole number from 0 to 4294967295"),
+    ("table 1 1 9", "table wants four words, P R L G, behind it, but has 3"),
+    ("Begin", "no call has this word"),
+    ("\tbegin", "no call has this word"),
+    ("abort 4294967296.1", NO_KEY),
+]
+
+
+def worked() -> list[tuple[str, bytes, bytes, int]]:
+    """The worked scripts of the crate test_support: a name, the script, its replies, and how many lines are malformed."""
+    row = r'Row \{\s*name: ("(?:[^"\\]|\\.)*"),\s*input: ("(?:[^"\\]|\\.)*"),\s*output: ("(?:[^"\\]|\\.)*"),\s*malformed: (\d+),\s*\}'
+    with open(os.path.join(TOP, "crates/test_support/src/rows.rt"), encoding="utf-8") as file:
+        text = file.read()
+    rows = re.findall(row, text)
+    count = sum(map(int, re.findall(r"static \w+: \[Row; (\d+)\]", text)))
+    assert len(rows) == count, f"{len(rows)} of {count} scripts are read"
+    # (of escapes these texts have only such as Python writes in the same way)
+    read = [[ast.literal_eval("b" + literal) for literal in row[:3]] for row in rows]
+    return [(name.decode(), script, replies, int(row[3])) for (name, script, replies), row in zip(read, rows)]
+
+
+class Worked(Case):
+    """Scripts with the replies that the rules give."""
+
+    @each(worked())
+    def test_rows(self, name: str, script: bytes, replies: bytes, malformed: int) -> None:
+        self.ends(self.run_program(given=script), int(malformed > 0), replies)
+        told = self.run_program("script", "--verbose", given=script)
+        self.ends(told, int(malformed > 0), replies, told.err)
+        self.assertEqual(len(re.findall(rb"^line [0-9]+: ", told.err, re.M)), malformed)
+
+    @each(sorted(map(os.path.basename, glob.glob(os.path.join(TOP, "examples/*.script")))))
+    def test_examples(self, name: str) -> None:
+        path = os.path.join(TOP, "examples", name)
+        with open(path, "rb") as script, open(path.replace(".script", ".replies"), "rb") as replies:
+            self.ends(self.run_program(given=script.read()), 0, replies.read())
+
+
+class Scripts(Case):
+    @each(["", "script"])
+    def test_from_a_file(self, word: str) -> None:
+        with open(self.file("script", FIRST_RUN), "rb") as script:
+            self.ends(self.run_program(*word.split(), stdin=script), 0, FIRST_REPLIES)
+
+    def test_empty(self) -> None:
+        self.ends(self.run_program())
+
+    def test_malformed_line(self) -> None:
+        self.ends(self.run_program(given="fly\nbegin"), 1, "malformed\nno table\n")
+
+    def test_each_kind_of_malformed_line(self) -> None:
+        script = "".join(f"{line}\n" for line in ["table 1 1 9 9", "# 2", *(line for line, _ in WRONG)])
+        replies = "ok\n" + "malformed\n" * len(WRONG)
+        told = "".join(f"line {number}: {why}\n" for number, (_, why) in enumerate(WRONG, 3))
+        self.ends(self.run_program("script", "--verbose", given=script), 1, replies, told)
+        self.ends(self.run_program("script", given=script), 1, replies)
+
+    def test_verbose_has_nothing_to_say(self) -> None:
+        self.ends(self.run_program("script", "-v", given=FIRST_RUN), 0, FIRST_REPLIES)
+
+    def test_lines_in_pieces(self) -> None:
+        with subprocess.Popen([PROGRAM, "script", "--verbose"], stdin=subprocess.PIPE, stdout=subprocess.PIPE, stderr=subprocess.PIPE) as child:
+            assert child.stdin and child.stdout and child.stderr
+            for piece, reply in (b"be", b""), (b"gin\nfly", b"no table\n"), (b" away\nfl", b"malformed\n"), (b"y", b""):
+                child.stdin.write(piece)
+                child.stdin.flush()
+                self.assertEqual(child.stdout.readline() if reply else b"", reply)
+            child.stdin.close()
+            self.assertEqual(child.stdout.read(), b"malformed\n")
+            self.assertEqual(child.stderr.read(), b"line 2: no call has this word\nline 3: no call has this word\n")
+        self.assertEqual(child.returncode, 1)
+
+    def test_typed_lines(self) -> None:
+        """Each reply is there before the next line is given."""
+        with subprocess.Popen([PROGRAM], stdin=subprocess.PIPE, stdout=subprocess.PIPE) as child:
+            assert child.stdin and child.stdout
+            for line, reply in zip(FIRST_RUN.splitlines(True), FIRST_REPLIES.splitlines(True)):
+                child.stdin.write(line)
+                child.stdin.flush()
+                self.assertEqual(child.stdout.readline(), reply)
+            child.stdin.close()
+            self.assertEqual(child.stdout.read(), b"")
+        self.assertEqual(child.returncode, 0)
+
+    @each([
+        ("of newlines", b"\n" * (LONGEST + 1), b""),
+        ("with its last newline past the limit", b"\n" * (LONGEST - 5) + b"begin\n", b""),
+        ("of malformed lines", b"fly\n" + b"#" * 60 + b"\n" * LONGEST, b"malformed\n"),
+    ])  # fmt: skip
+    def test_too_long(self, name: str, script: bytes, replies: bytes) -> None:
+        self.ends(self.run_program(given=script), 3, replies, "input too long\n")
+
+    def test_too_long_with_verbose(self) -> None:
+        told = f"line {LONGEST - 5}: no call has this word\nline {LONGEST - 4}: the script has more than {LONGEST} bytes\ninput too long\n"
+        self.ends(self.run_program("script", "--verbose", given=b"\n" * (LONGEST - 6) + b"fly\nbegin"), 3, "malformed\n", told)
+
+
+class Devices(Case):
+    """Devices that fail, of scripts, help and the lock service."""
+
+    def test_pipe_that_closes_early(self) -> None:
+        for words, line, reply in ([], b"begin\n", b"no table\n"), (["locks"], b"graph\n", b"graph 0\n"):
+            with open(self.file("script", line * 200_000), "rb") as script:
+                with subprocess.Popen([PROGRAM, *words], stdin=script, stdout=subprocess.PIPE, stderr=subprocess.PIPE) as child:
+                    assert child.stdout and child.stderr
+                    self.assertEqual(child.stdout.readline(), reply)
+                    child.stdout.close()
+                    self.assertEqual(child.stderr.read(), b"write fault\n")
+            self.assertEqual(child.returncode, 3)
+
+    @each(["", "locks", "explain", "explain --dot", "--help", "script -v --help", "--version", "storm --clients 1",
+           f"threads {TOP}/examples/workloads/crosswise.json"])  # fmt: skip
+    def test_output_that_takes_nothing(self, words: str) -> None:
+        with open("/dev/full", "wb") as full:
+            self.ends(self.run_program(*words.split(), given=b"begin\n", stdout=full), 3, b"", "write fault\n")
+        self.ends(self.run_program(*words.split(), given=b"begin\n", preexec_fn=lambda: os.close(1)), 3, b"", "write fault\n")
+
+    def test_disk_that_is_full_in_the_middle(self) -> None:
+        """The front part of the replies stays."""
+        path, replies = self.path("replies"), b"no table\n" * 20_000
+        with open(path, "wb") as out:
+            limit = lambda: resource.setrlimit(resource.RLIMIT_FSIZE, (100_000, 100_000))
+            self.ends(self.run_program(given=b"begin\n" * 20_000, stdout=out, preexec_fn=limit, restore_signals=False), 3, b"", "write fault\n")
+        with open(path, "rb") as out:
+            written = out.read()
+        self.assertTrue(0 < len(written) <= 100_000 and replies.startswith(written), len(written))
+
+    @each(["", "locks", "explain"])
+    def test_input_that_cannot_be_read(self, words: str) -> None:
+        with _directory() as folder:
+            self.ends(self.run_program(*words.split(), stdin=folder), 3, b"", "read fault\n")
+        self.ends(self.run_program(*words.split(), stdin=None, preexec_fn=lambda: os.close(0)), 3, b"", "read fault\n")
+
+    def test_read_fault_with_verbose(self) -> None:
+        with _directory() as folder:
+            told = self.run_program("script", "--verbose", stdin=folder)
+        self.ends(told, 3, b"", told.err)
+        self.assertRegex(told.err, rb"(?s)^line 1: .*\nread fault\n\Z")
+
+    def test_read_fault_that_cannot_be_told(self) -> None:
+        with _directory() as folder:
+            self.ends(self.run_program(stdin=folder, stderr=None, preexec_fn=lambda: os.close(2)), 3)
+
+
+class _directory:
+    """A folder, opened to be read as a file."""
+
+    def __enter__(self) -> int:
+        self.descriptor = os.open("/", os.O_RDONLY)
+        return self.descriptor
+
+    def __exit__(self, *error: object) -> None:
+        os.close(self.descriptor)

@@ -1,0 +1,130 @@
+"""The C client: with replies that are written in replies.c, and with a service; built with sanitizers, and with calls that fail or are short."""
+from __future__ import annotations
+
+import os
+import re
+import subprocess
+import tempfile
+
+from lib.faults import FaultCase, variables
+from lib.world import CLIENTS, LIMIT, SEED, TOP, Run, each, environment, run
+
+HERE = os.path.join(TOP, "tests", "service")
+CLIENT = os.path.join(CLIENTS, "c")
+FLAGS = ["-std=c11", "-Wall", "-Wextra", "-Wpedantic", "-Werror", "-O1", "-g", "-pthread", f"-I{CLIENT}"]
+SANITIZED = ["-fsanitize=address,undefined", "-fno-sanitize-recover=all"]
+LIMITS = ["--transactions", "64", "--names", "2048", "--name-bytes", "64"]
+FAULTS = "recv:EINTR%20 recv:short%30 send:EINTR%25 send:short%40 poll:EINTR%30 read:EINTR%10 write:EINTR%10"
+"""What a client has to live with: signals, and calls that do less than they were asked for."""
+SEEDS = [1, 2, 3, SEED]
+
+
+def tests(name: str) -> list[str]:
+    with open(f"{HERE}/{name}.c", encoding="utf-8") as file:
+        return re.findall(r"\bTEST\((\w+)\)", file.read())
+
+
+class CCase(FaultCase):
+    @classmethod
+    def setUpClass(cls) -> None:
+        super().setUpClass()
+        cls.scratch = tempfile.TemporaryDirectory(prefix="pashkure.")
+        cls.addClassCleanup(cls.scratch.cleanup)
+        for name, source in ("replies", f"{HERE}/replies.c"), ("service", f"{HERE}/service.c"), ("bank", f"{CLIENT}/bank.c"):
+            for kind, flags in ("", []), (".sanitized", SANITIZED):
+                subprocess.run(["cc", *FLAGS, *flags, "-o", cls.program(name + kind), source, f"{CLIENT}/pashkure.c"], check=True)
+
+    @classmethod
+    def program(cls, name: str) -> str:
+        return os.path.join(cls.scratch.name, name)
+
+    def passes(self, told: Run) -> Run:
+        self.assertEqual((told.status, told.err.decode(errors="replace")), (0, ""))
+        return told
+
+
+class Replies(CCase):
+    """Each reply is there before the request, or comes when the other end has seen it."""
+
+    @each(tests("replies"))
+    def test_sanitized(self, name: str) -> None:
+        self.passes(run(self.program("replies.sanitized"), name))
+
+    @each(tests("replies"))
+    def test_with_faults(self, name: str) -> None:
+        """EINTR and short calls of recv, send and poll change nothing that a caller sees."""
+        for seed in SEEDS:
+            with self.subTest(seed=seed):
+                self.passes(self.faulty(FAULTS, self.program("replies"), name, seed=seed))
+
+    def test_long_time(self) -> None:
+        """A time of more than 2 to the 31 milliseconds is not told to poll as a short one."""
+        log = self.path("log")
+        env = {**os.environ, **variables("poll:told recv:short=10", log=log)}  # so that it reads `waits 1.1`, and then has to wait
+        self.passes(run(self.program("replies"), "long_time", env=env))
+        with open(log, encoding="ascii") as file:
+            told = re.findall(r"^poll:told=(-?\d+)@", file.read(), re.M)
+        self.assertTrue(told and all(int(time) == 2**31 - 1 for time in told), told)
+
+    def test_faults_are_made(self) -> None:
+        """The tests above would show nothing if no call failed."""
+        log = self.path("log")
+        self.passes(run(self.program("replies"), "words", env={**os.environ, **variables(FAULTS, log=log)}))
+        with open(log, encoding="ascii") as file:
+            rules = file.read()
+        self.assertTrue("EINTR" in rules and "recv:short" in rules, rules)
+        again = self.path("again")
+        self.passes(run(self.program("replies"), "words", env={**os.environ, **variables(rules, log=again)}))
+        with open(again, encoding="ascii") as file:
+            self.assertEqual(file.read(), rules, "a log is done again")
+
+
+class Service(CCase):
+    """A service that was just started."""
+
+    def path_of_server(self) -> str:
+        return self.server(*LIMITS).path
+
+    @each([name for name in tests("service") if name != "killed"])
+    def test_sanitized(self, name: str) -> None:
+        self.passes(run(self.program("service.sanitized"), name, self.path_of_server()))
+
+    @each([name for name in tests("service") if name not in ("killed", "limits", "hang_up")])
+    def test_with_faults(self, name: str) -> None:
+        for seed in SEEDS:
+            with self.subTest(seed=seed):
+                self.passes(self.faulty(FAULTS, self.program("service"), name, self.path_of_server(), seed=seed))
+
+    def test_killed(self) -> None:
+        """The service is killed: who waits for a lock is told that the connection is closed."""
+        server = self.server(*LIMITS)
+        with subprocess.Popen([self.program("service.sanitized"), "killed", server.path], stdout=subprocess.PIPE, stderr=subprocess.PIPE) as client:
+            assert client.stdout and client.stderr
+            self.assertEqual(client.stdout.readline(), b"waits\n")
+            server.process.kill()
+            self.assertEqual((client.wait(LIMIT), client.stderr.read()), (0, b""))
+
+    @each(["bank", "bank.sanitized", "bank with faults"])
+    def test_bank(self, name: str) -> None:
+        """Two threads move money, and their deadlocks are tried again."""
+        command = [self.program(name.split()[0]), self.path_of_server()]
+        told = self.passes(self.faulty(FAULTS, *command) if "faults" in name else run(*command))
+        self.assertRegex(told.out, rb"\A2000 transfers; [0-9]+ deadlocks, .*\naccounts/1 has 1000, accounts/2 has 1000\n\Z")
+
+    def test_bank_without_a_socket(self) -> None:
+        self.assertEqual(run(self.program("bank")).status, 2)
+
+    def test_bank_by_threads_of_a_sanitizer(self) -> None:
+        """Two threads at two connections share nothing that they change at once."""
+        path = self.program("bank.threads")
+        told = run("cc", *FLAGS, "-fsanitize=thread", "-o", path, f"{CLIENT}/bank.c", f"{CLIENT}/pashkure.c")
+        if told.status or run(path).status != 2:
+            self.skipTest("this C compiler has no thread sanitizer that runs here (Debian's package libtsan)")
+        self.passes(run(path, self.path_of_server()))
+
+    def test_service_that_is_slow(self) -> None:
+        """A server whose program is late, and whose own calls are short, makes no difference to a client."""
+        rules = "send:short%30 recv:short%30 read:late=1%5 write:short%20"
+        server = self.server(*LIMITS, env=variables(rules, only="python"))
+        for name in "alone", "two", "deadlock", "one_connection":
+            self.passes(run(self.program("service"), name, server.path, env=environment()))

@@ -1,0 +1,215 @@
+"""How a server starts and ends, and what its clients are told. The server is known by its command and its socket alone."""
+from __future__ import annotations
+
+import os
+import signal
+import socket
+import stat
+import subprocess
+
+from lib.world import LIMIT, PROGRAM, SERVER, Server, Wire, answers, environment, run, until
+from service.test_server import ServerCase, begun
+
+
+class Clients:
+    """Some clients, of which one holds a name for which the others wait, and one has asked for nothing."""
+
+    def __init__(self, case: ServerCase, server: Server) -> None:
+        self.wires = [case.wire(server) for _ in range(6)]
+        key = begun(self.wires[0], b"0")
+        for number, wire in enumerate(self.wires[1:5], 1):
+            own = begun(wire, b"%d" % number)
+            case.asks(wire, (b"lock %b 0" % own, b"waits " + key))
+
+    def are_closed(self, case: ServerCase) -> None:
+        """Fails unless each of them is told that its connection is closed."""
+        case.assertEqual([wire.all() for wire in self.wires], [b""] * 6)
+
+
+class Ends(ServerCase):
+    def program_is_over(self, pid: int) -> None:
+        until(lambda: not os.path.exists(f"/proc/{pid}"), "the program ends")
+
+    def test_program_killed(self) -> None:
+        """Each client is told, and the server ends with a line that says why, and with status 1."""
+        server = self.server()
+        clients = Clients(self, server)
+        os.kill(server.program_pid(), signal.SIGKILL)
+        clients.are_closed(self)
+        self.assertEqual((server.process.wait(LIMIT), os.path.exists(server.path)), (1, False))
+        self.assertRegex(server.stderr(), r"\A[^\n]*ended with status -9\n\Z")
+
+    def test_program_nonsense(self) -> None:
+        """A program that is no lock service ends the server with a line that says so."""
+        program = self.script("read line; echo totals; read line; printf 'one\\ntwo\\n'; read line")
+        server = self.server(program=program)  # which asks the program as soon as a client looks whether it answers
+        self.assertEqual(server.process.wait(LIMIT), 1)
+        self.assertTrue(server.stderr().endswith("wrote what is no reply\n"), server.stderr())
+
+    def test_killed(self) -> None:
+        """Each client is told, the program ends, and a new server takes the socket over."""
+        server = self.server()
+        clients, pid = Clients(self, server), server.program_pid()
+        server.process.kill()
+        clients.are_closed(self)
+        self.program_is_over(pid)
+        self.assertTrue(os.path.exists(server.path))
+        self.asks(self.wire(self.server(path=server.path)), (b"totals", b"totals 0 0 0 0"))
+
+    def test_signals(self) -> None:
+        """SIGTERM and SIGINT end a server with status 0: each client is told, and the socket is removed."""
+        for number in signal.SIGTERM, signal.SIGINT:
+            server = self.server()
+            clients, pid = Clients(self, server), server.program_pid()
+            server.process.send_signal(number)
+            clients.are_closed(self)
+            self.assertEqual((server.process.wait(LIMIT), server.stderr(), os.path.exists(server.path)), (0, "", False))
+            self.assertFalse(os.path.exists(f"/proc/{pid}"))
+
+    def test_quiet(self) -> None:
+        """A program that is ended while replies of it are due has no write fault."""
+        statuses = self.path("statuses")
+        program = self.script(f'"{PROGRAM}" "$@" 2>> "{statuses}"\necho $? >> "{statuses}"')
+        for _ in range(5):
+            server = self.server(program=program)
+            wires = [self.wire(server) for _ in range(4)]
+            for wire in wires:
+                wire.send(b"totals\n" * 1000)
+            self.assertEqual(wires[0].lines(1), [b"totals 0 0 0 0"])
+            self.assertEqual((server.close(), server.stderr()), (0, ""))
+        with open(statuses, encoding="ascii") as file:
+            self.assertEqual(file.read(), "0\n" * 5)
+
+    def test_program_that_hangs(self) -> None:
+        """A server whose program does not end at the end of its input ends it, with status 0."""
+        server = self.server(program=self.script(f"trap '' TERM; \"{PROGRAM}\" \"$@\"; exec sleep 1000"))
+        self.asks(self.wire(server), (b"totals", b"totals 0 0 0 0"))
+        pid = server.program_pid()
+        self.assertEqual(server.close(), 0)
+        self.program_is_over(pid)
+
+
+class Starts(ServerCase):
+    def told(self, server: Server) -> tuple[int, str]:
+        return server.process.wait(LIMIT), server.stderr()
+
+    def mode(self, path: str) -> int:
+        return stat.S_IMODE(os.stat(path).st_mode)
+
+    def test_rights(self) -> None:
+        """The socket has the rights that were asked for, 0600 if none were."""
+        self.assertEqual(self.mode(self.server().path), 0o600)
+        for mode in 0o660, 0o666, 0o640:
+            self.assertEqual(self.mode(self.server("--mode", f"{mode:04o}").path), mode)
+
+    def test_rights_at_first(self) -> None:
+        """The file never has more rights than were asked for, not even when it is made."""
+        if run("sh", "-c", "command -v strace").status:
+            self.skipTest("strace is not on the PATH (Debian's package strace)")
+        path, log = self.path("socket"), self.path("log")
+        command = ["strace", "-f", "-o", log, "-e", "trace=umask,bind,chmod,fchmod,fchmodat", *SERVER, "--socket", path, "--program", PROGRAM]
+        with subprocess.Popen(command, env=environment(), stderr=subprocess.DEVNULL) as child:
+            until(lambda: child.poll() is not None or answers(path), "the server answers or ends")
+            with open(log, encoding="ascii") as file:
+                calls = file.read()
+            if "umask(" not in calls:
+                child.kill()
+                self.skipTest("strace cannot trace here")
+            os.kill(int(calls.split()[0]), signal.SIGTERM)
+        before = calls[: calls.index("bind(")]
+        masks = [line for line in before.splitlines() if " umask(" in line]
+        self.assertRegex(masks[-1], r" umask\(0?177\)", "the mask with which the file is made")
+
+    def test_path_in_use(self) -> None:
+        """A server replaces neither one that answers nor what is no socket."""
+        server = self.server()
+        status, told = self.told(self.server(path=server.path))
+        self.assertEqual((status, answers(server.path)), (1, True))
+        self.assertRegex(told, rf"\A[^\n]*{server.path}[^\n]*another server[^\n]*\n\Z")
+        path = self.file("text", "text")
+        status, told = self.told(self.server(path=path))
+        self.assertEqual(status, 1)
+        self.assertRegex(told, rf"\A[^\n]*{path}[^\n]*\n\Z")
+        with open(path, encoding="ascii") as file:
+            self.assertEqual(file.read(), "text")
+        status, told = self.told(self.server(path=self.path("none") + "/socket"))
+        self.assertEqual((status, told.count("\n")), (1, 1), told)
+
+    def test_stale_file(self) -> None:
+        """A socket file that nobody answers at is replaced."""
+        path = self.path("stale")
+        with socket.socket(socket.AF_UNIX) as gone:
+            gone.bind(path)
+        server = self.server(path=path)
+        self.asks(self.wire(path), (b"totals", b"totals 0 0 0 0"))
+        self.assertEqual((server.close(), os.path.exists(path)), (0, False))
+
+    def test_file_of_another(self) -> None:
+        """At its end a server leaves a file that is another one by now."""
+        server = self.server()
+        os.unlink(server.path)
+        with open(server.path, "w", encoding="ascii") as file:
+            file.write("mine")
+        self.assertEqual((server.close(), os.path.exists(server.path)), (0, True))
+
+    def test_pairs(self) -> None:
+        """Of two servers that start together at one path exactly one serves. The other starts no program, and names the path."""
+        path, starts, count = self.path("socket"), self.path("starts"), 15
+        program = self.script(f'echo started >> "{starts}"\nexec "{PROGRAM}" "$@"')
+        command = [*SERVER, "--socket", path, "--program", program]
+        locked = []
+        for _ in range(count):
+            both = [subprocess.Popen(command, env=environment(), stderr=subprocess.PIPE, text=True) for _ in range(2)]
+            until(lambda both=both: any(each.poll() is not None for each in both), "one of both ends")
+            both.sort(key=lambda each: each.poll() is None)
+            self.assertRegex(both[0].communicate()[1], rf"\A[^\n]*{path}[^\n]*another server[^\n]*\n\Z")
+            self.assertEqual(both[0].returncode, 1)
+            until(lambda both=both: both[1].poll() is not None or answers(path), "the other one answers")
+            with_wire = Wire(path)
+            self.asks(with_wire, (b"totals", b"totals 0 0 0 0"))
+            with_wire.close()
+            both[1].send_signal(signal.SIGTERM)
+            self.assertEqual((both[1].communicate()[1], both[1].returncode, os.path.exists(path)), ("", 0, False))
+            locked.append(os.stat(path + ".lock"))
+        self.assertEqual({(status.st_ino, stat.S_IMODE(status.st_mode)) for status in locked}, {(locked[0].st_ino, 0o600)})
+        with open(starts, encoding="ascii") as file:
+            self.assertEqual(file.read(), "started\n" * count)
+
+    def test_lock_file(self) -> None:
+        """PATH.lock is held by the server alone: not by its program, which may outlive it; a link at its place is not followed."""
+        server = self.server()
+        pid = server.program_pid()
+        os.kill(pid, signal.SIGSTOP)  # so that it does not end with the server
+        try:
+            server.process.kill()
+            server.process.wait()
+            self.asks(self.wire(self.server(path=server.path)), (b"totals", b"totals 0 0 0 0"))
+        finally:
+            os.kill(pid, signal.SIGKILL)
+        path, target = self.path("socket"), self.path("target")
+        os.symlink(target, path + ".lock")
+        status, told = self.told(self.server(path=path))
+        self.assertEqual((status, told.count("\n"), path in told), (1, 1, True), told)
+        self.assertEqual((os.path.exists(target), os.path.exists(path)), (False, False))
+
+    def test_wrong_words(self) -> None:
+        path = self.path("socket")
+        for words in [], ["--socket", "x", "--mode", "9"], ["--socket", "x", "--names", "many"], ["--socket", path, "--fly"]:
+            told = run(*SERVER, *words, env=environment())
+            self.assertEqual((told.status, told.out, bool(told.err)), (2, b"", True), words)
+        for program in self.path("no.program"), "/bin/false":
+            told = run(*SERVER, "--socket", path, "--program", program, env=environment())
+            self.assertEqual((told.status, told.err.count(b"\n")), (1, 1), told.err)
+        server = self.server("--transactions", "0")
+        self.assertEqual(server.process.wait(LIMIT), 1)
+        self.assertTrue(server.stderr().endswith("did not start\n"), server.stderr())
+        self.assertFalse(os.path.exists(path))
+
+    def test_seed(self) -> None:
+        """The program is given a seed if the user gave one, and else draws its own: no list of processes shows it."""
+        words = self.path("words")
+        program = self.script(f'echo "$*" > "{words}"\nexec "{PROGRAM}" "$@"')
+        for given, wanted in ([], "locks\n"), (["--seed", "7"], "locks --seed 7\n"):
+            self.assertEqual(self.server(*given, program=program).close(), 0)
+            with open(words, encoding="ascii") as file:
+                self.assertEqual(file.read(), wanted)
