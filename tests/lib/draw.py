@@ -17,6 +17,7 @@ WEIGHTS = {b"begin": 8, b"acquire": 30, b"release": 6, b"transmit": 14, b"detect
 NAMES = [b"a", b"b", b"c", b"accounts/1", b"accounts/2", "Müller".encode(), "账户".encode(), b"\xff\x80", b"~!", b"thirteenbytes"]
 KINDS = {b"lock": 14, b"try": 3, b"unlock": 4, b"commit": 2, b"abort": 2.5, b"cancel": 3, b"begin": 4, b"owner": 1, b"status": 1, b"holds": 1,
          b"graph": 0.5, b"totals": 0.5}  # fmt: skip
+FURTHER = {b"begin": 4, b"lock": 8, b"cycle": 2, b"fence": 2, b"hello": 0.5, b"list": 0.5, b"counts": 0.5}
 SIZES = [(12, 7, 12), (3, 2, 12), (60, 9, 12), (5, 40, 64), (200, 3, 1024)]
 PLAIN = [b"fly", b"acquire 0.1", b"begin 1", b"release 0 0", b"state -1.1", b"settle now", b"x" * 129, b"acquire 0.1 4294967296", b"", b"   ", b"# a comment"]
 SILENT = [b"", b" ", b"\r", b"   \r", b"#", b"# begin", b"  #x", b"#\0\xff"]
@@ -178,8 +179,10 @@ class Connections(Requests):
 
     def __init__(self, chance: random.Random) -> None:
         super().__init__(chance)
-        self.hub = Hub(CONNECTIONS, transactions=self.size[0], names=self.size[1], name_bytes=self.size[2])
+        each, epoch = chance.choice([None, 1, 3, 9]), chance.choice([None, 1, 7, 2**63 - 1])
+        self.hub = Hub(CONNECTIONS, each, epoch, transactions=self.size[0], names=self.size[1], name_bytes=self.size[2])
         self.model = self.hub.service
+        self.head += b"".join(b" --%b %d" % (word, number) for word, number in ((b"each", each), (b"epoch", epoch)) if number)
 
     def draw(self, count: int) -> bytes:
         lines = [self.head]
@@ -199,7 +202,20 @@ class Connections(Requests):
         own = [key for key, owner in self.hub.began.items() if owner == connection and key in self.model.keys]
         if connection and not own and self.chance.random() < 0.9:
             return b"%d begin" % connection
-        return b"%d " % connection + self.request(own if connection and self.chance.random() < 0.95 else None)
+        among = own if connection and self.chance.random() < 0.95 else None
+        return b"%d " % connection + (self.further(among) if self.chance.random() < 0.3 else self.request(among))
+
+    def further(self, among: Optional[list[bytes]]) -> bytes:
+        """A request that only connections have."""
+        chance, words = self.chance, [pick(self.chance, FURTHER)]
+        if words[0] in (b"lock", b"cycle", b"fence"):
+            words.append(self.key(b"status" if words[0] == b"cycle" else words[0], list(self.model.keys) if among is None else among))
+        if words[0] == b"fence":
+            owned = self.model.names.get(self.model.keys.get(words[1], -1), [])
+            words.append(chance.choice(owned) if owned and chance.random() < 0.8 else self.name(words[0], words))
+        if words[0] in (b"begin", b"lock"):
+            words += [self.name(words[0], words) for _ in range(chance.choice([1, 2, 2, 3, 5]))]
+        return b" ".join(words)
 
 
 def odd(chance: random.Random, line: bytes, longest: int) -> bytes:

@@ -4,22 +4,42 @@ from __future__ import annotations
 import re
 from typing import Optional
 
-from lib.service import LONGEST, Service, limits_of, parsed
+from lib.service import LONGEST, Refused, Service, given_by, key_of, limits_of, name_of, parsed
 from lib.table import lines_of
 
 NUMBER = re.compile(rb"(?:0|[1-9][0-9]{0,19})\Z")
 CONNECTIONS = 5
 """Those of a service that answers inputs."""
 OPERATOR = 0
-OPERATOR_MAY = {b"owner", b"totals", b"graph", b"status", b"holds", b"abort"}
+OPERATOR_MAY = {b"owner", b"totals", b"graph", b"status", b"holds", b"abort", b"cycle", b"hello", b"list", b"counts"}
+OPERATORS = {b"graph", b"list", b"counts"}
+ABOUT_NO_KEY = {b"begin", b"owner"}
+OF_TRANSACTION = {"no-transaction", "must-abort", "waiting"}
+FURTHER = {b"begin": "names", b"lock": "key names", b"cycle": "key", b"fence": "key name", b"hello": "", b"list": "", b"counts": ""}
+"""What follows the words that only a service with connections has."""
+
+
+def further(line: bytes) -> Optional[list[bytes]]:
+    """The words of a request that only a service with connections has, keys without zeros in front."""
+    words = [word for word in line.split(b" ") if word]
+    if not words or words[0] not in FURTHER or len(line) > LONGEST:
+        return None
+    kinds, parts = FURTHER[words[0]].split(), words[1:]
+    if kinds[-1:] == ["names"]:
+        kinds += ["name"] * (len(parts) - len(kinds))
+    if len(kinds) != len(parts) or not kinds and parts:
+        return None
+    read = [key_of(part) if kind == "key" else name_of(part) for kind, part in zip(kinds, parts)]
+    return [words[0], *(part for part in read if part is not None)] if None not in read else None
 
 
 class Hub:
     """The state of a service with connections. A transaction of `began` is its connection's."""
 
-    def __init__(self, connections: int, **limits: int) -> None:
+    def __init__(self, connections: int, each: Optional[int] = None, epoch: Optional[int] = None, **limits: int) -> None:
         self.service = Service(**limits)
-        self.connections = connections
+        self.connections, self.epoch = connections, epoch
+        self.each = each or -(-self.service.table.processes // 4)
         self.began: dict[bytes, int] = {}  # in the order of the begins
         self.is_malformed = False
 
@@ -39,20 +59,106 @@ class Hub:
     def serve(self, connection: int, request: bytes) -> list[bytes]:
         to = b"%d " % connection
         words = parsed(request)
+        words = further(request) if words is None else words
         if not words:
             self.is_malformed = True
             return [to + b"malformed"]
         word, *parts = words
-        if connection != OPERATOR and word == b"graph" or connection == OPERATOR and word == b"begin":
+        if connection != OPERATOR and word in OPERATORS or connection == OPERATOR and word == b"begin":
             return [to + b"refused operator"]
-        key = parts[0] if parts and word != b"owner" else None
+        key = parts[0] if parts and word not in ABOUT_NO_KEY else None
         may = word in OPERATOR_MAY if connection == OPERATOR else self.began.get(key or b"") == connection
         if key is not None and not may:
             return [to + b"refused no-transaction"]
-        reply, *events = self.service.make(word, *parts)
-        if reply.startswith(b"begun "):
-            self.begin(connection, reply[len(b"begun ") :])
-        return [to + reply, *([to + event for event in events] if word == b"graph" else self.told(events))]
+        try:
+            reply, *rest = self.reply(connection, word, parts)
+        except Refused as refused:
+            return [to + b"refused " + str(refused).encode()]
+        if word in OPERATORS:
+            return [to + line for line in (reply, *rest)]
+        if connection == OPERATOR and reply == b"aborted":
+            rest = [b"* aborted " + parts[0], *rest]
+        return [to + reply, *self.deadlock(reply, key), *self.told(rest)]
+
+    def reply(self, connection: int, word: bytes, parts: list[bytes]) -> list[bytes]:
+        """The reply, and what the request caused or the further lines."""
+        if word == b"begin":
+            return [self.begin_with(connection, parts)]
+        if word == b"lock" and len(parts) > 2:
+            return [self.lock_names(parts[0], parts[1:]) or b"granted"]
+        if word == b"holds":
+            reply = self.service.make(word, *parts)
+            return reply if connection == OPERATOR or reply[0].count(b" ") <= 1024 else [b"refused too-many"]
+        own = getattr(self, word.decode(), None) if word in FURTHER else None
+        return own(*parts) if own is not None else self.service.make(word, *parts)
+
+    # -- several names
+
+    def begin_with(self, connection: int, names: list[bytes]) -> bytes:
+        live = [key for key, owner in self.began.items() if owner == connection and self.service.keys.get(key, -1) not in self.service.due | {-1}]
+        if len(live) >= self.each:
+            raise Refused("transactions-full")
+        reply = self.service.begin()
+        self.begin(connection, reply[len(b"begun ") :])
+        stop = self.lock_names(reply[len(b"begun ") :], names)
+        return reply + b" " + stop if stop else reply
+
+    def lock_names(self, key: bytes, names: list[bytes]) -> bytes:
+        """What stopped a request of several names; nothing if all are owned."""
+        for place, name in enumerate(names):
+            try:
+                reply = self.service.lock(key, name)
+            except Refused as refused:
+                return b"refused " + (b"" if str(refused) in OF_TRANSACTION else b"%d " % place) + str(refused).encode()
+            if reply not in (b"granted", b"held"):
+                return reply.replace(b" ", b" %d " % place)
+        return b""
+
+    # -- reads
+
+    def pairs(self, key: bytes) -> bytes:
+        """Each transaction on a cycle from this one on, with the name that it waits for."""
+        said, table, at = b"", self.service.table, key
+        for _ in range(16):
+            process = self.service.keys[at]
+            said += b" %b %b" % (at, table.wait[process])
+            at = self.service.key(table.holder(process))
+            if at == key:
+                return said
+        return said + b" .."
+
+    def deadlock(self, reply: bytes, key: Optional[bytes]) -> list[bytes]:
+        """What the operator is told of a cycle that was closed."""
+        return [b"0 * deadlock" + self.pairs(key)] if key is not None and reply.startswith(b"deadlock ") and len(reply.split()) < 4 else []
+
+    def cycle(self, key: bytes) -> list[bytes]:
+        process = self.service.live(key)
+        return [b"cycle" + self.pairs(key) if process in self.service.table.verdicts else b"refused not-deadlocked"]
+
+    def fence(self, key: bytes, name: bytes) -> list[bytes]:
+        process = self.service.live(key)
+        if self.epoch is None:
+            raise Refused("no-epoch")
+        if len(name) > self.service.name_bytes:
+            raise Refused("name-too-long")
+        if self.service.table.owner.get(name) != process:
+            raise Refused("not-owner")
+        return [b"fence %d %d" % (self.epoch, self.service.events)]
+
+    def hello(self) -> list[bytes]:
+        return [b"hello 1 %d %d %d %d" % (self.epoch or 0, self.service.table.processes, self.service.names_limit, self.service.name_bytes)]
+
+    def list(self) -> list[bytes]:
+        live = sorted(self.service.keys, key=self.service.keys.__getitem__)
+        owners = [b"%d" % self.began[key] if key in self.began else b"-" for key in live]
+        return [b"list %d" % len(live), *(b"* %b %b %b" % (key, owner, self.service.status(key)) for key, owner in zip(live, owners))]
+
+    def counts(self) -> list[bytes]:
+        service, events = self.service, self.service.events
+        said = [*service.counts, service.waits, service.withdrawn, events, 2**43 - 1 - events, 2**62 - 2**20 - events]
+        return [b" ".join([b"counts", *(b"%d" % number for number in said)])]
+
+    # -- who is told, and hang-ups
 
     def begin(self, connection: int, key: bytes) -> None:
         """What is known of the transaction that had the process before goes."""
@@ -76,6 +182,7 @@ class Hub:
 
 def answers(data: bytes) -> tuple[int, bytes]:
     """The status and the lines that the service writes to an input. The first line, which says its limits, is answered to nobody."""
-    hub = Hub(CONNECTIONS, **limits_of(data))
+    given = given_by(data)
+    hub = Hub(CONNECTIONS, given.get("each"), given.get("epoch"), **limits_of(data))
     lines = [reply for line in lines_of(data) for reply in hub.answer(line)]
     return int(hub.is_malformed), b"".join(line + b"\n" for line in lines)

@@ -91,7 +91,7 @@ class Requests(Subject):
 
 class Connections(Requests):
     name = "connections"
-    words = [*service.FORMS, b"0 ", b"1 ", b"- 1", b"- "]
+    words = [*service.FORMS, *hub.FURTHER, b"0 ", b"1 ", b"- 1", b"- "]
 
     def drawn(self, chance: random.Random) -> bytes:
         return draw.Connections(chance).draw(chance.choice(LENGTHS))
@@ -100,7 +100,9 @@ class Connections(Requests):
         return hub.answers(data)
 
     def command(self, data: bytes) -> list[str]:
-        return [*super().command(data), "--connections", str(hub.CONNECTIONS)]
+        given = service.given_by(data)
+        options = [word for name in ("each", "epoch") if name in given for word in (f"--{name}", str(given[name]))]
+        return [*super().command(data), "--connections", str(hub.CONNECTIONS), *options]
 
 
 class Workloads(Subject):

@@ -73,6 +73,8 @@ class Service:
         self.freed: list[int] = []  # numbers, of which the last one is given again first
         self.due: set[int] = set()  # those that are aborted as soon as their waits end
         self.counts = [0, 0, 0, 0]  # begun, committed, aborted, deadlocks
+        self.waits = self.withdrawn = 0
+        self.events = 0  # of the table, with each settle
         self.caused: list[bytes] = []
         self.is_malformed = False
 
@@ -122,6 +124,7 @@ class Service:
         self.table.owner[name] = process
         self.names[process].append(name)
         self.numbers[name] = self.freed.pop() if self.freed else len(self.numbers)
+        self.events += 1
         return b"granted"
 
     def hand_over(self, process: int, names: list[bytes]) -> list[int]:
@@ -137,6 +140,7 @@ class Service:
                 self.caused.append(b"* aborted " + self.key(heir) if heir in self.due else b"* granted %b %b" % (self.key(heir), name))
                 granted.append(heir)
         self.freed += [self.numbers.pop(name) for name in owned if name not in self.table.owner]
+        self.events += 1 + any(self.table.queue.get(name) for name in owned)  # a settle follows if one of those that got new labels waits
         return granted
 
     def end(self, process: int) -> list[int]:
@@ -167,7 +171,10 @@ class Service:
         for _ in self.table.wait:
             place = self.table.holder(place) if place in self.table.wait else place
             is_behind = is_behind or place in self.table.verdicts
+        is_carried = self.table.private(process) != self.table.public(process)
+        is_renewed = is_carried and any(other != process and self.table.private(other) == self.table.public(process) for other in self.table.wait)
         if self.table.withdraw(process):
+            self.events += 1 + is_renewed
             return True
         assert is_behind, f"labels keep {process}, and a search finds no victim ahead"
         return False
@@ -181,6 +188,7 @@ class Service:
         self.keys[key] = int(key.split(b".")[0])
         self.names[self.keys[key]] = []
         self.counts[0] += 1
+        self.events += 1
         return b"begun " + key
 
     def lock(self, key: bytes, name: bytes) -> bytes:
@@ -194,6 +202,8 @@ class Service:
         is_victim = process in self.table.verdicts
         assert is_victim == bool(self.table.cycle(process)), "labels and the search do not agree"
         self.counts[3] += is_victim
+        self.waits += not is_victim
+        self.events += 2
         return (b"deadlock " if is_victim else b"waits ") + holder
 
     def try_lock(self, key: bytes, name: bytes) -> bytes:
@@ -230,6 +240,7 @@ class Service:
             raise Refused("not-waiting")
         if not self.withdraw(process):
             return b"carried"
+        self.withdrawn += 1
         if process in self.due:
             self.caused.append(b"* aborted " + key)
         self.settle([process])
@@ -259,11 +270,16 @@ class Service:
         return b"totals %d %d %d %d" % tuple(self.counts)
 
 
-def limits_of(data: bytes) -> dict[str, int]:
-    """The limits that the first line of an input asks for: `# --names 7` and so on. To the service it is a comment."""
+def given_by(data: bytes) -> dict[str, int]:
+    """The options that the first line of an input asks for: `# --names 7` and so on. To the service it is a comment."""
     head = data.partition(b"\n")[0].decode("latin-1")
-    given = dict(re.findall(r"--([a-z-]+) (\d+)", head)) if head.startswith("# --") else {}
-    return {name: int(given.get(name.replace("_", "-"), most)) for name, most in LIMITS.items()}
+    return {name: int(number) for name, number in re.findall(r"--([a-z-]+) (\d+)", head)} if head.startswith("# --") else {}
+
+
+def limits_of(data: bytes) -> dict[str, int]:
+    """The limits that an input asks for."""
+    given = given_by(data)
+    return {name: given.get(name.replace("_", "-"), most) for name, most in LIMITS.items()}
 
 
 def answers(data: bytes) -> tuple[int, bytes]:

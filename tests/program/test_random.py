@@ -82,4 +82,4 @@ KINDS = {
     "requests": "begun granted held waits deadlock busy unlocked committed aborted later cancelled carried owner free active waiting holds graph totals "
     "malformed no-transaction must-abort waiting not-waiting name-too-long not-owner names-full transactions-full".split() + ["* granted", "* aborted"],
 }
-KINDS["connections"] = KINDS["requests"] + ["operator", "-"]
+KINDS["connections"] = KINDS["requests"] + "operator - cycle not-deadlocked fence no-epoch hello list counts".split() + ["* deadlock"]

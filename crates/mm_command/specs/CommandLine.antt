@@ -101,9 +101,17 @@ locks_seed_rule = free_number_rule (codes "seed") 0 18446744073709551615
 abbrev pub connections_rule : Rule
 connections_rule = free_number_rule (codes "connections") 1 65536
 
+abbrev pub each_rule : Rule
+each_rule = free_number_rule (codes "each") 1 65536
+
+abbrev pub epoch_rule : Rule
+epoch_rule = free_number_rule (codes "epoch") 1 9223372036854775807
+
+abbrev pub locks_numbers_app : App
+locks_numbers_app = with_rule (with_rule (with_rule (with_rule (new_app (codes "locks")) transactions_rule) names_rule) name_bytes_rule) locks_seed_rule
+
 abbrev pub locks_app : App
-locks_app =
-    with_rule (with_rule (with_rule (with_rule (with_rule (new_app (codes "locks")) transactions_rule) names_rule) name_bytes_rule) locks_seed_rule) connections_rule
+locks_app = with_rule (with_rule (with_rule locks_numbers_app connections_rule) each_rule) epoch_rule
 
 -- a command that says its version
 abbrev pub versioned_app : Text → App

@@ -248,6 +248,8 @@ fn locks(alloc: Global, own: &ArgMatches<'_>) -> Result<Request, AllocError>
         name_bytes,
         seed: own.get_one::<u64>("seed"),
         connections: own.get_one::<u32>("connections"),
+        each: own.get_one::<u32>("each"),
+        epoch: own.get_one::<u64>("epoch"),
     }))
 }
 

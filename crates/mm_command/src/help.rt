@@ -155,11 +155,32 @@ spaces and control characters. A line that is no request has the reply
 Ranges:
   --transactions  1 to 65536   --name-bytes   1 to 1024
   --names         1 to 65536   --connections  1 to 65536
+  --each          1 to 65536, a quarter of --transactions if it is not given
+  --epoch         1 to 9223372036854775807
   --seed          0 to 18446744073709551615
 
 With --connections N each line is 'C REQUEST' of a connection C below N, or
 '- C', by which C hangs up; each reply begins with the number of the connection
-that it is for. A connection may use only the transactions that it began.
+that it is for. A connection may use only the transactions that it began, at
+most --each at a time. Each line has one reply, also a blank line and a comment:
+'malformed'. Connection 0 is the operator's: it begins nothing, and may ask for
+status, holds, cycle and abort of any K; it alone may ask for graph, list and
+counts, which are 'refused operator' to others. Further requests:
+  begin NAME ..   begun K if K owns all, or begun K with one of the three below
+  lock K NAME ..  for two names or more: granted if K owns all; or
+                  waits I H, deadlock I H or refused I WORD, by the place I
+                  of the name, from 0: K owns those before it, and did not ask
+                  for those after it
+  cycle K         cycle K NAME K NAME ..: the cycle that K closed, each with the
+                  name that it waits for, at most 16, then '..'
+  fence K NAME    fence E F: the epoch, and the count of events, of a name of K
+  hello           hello 1 E TRANSACTIONS NAMES BYTES: the protocol, the epoch or
+                  0, and --transactions, --names and --name-bytes
+  list            list N, and N lines '* K C STATE': each live transaction, its
+                  connection or -, and its status
+  counts          counts BEGUN COMMITTED ABORTED DEADLOCKS WAITS WITHDRAWN
+                  EVENTS LABELS-LEFT COUNTS-LEFT
+The operator is told '* deadlock K NAME K NAME ..' of each cycle that is closed.
 
 A refused request changes nothing and has the reply 'refused' with a word:
   no-transaction     no live transaction has this key
@@ -172,6 +193,10 @@ A refused request changes nothing and has the reply 'refused' with a word:
   transactions-full  as many transactions are live as --transactions says
   labels-full        there may be no label left for one more wait
   counts-full        the count of events is at its limit
+  operator           the operator alone may ask for this, or it may not
+  not-deadlocked     K is not in a deadlock
+  no-epoch           the service has no --epoch
+  too-many           K owns more than 1024 names
 
 Exit statuses:
   0  the input ended, and no line was malformed; help was asked for

@@ -6,10 +6,16 @@ pub mod Lines
 pub mod Config
 -- a hang-up, one transaction after the other
 pub mod Drops
--- the connection that a line names is one of those that there are
+-- the connection that a line names is one of those that there are, and a request of several names is short
 pub mod Said
--- a transaction that a request began has one of the table's slots
+-- a transaction that begins has one of the slots
 pub mod Within
-pub mod Slot
--- connections are apart
+-- what `status` answers
+pub mod Status
+-- a cycle, transaction by transaction
+pub mod Cycle
+-- how many words a line has
+pub mod Few
+-- connections are apart, and over a run
 pub mod Apart
+pub mod Runs

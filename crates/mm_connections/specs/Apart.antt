@@ -1,13 +1,16 @@
 -- Connections are apart: what one of them says leaves the transactions of the others.
-use Rattle.std.specs.Prelude.{◌≡◌, ◌⊎◌, ℕ, true, false, List, length}
+use Rattle.std.specs.Prelude.{◌≡◌, ◌⊎◌, ℕ, Bool, true, false, List}
 use Rattle.mm_arena.specs.declared.key.Key.{Key}
 use Rattle.mm_bit_set.specs.BitSet.{has}
+use Rattle.mm_lines.specs.Text.{Text}
+use Rattle.mm_lists.specs.Members.{Among}
 use Rattle.mm_owned.specs.Owned.{Ownership}
 use Rattle.mm_rules.specs.TableState.{is_live}
 use Rattle.mm_apart.specs.Apart.{IsLeft}
 use Rattle.mm_connections.specs.Begun.{connection_of, IsOf}
 use Rattle.mm_connections.specs.Line.{said_of}
-use Rattle.mm_connections.specs.Text.{Hub, HangsUp, Answers, IsLawfulHub}
+use Rattle.mm_connections.specs.Hub.{Hub, IsLawfulHub}
+use Rattle.mm_connections.specs.Text.{HangsUp, Answers}
 use Rattle.mm_connections.specs.declared.line.Said.{Said}
 use Rattle.mm_connections.specs.declared.line.Said.TheVariants as said
 
@@ -27,7 +30,20 @@ MayTouch begun (said.Asks c request) t = (c ≡ 0) ⊎ IsOf begun c t
 -- so any line of another connection leaves each live transaction, whatever its bytes are
 abbrev pub LinesAreApart : Type 0
 LinesAreApart = (line out : List ℕ) (malformed : ℕ) (old new : Hub) → Answers old line out malformed new
-    → (t : Key) → is_live old.manager.table t ≡ true → ¬ MayTouch old.begun (said_of (length old.begun.lists) line).said t → StaysApart old t new
+    → (t : Key) → is_live old.manager.table t ≡ true → ¬ MayTouch old.begun (said_of (old.options.connections) line).said t → StaysApart old t new
+
+-- no line of these is said by the connection that began t, or asked by the operator
+abbrev pub NoneTouches : Hub → List (List ℕ) → Key → Type 0
+NoneTouches h lines t = (line : List ℕ) → Among line lines → ¬ MayTouch h.begun (said_of h.options.connections line).said t
+
+-- after them t is left, and is whose it was; or its abort was due before
+abbrev pub RunLeaves : Hub → Key → Hub → Type 0
+RunLeaves old t new = (IsLeft old.manager t new.manager × (connection_of new.begun t ≡ connection_of old.begun t)) ⊎ (has old.manager.due t.process ≡ true)
+
+-- so any lines of other connections leave each live transaction, however many they are; of a run that ended early, those that were answered
+abbrev pub RunsAreApart : Type 0
+RunsAreApart = (whole : Bool) (lines : List (List ℕ)) (out : List ℕ) (malformed : ℕ) (old new : Hub) → Text Answers whole old lines out malformed new
+    → (t : Key) → is_live old.manager.table t ≡ true → NoneTouches old lines t → RunLeaves old t new
 
 -- after a hang-up each transaction of the connection has ended, or ends as soon as its wait does
 abbrev pub HangUpEndsAll : Type 0

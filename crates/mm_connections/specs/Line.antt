@@ -5,13 +5,15 @@ use Rattle.std.specs.Str.{bytes_eq}
 use Rattle.std.specs.Str.Lines.{strip_carriage_return}
 use Rattle.mm_lines.specs.Cut.{is}
 use Rattle.mm_lines.specs.Words.{◌>>=◌, number_at_most}
-use Rattle.mm_service.specs.Line.{request_line}
+use Rattle.mm_service.specs.Line.{max_request, request_line}
 use Rattle.mm_service.specs.declared.line.Line.{Line}
 use Rattle.mm_service.specs.declared.line.Line.TheVariants as kind
+use Rattle.mm_connections.specs.Forms.{further_of}
+use Rattle.mm_connections.specs.Request.{AskedByClient, client_asked}
 use Rattle.mm_connections.specs.declared.line.Said.{Said}
 use Rattle.mm_connections.specs.declared.line.Said.TheVariants.{Nobody, Malformed, HangsUp, Asks}
 
--- what a line says, and the name that its request is about
+-- what a line says, and the bytes that its request is about: its one name, or the whole request if it is about several
 pub record NamedSaid : Type 0 where
   pub said : Said
   pub name : List ℕ
@@ -30,15 +32,23 @@ below connections c = if nat_lt c connections then Some c else None
 abbrev pub number_in : ℕ → List ℕ → Option ℕ
 number_in connections word = if is_plain word then number_at_most (2 ^ 32 - 1) word >>= below connections else None
 
--- of a connection each line has a reply, also one without a word and a comment
-abbrev pub said_by : ℕ → Line → Said
-said_by c kind.Silent = Malformed c
-said_by c kind.Malformed = Malformed c
-said_by c (kind.Request request) = Asks c request
+abbrev pub asks : ℕ → AskedByClient → NamedSaid
+asks c asked = record { said = Asks c asked.request; name = asked.about }
+
+-- by a request that only connections have, if it is one; each line has a reply, also one without a word and a comment
+abbrev pub asks_further : ℕ → Option AskedByClient → NamedSaid
+asks_further c None = nameless (Malformed c)
+asks_further c (Some asked) = asks c asked
+
+-- by what the line is without connections, and by its bytes
+abbrev pub said_by : ℕ → Line → List ℕ → List ℕ → NamedSaid
+said_by c kind.Silent name rest = nameless (Malformed c)
+said_by c kind.Malformed name rest = asks_further c (if nat_lt max_request (length rest) then None else further_of rest)
+said_by c (kind.Request request) name rest = asks c (client_asked request name)
 
 abbrev pub asked_by : Option ℕ → List ℕ → NamedSaid
 asked_by None rest = nameless Nobody
-asked_by (Some c) rest = record { said = said_by c (request_line rest).line; name = (request_line rest).name }
+asked_by (Some c) rest = said_by c (request_line rest).line (request_line rest).name rest
 
 abbrev pub hung_up_by : Option ℕ → NamedSaid
 hung_up_by None = nameless Nobody

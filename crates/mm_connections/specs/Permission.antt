@@ -8,8 +8,12 @@ use Rattle.mm_service.specs.declared.line.Request.TheVariants as requests
 use Rattle.mm_service.specs.declared.requests.KeyRequest.{KeyRequest}
 use Rattle.mm_service.specs.declared.requests.KeyRequest.TheVariants as of_key
 use Rattle.mm_connections.specs.Begun.{connection_of}
+use Rattle.mm_connections.specs.declared.request.ClientRequest.{ClientRequest}
+use Rattle.mm_connections.specs.declared.request.ClientRequest.TheVariants as asked
+use Rattle.mm_connections.specs.declared.request.ReadRequest.{ReadRequest}
+use Rattle.mm_connections.specs.declared.request.ReadRequest.TheVariants as reads
 use Rattle.mm_connections.specs.declared.permission.Permission.{Permission}
-use Rattle.mm_connections.specs.declared.permission.Permission.TheVariants.{Make, Show, NoTransaction, Operator}
+use Rattle.mm_connections.specs.declared.permission.Permission.TheVariants.{Make, NoTransaction, Operator}
 
 -- the connection began the transaction, and has not hung up since
 abbrev pub is_of : Ownership → ℕ → Key → Bool
@@ -26,11 +30,25 @@ of_any of_key.Status = Make
 of_any of_key.Commit = NoTransaction
 of_any of_key.Cancel = NoTransaction
 
-abbrev pub permission_of : Ownership → ℕ → Request → Permission
-permission_of begun c requests.Begin = if nat_eq c 0 then Operator else Make
-permission_of begun c (requests.OfName request k) = of_own begun c k
-permission_of begun c (requests.OfKey request k) = if nat_eq c 0 then of_any request else of_own begun c k
-permission_of begun c (requests.Holds k) = if nat_eq c 0 then Make else of_own begun c k
-permission_of begun c requests.Owner = Make
-permission_of begun c requests.Graph = if nat_eq c 0 then Show else Operator
-permission_of begun c requests.Totals = Make
+-- of a request that the lock service without connections has too
+abbrev pub plain_permission : Ownership → ℕ → Request → Permission
+plain_permission begun c (requests.OfName request k) = of_own begun c k
+plain_permission begun c (requests.OfKey request k) = if nat_eq c 0 then of_any request else of_own begun c k
+plain_permission begun c requests.Owner = Make
+plain_permission begun c requests.Totals = Make
+plain_permission begun c _ = Operator
+
+-- the operator reads all; others read what is theirs
+abbrev pub read_permission : Ownership → ℕ → ReadRequest → Permission
+read_permission begun c (reads.Holds k) = if nat_eq c 0 then Make else of_own begun c k
+read_permission begun c (reads.Cycle k) = if nat_eq c 0 then Make else of_own begun c k
+read_permission begun c (reads.Fence k) = of_own begun c k
+read_permission begun c reads.Hello = Make
+read_permission begun c _ = if nat_eq c 0 then Make else Operator
+
+-- what becomes of a request
+abbrev pub permission_of : Ownership → ℕ → ClientRequest → Permission
+permission_of begun c asked.Begin = if nat_eq c 0 then Operator else Make
+permission_of begun c (asked.LockAll k) = of_own begun c k
+permission_of begun c (asked.Plain request) = plain_permission begun c request
+permission_of begun c (asked.Read request) = read_permission begun c request

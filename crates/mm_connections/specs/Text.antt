@@ -1,48 +1,38 @@
 -- What a connection is answered. What a request does, and its reply, are those of a service without connections (mm_service): here stands who is told what.
-use Rattle.std.specs.Prelude.{◌≡◌, ℕ, List, [], ◌∷◌, ◌++◌, length, Option, Some, None, Result, codes, decimal, nat_eq, if◌then◌else◌}
+use Rattle.std.specs.Prelude.{◌≡◌, ℕ, Bool, true, false, List, [], ◌∷◌, ◌++◌, drop, Option, Some, None, Result, Ok, Err, codes, decimal, nat_eq, nat_le, if◌then◌else◌, slice_set}
 use Rattle.mm_arena.specs.declared.key.Key.{Key}
-use Rattle.mm_owned.specs.Owned.{Ownership, ListsMatchOwners, owner_at, list_at, freed}
+use Rattle.mm_owned.specs.Owned.{Ownership, owner_at, list_at, freed}
+use Rattle.mm_lines.specs.Words.{words_of}
 use Rattle.mm_settled.specs.declared.reply.Grant.{Grant}
 use Rattle.mm_manager.specs.LockState.{LockState, IsLawful}
-use Rattle.mm_manager.specs.Made.{Aborted}
-use Rattle.mm_manager.specs.Reads.{waits_of}
+use Rattle.mm_manager.specs.Made.{Aborted, Begun}
+use Rattle.mm_manager.specs.Permit.{counts_left}
 use Rattle.mm_manager.specs.declared.refusal.Refusal.{Refusal}
-use Rattle.mm_manager.specs.declared.refusal.Refusal.TheVariants.{NoTransaction}
+use Rattle.mm_manager.specs.declared.refusal.Refusal.TheVariants.{NoTransaction, CountsFull, TransactionsFull}
 use Rattle.mm_manager.specs.declared.reply.Abort as abort
-use Rattle.mm_manager.specs.declared.reply.Wait.{Wait}
-use Rattle.mm_service.specs.Reply.{line_text, refusal_word, aborted_text, edge_text, name_at}
+use Rattle.mm_service.specs.Reply.{line_text, answer_text, begun_text, refusal_word, aborted_text}
 use Rattle.mm_service.specs.Text.{Replies, told_line}
 use Rattle.mm_service.specs.declared.effect.Effect.{Effect}
 use Rattle.mm_service.specs.declared.effect.Effect.TheVariants as effects
 use Rattle.mm_service.specs.declared.line.Request.{Request}
 use Rattle.mm_connections.specs.Begun.{connection_of, begun_by}
+use Rattle.mm_connections.specs.Counts.{count_at, fewer, one_more}
+use Rattle.mm_connections.specs.Cycle.{cycle_text}
+use Rattle.mm_connections.specs.Hub.{Hub, IsLawfulHub, to, to_any}
 use Rattle.mm_connections.specs.Line.{said_of}
+use Rattle.mm_connections.specs.Names.{LocksNames, begun_with_text, stop_effect, stop_text}
 use Rattle.mm_connections.specs.Permission.{permission_of}
+use Rattle.mm_connections.specs.Reads.{ReadReply}
+use Rattle.mm_connections.specs.Status.{is_aborting, status_of}
 use Rattle.mm_connections.specs.declared.line.Said.{Said}
 use Rattle.mm_connections.specs.declared.line.Said.TheVariants as said
+use Rattle.mm_connections.specs.declared.names.Stop.{Stop}
 use Rattle.mm_connections.specs.declared.permission.Permission.{Permission}
 use Rattle.mm_connections.specs.declared.permission.Permission.TheVariants as permit
+use Rattle.mm_connections.specs.declared.request.ClientRequest.{ClientRequest}
+use Rattle.mm_connections.specs.declared.request.ClientRequest.TheVariants as asked
 
--- a lock manager, and which connection began each transaction
-pub record Hub : Type 0 where
-  pub manager : LockState
-  pub begun : Ownership
-
--- what holds of any hub that a service can hold
-pub record IsLawfulHub (h : Hub) : Type 0 where
-  pub manager : IsLawful h.manager
-  pub lists : ListsMatchOwners h.begun
-
--- ---- to whom a line goes
-
--- a line, with its newline, to connection c
-abbrev pub to : ℕ → List ℕ → List ℕ
-to c line = (decimal c ++ codes " ") ++ line
-
--- to nobody, if there is no connection
-abbrev pub to_any : Option ℕ → List ℕ → List ℕ
-to_any None line = []
-to_any (Some c) line = to c line
+-- ---- what a request caused
 
 -- whoever is to be told of a transaction of this connection; nobody if that is the one which hangs up
 abbrev pub receiver : Option ℕ → Option ℕ → Option ℕ
@@ -58,46 +48,94 @@ told_lines but h (g ∷ gs) = to_any (receiver but (connection_of h.begun g.key)
 abbrev pub told_text : Option ℕ → Hub → List ℕ
 told_text but h = told_lines but h h.manager.granted
 
+-- a cycle that was closed is told to the operator
+abbrev pub deadlock_text : LockState → Key → List ℕ
+deadlock_text m k = to 0 (line_text (codes "* deadlock" ++ cycle_text m k))
+
 -- what a request caused beside its reply
 abbrev pub events_text : Hub → Effect → List ℕ
 events_text h effects.EndedWaits = told_text None h
+events_text h (effects.Ended k) = told_text None h
+events_text h (effects.Deadlock k) = deadlock_text h.manager k
 events_text h (effects.Aborted k) = to_any (connection_of h.begun k) (line_text (aborted_text k)) ++ told_text None h
 events_text h _ = []
 
+-- who is ended by the operator is told of it
+abbrev pub effect_for : ℕ → Effect → Effect
+effect_for c (effects.Ended k) = if nat_eq c 0 then effects.Aborted k else effects.Ended k
+effect_for c effect = effect
+
+-- ---- how many transactions are live
+
+-- k counts no longer, if its abort was not due before
+abbrev pub released : Hub → Key → List ℕ
+released h k = if is_aborting (status_of h.manager k) then h.counts else fewer h.counts (connection_of h.begun k)
+
+-- the counts after a request of this hub that came to this
+abbrev pub counts_after : Hub → Effect → List ℕ
+counts_after h (effects.Ended k) = released h k
+counts_after h (effects.Due k) = released h k
+counts_after h _ = h.counts
+
 -- ---- requests
 
--- a transaction that begins is the connection's
-abbrev pub after_effect : Ownership → ℕ → Effect → Ownership
-after_effect begun c (effects.Begun k) = begun_by begun c k
-after_effect begun c _ = begun
+-- the manager answers it as it does without connections
+pub record Asks (request : Request) (name : List ℕ) (old : Hub) (reply : List ℕ) (effect : Effect) (new : Hub) : Type 0 where
+  pub replies : Replies request name old.manager reply effect new.manager
+  pub rest : new ≡ record old { manager = new.manager; counts = counts_after old effect }
+
+-- a transaction asks for these names
+abbrev pub AsksAll : Key → List (List ℕ) → Hub → List ℕ → Effect → Hub → Type 0
+AsksAll k names old reply effect new =
+    (stop : Option Stop) × LocksNames 0 k names old.manager stop new.manager × (reply ≡ line_text (stop_text stop)) × (effect ≡ stop_effect k stop) × (new ≡ record old { manager = new.manager })
+
+-- the connection has as many transactions as it may have
+abbrev pub is_full : Hub → ℕ → Bool
+is_full h c = nat_le h.options.each (count_at h.counts c)
+
+-- so a begin of it is refused
+abbrev pub full_refusal : LockState → Refusal
+full_refusal m = if nat_eq (counts_left m.table) 0 then CountsFull else TransactionsFull
+
+-- with k as a transaction of connection c
+abbrev pub with_begun : Hub → ℕ → Key → Hub
+with_begun h c k = record h { begun = begun_by h.begun c k; counts = one_more h.counts c }
+
+-- after the manager answered the begin so, the transaction asks for these names
+abbrev pub BeginsAs : Result Key Refusal → ℕ → List (List ℕ) → Hub → List ℕ → Effect → Hub → Type 0
+BeginsAs (Err refusal) c names mid reply effect new = (reply ≡ line_text (answer_text begun_text (Err refusal))) × (effect ≡ effects.Nothing) × (new ≡ mid)
+BeginsAs (Ok k) c names mid reply effect new =
+    (stop : Option Stop) × LocksNames 0 k names mid.manager stop new.manager × (reply ≡ line_text (begun_with_text k stop)) × (effect ≡ stop_effect k stop)
+    × (new ≡ record (with_begun mid c k) { manager = new.manager })
+
+-- by whether the connection has as many as it may have
+abbrev pub BeginsBy : Bool → ℕ → List (List ℕ) → Hub → List ℕ → Effect → Hub → Type 0
+BeginsBy true c names old reply effect new = (reply ≡ line_text (answer_text begun_text (Err (full_refusal old.manager)))) × (effect ≡ effects.Nothing) × (new ≡ old)
+BeginsBy false c names old reply effect new =
+    (answer : Result Key Refusal) × (mid : LockState) × Begun old.manager answer mid × IsLawful mid × BeginsAs answer c names (record old { manager = mid }) reply effect new
+
+-- a request of connection c: its reply, without the number in front, what it came to, and the hub after it
+abbrev pub RepliesTo : ℕ → ClientRequest → List ℕ → Hub → List ℕ → Effect → Hub → Type 0
+RepliesTo c asked.Begin line old reply effect new = BeginsBy (is_full old c) c (drop 1 (words_of line)) old reply effect new
+RepliesTo c (asked.LockAll k) line old reply effect new = AsksAll k (drop 2 (words_of line)) old reply effect new
+RepliesTo c (asked.Plain request) name old reply effect new = Asks request name old reply effect new
+RepliesTo c (asked.Read request) name old reply effect new = ReadReply c request name old reply × (effect ≡ effects.Nothing) × (new ≡ old)
 
 -- a request is made: its reply goes to the connection, and then what it caused to those whom it concerns
-pub record Makes (c : ℕ) (request : Request) (name : List ℕ) (old : Hub) (out : List ℕ) (new : Hub) : Type 0 where
+pub record Makes (c : ℕ) (request : ClientRequest) (name : List ℕ) (old : Hub) (out : List ℕ) (new : Hub) : Type 0 where
   pub reply : List ℕ
   pub effect : Effect
-  pub replies : Replies request name old.manager reply effect new.manager
-  pub lawful : IsLawful new.manager
-  pub begun : new.begun ≡ after_effect old.begun c effect
-  pub lists : ListsMatchOwners new.begun
-  pub text : out ≡ to c reply ++ events_text new effect
+  pub replies : RepliesTo c request name old reply effect new
+  pub lawful : IsLawfulHub new
+  pub text : out ≡ to c reply ++ events_text new (effect_for c effect)
 
--- a line for each wait, to connection c
-abbrev pub edge_lines : ℕ → LockState → List Wait → List ℕ
-edge_lines c m [] = []
-edge_lines c m (w ∷ ws) = to c (line_text (edge_text w.key (name_at m w.number) w.holder)) ++ edge_lines c m ws
-
--- the wait-for graph: how many wait, and a line for each
-abbrev pub graph_text : ℕ → LockState → List ℕ
-graph_text c m = to c (line_text (codes "graph " ++ decimal (length (waits_of m.table)))) ++ edge_lines c m (waits_of m.table)
-
--- a request, of this name if it is of one, by what becomes of it
-abbrev pub ServesBy : Permission → ℕ → Request → List ℕ → Hub → List ℕ → Hub → Type 0
+-- a request by what becomes of it
+abbrev pub ServesBy : Permission → ℕ → ClientRequest → List ℕ → Hub → List ℕ → Hub → Type 0
 ServesBy permit.Make c request name old out new = Makes c request name old out new
-ServesBy permit.Show c request name old out new = (out ≡ graph_text c old.manager) × (new ≡ old)
 ServesBy permit.NoTransaction c request name old out new = (out ≡ to c (line_text (codes "refused " ++ refusal_word NoTransaction))) × (new ≡ old)
 ServesBy permit.Operator c request name old out new = (out ≡ to c (line_text (codes "refused operator"))) × (new ≡ old)
 
-abbrev pub Serves : ℕ → Request → List ℕ → Hub → List ℕ → Hub → Type 0
+abbrev pub Serves : ℕ → ClientRequest → List ℕ → Hub → List ℕ → Hub → Type 0
 Serves c request name old out new = ServesBy (permission_of old.begun c request) c request name old out new
 
 -- ---- a connection hangs up
@@ -109,7 +147,7 @@ pub record Drops (c p : ℕ) (old : Hub) (out : List ℕ) (new : Hub) : Type 0 w
   pub answer : Result abort.Abort Refusal
   pub did : Aborted old.manager (record { process = p; generation = kept.generation }) answer new.manager
   pub lawful : IsLawful new.manager
-  pub begun : new.begun ≡ freed old.begun p
+  pub rest : new ≡ record old { manager = new.manager; begun = freed old.begun p }
   pub text : out ≡ told_text (Some c) new
 
 -- those of these slots, one after the other
@@ -120,7 +158,9 @@ DropsAll c (p ∷ ps) old out new = (mid : Hub) × (first : List ℕ) × (rest :
 -- all of connection c, the one begun last first; others are told what that caused, and a line says that c is over
 pub record HangsUp (c : ℕ) (old : Hub) (out : List ℕ) (new : Hub) : Type 0 where
   pub told : List ℕ
-  pub drops : DropsAll c (list_at old.begun c) old told new
+  pub last : Hub
+  pub drops : DropsAll c (list_at old.begun c) old told last
+  pub rest : new ≡ record last { counts = slice_set last.counts c 0 }
   pub text : out ≡ told ++ line_text (codes "- " ++ decimal c)
 
 -- ---- lines
@@ -132,7 +172,7 @@ AnswersSaid (said.Malformed c) name old out malformed new = (out ≡ to c (line_
 AnswersSaid (said.HangsUp c) name old out malformed new = IsLawfulHub old × HangsUp c old out new × (malformed ≡ 0)
 AnswersSaid (said.Asks c request) name old out malformed new = IsLawfulHub old × Serves c request name old out new × (malformed ≡ 0)
 
--- the same of the bytes of a line; there are as many connections as lists
+-- the same of the bytes of a line
 abbrev pub Answers : Hub → List ℕ → List ℕ → ℕ → Hub → Type 0
 Answers old line out malformed new =
-    AnswersSaid (said_of (length old.begun.lists) line).said (said_of (length old.begun.lists) line).name old out malformed new
+    AnswersSaid (said_of old.options.connections line).said (said_of old.options.connections line).name old out malformed new

@@ -1,21 +1,34 @@
 //! A lock service that keeps its clients apart: requests of numbered connections, one a line, to a lock manager, and the replies and events for
 //! each of them. It has no threads.
 //!
-//! - `line`: what a line says.
-//! - `begun`: which connection began each transaction.
+//! - `line`: what a line says. `request`: what a connection asks for. `forms`: the requests that only connections have.
+//! - `begun`: which connection began each transaction. `counts`: how many each has.
 //! - `permission`: what a connection may ask for.
-//! - `served`: serves a connection, and tells others what that caused.
-//! - `service`: `ConnectionService`, what callers open and run.
+//! - `served`: serves a connection. `make`: makes a request. `names`: a request of several names. `reads`: what a connection reads.
+//! - `events`: tells connections what a request caused. `cycle`: a cycle of waits, as it is told.
+//! - `hang_up`: a connection hangs up.
+//! - `options`, `service`: `ConnectionService`, what callers open and run.
 //! - `laws`: connections are apart.
 #![tactic(auto)]
 
 mod begun;
+mod counts;
+mod cycle;
+mod events;
+mod forms;
+mod hang_up;
 mod laws;
 mod line;
+mod make;
+mod names;
+mod options;
 mod permission;
+mod reads;
+mod request;
 mod served;
 mod service;
 
-pub use laws::{hang_up_ends_all, hang_up_leaves_none, lines_are_apart};
+pub use laws::{hang_up_ends_all, hang_up_leaves_none, lines_are_apart, runs_are_apart};
 pub use mm_service::{ManagerConfig, OpenError, ServiceFault};
+pub use options::ConnectionOptions;
 pub use service::ConnectionService;

@@ -1,10 +1,12 @@
 //! What a line says.
-ghost use Rattle.std.specs.Prelude.{◌≡◌, ◌-◌, ◌^◌};
-ghost use Rattle.mm_connections.specs.Line.{asked_by, hung_up_by, is_plain, nameless, number_in, said_by, said_line, said_of, said_of_parts};
-ghost use Rattle.mm_service.specs.declared.line.Line.{Line as LineValue};
+ghost use Rattle.std.specs.Prelude.{◌≡◌, ◌-◌, ◌^◌, Some, option_map};
+ghost use Rattle.mm_connections.specs.Line.{asked_by, asks, asks_further, hung_up_by, is_plain, nameless, number_in, said_line, said_of, said_of_parts};
+ghost use Rattle.mm_connections.specs.private.Request.{asked_of};
 
+use crate::forms::further_of;
+use crate::request::{ClientAsked, ClientRequest, client_asked};
 use mm_lines::{number32, split_once, without_carriage_return};
-use mm_service::{Line, Request, request_line};
+use mm_service::{Line, MAX_REQUEST, request_line};
 
 /// The longest line that says something, in bytes: the longest request, a number of five digits and a space.
 const MAX_SAID: usize = 1_054;
@@ -21,11 +23,11 @@ pub enum Said {
     Malformed(u32),
     /// This connection has hung up.
     HangsUp(u32),
-    /// This connection makes a request; the name that it is about stands beside it.
-    Asks(u32, Request),
+    /// This connection makes a request; the bytes that it is about stand beside it.
+    Asks(u32, ClientRequest),
 }
 
-/// What a line says, and the name that its request is about; no bytes if there is none.
+/// What a line says, and the bytes that its request is about: its one name, or the whole request if it is about several.
 #[derive(Clone, Copy)]
 pub struct NamedSaid<'a> {
     pub said: Said,
@@ -84,18 +86,39 @@ fn asked(connection: u32, rest: &[u8]) -> NamedSaid<'_>
     ensures name { result.name.now ≡ (asked_by (Some connection) rest.now).name }
 {
     let named = request_line(rest);
-    NamedSaid {
-        said: said_by(connection, named.line),
-        name: named.name,
+    match named.line {
+        Line::Silent => nameless(Said::Malformed(connection)),
+        Line::Malformed => {
+            let further = if rest.len() > MAX_REQUEST {
+                None
+            } else {
+                further_of(rest)
+            };
+            asks_further(connection, further)
+        }
+        Line::Request(request) => asks(connection, client_asked(request, named.name)),
     }
 }
 
-fn said_by(connection: u32, line: Line) -> Said
-    ensures { result ≡ said_by connection line }
+/// A connection asks for something.
+fn asks(connection: u32, asked: ClientAsked<'_>) -> NamedSaid<'_>
+    ensures said { result.said ≡ (asks connection (asked_of asked.entry)).said }
+    ensures name { result.name.now ≡ (asks connection (asked_of asked.entry)).name }
 {
-    match line {
-        Line::Silent | Line::Malformed => Said::Malformed(connection),
-        Line::Request(request) => Said::Asks(connection, request),
+    NamedSaid {
+        said: Said::Asks(connection, asked.request),
+        name: asked.about,
+    }
+}
+
+/// A connection asks for something that only connections ask for, or its line is malformed.
+fn asks_further(connection: u32, asked: Option<ClientAsked<'_>>) -> NamedSaid<'_>
+    ensures said { result.said ≡ (asks_further connection (option_map asked_of asked.entry)).said }
+    ensures name { result.name.now ≡ (asks_further connection (option_map asked_of asked.entry)).name }
+{
+    match asked {
+        Some(asked) => asks(connection, asked),
+        None => nameless(Said::Malformed(connection)),
     }
 }
 

@@ -1,21 +1,20 @@
 //! What a connection may ask for.
 ghost use Rattle.std.specs.Prelude.{◌≡◌};
-ghost use Rattle.mm_connections.specs.Permission.{of_any, of_own, permission_of};
+ghost use Rattle.mm_connections.specs.Permission.{of_any, of_own, permission_of, plain_permission, read_permission};
 
 use crate::begun::Begun;
+use crate::request::{ClientRequest, ReadRequest};
 use mm_manager::Key;
 use mm_service::{KeyRequest, Request};
 
 /// The number of the operator's connection.
-const OPERATOR: u32 = 0;
+pub const OPERATOR: u32 = 0;
 
 /// What becomes of a request.
 #[derive(Clone, Copy)]
 pub enum Permission {
     /// It is made.
     Make,
-    /// The wait-for graph is shown.
-    Show,
     /// It is answered as one of no live transaction, since its transaction is not the connection's.
     NoTransaction,
     /// It is refused: only the operator may ask for it, or the operator may not.
@@ -23,19 +22,46 @@ pub enum Permission {
 }
 
 /// Returns what becomes of a request of this connection. Constant time.
-pub fn permission_of(begun: &Begun, connection: u32, request: Request) -> Permission
+pub fn permission_of(begun: &Begun, connection: u32, request: ClientRequest) -> Permission
     ensures { result ≡ permission_of begun.now connection request }
+{
+    match request {
+        ClientRequest::Begin if connection == OPERATOR => Permission::Operator,
+        ClientRequest::Begin => Permission::Make,
+        ClientRequest::LockAll(key) => of_own(begun, connection, key),
+        ClientRequest::Plain(request) => plain_permission(begun, connection, request),
+        ClientRequest::Read(request) => read_permission(begun, connection, request),
+    }
+}
+
+/// What becomes of a request that the lock service without connections has too.
+fn plain_permission(begun: &Begun, connection: u32, request: Request) -> Permission
+    ensures { result ≡ plain_permission begun.now connection request }
+{
+    match request {
+        Request::OfName(_, key) => of_own(begun, connection, key),
+        Request::OfKey(request, _) if connection == OPERATOR => of_any(request),
+        Request::OfKey(_, key) => of_own(begun, connection, key),
+        Request::Owner | Request::Totals => Permission::Make,
+        Request::Begin | Request::Holds(_) | Request::Graph => Permission::Operator,
+    }
+}
+
+/// What becomes of a read.
+fn read_permission(begun: &Begun, connection: u32, request: ReadRequest) -> Permission
+    ensures { result ≡ read_permission begun.now connection request }
 {
     let is_operator = connection == OPERATOR;
     match request {
-        Request::Begin if is_operator => Permission::Operator,
-        Request::OfName(_, key) => of_own(begun, connection, key),
-        Request::OfKey(request, _) if is_operator => of_any(request),
-        Request::OfKey(_, key) => of_own(begun, connection, key),
-        Request::Holds(key) if !is_operator => of_own(begun, connection, key),
-        Request::Graph if is_operator => Permission::Show,
-        Request::Graph => Permission::Operator,
-        Request::Begin | Request::Holds(_) | Request::Owner | Request::Totals => Permission::Make,
+        ReadRequest::Holds(_) | ReadRequest::Cycle(_) if is_operator => Permission::Make,
+        ReadRequest::Holds(key) | ReadRequest::Cycle(key) | ReadRequest::Fence(key) => {
+            of_own(begun, connection, key)
+        }
+        ReadRequest::Hello => Permission::Make,
+        ReadRequest::Graph | ReadRequest::List | ReadRequest::Counts if is_operator => {
+            Permission::Make
+        }
+        ReadRequest::Graph | ReadRequest::List | ReadRequest::Counts => Permission::Operator,
     }
 }
 

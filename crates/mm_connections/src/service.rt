@@ -5,9 +5,10 @@ ghost use Rattle.mm_manager.specs.Opening.{IsTransactionsOut, IsNamesOut, IsName
 ghost use Rattle.mm_connections.specs.Service.{Ends, opening_hub};
 
 use crate::begun::Begun;
+use crate::counts::Counts;
 use crate::line::MAX_LINE;
 use crate::served::{MAX_ANSWER, ServedManager};
-use crate::{ManagerConfig, OpenError, ServiceFault};
+use crate::{ConnectionOptions, ManagerConfig, OpenError, ServiceFault};
 use mm_lines::{Answerer, Limits, Output, serve};
 use mm_manager::LockManager;
 use mm_service::Numbers;
@@ -16,51 +17,52 @@ use std::io::{Read, Write};
 use std::marker::Model;
 
 /// A lock manager that answers the requests of numbered connections, one a line, and keeps the transactions of each from the others. A contract
-/// sees it as a `Hub`: the manager, and which connection began each transaction.
+/// sees it as a `Hub`: the manager, which connection began each transaction, and how many are live of each.
 #[derive(Drop)]
 pub struct ConnectionService {
     served: ServedManager,
-    connections: u32,
 }
 
 impl Model for ConnectionService {
     ghost use Rattle.std.specs.Prelude.{◌≡◌, ◌≤◌, length};
-    ghost use Rattle.mm_connections.specs.Text.{Hub};
+    ghost use Rattle.mm_connections.specs.Hub.{Hub};
     ghost use Rattle.mm_connections.specs.private.Served.{hub_of};
 
     ghost Value = { Hub };
 
     ghost view = { λ it. hub_of it.served };
 
-    ghost invariant = { λ it. (length it.served.begun.lists ≡ it.connections) × (it.served.manager.table.config.processes ≤ length it.served.begun.owners) };
+    ghost invariant = { λ it. (length it.served.begun.lists ≡ it.served.options.connections) × (it.served.manager.table.config.processes ≤ length it.served.begun.owners) };
 }
 
 impl ConnectionService {
-    /// A service of this configuration for connections 0 to `connections` - 1: no transaction is live, and nobody owns a name. Connection 0 is
-    /// the operator's.
+    /// A service of this configuration for the connections below `options.connections`: no transaction is live, and nobody owns a name.
+    /// Connection 0 is the operator's.
     ///
     /// Refused as `LockManager::open` is. This is the one call that takes memory: that of the manager, 256 KiB, 16 bytes for each transaction
-    /// that can be live, and 4 for each connection.
+    /// that can be live, and 8 for each connection.
     pub fn open(
         alloc: Global,
         config: ManagerConfig,
-        connections: u32,
+        options: ConnectionOptions,
     ) -> Result<ConnectionService, OpenError>
-        ensures opened { IfOk result (λ service. service ≡ opening_hub config connections) }
+        ensures opened { IfOk result (λ service. service ≡ opening_hub config options) }
         ensures transactions { (result ≡ Err OpenError.Transactions) ↔ IsTransactionsOut config }
         ensures names { (result ≡ Err OpenError.Names) ↔ (¬ IsTransactionsOut config × IsNamesOut config) }
         ensures name_bytes { (result ≡ Err OpenError.NameBytes) ↔ (¬ IsTransactionsOut config × ¬ IsNamesOut config × IsNameBytesOut config) }
     {
         let manager = LockManager::open(alloc, config)?;
         let numbers = Numbers::new(alloc)?;
-        let begun = Begun::new(alloc, connections, config.transactions)?;
+        let begun = Begun::new(alloc, options.connections, config.transactions)?;
+        let counts = Counts::new(alloc, options.connections)?;
         Ok(ConnectionService {
             served: ServedManager {
                 manager,
                 numbers,
                 begun,
+                counts,
+                options,
             },
-            connections,
         })
     }
 
@@ -115,7 +117,7 @@ impl Answerer for ConnectionService {
         output: &mut Output,
         writer: &mut W,
     ) -> Result<bool, ServiceFault> {
-        self.served.answer(self.connections, line, output, writer)
+        self.served.answer(line, output, writer)
     }
 
     ghost long = { answers_long };

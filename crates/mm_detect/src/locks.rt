@@ -3,14 +3,16 @@ ghost use Rattle.mm_detect.specs.Answer.{EndsService};
 
 use crate::ending::{Ending, print_no_memory};
 use mm_command::LocksOptions;
-use mm_connections::ConnectionService;
+use mm_connections::{ConnectionOptions, ConnectionService};
 use mm_service::{LockService, ManagerConfig};
 use std::io;
 use std::io::{Eprint, Read, Write};
 use std::random::RandomSource;
 
-/// Opens a lock service, with connections if a number of them is given, and answers the requests that the reader gives. Where no seed is given and the system has no random bytes to give,
-/// that is told, and nothing is read.
+/// Opens a lock service, with connections if a number of them is given, and answers the requests that the reader gives.
+///
+/// If no seed is given and the system gives no random bytes, or if only a service with connections has a number that is given, that is
+/// told, and nothing is read.
 #[inline(never)]
 pub fn run_locks<R: Eprint + RandomSource + AllocGlobal, I: Read, W: Write>(
     rt: &R,
@@ -25,6 +27,10 @@ pub fn run_locks<R: Eprint + RandomSource + AllocGlobal, I: Read, W: Write>(
         let _ = eprintln!(rt; "no random seed; give one by --seed");
         return Ending::Wrong;
     };
+    if options.connections.is_none() && (options.each.is_some() || options.epoch.is_some()) {
+        let _ = eprintln!(rt; "--each and --epoch need --connections");
+        return Ending::Wrong;
+    }
     let config = ManagerConfig {
         transactions: options.transactions,
         names: options.names,
@@ -36,7 +42,15 @@ pub fn run_locks<R: Eprint + RandomSource + AllocGlobal, I: Read, W: Write>(
             Ok(mut service) => Ending::Ran(service.run(input, output)),
             Err(_) => Ending::Refused(print_no_memory(output)),
         },
-        Some(connections) => match ConnectionService::open(rt.alloc(), config, connections) {
+        Some(connections) => match ConnectionService::open(
+            rt.alloc(),
+            config,
+            ConnectionOptions {
+                connections,
+                each: options.each.unwrap_or(options.transactions.div_ceil(4)),
+                epoch: options.epoch,
+            },
+        ) {
             Ok(mut service) => Ending::Ran(service.run(input, output)),
             Err(_) => Ending::Refused(print_no_memory(output)),
         },

@@ -45,6 +45,10 @@ event_limit = 2 ^ 62 - 2 ^ 20
 abbrev pub may_count : TableState → Result (Unit {0}) Refusal
 may_count s = if nat_lt s.totals.accepted event_limit then Ok tt else Err CountsFull
 
+-- how many events can be counted before that
+abbrev pub counts_left : TableState → ℕ
+counts_left s = event_limit - s.totals.accepted
+
 -- a transaction may begin
 abbrev pub may_begin : TableState → Result (Unit {0}) Refusal
 may_begin s = first_refusal (may_count s) (if nat_eq (length s.free) 0 then Err TransactionsFull else Ok tt)
@@ -56,3 +60,7 @@ may_request s name_bytes k name = first_refusal (may_ask s k) (first_refusal (ma
 -- a wait, and all hand-overs after it, find labels below the limit: by an event the counter of a label and the number of waits grow by two at the most
 abbrev pub may_wait : TableState → Bool
 may_wait s = nat_lt s.totals.accepted (s.config.label_limit / 2)
+
+-- how many events can be counted before a wait finds no label
+abbrev pub labels_left : TableState → ℕ
+labels_left s = s.config.label_limit / 2 - s.totals.accepted

@@ -4,6 +4,7 @@ use Rattle.std.specs.List.{filter_map, range_with_len}
 use Rattle.mm_arena.specs.declared.key.Key.{Key}
 use Rattle.mm_bit_set.specs.BitSet.{has}
 use Rattle.mm_rules.specs.TableState.{TableState, key_of, is_live, owner_of, wait_of, has_verdict}
+use Rattle.mm_rules.specs.Event.{tenant_of}
 use Rattle.mm_manager.specs.LockState.{LockState}
 use Rattle.mm_manager.specs.declared.config.ManagerConfig.{ManagerConfig}
 use Rattle.mm_manager.specs.declared.refusal.Refusal.{Refusal}
@@ -31,6 +32,16 @@ HasStatus m k (Err refusal) = (is_live m.table k ≡ false) × (refusal ≡ NoTr
 -- the numbers with which the manager was opened; the seed is not told, and 0 stands for it
 abbrev pub config_of : LockState → ManagerConfig
 config_of m = record { transactions = m.table.config.processes; names = m.table.config.resources; name_bytes = m.names.name_bytes; seed = 0 }
+
+-- ---- the live transactions
+
+-- each live transaction of a slot from p on, by rising slot
+abbrev pub live_from : TableState → ℕ → List Key
+live_from s p = filter_map (tenant_of s) (range_with_len p (s.config.processes - p))
+
+-- the same of all slots
+abbrev pub live_of : TableState → List Key
+live_of s = live_from s 0
 
 -- ---- the wait-for graph
 

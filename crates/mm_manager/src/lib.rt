@@ -12,7 +12,7 @@
 //! - `manager`: `LockManager`, with one method for each call.
 //! - `request`: a request for a name.
 //! - `reads`: what can be read of a manager.
-//! - `graph`: the wait-for graph.
+//! - `graph`: the wait-for graph. `transactions`: the live transactions.
 //! - `totals`: what is counted.
 #![tactic(auto)]
 
@@ -32,6 +32,7 @@ mod refusal;
 mod reply;
 mod request;
 mod totals;
+mod transactions;
 
 pub use config::ManagerConfig;
 pub use graph::Graph;
@@ -40,3 +41,4 @@ pub use mm_settled::{Grant, Key};
 pub use refusal::{OpenError, Refusal};
 pub use reply::{Abort, Cancel, Lock, Status, TryLock, Wait};
 pub use totals::Totals;
+pub use transactions::Transactions;

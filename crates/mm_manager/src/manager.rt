@@ -9,11 +9,11 @@ ghost use Rattle.mm_rules.specs.TableState.{owner_of};
 ghost use Rattle.mm_rules.specs.Event.{tenant_of};
 ghost use Rattle.mm_settled.specs.Calls.{OthersKeepVerdicts};
 ghost use Rattle.mm_manager.specs.LockState.{Owns, IsLawful};
-ghost use Rattle.mm_manager.specs.Permit.{may_ask, may_request};
+ghost use Rattle.mm_manager.specs.Permit.{counts_left, labels_left, may_ask, may_request};
 ghost use Rattle.mm_manager.specs.Opening.{opening_state, IsTransactionsOut, IsNamesOut, IsNameBytesOut};
 ghost use Rattle.mm_manager.specs.Calls.{Begins, LocksName, TriesName, Requests, Tries, UnlocksName, Commits, Aborts, Cancels};
 ghost use Rattle.mm_manager.specs.Made.{Locked};
-ghost use Rattle.mm_manager.specs.Reads.{HasStatus, config_of, waits_of};
+ghost use Rattle.mm_manager.specs.Reads.{HasStatus, config_of, live_of, wait_at, waits_of};
 ghost use Rattle.mm_manager.specs.Totals.{after_begin, after_lock, after_unlock, after_commit, after_abort, after_cancel};
 
 use crate::lists::Lists;
@@ -23,7 +23,7 @@ use crate::open::{open_names, open_table};
 use crate::parts::Parts;
 use crate::{
     Abort, Cancel, Grant, Graph, Key, Lock, ManagerConfig, OpenError, Refusal, Status, Totals,
-    TryLock, reads,
+    Transactions, TryLock, Wait, permit, reads,
 };
 use std::alloc::Global;
 use std::marker::Model;
@@ -64,7 +64,7 @@ impl LockManager {
     ///
     /// Refused as `Transactions`, `Names` or `NameBytes` exactly where that number is out of its range and those before it are not, and
     /// as `Memory` only where a request for memory was refused. This is the one call that takes memory: what `SettledTable::open` and
-    /// `Names::open` take, and for each transaction 25 bytes.
+    /// `Names::open` take, and for each transaction 21 bytes.
     pub fn open(alloc: Global, config: ManagerConfig) -> Result<LockManager, OpenError>
         ensures opened { IfOk result (λ manager. manager ≡ opening_state config) }
         ensures transactions { (result ≡ Err OpenError.Transactions) ↔ IsTransactionsOut config }
@@ -301,6 +301,23 @@ impl LockManager {
         self.parts.named.table.table().tenant(slot)
     }
 
+    /// The live transactions, by rising slot. Constant time; going through all of them takes `O(transactions)`.
+    pub fn transactions(&self) -> Transactions<'_>
+        ensures { result ≡ live_of self.now.table }
+    {
+        Transactions {
+            table: self.parts.named.table.table(),
+            next: 0,
+        }
+    }
+
+    /// For which number the transaction of a slot waits, and who owns that; `None` if it does not wait, or the slot has none. Constant time.
+    pub fn wait_at(&self, slot: u32) -> Option<Wait>
+        ensures { result ≡ wait_at self.now.table slot }
+    {
+        reads::wait_at(self.parts.named.table.table(), slot)
+    }
+
     /// The numbers with which the manager was opened. The seed is not told: 0 stands for it. Constant time.
     pub fn config(&self) -> ManagerConfig
         ensures { result ≡ config_of self.now }
@@ -345,6 +362,20 @@ impl LockManager {
         ensures { result ≡ self.now.table.totals.accepted }
     {
         self.parts.named.table.table().totals().accepted
+    }
+
+    /// How many events can be counted before `begin`, `lock` and `try_lock` are refused as `CountsFull`. Constant time.
+    pub fn counts_left(&self) -> u64
+        ensures { result ≡ counts_left self.now.table }
+    {
+        permit::counts_left(self.parts.named.table.table())
+    }
+
+    /// How many events can be counted before a `lock` that would wait is refused as `LabelsFull`. Constant time.
+    pub fn labels_left(&self) -> u64
+        ensures { result ≡ labels_left self.now.table }
+    {
+        permit::labels_left(self.parts.named.table.table())
     }
 
     /// Does nothing. Its contract is what holds of any manager that a caller can hold, whatever was called.

@@ -1,6 +1,6 @@
 //! What a call is refused for before the table is asked.
-ghost use Rattle.std.specs.Prelude.{◌≡◌, ◌≢◌, Ok, Err};
-ghost use Rattle.mm_manager.specs.Permit.{first_refusal, may_ask, may_cancel, may_count, may_name, may_wait};
+ghost use Rattle.std.specs.Prelude.{◌≡◌, ◌≢◌, ◌-◌, ◌/◌, Ok, Err};
+ghost use Rattle.mm_manager.specs.Permit.{first_refusal, counts_left, labels_left, may_ask, may_cancel, may_count, may_name, may_wait};
 ghost use Rattle.mm_manager.specs.private.Requests.{may_ask_more};
 
 use crate::{Key, Refusal};
@@ -62,6 +62,20 @@ pub fn may_count(table: &Table) -> Result<(), Refusal>
     } else {
         Err(Refusal::CountsFull)
     }
+}
+
+/// How many events can be counted before `CountsFull`.
+pub fn counts_left(table: &Table) -> u64
+    ensures { result ≡ counts_left table.now }
+{
+    EVENT_LIMIT.saturating_sub(table.totals().accepted)
+}
+
+/// How many events can be counted before `LabelsFull`.
+pub fn labels_left(table: &Table) -> u64
+    ensures { result ≡ labels_left table.now }
+{
+    (table.config().label_limit / 2).saturating_sub(table.totals().accepted)
 }
 
 /// Why a request is refused, whatever the name is that it asks for.

@@ -13,6 +13,7 @@ use Rattle.mm_manager.specs.Reads.{HasStatus, waits_of}
 use Rattle.mm_manager.specs.declared.refusal.Refusal.{Refusal}
 use Rattle.mm_manager.specs.declared.refusal.Refusal.TheVariants.{NoTransaction}
 use Rattle.mm_manager.specs.declared.reply.Abort as abort
+use Rattle.mm_manager.specs.declared.reply.Abort.TheVariants as aborts
 use Rattle.mm_manager.specs.declared.reply.Cancel as cancel
 use Rattle.mm_manager.specs.declared.reply.Cancel.TheVariants as cancels
 use Rattle.mm_manager.specs.declared.reply.Lock.{Lock}
@@ -51,6 +52,7 @@ told_text m = told_lines m m.granted
 -- what a request caused beside its reply: whose abort came due by it comes first
 abbrev pub effect_text : LockState → Effect → List ℕ
 effect_text m effects.EndedWaits = told_text m
+effect_text m (effects.Ended k) = told_text m
 effect_text m (effects.Aborted k) = line_text (aborted_text k) ++ told_text m
 effect_text m _ = []
 
@@ -63,6 +65,17 @@ begin_effect (Err refusal) = effects.Nothing
 abbrev pub lock_effect : Key → Result Lock Refusal → Effect
 lock_effect k (Ok (locks.Deadlock h)) = effects.Deadlock k
 lock_effect k _ = effects.Nothing
+
+-- k ended by a commit, or the commit is refused
+abbrev pub commit_effect : Key → Result (Unit {0}) Refusal → Effect
+commit_effect k (Ok done) = effects.Ended k
+commit_effect k (Err refusal) = effects.Nothing
+
+-- k ended by an abort, or its abort is due from now on
+abbrev pub abort_effect : Key → Result abort.Abort Refusal → Effect
+abort_effect k (Ok aborts.Done) = effects.Ended k
+abort_effect k (Ok aborts.Later) = effects.Due k
+abort_effect k (Err refusal) = effects.Nothing
 
 -- k, whose wait was taken back, is live no longer if its abort was due
 abbrev pub cancel_effect : LockState → Key → Result cancel.Cancel Refusal → Effect
@@ -113,8 +126,8 @@ RepliesName of_name.Unlock k name old reply effect new = (answer : Result (Unit 
 
 -- a request of a transaction
 abbrev pub RepliesKey : KeyRequest → Key → LockState → List ℕ → Effect → LockState → Type 0
-RepliesKey of_key.Commit k old reply effect new = (answer : Result (Unit {0}) Refusal) × Committed old k answer new × (reply ≡ line_text (answer_text committed_text answer)) × (effect ≡ effects.EndedWaits)
-RepliesKey of_key.Abort k old reply effect new = (answer : Result abort.Abort Refusal) × Aborted old k answer new × (reply ≡ line_text (answer_text abort_text answer)) × (effect ≡ effects.EndedWaits)
+RepliesKey of_key.Commit k old reply effect new = (answer : Result (Unit {0}) Refusal) × Committed old k answer new × (reply ≡ line_text (answer_text committed_text answer)) × (effect ≡ commit_effect k answer)
+RepliesKey of_key.Abort k old reply effect new = (answer : Result abort.Abort Refusal) × Aborted old k answer new × (reply ≡ line_text (answer_text abort_text answer)) × (effect ≡ abort_effect k answer)
 RepliesKey of_key.Cancel k old reply effect new = (answer : Result cancel.Cancel Refusal) × Cancelled old k answer new × (reply ≡ line_text (answer_text cancel_text answer)) × (effect ≡ cancel_effect new k answer)
 RepliesKey of_key.Status k old reply effect new = (answer : Result Status Refusal) × HasStatus old k answer × (new ≡ old) × (reply ≡ line_text (answer_text (status_text old) answer)) × (effect ≡ effects.Nothing)
 

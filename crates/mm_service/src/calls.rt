@@ -2,7 +2,7 @@
 ghost use Rattle.std.specs.Prelude.{◌≡◌, ◌≤◌, ◌+◌, ◌++◌, ℕ, List, MatchResult, OnOk, IsOkUnless};
 ghost use Rattle.arrayvec.specs.ArrayVec.{array_vec_len};
 ghost use Rattle.mm_lines.specs.Output.{Writes};
-ghost use Rattle.mm_service.specs.Text.{AnswersRequest, Replies, RepliesKey, RepliesName, begin_effect, cancel_effect, lock_effect};
+ghost use Rattle.mm_service.specs.Text.{AnswersRequest, Replies, RepliesKey, RepliesName, abort_effect, begin_effect, cancel_effect, commit_effect, lock_effect};
 
 use crate::effect::Effect;
 use crate::line::{Asked, Request};
@@ -13,7 +13,7 @@ use crate::reply::{
 };
 use crate::requests::{KeyRequest, NameRequest};
 use mm_lines::{Fault, OUTPUT_LEN, Output};
-use mm_manager::{Cancel, Key, Lock, LockManager, Refusal};
+use mm_manager::{Abort, Cancel, Key, Lock, LockManager, Refusal};
 use std::io::Write;
 
 /// Makes a request, and writes its reply and what it caused for others.
@@ -137,12 +137,14 @@ fn reply_of_key(
 {
     match request {
         KeyRequest::Commit => {
-            print_committed(output, &manager.commit(key));
-            Effect::EndedWaits
+            let answer = manager.commit(key);
+            print_committed(output, &answer);
+            commit_effect(key, &answer)
         }
         KeyRequest::Abort => {
-            print_abort(output, &manager.abort(key));
-            Effect::EndedWaits
+            let answer = manager.abort(key);
+            print_abort(output, &answer);
+            abort_effect(key, &answer)
         }
         KeyRequest::Cancel => {
             let answer = manager.cancel(key);
@@ -153,6 +155,27 @@ fn reply_of_key(
             print_status(output, manager, &manager.status(key));
             Effect::Nothing
         }
+    }
+}
+
+/// Returns what a commit came to beside its reply.
+fn commit_effect(key: Key, answer: &Result<(), Refusal>) -> Effect
+    ensures { result ≡ commit_effect key answer.now }
+{
+    match answer {
+        Ok(()) => Effect::Ended(key),
+        Err(_) => Effect::Nothing,
+    }
+}
+
+/// Returns what an abort came to beside its reply.
+fn abort_effect(key: Key, answer: &Result<Abort, Refusal>) -> Effect
+    ensures { result ≡ abort_effect key answer.now }
+{
+    match answer {
+        Ok(Abort::Done) => Effect::Ended(key),
+        Ok(Abort::Later) => Effect::Due(key),
+        Err(_) => Effect::Nothing,
     }
 }
 

@@ -13,6 +13,10 @@ pub enum Effect {
     Deadlock(Key),
     /// Waits of others may have ended.
     EndedWaits,
+    /// This transaction ended, as it asked, and waits of others may have ended.
+    Ended(Key),
+    /// The abort of this transaction is due from now on.
+    Due(Key),
     /// This transaction was aborted, since its abort was due, and waits of others may have ended.
     Aborted(Key),
 }

@@ -73,7 +73,7 @@ fn next_name<'a>(arguments: &mut Words<'a>) -> Option<&'a [u8]>
 }
 
 /// Whether a word can be a name.
-fn is_name(word: &[u8]) -> bool
+pub fn is_name(word: &[u8]) -> bool
     ensures { result ≡ (nat_le (length word.now) MAX_NAME && list_all is_name_byte word.now) }
 {
     word.len() <= MAX_NAME && are_name_bytes(word)

@@ -21,8 +21,9 @@ mod requests;
 
 pub use calls::make;
 pub use effect::Effect;
-pub use line::{Asked, Line, Named, Request, request_line};
-pub use lists::{Numbers, count_waits};
+pub use forms::is_name;
+pub use line::{Asked, Line, MAX_REQUEST, Named, Request, request_line};
+pub use lists::{Numbers, count_waits, list_held, write_list};
 pub use lock_service::LockService;
 pub use mm_lines::Fault as ServiceFault;
 pub use mm_manager::{ManagerConfig, OpenError};

@@ -9,7 +9,7 @@ use mm_lines::{Words, without_carriage_return};
 use mm_manager::Key;
 
 /// The longest request in bytes: `unlock`, a key of 16 bytes, the longest name, and two spaces.
-const MAX_REQUEST: usize = MAX_NAME + 24;
+pub const MAX_REQUEST: usize = MAX_NAME + 24;
 
 /// The longest line that can be a request, in bytes, as `Limits` of mm_lines counts them: with a carriage return.
 pub const MAX_LINE: usize = MAX_REQUEST + 1;

@@ -30,6 +30,13 @@ impl Numbers {
         let items = Vec::with_capacity(alloc, MAX_NAMES as usize)?;
         Ok(Numbers { items })
     }
+
+    /// Returns how many there are.
+    pub fn count(&self) -> usize
+        ensures { result ≡ length self.now.items.items }
+    {
+        self.items.len()
+    }
 }
 
 /// Writes what a request caused for others, a line for each wait that it ended, and who was aborted since its abort was due.
@@ -44,8 +51,8 @@ pub fn write_effect<W: Write>(
     ensures fault { IsOkUnless result Fault.Write }
 {
     match effect {
-        Effect::Nothing | Effect::Begun(_) | Effect::Deadlock(_) => Ok(()),
-        Effect::EndedWaits => write_told(manager, output, writer),
+        Effect::Nothing | Effect::Begun(_) | Effect::Deadlock(_) | Effect::Due(_) => Ok(()),
+        Effect::EndedWaits | Effect::Ended(_) => write_told(manager, output, writer),
         Effect::Aborted(key) => {
             make_room(output, MAX_REPLY, writer)?;
             print_aborted(output, key);
@@ -108,7 +115,7 @@ pub fn write_holds<W: Write>(
 }
 
 /// Writes the names of these numbers in a line.
-fn write_list<W: Write>(
+pub fn write_list<W: Write>(
     manager: &LockManager,
     numbers: &Numbers,
     output: &mut Output,
@@ -127,7 +134,7 @@ fn write_list<W: Write>(
 }
 
 /// Lists the numbers of the names that a transaction owns, in the order of the names' bytes.
-fn list_held(manager: &LockManager, numbers: &mut Numbers, key: Key)
+pub fn list_held(manager: &LockManager, numbers: &mut Numbers, key: Key)
     ensures { AreHeld manager.now key numbers.new.items.items }
 {
     manager.keeps_laws();

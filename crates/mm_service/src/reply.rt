@@ -42,8 +42,8 @@ fn print_refused(output: &mut Output, refusal: Refusal)
     print_text(output, word_of(refusal));
 }
 
-/// The word that a refusal is printed as.
-fn word_of(refusal: Refusal) -> &'static [u8]
+/// Returns the word that a refusal is printed as.
+pub fn word_of(refusal: Refusal) -> &'static [u8]
     ensures word { result.now ≡ refusal_word refusal }
     ensures short { length result.now ≤ 17 }
 {

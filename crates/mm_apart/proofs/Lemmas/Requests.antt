@@ -70,7 +70,7 @@ begun_left old new k t live step names due =
       due = ap (λ ds. has ds t.process) due;
     }
 
-begun : (old new : LockState) (t : Key) (answer : Result Key Refusal) → Begun old answer new → is_live old.table t ≡ true → IsLeft old t new
+pub begun : (old new : LockState) (t : Key) (answer : Result Key Refusal) → Begun old answer new → is_live old.table t ≡ true → IsLeft old t new
 begun old new t (Ok k) did live =
     begun_left old new k t live did.begins.1 (ap (λ (m : LockState). m.names) did.begins.2) (ap (λ (m : LockState). m.due) did.begins.2)
 begun old new t (Err refusal) did live = untold_left old new t live did.begins.0
@@ -112,7 +112,7 @@ granted_live : (s u : TableState) (k t : Key) (r : ℕ) → Step (Acquire k r) s
 granted_live s u k t r step = same_live s u t (acquired_same t.process s u k r acquired.Granted step)
 
 module _ (old new : LockState) (k t : Key) (name : List ℕ) (lawful : IsLawful new) (live : is_live old.table t ≡ true) (apart : ¬ (k ≡ t)) where
-  locked : (answer : Result Lock Refusal) → Locked old k name answer new → IsLeft old t new
+  pub locked : (answer : Result Lock Refusal) → Locked old k name answer new → IsLeft old t new
   locked (Ok lock.Granted) did =
       let other = apart_by old.table k t (request_live old.table old.names.name_bytes k name did.may) live apart in
       gets_left old new k t name lawful (granted_live old.table new.table k t did.step.0 did.step.2 ∙ live) (did.others t.process other) did.due apart did.locks

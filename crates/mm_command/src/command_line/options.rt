@@ -1,8 +1,8 @@
 //! The numbers of a lock service.
 ghost use Rattle.mm_command.specs.Limits.{AreLimits};
 
-/// With what a lock service is opened: 1 to 65,536 transactions and names, names of 1 to 1,024 bytes, a seed if one is given, and how many
-/// connections it has if it keeps the transactions of each from the others.
+/// With what a lock service is opened: 1 to 65,536 transactions and names, names of 1 to 1,024 bytes, and a seed if one is given. With a
+/// number of connections it keeps the transactions of each from the others: at most `each` of one connection can be live, and it has an epoch.
 #[derive(Clone, Copy)]
 pub struct LocksOptions {
     pub transactions: u32,
@@ -10,5 +10,7 @@ pub struct LocksOptions {
     pub name_bytes: u32,
     pub seed: Option<u64>,
     pub connections: Option<u32>,
+    pub each: Option<u32>,
+    pub epoch: Option<u64>,
     ghost in_range: { AreLimits transactions names name_bytes },
 }

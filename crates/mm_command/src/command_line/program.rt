@@ -90,7 +90,7 @@ static STORM_ARGUMENTS: [Argument; 8] = [
     VERBOSE_FLAG,
 ];
 
-static LOCKS_ARGUMENTS: [Argument; 5] = [
+static LOCKS_ARGUMENTS: [Argument; 7] = [
     Argument {
         name: "transactions",
         kind: ArgumentKind::NumberOr(1, MAX_PROCESSES as u64, "65536"),
@@ -114,6 +114,16 @@ static LOCKS_ARGUMENTS: [Argument; 5] = [
     Argument {
         name: "connections",
         kind: ArgumentKind::Number(1, 65_536),
+        help: None,
+    },
+    Argument {
+        name: "each",
+        kind: ArgumentKind::Number(1, 65_536),
+        help: None,
+    },
+    Argument {
+        name: "epoch",
+        kind: ArgumentKind::Number(1, 9_223_372_036_854_775_807),
         help: None,
     },
 ];

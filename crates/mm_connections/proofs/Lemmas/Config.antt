@@ -1,5 +1,5 @@
 -- No request changes the numbers of the manager's table.
-use Rattle.std.proofs.Common.{◌≡◌, ℕ, Bool, true, false, List, Option, Some, None, Result, Ok, Err, if◌then◌else◌, inl, inr, refl, ap, ◌∙◌}
+use Rattle.std.proofs.Common.{◌≡◌, ◌+◌, ◌∷◌, ℕ, Bool, true, false, List, [], Option, Some, None, Result, Ok, Err, if◌then◌else◌, inl, inr, refl, ap, ◌∙◌}
 use Rattle.std.specs.Option.{option_map_or}
 use Rattle.mm_arena.specs.declared.key.Key.{Key}
 use Rattle.mm_rules.specs.TableState.{TableState, holder_of}
@@ -28,6 +28,8 @@ use Rattle.mm_service.specs.declared.requests.KeyRequest.{KeyRequest}
 use Rattle.mm_service.specs.declared.requests.KeyRequest.TheVariants as of_key
 use Rattle.mm_service.specs.declared.requests.NameRequest.{NameRequest}
 use Rattle.mm_service.specs.declared.requests.NameRequest.TheVariants as of_name
+use Rattle.mm_connections.specs.Names.{LocksNames}
+use Rattle.mm_connections.specs.declared.names.Stop.{Stop}
 
 -- ---- a withdrawal
 
@@ -54,11 +56,11 @@ withdrawal_config s u k made = rests_config made.mid u made.rests ∙ withdraws_
 
 -- ---- the calls
 
-begins_config : (old new : LockState) (answer : Result Key Refusal) → calls.Begins old answer new → new.table.config ≡ old.table.config
+pub begins_config : (old new : LockState) (answer : Result Key Refusal) → calls.Begins old answer new → new.table.config ≡ old.table.config
 begins_config old new (Ok k) did = event_config Begin old.table new.table (Ok k) did.1
 begins_config old new (Err refusal) did = ap (λ (m : LockState). m.table.config) did.0
 
-locks_config : (old new : LockState) (k : Key) (name : List ℕ) (answer : Result Lock Refusal) → calls.LocksName old k name answer new → new.table.config ≡ old.table.config
+pub locks_config : (old new : LockState) (k : Key) (name : List ℕ) (answer : Result Lock Refusal) → calls.LocksName old k name answer new → new.table.config ≡ old.table.config
 locks_config old new k name (Ok lock.Granted) did = did.config
 locks_config old new k name (Ok lock.Held) did = ap (λ (m : LockState). m.table.config) did.1
 locks_config old new k name (Ok (lock.Waits h)) did = did.0.config
@@ -116,3 +118,8 @@ replies_config (requests.Holds k) name reply effect old new (text, same, came) =
 replies_config requests.Owner name reply effect old new (text, same, came) = ap (λ (m : LockState). m.table.config) same
 replies_config requests.Graph name reply effect old new (text, same, came) = ap (λ (m : LockState). m.table.config) same
 replies_config requests.Totals name reply effect old new (text, same, came) = ap (λ (m : LockState). m.table.config) same
+
+pub names_config : (place : ℕ) (k : Key) (names : List (List ℕ)) (old : LockState) (stop : Option Stop) (new : LockState) → LocksNames place k names old stop new → new.table.config ≡ old.table.config
+names_config place k [] old stop new (none, same) = ap (λ (m : LockState). m.table.config) same
+names_config place k (name ∷ names) old stop new (answer, mid, did, lawful, inl (on, rest)) = names_config (place + 1) k names mid stop new rest ∙ locks_config old mid k name answer did.locks
+names_config place k (name ∷ names) old stop new (answer, mid, did, lawful, inr (reason, is, stopped, same)) = ap (λ (m : LockState). m.table.config) same ∙ locks_config old mid k name answer did.locks

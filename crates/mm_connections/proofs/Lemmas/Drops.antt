@@ -2,7 +2,8 @@
 use Rattle.std.proofs.Common.{◌≡◌, ◌≤◌, ℕ, suc, List, [], ◌∷◌, ◌++◌, length, Some, refl, sym, ap, subst, arith, append_assoc, append-nil}
 use Rattle.mm_lists.specs.Members.{head}
 use Rattle.mm_owned.specs.Owned.{Ownership, ListsMatchOwners, list_at, freed}
-use Rattle.mm_connections.specs.Text.{Hub, Drops, DropsAll}
+use Rattle.mm_connections.specs.Hub.{Hub}
+use Rattle.mm_connections.specs.Text.{Drops, DropsAll}
 use Rattle.mm_connections.proofs.Lemmas.Begun.{list_after}
 
 -- so far those at the front of the list of connection c were dropped, and this was told: what is told of the others completes it
@@ -14,7 +15,7 @@ drops_none c old rest new drops = drops
 
 pub drops_more : (c p : ℕ) (old now mid : Hub) (told one : List ℕ) → ListsMatchOwners now.begun → head (list_at now.begun c) ≡ Some p → Drops c p now one mid → DropsOn c old told now → DropsOn c old (told ++ one) mid
 drops_more c p old now mid told one matched is drop so_far rest new drops =
-    let begun = drop.begun in
+    let begun = ap (λ (h : Hub). h.begun) drop.rest in
     let here : DropsAll c (p ∷ list_at (freed now.begun p) c) now (one ++ rest) new = (mid, one, rest, drop, subst (λ b. DropsAll c (list_at b c) mid rest new) begun drops, refl) in
     let all : DropsAll c (list_at now.begun c) now (one ++ rest) new = subst (λ ps. DropsAll c ps now (one ++ rest) new) (sym (list_after now.begun c p matched is)) here in
     subst (λ out. DropsAll c (list_at old.begun c) old out new) (sym (append_assoc told one rest)) (so_far (one ++ rest) new all)

@@ -3,7 +3,7 @@ use Rattle.std.proofs.Common.{◌≡◌, ◌∙◌, sym, ap, subst, ℕ, List, [
 use Rattle.mm_lines.specs.Output.{Writes}
 use Rattle.mm_lines.proofs.Lemmas.Output.{writes_then, writes_added, writes_reply}
 use Rattle.mm_service.proofs.Lemmas.Pieces.{writes_after}
-use Rattle.mm_connections.specs.Text.{to}
+use Rattle.mm_connections.specs.Hub.{to}
 
 -- a text is printed in two parts
 pub printed_both : (old first one second two : List ℕ) → one ≡ old ++ first → two ≡ one ++ second → two ≡ old ++ (first ++ second)

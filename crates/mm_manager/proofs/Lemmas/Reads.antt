@@ -7,7 +7,8 @@ use Rattle.mm_rules.specs.Event.{tenant_of}
 use Rattle.mm_rules.specs.Laws.{Laws, IsHeld}
 use Rattle.mm_rules.proofs.States.Lookups.{waits_here}
 use Rattle.mm_rules.proofs.States.Vacate.{live_process}
-use Rattle.mm_manager.specs.Reads.{edge, wait_at, waits_from}
+use Rattle.mm_arena.specs.declared.key.Key.{Key}
+use Rattle.mm_manager.specs.Reads.{edge, live_from, wait_at, waits_from}
 use Rattle.mm_manager.specs.declared.reply.Wait.{Wait}
 use Rattle.mm_manager.proofs.Lemmas.Names.{waited_is_owned}
 
@@ -37,15 +38,28 @@ no_tenant_waits s laws p none =
 
 -- ---- those from a process on, step by step
 
-waits_step : (s : TableState) (p : ℕ) → p < s.config.processes → waits_from s p ≡ cons_option (wait_at s p) (waits_from s (p + 1))
-waits_step s p below =
-    let more : s.config.processes - p ≡ suc (s.config.processes - (p + 1)) = omega arith in
-    ap (λ n. filter_map (wait_at s) (range_with_len p n)) more
+module _ {A : Type 0} (f : ℕ → Option A) (n p : ℕ) (below : p < n) where
+  from_step : filter_map f (range_with_len p (n - p)) ≡ cons_option (f p) (filter_map f (range_with_len (p + 1) (n - (p + 1))))
+  from_step =
+      let more : n - p ≡ suc (n - (p + 1)) = omega arith in
+      ap (λ i. filter_map f (range_with_len p i)) more
 
--- where process p waits, it comes first
+  from_some : (a : A) → f p ≡ Some a → filter_map f (range_with_len p (n - p)) ≡ a ∷ filter_map f (range_with_len (p + 1) (n - (p + 1)))
+  from_some a is = from_step ∙ ap (λ o. cons_option o (filter_map f (range_with_len (p + 1) (n - (p + 1))))) is
+
+  from_none : f p ≡ None → filter_map f (range_with_len p (n - p)) ≡ filter_map f (range_with_len (p + 1) (n - (p + 1)))
+  from_none is = from_step ∙ ap (λ o. cons_option o (filter_map f (range_with_len (p + 1) (n - (p + 1))))) is
+
+-- where process p waits, it comes first, and else it is passed
 pub waits_some : (s : TableState) (p : ℕ) (w : Wait) → p < s.config.processes → wait_at s p ≡ Some w → waits_from s p ≡ w ∷ waits_from s (p + 1)
-waits_some s p w below is = waits_step s p below ∙ ap (λ o. cons_option o (waits_from s (p + 1))) is
+waits_some s p w below is = from_some (wait_at s) s.config.processes p below w is
 
--- and else it is passed
 pub waits_none : (s : TableState) (p : ℕ) → p < s.config.processes → wait_at s p ≡ None → waits_from s p ≡ waits_from s (p + 1)
-waits_none s p below is = waits_step s p below ∙ ap (λ o. cons_option o (waits_from s (p + 1))) is
+waits_none s p below is = from_none (wait_at s) s.config.processes p below is
+
+-- the same of the live transactions
+pub live_some : (s : TableState) (p : ℕ) (k : Key) → p < s.config.processes → tenant_of s p ≡ Some k → live_from s p ≡ k ∷ live_from s (p + 1)
+live_some s p k below is = from_some (tenant_of s) s.config.processes p below k is
+
+pub live_none : (s : TableState) (p : ℕ) → p < s.config.processes → tenant_of s p ≡ None → live_from s p ≡ live_from s (p + 1)
+live_none s p below is = from_none (tenant_of s) s.config.processes p below is

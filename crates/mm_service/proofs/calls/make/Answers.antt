@@ -1,5 +1,7 @@
 use Rattle.std.proofs.Common.{sym, subst, refl}
-use Rattle.mm_service.specs.Text.{Replies}
+use Rattle.std.proofs.lemmas.Result.{MatchResult-from_err}
+use Rattle.mm_service.specs.Text.{Replies, graph_text}
+use Rattle.mm_service.specs.declared.effect.Effect.TheVariants.{Nothing}
 use Rattle.mm_service.specs.declared.line.Request.{Request}
 use Rattle.mm_service.proofs.Lemmas.Pieces.{writes_printed}
 use Rattle.mm_service.proofs.calls.make.Goals as goal
@@ -15,3 +17,15 @@ returns-in-OfKey-clause-replies g c =
     let did = c.reply_of_key.ensures in
     let R = λ (r : Request). Replies r c.args.asked.name.now c.args.manager.now did.0 c.reply_of_key.result c.reply_of_key.new.manager in
     (did.0, c.reply_of_key.result, c.reply_of_key.new.output.items, subst R (sym c.in-OfKey.is) did.1, writes_printed _ c.args.output.now.items did.0 c.reply_of_key.new.output.items did.2, (refl, refl))
+
+pub returns-in_err-write_holds-in-Holds-clause-replies : goal.returns-in_err-write_holds-in-Holds-clause-replies
+returns-in_err-write_holds-in-Holds-clause-replies g c =
+    let did = c.in_err-write_holds-in-Holds.ensures.written in
+    let R = λ (r : Request). Replies r c.args.asked.name.now c.args.manager.now did.0 Nothing c.args.manager.now in
+    (did.0, Nothing, did.1, subst R (sym c.in-Holds.is) (did.2, refl, refl), did.3, MatchResult-from_err _ _ _ c.from_residual.ensures.0 (λ _. refl))
+
+pub returns-in_err-write_graph-in-Graph-clause-replies : goal.returns-in_err-write_graph-in-Graph-clause-replies
+returns-in_err-write_graph-in-Graph-clause-replies g c =
+    let did = c.in_err-write_graph-in-Graph.ensures.written in
+    let R = λ (r : Request). Replies r c.args.asked.name.now c.args.manager.now (graph_text c.args.manager.now) Nothing c.args.manager.now in
+    (graph_text c.args.manager.now, Nothing, did.0, subst R (sym c.in-Graph.is) (refl, refl, refl), did.1, MatchResult-from_err _ _ _ c.from_residual-in_err-write_graph-in-Graph.ensures.0 (λ _. refl))

@@ -1,6 +1,6 @@
 use Rattle.std.proofs.Common.{sym, subst, refl}
 use Rattle.mm_service.specs.declared.requests.KeyRequest.{KeyRequest}
-use Rattle.mm_service.specs.declared.effect.Effect.TheVariants.{Nothing, EndedWaits}
+use Rattle.mm_service.specs.declared.effect.Effect.TheVariants.{Nothing}
 use Rattle.mm_manager.specs.Made.{Committed, Aborted, Cancelled}
 use Rattle.mm_service.specs.Reply.{line_text, answer_text, committed_text, abort_text, cancel_text, status_text}
 use Rattle.mm_service.specs.Text.{RepliesKey}
@@ -8,19 +8,19 @@ use Rattle.mm_service.proofs.calls.reply_of_key.Goals as goal
 
 pub returns-in-Commit : goal.returns-in-Commit
 returns-in-Commit c =
-    let answer = c.commit.result in
+    let answer = c.commit-answer.result in
     let text = line_text (answer_text committed_text answer) in
-    let Answer = λ (r : KeyRequest). RepliesKey r c.args.key c.args.manager.now text EndedWaits c.commit.new.self in
-    let made : Committed c.args.manager.now c.args.key answer c.commit.new.self = record { commits = c.commit.ensures.commits; totals = c.commit.ensures.totals } in
-    (text, subst Answer (sym c.in-Commit.is) (answer, made, refl, refl), c.print_committed.ensures.added)
+    let Answer = λ (r : KeyRequest). RepliesKey r c.args.key c.args.manager.now text c.commit_effect.result c.commit-answer.new.self in
+    let made : Committed c.args.manager.now c.args.key answer c.commit-answer.new.self = record { commits = c.commit-answer.ensures.commits; totals = c.commit-answer.ensures.totals } in
+    (text, subst Answer (sym c.in-Commit.is) (answer, made, refl, c.commit_effect.ensures), c.print_committed.ensures.added)
 
 pub returns-in-Abort : goal.returns-in-Abort
 returns-in-Abort c =
-    let answer = c.abort.result in
+    let answer = c.abort-answer.result in
     let text = line_text (answer_text abort_text answer) in
-    let Answer = λ (r : KeyRequest). RepliesKey r c.args.key c.args.manager.now text EndedWaits c.abort.new.self in
-    let made : Aborted c.args.manager.now c.args.key answer c.abort.new.self = record { aborts = c.abort.ensures.aborts; totals = c.abort.ensures.totals } in
-    (text, subst Answer (sym c.in-Abort.is) (answer, made, refl, refl), c.print_abort.ensures.added)
+    let Answer = λ (r : KeyRequest). RepliesKey r c.args.key c.args.manager.now text c.abort_effect.result c.abort-answer.new.self in
+    let made : Aborted c.args.manager.now c.args.key answer c.abort-answer.new.self = record { aborts = c.abort-answer.ensures.aborts; totals = c.abort-answer.ensures.totals } in
+    (text, subst Answer (sym c.in-Abort.is) (answer, made, refl, c.abort_effect.ensures), c.print_abort.ensures.added)
 
 pub returns-in-Cancel : goal.returns-in-Cancel
 returns-in-Cancel c =

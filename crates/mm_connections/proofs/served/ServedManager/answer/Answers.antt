@@ -6,10 +6,12 @@ use Rattle.mm_service.proofs.Lemmas.Pieces.{writes_printed}
 use Rattle.mm_connections.specs.declared.line.Said.{Said}
 use Rattle.mm_connections.specs.declared.line.Said.TheVariants as said
 use Rattle.mm_connections.specs.Line.{said_of}
-use Rattle.mm_connections.specs.Text.{Hub, AnswersSaid, to}
+use Rattle.mm_connections.specs.Hub.{Hub, to}
+use Rattle.mm_connections.specs.Text.{AnswersSaid}
+use Rattle.mm_connections.specs.private.Names.{IsShort}
 use Rattle.mm_connections.specs.private.Served.{hub_of}
 use Rattle.mm_connections.proofs.Lemmas.Lines.{printed_both}
-use Rattle.mm_connections.proofs.Lemmas.Said.{IsBelow, said_below}
+use Rattle.mm_connections.proofs.Lemmas.Said.{IsFit, said_fits}
 use Rattle.mm_connections.proofs.served.ServedManager.answer.Goals as goal
 
 -- what a connection asks for, and that it hangs up, is not malformed
@@ -19,25 +21,33 @@ not_malformed P (Err fault) h = tt
 
 pub serve-outcome-requires-clause-connection : goal.serve-outcome-requires-clause-connection
 serve-outcome-requires-clause-connection g c =
+    let n = c.args.self.now.options.connections in
     let is = sym c.said_of-named.ensures.said ∙ c.in-Asks.is in
-    let below : c.in-Asks.connection < c.args.connections = subst (λ (s : Said). IsBelow c.args.connections s) is (said_below c.args.connections c.args.line.now) in
-    omega (arith, below, c.requires.lists)
+    let fits = subst (λ (s : Said). IsFit n s (said_of n c.args.line.now).name) is (said_fits n c.args.line.now) in
+    omega (arith, fits.0, c.requires.lists)
+
+pub serve-outcome-requires-clause-short : goal.serve-outcome-requires-clause-short
+serve-outcome-requires-clause-short g c =
+    let n = c.args.self.now.options.connections in
+    let is = sym c.said_of-named.ensures.said ∙ c.in-Asks.is in
+    let fits = subst (λ (s : Said). IsFit n s (said_of n c.args.line.now).name) is (said_fits n c.args.line.now) in
+    subst (λ (name : List ℕ). IsShort c.in-Asks.request name) (sym c.said_of-named.ensures.name) fits.1
 
 pub hang_up-outcome-requires : goal.hang_up-outcome-requires
 hang_up-outcome-requires g c =
+    let n = c.args.self.now.options.connections in
     let is = sym c.said_of-named.ensures.said ∙ c.in-HangsUp.is in
-    let below : c.in-HangsUp.connection < c.args.connections = subst (λ (s : Said). IsBelow c.args.connections s) is (said_below c.args.connections c.args.line.now) in
-    omega (arith, below, c.requires.lists)
+    let fits = subst (λ (s : Said). IsFit n s (said_of n c.args.line.now).name) is (said_fits n c.args.line.now) in
+    omega (arith, fits, c.requires.lists)
 
 pub returns-in-Nobody-clause-answered : goal.returns-in-Nobody-clause-answered
 returns-in-Nobody-clause-answered g c =
     let line = sym c.in-Nobody.is ∙ c.said_of-named.ensures.said in
     let h : Hub = hub_of c.args.self.now in
     let kept = c.args.output.now.items in
-    let says = λ (n : ℕ). said_of n c.args.line.now in
-    let N = λ (n : ℕ). AnswersSaid (says n).said (says n).name h [] 1 h in
-    let L = λ (s : Said). AnswersSaid s (says c.args.connections).name h [] 1 h in
-    ([], 1, kept, subst N (sym c.requires.lists) (subst L line (refl, refl, refl)), writes_printed _ kept [] kept (sym (append-nil kept)), (refl, refl))
+    let says = said_of c.args.self.now.options.connections c.args.line.now in
+    let L = λ (s : Said). AnswersSaid s says.name h [] 1 h in
+    ([], 1, kept, subst L line (refl, refl, refl), writes_printed _ kept [] kept (sym (append-nil kept)), (refl, refl))
 
 pub returns-in-Malformed-clause-answered : goal.returns-in-Malformed-clause-answered
 returns-in-Malformed-clause-answered g c =
@@ -45,13 +55,12 @@ returns-in-Malformed-clause-answered g c =
     let h : Hub = hub_of c.args.self.now in
     let kept = c.args.output.now.items in
     let text = to c.in-Malformed.connection (line_text (codes "malformed")) in
-    let says = λ (n : ℕ). said_of n c.args.line.now in
-    let N = λ (n : ℕ). AnswersSaid (says n).said (says n).name h text 1 h in
-    let L = λ (s : Said). AnswersSaid s (says c.args.connections).name h text 1 h in (
+    let says = said_of c.args.self.now.options.connections c.args.line.now in
+    let L = λ (s : Said). AnswersSaid s says.name h text 1 h in (
       text,
       1,
       c.print_line.new.output.items,
-      subst N (sym c.requires.lists) (subst L line (refl, refl, refl)),
+      subst L line (refl, refl, refl),
       writes_printed _ kept text c.print_line.new.output.items (printed_both kept _ c.print_to.new.output.items _ c.print_line.new.output.items c.print_to.ensures.added c.print_line.ensures),
       (refl, refl),
     )
@@ -62,10 +71,9 @@ returns-in-HangsUp-clause-answered g c =
     let h : Hub = hub_of c.args.self.now in
     let new : Hub = hub_of c.hang_up-outcome.new.self in
     let did = c.hang_up-outcome.ensures.hangs_up in
-    let says = λ (n : ℕ). said_of n c.args.line.now in
-    let N = λ (n : ℕ). AnswersSaid (says n).said (says n).name h did.0 0 new in
-    let L = λ (s : Said). AnswersSaid s (says c.args.connections).name h did.0 0 new in
-    (did.0, 0, did.1, subst N (sym c.requires.lists) (subst L line (did.2, did.3, refl)), did.4, rw c.and.ensures (not_malformed _ _ did.5))
+    let says = said_of c.args.self.now.options.connections c.args.line.now in
+    let L = λ (s : Said). AnswersSaid s says.name h did.0 0 new in
+    (did.0, 0, did.1, subst L line (did.2, did.3, refl), did.4, rw c.and.ensures (not_malformed _ _ did.5))
 
 pub returns-in-Asks-clause-answered : goal.returns-in-Asks-clause-answered
 returns-in-Asks-clause-answered g c =
@@ -73,8 +81,7 @@ returns-in-Asks-clause-answered g c =
     let h : Hub = hub_of c.args.self.now in
     let new : Hub = hub_of c.serve-outcome.new.self in
     let did = c.serve-outcome.ensures.serves in
-    let says = λ (n : ℕ). said_of n c.args.line.now in
-    let N = λ (n : ℕ). AnswersSaid (says n).said (says n).name h did.0 0 new in
-    let L = λ (s : Said). AnswersSaid s (says c.args.connections).name h did.0 0 new in
+    let says = said_of c.args.self.now.options.connections c.args.line.now in
+    let L = λ (s : Said). AnswersSaid s says.name h did.0 0 new in
     let M = λ (n : List ℕ). AnswersSaid (said.Asks c.in-Asks.connection c.in-Asks.request) n h did.0 0 new in
-    (did.0, 0, did.1, subst N (sym c.requires.lists) (subst L line (subst M c.said_of-named.ensures.name (did.2, did.3, refl))), did.4, rw c.and-in-Asks.ensures (not_malformed _ _ did.5))
+    (did.0, 0, did.1, subst L line (subst M c.said_of-named.ensures.name (did.2, did.3, refl)), did.4, rw c.and-in-Asks.ensures (not_malformed _ _ did.5))

@@ -1,9 +1,10 @@
-use Rattle.std.proofs.Common.{◌≡◌, ◌∙◌, ℕ, List, sym, subst, refl, ◌++◌, Result, OnOk, IsOkUnless, Some}
+use Rattle.std.proofs.Common.{◌≡◌, ◌∙◌, ap, ℕ, List, sym, subst, refl, ◌++◌, Result, OnOk, IsOkUnless, Some}
 use Rattle.mm_lines.specs.declared.fault.Fault.{Fault}
 use Rattle.mm_lines.specs.declared.fault.Fault.TheVariants.{Write}
 use Rattle.mm_lines.specs.Output.{Writes}
 use Rattle.mm_owned.specs.Owned.{Ownership, list_at}
-use Rattle.mm_connections.specs.Text.{Hub, Drops, DropsAll, told_text}
+use Rattle.mm_connections.specs.Hub.{Hub}
+use Rattle.mm_connections.specs.Text.{Drops, DropsAll, told_text}
 use Rattle.mm_connections.specs.private.Served.{hub_of}
 use Rattle.mm_connections.proofs.Lemmas.Config.{aborts_config}
 use Rattle.mm_connections.proofs.Lemmas.Drops.{one_fewer, drops_more, drops_end}
@@ -22,21 +23,23 @@ key-preserved-in-Ok g c =
     let taken = c.in-Some.ensures.taken in
     let start : Hub = hub_of c.args.self.now in
     let old : Hub = hub_of c.key.self in
-    let mid : Hub = record { manager = c.abort-answer.new.self; begun = c.take_first.new.self } in
+    let mid : Hub = record { manager = c.abort-answer.new.self; begun = c.take_first.new.self; counts = c.key.self.counts; options = c.key.self.options } in
     let one = told_text (Some c.args.connection) mid in
+    let with_begun : Ownership → Hub = λ b. record { manager = c.abort-answer.new.self; begun = b; counts = c.key.self.counts; options = c.key.self.options } in
     let drop : Drops c.args.connection c.in-Some.key.process old one mid = record {
       kept = record { process = c.args.connection; generation = c.in-Some.key.generation };
       was = taken.2;
       answer = c.abort-answer.result;
       did = record { aborts = c.abort-answer.ensures.aborts; totals = c.abort-answer.ensures.totals };
       lawful = c.keeps_laws-in-Some.ensures;
-      begun = taken.0;
+      rest = ap with_begun taken.0;
       text = refl;
     } in
     let written = c.write_told-written.ensures.written in
     let same = subst (λ (r : Result (Unit {0}) Fault). OnOk r (inv.lost ≡ c.key.output.items)) c.in-Ok.is inv.kept in
     let kept = subst (λ (l : List ℕ). Writes (g.W.Write.contents c.args.writer.now) (g.W.Write.contents c.key.writer) (c.args.output.now.items ++ inv.told) l) same inv.writes in
     record {
+      options = inv.options;
       lists = c.in-Some.ensures.lists ∙ inv.lists;
       owners = c.in-Some.ensures.owners ∙ inv.owners;
       matched = c.keeps_laws-in-Some-2.ensures;
@@ -55,18 +58,20 @@ key-preserved g c =
     let taken = c.in-Some.ensures.taken in
     let start : Hub = hub_of c.args.self.now in
     let old : Hub = hub_of c.key.self in
-    let mid : Hub = record { manager = c.abort-answer.new.self; begun = c.take_first.new.self } in
+    let mid : Hub = record { manager = c.abort-answer.new.self; begun = c.take_first.new.self; counts = c.key.self.counts; options = c.key.self.options } in
     let one = told_text (Some c.args.connection) mid in
+    let with_begun : Ownership → Hub = λ b. record { manager = c.abort-answer.new.self; begun = b; counts = c.key.self.counts; options = c.key.self.options } in
     let drop : Drops c.args.connection c.in-Some.key.process old one mid = record {
       kept = record { process = c.args.connection; generation = c.in-Some.key.generation };
       was = taken.2;
       answer = c.abort-answer.result;
       did = record { aborts = c.abort-answer.ensures.aborts; totals = c.abort-answer.ensures.totals };
       lawful = c.keeps_laws-in-Some.ensures;
-      begun = taken.0;
+      rest = ap with_begun taken.0;
       text = refl;
     } in
     record {
+      options = inv.options;
       lists = c.in-Some.ensures.lists ∙ inv.lists;
       owners = c.in-Some.ensures.owners ∙ inv.owners;
       matched = c.keeps_laws-in-Some-2.ensures;
@@ -89,7 +94,7 @@ returns-clause-drops g c =
     let drops : DropsAll n (list_at start.begun n) start inv.told last = drops_end n start last inv.told taken.0 inv.drops in (
       inv.told,
       inv.lost,
-      subst (λ (b : Ownership). DropsAll n (list_at start.begun n) start inv.told (record { manager = c.key.self.manager; begun = b })) (sym taken.1) drops,
+      subst (λ (b : Ownership). DropsAll n (list_at start.begun n) start inv.told (record { manager = c.key.self.manager; begun = b; counts = c.key.self.counts; options = c.key.self.options })) (sym taken.1) drops,
       inv.writes,
       inv.kept,
     )

@@ -9,6 +9,7 @@ use Rattle.mm_connections.proofs.served.ServedManager.drop_all.Given as goal
 -- those at the front of the list were dropped, what is told of them is written, kept or lost, and the others are left
 abbrev pub invariant-key : goal.invariant-key
 invariant-key g l = record {
+  options : l.self.options ≡ l.initial.self.options;
   lists : length l.self.begun.lists ≡ length l.initial.self.begun.lists;
   owners : length l.self.begun.owners ≡ length l.initial.self.begun.owners;
   matched : ListsMatchOwners l.self.begun;

@@ -1,12 +1,35 @@
-use Rattle.std.proofs.Common.{◌∙◌, sym, subst, refl, codes, ◌++◌}
+use Rattle.std.proofs.Common.{◌≡◌, ◌∙◌, sym, subst, refl, codes, decimal, List, ℕ, ◌++◌, append_assoc}
+use Rattle.mm_lines.specs.Output.{Writes}
 use Rattle.mm_manager.specs.declared.refusal.Refusal.TheVariants as refusal
 use Rattle.mm_service.specs.Reply.{line_text, refusal_word}
-use Rattle.mm_service.proofs.Lemmas.Pieces.{writes_printed}
+use Rattle.mm_service.proofs.Lemmas.Pieces.{writes_after, writes_printed}
+use Rattle.mm_connections.specs.Hub.{Hub, to}
+use Rattle.mm_connections.specs.Text.{ServesBy, effect_for, events_text}
 use Rattle.mm_connections.specs.declared.permission.Permission.{Permission}
-use Rattle.mm_connections.specs.Text.{Hub, ServesBy, to}
 use Rattle.mm_connections.specs.private.Served.{hub_of}
 use Rattle.mm_connections.proofs.Lemmas.Lines.{printed_both}
 use Rattle.mm_connections.proofs.served.ServedManager.serve.Goals as goal
+
+pub returns-in-Make-clause-serves : goal.returns-in-Make-clause-serves
+returns-in-Make-clause-serves g c =
+    let becomes = sym c.in-Make.is ∙ c.permission_of.ensures in
+    let n = c.args.connection in
+    let did = c.make.ensures.makes in
+    let new : Hub = hub_of c.make.new.self in
+    let kept = c.args.output.now.items in
+    let head = decimal n ++ codes " " in
+    let caused = events_text new (effect_for n did.1) in
+    let text = to n did.0 ++ caused in
+    let P = λ (p : Permission). ServesBy p n c.args.request c.args.name.now (hub_of c.args.self.now) text new in
+    let W = λ (l : List ℕ). Writes (g.W.Write.contents c.args.writer.now) (g.W.Write.contents c.make.new.writer) (kept ++ l) did.2 in
+    let written = writes_after _ _ kept head c.print_to.new.output.items (did.0 ++ caused) did.2 c.print_to.ensures.added did.5 in (
+      text,
+      did.2,
+      record { manager = c.keeps_laws.ensures; lists = c.keeps_laws-2.ensures },
+      subst P becomes (record { reply = did.0; effect = did.1; replies = did.3; lawful = did.4; text = refl }),
+      subst W (sym (append_assoc head did.0 caused)) written,
+      did.6,
+    )
 
 pub returns-in-NoTransaction-clause-serves : goal.returns-in-NoTransaction-clause-serves
 returns-in-NoTransaction-clause-serves g c =
@@ -15,7 +38,7 @@ returns-in-NoTransaction-clause-serves g c =
     let h : Hub = hub_of c.args.self.now in
     let kept = c.args.output.now.items in
     let text = to n (line_text (codes "refused " ++ refusal_word refusal.NoTransaction)) in
-    let P = λ (p : Permission). ServesBy p n c.args.asked.request c.args.asked.name.now h text h in (
+    let P = λ (p : Permission). ServesBy p n c.args.request c.args.name.now h text h in (
       text,
       c.print_line.new.output.items,
       record { manager = c.keeps_laws.ensures; lists = c.keeps_laws-2.ensures },

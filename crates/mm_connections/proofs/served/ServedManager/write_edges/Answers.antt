@@ -5,7 +5,8 @@ use Rattle.mm_manager.specs.Reads.{waits_of}
 use Rattle.mm_manager.specs.declared.reply.Wait.{Wait}
 use Rattle.mm_service.specs.Reply.{line_text, edge_text, name_at}
 use Rattle.mm_service.proofs.Lemmas.Pieces.{writes_kept, writes_piece}
-use Rattle.mm_connections.specs.Text.{edge_lines, to}
+use Rattle.mm_connections.specs.Hub.{to}
+use Rattle.mm_connections.specs.Reads.{edge_lines}
 use Rattle.mm_connections.proofs.Lemmas.Lines.{printed_both}
 use Rattle.mm_connections.proofs.served.ServedManager.write_edges.Goals as goal
 

@@ -1,7 +1,7 @@
 use Rattle.std.proofs.Common.{◌++◌}
 use Rattle.mm_lines.specs.Output.{Writes}
 use Rattle.mm_manager.specs.Reads.{waits_of}
-use Rattle.mm_connections.specs.Text.{edge_lines}
+use Rattle.mm_connections.specs.Reads.{edge_lines}
 use Rattle.mm_connections.proofs.served.ServedManager.write_edges.Given as goal
 
 -- the lines so far are written or kept

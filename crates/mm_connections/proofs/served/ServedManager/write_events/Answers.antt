@@ -6,7 +6,8 @@ use Rattle.mm_service.specs.declared.effect.Effect.{Effect}
 use Rattle.mm_service.specs.Reply.{line_text, aborted_text}
 use Rattle.mm_service.proofs.Lemmas.Pieces.{writes_after}
 use Rattle.mm_connections.specs.Begun.{connection_of}
-use Rattle.mm_connections.specs.Text.{Hub, events_text, to_any, told_text}
+use Rattle.mm_connections.specs.Hub.{Hub, to_any}
+use Rattle.mm_connections.specs.Text.{events_text, told_text}
 use Rattle.mm_connections.specs.private.Served.{hub_of}
 use Rattle.mm_connections.proofs.served.ServedManager.write_events.Goals as goal
 

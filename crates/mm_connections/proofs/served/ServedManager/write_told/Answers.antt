@@ -5,7 +5,8 @@ use Rattle.mm_settled.specs.declared.reply.Grant.{Grant}
 use Rattle.mm_service.specs.Text.{told_line}
 use Rattle.mm_service.proofs.Lemmas.Pieces.{writes_kept, writes_next, writes_whole}
 use Rattle.mm_connections.specs.Begun.{connection_of}
-use Rattle.mm_connections.specs.Text.{Hub, receiver, to_any, told_lines}
+use Rattle.mm_connections.specs.Hub.{Hub, to_any}
+use Rattle.mm_connections.specs.Text.{receiver, told_lines}
 use Rattle.mm_connections.specs.private.Served.{hub_of}
 use Rattle.mm_connections.proofs.served.ServedManager.write_told.Goals as goal
 

@@ -1,0 +1,97 @@
+-- Connections are apart over a run.
+use Rattle.std.proofs.Common.{◌≡◌, ◌⊎◌, ℕ, Bool, true, false, List, [], ◌∷◌, drop, Option, Some, Result, Ok, Err, inl, inr, refl, sym, ap, subst, ◌∙◌}
+use Rattle.mm_arena.specs.declared.key.Key.{Key}
+use Rattle.mm_bit_set.specs.BitSet.{has}
+use Rattle.mm_lines.specs.Text.{Text}
+use Rattle.mm_lines.specs.Words.{words_of}
+use Rattle.mm_lists.specs.Members.{Among}
+use Rattle.mm_owned.specs.Owned.{Ownership, list_at}
+use Rattle.mm_rules.specs.TableState.{is_live}
+use Rattle.mm_manager.specs.LockState.{LockState}
+use Rattle.mm_manager.specs.declared.refusal.Refusal.{Refusal}
+use Rattle.mm_service.specs.declared.effect.Effect.{Effect}
+use Rattle.mm_apart.proofs.Lemmas.Left.{as_it_was, left_left}
+use Rattle.mm_connections.specs.Apart.{MayTouch, NoneTouches, RunLeaves, RunsAreApart}
+use Rattle.mm_connections.specs.Begun.{connection_of}
+use Rattle.mm_connections.specs.Hub.{Hub}
+use Rattle.mm_connections.specs.Line.{said_of}
+use Rattle.mm_connections.specs.Permission.{permission_of}
+use Rattle.mm_connections.specs.Text.{Answers, AnswersSaid, BeginsAs, BeginsBy, DropsAll, RepliesTo, ServesBy, is_full}
+use Rattle.mm_connections.specs.declared.line.Said.{Said}
+use Rattle.mm_connections.specs.declared.line.Said.TheVariants as said
+use Rattle.mm_connections.specs.declared.permission.Permission.{Permission}
+use Rattle.mm_connections.specs.declared.permission.Permission.TheVariants as permit
+use Rattle.mm_connections.specs.declared.request.ClientRequest.{ClientRequest}
+use Rattle.mm_connections.specs.declared.request.ClientRequest.TheVariants as asked
+use Rattle.mm_connections.proofs.Lemmas.Apart.{lines_are_apart}
+
+-- ---- no line changes the numbers of the opening
+
+begins_as_options : (answer : Result Key Refusal) (c : ℕ) (names : List (List ℕ)) (mid : Hub) (reply : List ℕ) (effect : Effect) (new : Hub) → BeginsAs answer c names mid reply effect new → new.options ≡ mid.options
+begins_as_options (Ok k) c names mid reply effect new (stop, all, text, came, same) = ap (λ (h : Hub). h.options) same
+begins_as_options (Err refusal) c names mid reply effect new (text, came, same) = ap (λ (h : Hub). h.options) same
+
+begins_options : (full : Bool) (c : ℕ) (names : List (List ℕ)) (old : Hub) (reply : List ℕ) (effect : Effect) (new : Hub) → BeginsBy full c names old reply effect new → new.options ≡ old.options
+begins_options true c names old reply effect new (text, came, same) = ap (λ (h : Hub). h.options) same
+begins_options false c names old reply effect new (answer, mid, did, lawful, told) = begins_as_options answer c names (record old { manager = mid }) reply effect new told
+
+replies_options : (c : ℕ) (request : ClientRequest) (name : List ℕ) (old : Hub) (reply : List ℕ) (effect : Effect) (new : Hub) → RepliesTo c request name old reply effect new → new.options ≡ old.options
+replies_options c asked.Begin name old reply effect new did = begins_options (is_full old c) c (drop 1 (words_of name)) old reply effect new did
+replies_options c (asked.LockAll k) name old reply effect new (stop, all, text, came, same) = ap (λ (h : Hub). h.options) same
+replies_options c (asked.Plain request) name old reply effect new did = ap (λ (h : Hub). h.options) did.rest
+replies_options c (asked.Read request) name old reply effect new (read, came, same) = ap (λ (h : Hub). h.options) same
+
+serves_options : (p : Permission) (c : ℕ) (request : ClientRequest) (name out : List ℕ) (old new : Hub) → ServesBy p c request name old out new → new.options ≡ old.options
+serves_options permit.Make c request name out old new did = replies_options c request name old did.reply did.effect new did.replies
+serves_options permit.NoTransaction c request name out old new (text, same) = ap (λ (h : Hub). h.options) same
+serves_options permit.Operator c request name out old new (text, same) = ap (λ (h : Hub). h.options) same
+
+drops_options : (c : ℕ) (ps : List ℕ) (old : Hub) (out : List ℕ) (new : Hub) → DropsAll c ps old out new → new.options ≡ old.options
+drops_options c [] old out new (none, same) = ap (λ (h : Hub). h.options) same
+drops_options c (p ∷ ps) old out new (mid, first, rest, one, later, text) = drops_options c ps mid rest new later ∙ ap (λ (h : Hub). h.options) one.rest
+
+said_options : (s : Said) (name : List ℕ) (old : Hub) (out : List ℕ) (one : ℕ) (new : Hub) → AnswersSaid s name old out one new → new.options ≡ old.options
+said_options said.Nobody name old out one new (text, count, same) = ap (λ (h : Hub). h.options) same
+said_options (said.Malformed c) name old out one new (text, count, same) = ap (λ (h : Hub). h.options) same
+said_options (said.HangsUp c) name old out one new (lawful, did, none) = ap (λ (h : Hub). h.options) did.rest ∙ drops_options c (list_at old.begun c) old did.told did.last did.drops
+said_options (said.Asks c request) name old out one new (lawful, did, none) = serves_options (permission_of old.begun c request) c request name out old new did
+
+answers_options : (old : Hub) (line out : List ℕ) (one : ℕ) (new : Hub) → Answers old line out one new → new.options ≡ old.options
+answers_options old line out one new did = (let says = said_of old.options.connections line in said_options says.said says.name old out one new did)
+
+-- ---- one line after the other
+
+touch_same : (a b : Ownership) (s : Said) (t : Key) → connection_of b t ≡ connection_of a t → MayTouch b s t → MayTouch a s t
+touch_same a b said.Nobody t same never = never
+touch_same a b (said.Malformed c) t same never = never
+touch_same a b (said.HangsUp c) t same own = sym same ∙ own
+touch_same a b (said.Asks c request) t same (inl operator) = inl operator
+touch_same a b (said.Asks c request) t same (inr own) = inr (sym same ∙ own)
+
+module _ (old mid last : Hub) (line : List ℕ) (lines : List (List ℕ)) (t : Key) (reply : List ℕ) (one : ℕ) (answers : Answers old line reply one mid) (live : is_live old.manager.table t ≡ true)
+    (none : NoneTouches old (line ∷ lines) t) where
+  none_after : connection_of mid.begun t ≡ connection_of old.begun t → NoneTouches mid lines t
+  none_after same other among touches =
+      let kept = subst (λ n. MayTouch mid.begun (said_of n other).said t) (ap (λ o. o.connections) (answers_options old line reply one mid answers)) touches in
+      none other (inr among) (touch_same old.begun mid.begun (said_of old.options.connections other).said t same kept)
+
+  run_next : (is_live mid.manager.table t ≡ true → NoneTouches mid lines t → RunLeaves mid t last) → RunLeaves old t last
+  run_next rest = elim (lines_are_apart line reply one old mid answers t live (none line (inl refl))) [
+    | inr ended ↦ inr ended.0
+    | inl kept ↦ elim (rest kept.0.live (none_after kept.1)) [
+      | inl later ↦ inl (left_left old.manager mid.manager last.manager t kept.0 later.0, later.1 ∙ kept.1)
+      | inr due ↦ inr (sym kept.0.due ∙ due)
+    ]
+  ]
+
+run_same : (old last : Hub) (t : Key) → last ≡ old → is_live old.manager.table t ≡ true → RunLeaves old t last
+run_same old last t same live = inl (as_it_was old.manager last.manager t live (ap (λ (h : Hub). h.manager) same), ap (λ (h : Hub). connection_of h.begun t) same)
+
+pub runs_are_apart : RunsAreApart
+runs_are_apart true [] out malformed old last (none, zero, same) t live apart = run_same old last t same live
+runs_are_apart false [] out malformed old last (none, zero, same) t live apart = run_same old last t same live
+runs_are_apart true (line ∷ lines) out malformed old last (mid, reply, rest, one, more, answers, later, text, count) t live apart =
+    run_next old mid last line lines t reply one answers live apart (λ still none. runs_are_apart true lines rest more mid last later t still none)
+runs_are_apart false (line ∷ lines) out malformed old last (inl (none, zero, same)) t live apart = run_same old last t same live
+runs_are_apart false (line ∷ lines) out malformed old last (inr (mid, reply, rest, one, more, answers, later, text, count)) t live apart =
+    run_next old mid last line lines t reply one answers live apart (λ still none. runs_are_apart false lines rest more mid last later t still none)

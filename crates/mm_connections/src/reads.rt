@@ -1,0 +1,291 @@
+//! What a connection reads.
+ghost use Rattle.std.specs.Prelude.{◌≡◌, ◌≤◌, ◌+◌, ◌++◌, ℕ, List, length, codes, decimal, nat_eq, OnOk, IsOkUnless};
+ghost use Rattle.arrayvec.specs.ArrayVec.{array_vec_len};
+ghost use Rattle.mm_lines.specs.Output.{Prints, Writes};
+ghost use Rattle.mm_manager.specs.Reads.{live_of, waits_of};
+ghost use Rattle.mm_service.specs.Reply.{line_text};
+ghost use Rattle.mm_connections.specs.Cycle.{cycle_reply};
+ghost use Rattle.mm_connections.specs.Hub.{to};
+ghost use Rattle.mm_connections.specs.Reads.{FenceText, HeldText, ReadReply, connection_text, counts_text, edge_lines, fence_by, graph_text, hello_text, list_text, live_line, live_lines};
+ghost use Rattle.mm_connections.specs.Status.{status_of};
+
+use crate::cycle::write_cycle;
+use crate::permission::OPERATOR;
+use crate::request::ReadRequest;
+use crate::served::{MAX_ANSWER, ServedManager, print_to};
+use mm_lines::{Fault, OUTPUT_LEN, Output, make_room, print_key, print_number, print_text};
+use mm_manager::{Key, LockManager, Status};
+use mm_service::reply::{
+    MAX_NAMED, MAX_REPLY, end_line, name_at, print_edge, print_line, print_status,
+};
+use mm_service::{count_waits, list_held, write_list};
+use std::io::Write;
+
+/// How many names of a transaction are told to others than the operator.
+const MAX_HELD: usize = 1_024;
+
+/// A line of a list has at most so many bytes.
+const MAX_LIVE: usize = MAX_NAMED + 100;
+
+impl ServedManager {
+    ghost use Rattle.mm_connections.specs.private.Served.{hub_of};
+
+    /// Reads something for a connection.
+    pub(crate) fn read<W: Write>(
+        &mut self,
+        connection: u32,
+        request: ReadRequest,
+        name: &[u8],
+        output: &mut Output,
+        writer: &mut W,
+    ) -> Result<(), Fault>
+        requires { array_vec_len output.old + MAX_NAMED ≤ OUTPUT_LEN }
+        ensures read { (text : List ℕ) × (lost : List ℕ) × ReadReply connection request name.now (hub_of self.old) text
+            × Writes (W.contents writer.old) (W.contents writer.new) (output.old.items ++ text) lost × OnOk result (lost ≡ output.new.items) }
+        ensures fault { IsOkUnless result Fault.Write }
+        ensures hub { hub_of self.new ≡ hub_of self.old }
+    {
+        match request {
+            ReadRequest::Holds(key) => {
+                self.write_held(connection == OPERATOR, key, output, writer)
+            }
+            ReadRequest::Cycle(key) => self.write_cycle_reply(key, output, writer),
+            ReadRequest::Fence(key) => {
+                self.print_fence(key, name, output);
+                Ok(())
+            }
+            ReadRequest::Hello => {
+                self.print_hello(output);
+                Ok(())
+            }
+            ReadRequest::Graph => self.write_graph(connection, output, writer),
+            ReadRequest::List => self.write_live(connection, output, writer),
+            ReadRequest::Counts => {
+                print_counts(&self.manager, output);
+                Ok(())
+            }
+        }
+    }
+
+    /// Writes the names that a transaction owns, in the order of their bytes, if they are not too many.
+    fn write_held<W: Write>(
+        &mut self,
+        is_operator: bool,
+        key: Key,
+        output: &mut Output,
+        writer: &mut W,
+    ) -> Result<(), Fault>
+        requires { array_vec_len output.old + MAX_REPLY ≤ OUTPUT_LEN }
+        ensures written { (text : List ℕ) × (lost : List ℕ) × HeldText is_operator self.old.manager key text
+            × Writes (W.contents writer.old) (W.contents writer.new) (output.old.items ++ text) lost × OnOk result (lost ≡ output.new.items) }
+        ensures fault { IsOkUnless result Fault.Write }
+        ensures hub { hub_of self.new ≡ hub_of self.old }
+    {
+        if self.manager.status(key).is_err() {
+            print_line(output, b"refused no-transaction");
+            return Ok(());
+        }
+        list_held(&self.manager, &mut self.numbers, key);
+        if is_operator || self.numbers.count() <= MAX_HELD {
+            write_list(&self.manager, &self.numbers, output, writer)
+        } else {
+            print_line(output, b"refused too-many");
+            Ok(())
+        }
+    }
+
+    /// Writes the cycle that a transaction closed.
+    fn write_cycle_reply<W: Write>(
+        &self,
+        key: Key,
+        output: &mut Output,
+        writer: &mut W,
+    ) -> Result<(), Fault>
+        requires { array_vec_len output.old + MAX_REPLY ≤ OUTPUT_LEN }
+        ensures written { (lost : List ℕ) × Writes (W.contents writer.old) (W.contents writer.new) (output.old.items ++ line_text (cycle_reply self.now.manager key (status_of self.now.manager key))) lost
+            × OnOk result (lost ≡ output.new.items) }
+        ensures fault { IsOkUnless result Fault.Write }
+    {
+        match self.manager.status(key) {
+            Ok(Status::Deadlock { .. }) => {
+                write_cycle(&self.manager, b"cycle", key, output, writer)
+            }
+            Ok(Status::Active) => {
+                print_line(output, b"refused not-deadlocked");
+                Ok(())
+            }
+            Ok(Status::Waiting { .. }) => {
+                print_line(output, b"refused not-deadlocked");
+                Ok(())
+            }
+            Err(_) => {
+                print_line(output, b"refused no-transaction");
+                Ok(())
+            }
+        }
+    }
+
+    /// Prints the fence of a name.
+    fn print_fence(&self, key: Key, name: &[u8], output: &mut Output)
+        requires { array_vec_len output.old + MAX_REPLY ≤ OUTPUT_LEN }
+        ensures { (text : List ℕ) × FenceText (hub_of self.now) key name.now text × (output.new.items ≡ output.old.items ++ text) }
+    {
+        let owner = self.manager.owner(name);
+        if self.manager.status(key).is_err() {
+            print_line(output, b"refused no-transaction");
+            return;
+        }
+        let Some(epoch) = self.options.epoch else {
+            print_line(output, b"refused no-epoch");
+            return;
+        };
+        if name.len() > self.manager.config().name_bytes as usize {
+            print_line(output, b"refused name-too-long");
+        } else if owner == Some(key) {
+            print_number(output, b"fence ", epoch);
+            print_number(output, b" ", self.manager.events());
+            end_line(output);
+        } else {
+            print_line(output, b"refused not-owner");
+        }
+    }
+
+    /// Prints the protocol, the epoch, and the numbers of the opening.
+    fn print_hello(&self, output: &mut Output)
+        requires { array_vec_len output.old + MAX_REPLY ≤ OUTPUT_LEN }
+        ensures { output.new.items ≡ output.old.items ++ line_text (hello_text (hub_of self.now)) }
+    {
+        let config = self.manager.config();
+        print_number(output, b"hello 1 ", self.options.epoch.unwrap_or(0));
+        print_number(output, b" ", u64::from(config.transactions));
+        print_number(output, b" ", u64::from(config.names));
+        print_number(output, b" ", u64::from(config.name_bytes));
+        end_line(output);
+    }
+
+    /// Writes how many transactions wait, and a line for each of them.
+    fn write_graph<W: Write>(
+        &self,
+        connection: u32,
+        output: &mut Output,
+        writer: &mut W,
+    ) -> Result<(), Fault>
+        requires { array_vec_len output.old + MAX_REPLY ≤ OUTPUT_LEN }
+        ensures written { (lost : List ℕ) × Writes (W.contents writer.old) (W.contents writer.new) (output.old.items ++ graph_text connection self.now.manager) lost
+            × OnOk result (lost ≡ output.new.items) }
+        ensures fault { IsOkUnless result Fault.Write }
+    {
+        print_number(output, b"graph ", count_waits(&self.manager));
+        end_line(output);
+        self.write_edges(connection, output, writer)
+    }
+
+    /// Writes a line for each wait.
+    fn write_edges<W: Write>(
+        &self,
+        connection: u32,
+        output: &mut Output,
+        writer: &mut W,
+    ) -> Result<(), Fault>
+        ensures written { (lost : List ℕ) × Writes (W.contents writer.old) (W.contents writer.new) (output.old.items ++ edge_lines connection self.now.manager (waits_of self.now.manager.table)) lost
+            × OnOk result (lost ≡ output.new.items) }
+        ensures fault { IsOkUnless result Fault.Write }
+    {
+        for wait in self.manager.graph() {
+            make_room(output, MAX_ANSWER, writer)?;
+            print_to(output, connection);
+            print_edge(
+                output,
+                wait.key,
+                name_at(&self.manager, wait.number),
+                wait.holder,
+            );
+        }
+        Ok(())
+    }
+
+    /// Writes how many transactions are live, and a line for each of them.
+    fn write_live<W: Write>(
+        &self,
+        connection: u32,
+        output: &mut Output,
+        writer: &mut W,
+    ) -> Result<(), Fault>
+        requires { array_vec_len output.old + MAX_REPLY ≤ OUTPUT_LEN }
+        ensures written { (lost : List ℕ) × Writes (W.contents writer.old) (W.contents writer.new) (output.old.items ++ list_text connection (hub_of self.now)) lost
+            × OnOk result (lost ≡ output.new.items) }
+        ensures fault { IsOkUnless result Fault.Write }
+    {
+        print_number(output, b"list ", count_live(&self.manager));
+        end_line(output);
+        self.write_live_lines(connection, output, writer)
+    }
+
+    /// Writes a line for each live transaction.
+    fn write_live_lines<W: Write>(
+        &self,
+        connection: u32,
+        output: &mut Output,
+        writer: &mut W,
+    ) -> Result<(), Fault>
+        ensures written { (lost : List ℕ) × Writes (W.contents writer.old) (W.contents writer.new) (output.old.items ++ live_lines connection (hub_of self.now) (live_of self.now.manager.table)) lost
+            × OnOk result (lost ≡ output.new.items) }
+        ensures fault { IsOkUnless result Fault.Write }
+    {
+        for key in self.manager.transactions() {
+            make_room(output, MAX_LIVE, writer)?;
+            print_to(output, connection);
+            self.print_live(key, output);
+        }
+        Ok(())
+    }
+
+    /// Prints a transaction, its connection, and what it does.
+    fn print_live(&self, key: Key, output: &mut Output)
+        requires { array_vec_len output.old + (MAX_NAMED + 79) ≤ OUTPUT_LEN }
+        ensures { output.new.items ≡ output.old.items ++ live_line (hub_of self.now) key }
+    {
+        print_key(output, b"* ", key);
+        print_text(output, b" ");
+        print_connection(output, self.begun.connection(key));
+        print_text(output, b" ");
+        print_status(output, &self.manager, &self.manager.status(key));
+    }
+}
+
+/// Prints the connection of a transaction, if it has one.
+fn print_connection(output: &mut Output, connection: Option<u32>)
+    requires { array_vec_len output.old + 20 ≤ OUTPUT_LEN }
+    ensures { Prints output.old.items (connection_text connection) 20 output.new.items }
+{
+    match connection {
+        Some(connection) => print_number(output, b"", u64::from(connection)),
+        None => print_text(output, b"-"),
+    }
+}
+
+/// Prints the totals, the events, and how many are left.
+fn print_counts(manager: &LockManager, output: &mut Output)
+    requires { array_vec_len output.old + MAX_NAMED ≤ OUTPUT_LEN }
+    ensures { output.new.items ≡ output.old.items ++ line_text (counts_text manager.now) }
+{
+    let totals = manager.totals();
+    print_number(output, b"counts ", totals.begun);
+    print_number(output, b" ", totals.committed);
+    print_number(output, b" ", totals.aborted);
+    print_number(output, b" ", totals.deadlocks);
+    print_number(output, b" ", totals.waits);
+    print_number(output, b" ", totals.withdrawn);
+    print_number(output, b" ", manager.events());
+    print_number(output, b" ", manager.labels_left());
+    print_number(output, b" ", manager.counts_left());
+    end_line(output);
+}
+
+/// Returns how many transactions are live. `O(transactions)`.
+fn count_live(manager: &LockManager) -> u64
+    ensures { result ≡ length (live_of manager.now.table) }
+{
+    manager.keeps_laws();
+    manager.transactions().count() as u64
+}

@@ -1,0 +1,61 @@
+//! What a connection asks for.
+ghost use Rattle.std.specs.Prelude.{◌≡◌};
+ghost use Rattle.mm_connections.specs.Request.{client_asked};
+ghost use Rattle.mm_connections.specs.private.Request.{asked_of};
+
+use mm_manager::Key;
+use mm_service::Request;
+
+/// What a connection asks for. The name that it is about stands beside it, or the names do.
+#[derive(Clone, Copy)]
+pub enum ClientRequest {
+    /// A transaction begins, and asks for names, one after the other, or for none.
+    Begin,
+    /// A transaction asks for several names, one after the other.
+    LockAll(Key),
+    /// What the lock service without connections answers in the same way: no begin, and nothing of `Read`.
+    Plain(Request),
+    /// Something is read.
+    Read(ReadRequest),
+}
+
+/// What is read. Nothing changes by it.
+#[derive(Clone, Copy)]
+pub enum ReadRequest {
+    /// The names that a transaction owns.
+    Holds(Key),
+    /// The cycle of waits that a transaction closed.
+    Cycle(Key),
+    /// The fence of a name that a transaction owns.
+    Fence(Key),
+    /// The protocol, the epoch, and the numbers of the opening.
+    Hello,
+    /// The wait-for graph.
+    Graph,
+    /// The live transactions.
+    List,
+    /// What was counted since the opening, and what is left.
+    Counts,
+}
+
+/// What a connection asks for, and the bytes that it is about: one name, or the whole request if it is about several.
+#[derive(Clone, Copy)]
+pub struct ClientAsked<'a> {
+    pub request: ClientRequest,
+    pub about: &'a [u8],
+}
+
+/// Returns what a request of the lock service without connections asks for.
+pub fn client_asked(request: Request, name: &[u8]) -> ClientAsked<'_>
+    ensures { asked_of result ≡ client_asked request name.now }
+{
+    let (request, about) = match request {
+        Request::Begin => (ClientRequest::Begin, [].as_slice()),
+        Request::Holds(key) => (ClientRequest::Read(ReadRequest::Holds(key)), name),
+        Request::Graph => (ClientRequest::Read(ReadRequest::Graph), name),
+        Request::OfName(_, _) | Request::OfKey(_, _) | Request::Owner | Request::Totals => {
+            (ClientRequest::Plain(request), name)
+        }
+    };
+    ClientAsked { request, about }
+}
