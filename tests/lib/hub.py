@@ -78,7 +78,9 @@ class Hub:
             return [to + line for line in (reply, *rest)]
         if connection == OPERATOR and reply == b"aborted":
             rest = [b"* aborted " + parts[0], *rest]
-        return [to + reply, *self.deadlock(reply, key), *self.told(rest)]
+        if word == b"lock" and reply.startswith(b"deadlock "):
+            rest = [b"* deadlock" + self.pairs(parts[0]), *rest]
+        return [to + reply, *self.told(rest)]
 
     def reply(self, connection: int, word: bytes, parts: list[bytes]) -> list[bytes]:
         """The reply, and what the request caused or the further lines."""
@@ -127,10 +129,6 @@ class Hub:
                 return said
         return said + b" .."
 
-    def deadlock(self, reply: bytes, key: Optional[bytes]) -> list[bytes]:
-        """What the operator is told of a cycle that was closed."""
-        return [b"0 * deadlock" + self.pairs(key)] if key is not None and reply.startswith(b"deadlock ") and len(reply.split()) < 4 else []
-
     def cycle(self, key: bytes) -> list[bytes]:
         process = self.service.live(key)
         return [b"cycle" + self.pairs(key) if process in self.service.table.verdicts else b"refused not-deadlocked"]
@@ -168,7 +166,7 @@ class Hub:
 
     def told(self, events: list[bytes]) -> list[bytes]:
         """Each event with the number of the connection that it concerns."""
-        owners = [self.began.get(event.split(b" ")[2]) for event in events]
+        owners = [OPERATOR if event.startswith(b"* deadlock") else self.began.get(event.split(b" ")[2]) for event in events]
         return [b"%d %b" % (owner, event) for owner, event in zip(owners, events) if owner is not None]
 
     def hang_up(self, connection: int) -> list[bytes]:
