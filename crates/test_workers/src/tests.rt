@@ -4,7 +4,6 @@
 //! - `gates`: when gates are over. `lines`: the two lines that say what came of a workload.
 //! - `transmitters`: one transmitter, call by call.
 //! - `ends`: the order of the ends of clients, by threads. `threads`: a run by threads, with a look at its gates.
-//! - `storms`: workloads from seeds by threads.
 //! - `passes`: the end of a test.
 //! - `open_gate`, `recorder`: a gate and steps for workers that run one after another.
 
@@ -17,6 +16,5 @@ mod passes;
 mod recorder;
 mod script;
 mod scripted;
-mod storms;
 mod threads;
 mod transmitters;

@@ -1,4 +1,5 @@
 //! Work that is done again after a deadlock.
+use crate::tests::cases::ROUNDS;
 use crate::tests::helpers::{await_events, holds, same, totals_are};
 use crate::tests::many::{Visit, visit_all};
 use crate::tests::scripts::STANDS_IN_THE_WAY;
@@ -163,8 +164,6 @@ pub fn outcomes<R: Wait + Abort>(rt: &R, locks: &Locks, gate: &Barrier, owners: 
     // Four begins and locks, four ends.
     same(rt, locks.events(rt), 12);
 }
-
-pub const ROUNDS: u32 = 1_000;
 
 /// Meets the other thread so many times, which locks the names in the opposite order. Returns how often this thread was to try again.
 pub fn cross_often<R: Wait + Abort>(

@@ -1,4 +1,5 @@
-//! The cases. `on_locks` opens locks for each, lends them to its threads, and drops them: so no case owns locks.
+//! What threads do with locks, and what is to be seen when they have ended. `on_locks` opens the locks, lends them to the threads, and drops
+//! them: so no test owns locks.
 
 use crate::tests::helpers::{holds, same};
 use crate::tests::steps::{END, Row, take};
@@ -54,7 +55,6 @@ enum Ended {
 
 #[derive(Clone, Copy)]
 struct Case {
-    name: &'static str,
     transactions: u32,
     names: u32,
     seed: u64,
@@ -193,9 +193,12 @@ fn on_locks<R: Threads + Wait + Clock + CpuClock + Abort + Sync>(
     drop(locks);
 }
 
+/// How often two threads meet crosswise. After a deadlock a thread yields its processor 256 times, for as long as other programs take it: so
+/// each meeting may last a second where these are busy, and a test has 60.
+pub const ROUNDS: u64 = 6;
+
 /// Two threads over two names.
 const TWO: Case = Case {
-    name: "",
     transactions: 2,
     names: 2,
     seed: 11,
@@ -204,146 +207,6 @@ const TWO: Case = Case {
     work: Work::Patience,
     ended: Ended::Nothing,
 };
-
-static CROWDS: [Case; 12] = [
-    // The last thread owns twelve names, and commits once each has a waiter. Each of the thirteen has ended then.
-    Case {
-        name: "a_commit_wakes_all",
-        transactions: 13,
-        names: 12,
-        threads: 13,
-        work: Work::Wakes,
-        ended: Ended::Deadlocks {
-            committed: 13,
-            least: 0,
-            most: 0,
-        },
-        ..TWO
-    },
-    // A value is returned once its transaction is committed; an error of the work is returned, and its transaction rolled back.
-    Case {
-        name: "returns_what_came",
-        transactions: 1,
-        names: 1,
-        threads: 1,
-        work: Work::Outcomes,
-        ..TWO
-    },
-    // Each of a thousand times both have committed in the end, and each deadlock was one more attempt.
-    Case {
-        name: "both_commit",
-        work: Work::BothCommit,
-        ended: Ended::Deadlocks {
-            committed: 2_000,
-            least: 1_000,
-            most: u64::MAX,
-        },
-        ..TWO
-    },
-    // Where each attempt meets a deadlock, the last one's error is returned. Each attempt was made, and rolled back.
-    Case {
-        name: "ends_after_so_many_attempts",
-        work: Work::GiveUp(3),
-        ended: Ended::Deadlocks {
-            committed: 3,
-            least: 3,
-            most: 3,
-        },
-        ..TWO
-    },
-    // Between the attempts there are pauses.
-    Case {
-        name: "pauses_between_attempts",
-        work: Work::Pause,
-        ended: Ended::AtLeast(again::LEAST),
-        ..TWO
-    },
-    // A request for a name that stays owned is not taken back before its time.
-    Case {
-        name: "waits_its_time",
-        names: 1,
-        threads: 1,
-        work: Work::Patience,
-        ..TWO
-    },
-    // A request behind a victim whose time is up is taken back once the victim has aborted. The two numbers are its clock.
-    Case {
-        name: "behind_a_victim",
-        transactions: 4,
-        owners: 2,
-        threads: 3,
-        work: Work::BehindVictim,
-        ..TWO
-    },
-    // All who waited used so much processor time.
-    Case {
-        name: "sleeps",
-        transactions: 9,
-        names: 1,
-        threads: 9,
-        work: Work::Sleep,
-        ended: Ended::Below(asleep::MOST),
-        ..TWO
-    },
-    // Each of a thousand times one of the two was told of the deadlock, and the other one owned both names.
-    Case {
-        name: "one_of_two_is_told",
-        names: 3,
-        work: Work::Crosswise,
-        ended: Ended::Deadlocks {
-            committed: 1_000,
-            least: 1_000,
-            most: 1_000,
-        },
-        ..TWO
-    },
-    // No name has two owners at a time, all threads end, and each deadlock is told to one.
-    Case {
-        name: "a_crowd_ends",
-        transactions: 6,
-        names: 4,
-        owners: 4,
-        threads: 6,
-        work: Work::Crowd,
-        ended: Ended::Deadlocks {
-            committed: 600,
-            least: 0,
-            most: u64::MAX,
-        },
-        ..TWO
-    },
-    // Nobody is left over, and each deadlock was told to one who was then rolled back.
-    Case {
-        name: "over_sixteen_names",
-        transactions: 64,
-        names: 384,
-        seed: 5,
-        owners: 16,
-        threads: 64,
-        work: Work::Many(2),
-        ended: Ended::Deadlocks {
-            committed: 128,
-            least: 0,
-            most: u64::MAX,
-        },
-        ..TWO
-    },
-    Case {
-        name: "over_a_thousand_names",
-        transactions: 64,
-        names: 384,
-        seed: 5,
-        owners: 1_000,
-        threads: 64,
-        work: Work::Many(10),
-        ended: Ended::Deadlocks {
-            committed: 640,
-            least: 0,
-            most: u64::MAX,
-        },
-        ..TWO
-    },
-];
 
 /// Lets so many threads make their steps at locks for so many transactions and names.
 pub fn on_rows<R: Threads + Wait + Clock + CpuClock + Abort + Sync>(
@@ -363,19 +226,187 @@ pub fn on_rows<R: Threads + Wait + Clock + CpuClock + Abort + Sync>(
     on_locks(rt, alloc, &case);
 }
 
-/// Prints the name of each case before its threads are started: the last one that is printed is the one that failed, or does not end.
-fn on_all<R: Print + Threads + Wait + Clock + CpuClock + Abort + Sync>(
-    rt: &R,
-    alloc: Global,
-    cases: &[Case],
-) {
-    for case in cases {
-        println!(rt; "{}", case.name).expect(rt, "a name is printed");
-        on_locks(rt, alloc, case);
-    }
+/// The last thread owns twelve names, and commits once each has a waiter. Each of the thirteen has ended then.
+#[test]
+fn a_commit_wakes_all(rt: HostRuntime) {
+    let case = Case {
+        transactions: 13,
+        names: 12,
+        threads: 13,
+        work: Work::Wakes,
+        ended: Ended::Deadlocks {
+            committed: 13,
+            least: 0,
+            most: 0,
+        },
+        ..TWO
+    };
+    on_locks(&rt, rt.alloc(), &case);
+}
+
+/// A value is returned once its transaction is committed; an error of the work is returned, and its transaction rolled back.
+#[test]
+fn returns_what_came(rt: HostRuntime) {
+    let case = Case {
+        transactions: 1,
+        names: 1,
+        threads: 1,
+        work: Work::Outcomes,
+        ..TWO
+    };
+    on_locks(&rt, rt.alloc(), &case);
+}
+
+/// Each time that they meet both have committed in the end, and each deadlock was one more attempt.
+#[test]
+fn both_commit(rt: HostRuntime) {
+    let case = Case {
+        work: Work::BothCommit,
+        ended: Ended::Deadlocks {
+            committed: 2 * ROUNDS,
+            least: ROUNDS,
+            most: u64::MAX,
+        },
+        ..TWO
+    };
+    on_locks(&rt, rt.alloc(), &case);
+}
+
+/// Where each attempt meets a deadlock, the last one's error is returned. Each attempt was made, and rolled back.
+#[test]
+fn ends_after_so_many_attempts(rt: HostRuntime) {
+    let case = Case {
+        work: Work::GiveUp(3),
+        ended: Ended::Deadlocks {
+            committed: 3,
+            least: 3,
+            most: 3,
+        },
+        ..TWO
+    };
+    on_locks(&rt, rt.alloc(), &case);
+}
+
+/// Between the attempts there are pauses.
+#[test]
+fn pauses_between_attempts(rt: HostRuntime) {
+    let case = Case {
+        work: Work::Pause,
+        ended: Ended::AtLeast(again::LEAST),
+        ..TWO
+    };
+    on_locks(&rt, rt.alloc(), &case);
+}
+
+/// A request for a name that stays owned is not taken back before its time.
+#[test]
+fn waits_its_time(rt: HostRuntime) {
+    let case = Case {
+        names: 1,
+        threads: 1,
+        work: Work::Patience,
+        ..TWO
+    };
+    on_locks(&rt, rt.alloc(), &case);
+}
+
+/// A request behind a victim whose time is up is taken back once the victim has aborted. The two numbers are its clock.
+#[test]
+fn behind_a_victim(rt: HostRuntime) {
+    let case = Case {
+        transactions: 4,
+        owners: 2,
+        threads: 3,
+        work: Work::BehindVictim,
+        ..TWO
+    };
+    on_locks(&rt, rt.alloc(), &case);
+}
+
+/// All who waited used so much processor time.
+#[test]
+fn sleeps(rt: HostRuntime) {
+    let case = Case {
+        transactions: 9,
+        names: 1,
+        threads: 9,
+        work: Work::Sleep,
+        ended: Ended::Below(asleep::MOST),
+        ..TWO
+    };
+    on_locks(&rt, rt.alloc(), &case);
+}
+
+/// Each time that they meet one of the two was told of the deadlock, and the other one owned both names.
+#[test]
+fn one_of_two_is_told(rt: HostRuntime) {
+    let case = Case {
+        names: 3,
+        work: Work::Crosswise,
+        ended: Ended::Deadlocks {
+            committed: ROUNDS,
+            least: ROUNDS,
+            most: ROUNDS,
+        },
+        ..TWO
+    };
+    on_locks(&rt, rt.alloc(), &case);
+}
+
+/// No name has two owners at a time, all threads end, and each deadlock is told to one.
+#[test]
+fn a_crowd_ends(rt: HostRuntime) {
+    let case = Case {
+        transactions: 6,
+        names: 4,
+        owners: 4,
+        threads: 6,
+        work: Work::Crowd,
+        ended: Ended::Deadlocks {
+            committed: 6 * crowd::COMMITS,
+            least: 0,
+            most: u64::MAX,
+        },
+        ..TWO
+    };
+    on_locks(&rt, rt.alloc(), &case);
+}
+
+/// Nobody is left over, and each deadlock was told to one who was then rolled back.
+#[test]
+fn over_sixteen_names(rt: HostRuntime) {
+    let case = Case {
+        transactions: 64,
+        names: 384,
+        seed: 5,
+        owners: 16,
+        threads: 64,
+        work: Work::Many(2),
+        ended: Ended::Deadlocks {
+            committed: 128,
+            least: 0,
+            most: u64::MAX,
+        },
+        ..TWO
+    };
+    on_locks(&rt, rt.alloc(), &case);
 }
 
 #[test]
-fn crowds_end(rt: HostRuntime) {
-    on_all(&rt, rt.alloc(), &CROWDS);
+fn over_a_thousand_names(rt: HostRuntime) {
+    let case = Case {
+        transactions: 64,
+        names: 384,
+        seed: 5,
+        owners: 1_000,
+        threads: 64,
+        work: Work::Many(10),
+        ended: Ended::Deadlocks {
+            committed: 640,
+            least: 0,
+            most: u64::MAX,
+        },
+        ..TWO
+    };
+    on_locks(&rt, rt.alloc(), &case);
 }

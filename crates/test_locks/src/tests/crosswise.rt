@@ -1,10 +1,9 @@
 //! Two threads that lock the same two names in opposite orders.
+use crate::tests::cases::ROUNDS;
 use crate::tests::helpers::{begin, commits, owns, same, takes};
 use mm_locks::{LockError, Locks, Transaction};
 use std::process::Abort;
 use std::sync::{Barrier, Wait};
-
-const ROUNDS: u32 = 1_000;
 
 /// Asks for a name. Returns whether that closed the cycle.
 fn closes<R: Wait + Abort>(rt: &R, transaction: &mut Transaction<'_, R>, name: &[u8]) -> bool {

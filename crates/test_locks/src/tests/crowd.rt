@@ -11,7 +11,7 @@ use std::time::{Clock, Duration};
 
 static NAMES: [&[u8]; 4] = [b"a", b"b", b"c", b"d"];
 
-const COMMITS: u32 = 100;
+pub const COMMITS: u64 = 10;
 
 /// Numbers by chance.
 #[derive(Drop)]
@@ -100,7 +100,7 @@ pub fn client<R: Wait + Clock + Abort>(
 ) -> u64 {
     let mut random = Random(seed as u64);
     let mut deadlocks: u64 = 0;
-    let mut commits: u32 = 0;
+    let mut commits: u64 = 0;
     for _ in rt.forever() {
         if commits == COMMITS {
             return deadlocks;

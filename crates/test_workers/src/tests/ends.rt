@@ -14,7 +14,7 @@ const FOUR_ENDS: &str =
     r#"{"processes":4,"resources":1,"label_limit":9,"generation_limit":9,"transmitters":1,"turns":5,"clients":[[["acquire",0]],[["acquire",1]],[["meet",2]],[["release",0]]]}"#;
 
 /// Runs a workload by threads.
-pub fn ran<R: Threads + Wait + Sync>(
+fn ran<R: Threads + Wait + Sync>(
     rt: &R,
     alloc: Global,
     workload: &Workload,
