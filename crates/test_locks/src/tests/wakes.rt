@@ -11,7 +11,7 @@ pub const WAITERS: usize = 12;
 fn own_all<R: Wait + Abort>(rt: &R, locks: &Locks, gate: &Barrier) {
     let mut owner = begin(rt, locks);
     for name in 0..WAITERS {
-        takes(rt, &mut owner, &[name as u8]);
+        takes(rt, &mut owner, &(name as u64).to_le_bytes());
     }
     gate.wait(rt);
     let waiters = WAITERS as u64;
@@ -27,6 +27,6 @@ pub fn one_wakes_all<R: Wait + Abort>(rt: &R, locks: &Locks, gate: &Barrier, num
     }
     gate.wait(rt);
     let mut waiter = begin(rt, locks);
-    takes(rt, &mut waiter, &[number as u8]);
+    takes(rt, &mut waiter, &(number as u64).to_le_bytes());
     commits(rt, waiter);
 }

@@ -66,8 +66,9 @@ fn runs_at<R: Threads + Wait + Sync>(
         arrived: 15,
         left: 2,
     };
+    let workers = workload.clients().len() + workload.transmitters() as usize;
     match watched_gates(alloc, gates) {
-        Ok(gates) if gates.len() == 5 => match run_threads(rt, alloc, workload, gates) {
+        Ok(gates) if gates.len() == workers => match run_threads(rt, alloc, workload, gates) {
             Ok(outcome) => is_so(&outcome) && last.counts() == counts,
             Err(_) => false,
         },
