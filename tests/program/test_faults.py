@@ -6,13 +6,20 @@ import random
 import subprocess
 
 from lib import search
-from lib.faults import FaultCase
-from lib.world import LIMIT, PROGRAM, SEED, TOP, each, until
+from lib.faults import FaultCase, variables
+from lib.world import LIMIT, PROGRAM, SEED, TOP, Run, each, run, until
 
 CROSSWISE = os.path.join(TOP, "examples/workloads/crosswise.json")
 CROSSWISE_LINES = b"clients finished 1 aborted 1 spent 0 refused 0\ntable verdicts 1 aborts 1\n"
 SEEDS = [1, 2, 3, SEED]
 OTHERS = ["explain", f"threads {CROSSWISE}", "storm --clients 1 --transmitters 0", "--help", "help locks", "--version"]
+# A command, its input, and the reply to each line.
+RUNS = {
+    (): (b"table 3 3 100 9\nbegin\nbegin\nacquire 0.1 0\nacquire 1.1 1\nacquire 0.1 1\nacquire 1.1 0\nsettle\nstate 1.1\n",
+         [b"ok\n", b"key 0.1\n", b"key 1.1\n", b"granted\n", b"granted\n", b"waits 1.1 1.0\n", b"waits 0.1 2.1\n", b"settled 1 1\n", b"convicted 0 2.1 2.1\n"]),
+    ("locks",): (b"begin\nbegin\nlock 0.1 a\nlock 1.1 a\nunlock 0.1 a\ntotals\n",
+                 [b"begun 0.1\n", b"begun 1.1\n", b"granted\n", b"waits 0.1\n", b"unlocked\n* granted 1.1 a\n", b"totals 2 0 0 0\n"]),
+}  # fmt: skip
 COMMANDS = [("scripts", search.SUBJECTS[0]), ("requests", search.SUBJECTS[1])]
 
 
@@ -48,6 +55,13 @@ class Less(FaultCase):
 class Refused(FaultCase):
     """Calls that fail for good are told as faults, after what was right until then."""
 
+    def failing(self, call: str, piece: int, fault: str, place: int, *command: str, given: bytes) -> tuple[Run, list[str]]:
+        """Runs the program with calls of so many bytes, of which the one of this place fails. Returns also what the log has of calls after it."""
+        log = self.file("log", b"")
+        told = run(PROGRAM, *command, given=given, env={**os.environ, **variables(f"{call}:short={piece} {call}:{fault}@{place}", log=log)})
+        with open(log, encoding="ascii") as file:
+            return told, file.read().partition(f"{fault}=0@{place}\n")[2].splitlines()
+
     @each([("", b"begin\n", b"no table\n"), ("locks", b"begin\n", b"begun 0.1\n"), ("explain", b"begin\n", b"    1  begin  no table\n")])
     def test_read(self, words: str, given: bytes, out: bytes) -> None:
         told = self.faulty("read/0:EIO@2", PROGRAM, *words.split(), given=given)
@@ -56,6 +70,24 @@ class Refused(FaultCase):
     @each([(f"{fault} of {words}", words, fault) for words in ("", "locks", "explain", f"threads {CROSSWISE}", "storm", "--help") for fault in ("ENOSPC", "EPIPE", "EIO")])
     def test_write(self, name: str, words: str, fault: str) -> None:
         self.ends(self.faulty(f"write/1:{fault}@1", PROGRAM, *words.split(), given=b"begin\n"), 3, b"", b"write fault\n")
+
+    @each([(f"{command[:1] or 'script'} by {piece}", command, piece) for command in RUNS for piece in (1, 7, 64)])
+    def test_each_read(self, name: str, command: tuple[str, ...], piece: int) -> None:
+        """At whichever read the fault comes: the lines whose newline was read are answered, and nothing is read after it."""
+        given, replies = RUNS[command]
+        for count in range(len(given) // piece + 1):
+            told, after = self.failing("read/0", piece, "EIO", count + 1, *command, given=given)
+            lines = given[: piece * count].count(b"\n")
+            self.assertEqual((told, after), (Run(3, b"".join(replies[:lines]), b"read fault\n"), []))
+
+    @each([(f"{command[:1] or 'script'} by {piece}", command, piece) for command in RUNS for piece in (1, 5, 100)])
+    def test_each_write(self, name: str, command: tuple[str, ...], piece: int) -> None:
+        """At whichever write the fault comes: the front of the replies is there, and nothing is written after it."""
+        given, replies = RUNS[command]
+        whole = b"".join(replies)
+        for count in range((len(whole) - 1) // piece + 1):
+            told, after = self.failing("write/1", piece, "ENOSPC", count + 1, *command, given=given)
+            self.assertEqual((told, after), (Run(3, whole[: piece * count], b"write fault\n"), []))
 
     def test_write_in_the_middle(self) -> None:
         """The front part of the replies is there, each whole reply of it in its place."""

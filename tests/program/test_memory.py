@@ -9,7 +9,7 @@ import re
 import resource
 from typing import Callable, Optional
 
-from lib.faults import FaultCase
+from lib.faults import FaultCase, variables
 from lib.world import LIMIT, PROGRAM, TOP, Run, each, run
 
 REFUSED, AMPLE = "refused", "as with ample memory"
@@ -341,6 +341,18 @@ class Opened(MemoryCase):
         told, counts = self.counted(f"malloc:ENOMEM>{none}", times, "board", work, "64", "10000")
         self.assertEqual((told.status, told.err, counts.refused, counts.requests), (0, b"", 0, none))
 
+    def test_threads_that_wait_for_a_name(self) -> None:
+        """Each of eight yields a few times, sleeps without a time, and makes no call of the system until it is woken, however long that takes."""
+        locks, log = self.built("bench_locks"), self.file("log", b"")
+        told = run(locks, "sleep", "9", "1", "500", env={**os.environ, **variables("futex:told yield:told", log=log)})
+        self.assertEqual((told.status, told.err, told.out.split()[1:]), (0, b"", [b"9", b"0", b"0"]))
+        with open(log, encoding="ascii") as file:
+            lines = file.read().splitlines()
+        sleeps = [line for line in lines if line.startswith("futex")]
+        self.assertEqual([line for line in sleeps if "told=-" not in line], [], "a sleep with a time")
+        self.assertTrue(8 <= len(sleeps) < 200, sleeps)
+        self.assertLess(len(lines), 8 * 1000)
+
     def test_crowd_that_locks_names(self) -> None:
         """However many transactions the threads make, the requests are those of the opening and of the starts."""
         locks, told = self.built("bench_locks"), []
@@ -350,5 +362,6 @@ class Opened(MemoryCase):
         few, many = (int(each.run.out.split()[1]) for each in told)
         self.assertEqual(told[0].counts.own(), told[1].counts.own(), f"{few} and {many} transactions")
         self.assertGreater(many, 0)
+        self.assertEqual({each.run.out.split()[3] for each in told}, {b"0"}, "a name had two owners")
 
 

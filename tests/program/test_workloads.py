@@ -83,6 +83,7 @@ TEXTS: list[tuple[str, str | bytes, str | None]] = [
     ("a number alone", "7", "the file is not a JSON object"),
     ("nothing", "", f"line 1, column 0: {TOO_SOON}"),
     ("a first part", '{"processes":2,', f"line 1, column 15: {TOO_SOON}"),
+    ("as deep as can be", nested(126), None),
     ("too deep", nested(127), f"line 1, column 333: {UNREADABLE}"),
     ("a byte that is no text", CROSSWISE.encode() + b"\xff", f"line 1, column 198: {UNREADABLE}"),
     ("as long as can be", CROSSWISE.ljust(1_048_576), None),
@@ -144,6 +145,7 @@ class Workloads(Case):
     ENDS = [
         ("some left over", workload([[["acquire", 5]], [["meet", 2]]]), 5, lines(spent=1, refused=1)),
         ("some that wait for an arrival", workload([[["meet", 2]], [["acquire", 5]]], resources=1, transmitters=0, turns=100), 5, lines(spent=1, refused=1)),
+        ("as many steps as can be", workload([[["release", 7]] * 256] * 64, processes=64), 5, lines(refused=64)),
         ("no steps", workload([[]]), 0, lines(1)),
         ("no steps and one turn", workload([[]], processes=1, transmitters=0, turns=1), 0, lines(1)),
         ("eight in one order", workload([[["acquire", place] for place in range(3)]] * 8, processes=8, resources=3, label_limit=1_000_000, transmitters=4,

@@ -1,4 +1,4 @@
-//! Tests of the script engine, of runs of a lock service and of the reader of workloads, by what their callers can call.
+//! A test of the script engine, by what its callers can call.
 #![tactic(auto)]
 
 #[cfg(test)]
