@@ -127,6 +127,8 @@ class Scripts:
 class Requests:
     """Draws the lines of requests of one service."""
 
+    longest = 1048
+
     def __init__(self, chance: random.Random, size: Optional[tuple[int, int, int]] = None) -> None:
         self.chance = chance
         self.size = size or chance.choice(SIZES)
@@ -137,16 +139,18 @@ class Requests:
     def draw(self, count: int) -> bytes:
         lines = [self.head]
         while len(lines) < count:
-            line = self.request()
+            line = self.line()
             if self.chance.random() < 0.03:
-                line = odd(self.chance, line, 1048)
+                line = odd(self.chance, line, self.longest)
             lines.append(line)
-            self.note(self.model.answer(line))
+            self.ended += [reply.rpartition(b" ")[2] for reply in self.answer(line) if b"begun " in reply]
         return b"\n".join(lines) + self.chance.choice([b"\n", b""])
 
-    def note(self, replies: list[bytes]) -> None:
-        if replies and replies[0].startswith(b"begun "):
-            self.ended.append(replies[0][6:])
+    def line(self) -> bytes:
+        return self.request()
+
+    def answer(self, line: bytes) -> list[bytes]:
+        return self.model.answer(line)
 
     def request(self, among: Optional[list[bytes]] = None) -> bytes:
         """A request, mostly of a live transaction, of these keys if some are given."""
@@ -177,6 +181,8 @@ class Requests:
 class Connections(Requests):
     """Draws the lines of connections: requests, mostly of a connection's own transactions, and hang-ups."""
 
+    longest = 1054
+
     def __init__(self, chance: random.Random) -> None:
         super().__init__(chance)
         each, epoch = chance.choice([None, 1, 3, 9]), chance.choice([None, 1, 7, 2**63 - 1])
@@ -184,16 +190,8 @@ class Connections(Requests):
         self.model = self.hub.service
         self.head += b"".join(b" --%b %d" % (word, number) for word, number in ((b"each", each), (b"epoch", epoch)) if number)
 
-    def draw(self, count: int) -> bytes:
-        lines = [self.head]
-        while len(lines) < count:
-            line = self.line()
-            if self.chance.random() < 0.03:
-                line = odd(self.chance, line, 1054)
-            lines.append(line)
-            for reply in self.hub.answer(line):
-                self.note([reply.partition(b" ")[2]])
-        return b"\n".join(lines) + self.chance.choice([b"\n", b""])
+    def answer(self, line: bytes) -> list[bytes]:
+        return self.hub.answer(line)
 
     def line(self) -> bytes:
         connection = self.chance.choices([0, 1, 2, 3, 4, 5], [2, 10, 10, 10, 10, 0.1])[0]

@@ -3,10 +3,9 @@ from __future__ import annotations
 
 import os
 import random
-import tempfile
 from typing import Callable, Iterator, Optional
 
-from lib import draw, hub, service, table, workloads
+from lib import draw, hub, service, table
 from lib.world import OUT, PROGRAM, TOP, run
 
 CORPUS = os.path.join(TOP, "tests", "corpus")
@@ -105,30 +104,7 @@ class Connections(Requests):
         return [*super().command(data), "--connections", str(hub.CONNECTIONS), *options]
 
 
-class Workloads(Subject):
-    """Files of workloads: whether one is malformed, and else an end that it may have."""
-
-    name = "workloads"
-
-    def drawn(self, chance: random.Random) -> bytes:
-        return workloads.drawn(chance)
-
-    def input(self, chance: random.Random) -> bytes:
-        return self.drawn(chance)
-
-    def size(self, data: bytes) -> int:
-        return 1
-
-    def difference(self, data: bytes) -> Optional[str]:
-        with tempfile.NamedTemporaryFile(prefix="pashkure.", dir="/dev/shm" if os.path.isdir("/dev/shm") else None) as file:
-            file.write(data)
-            file.flush()
-            return workloads.complaint(data, *run(PROGRAM, "threads", file.name))
-
-
 SUBJECTS = [Scripts(), Requests(), Connections()]
-"""Those of which a model says each byte."""
-ALL = [*SUBJECTS, Workloads()]
 
 
 def read(path: str) -> bytes:

@@ -1,4 +1,4 @@
-"""Random scripts, requests and workloads: what is kept in tests/corpus, those of one seed, and those of a new seed, each as a model answers."""
+"""Random scripts and requests: what is kept in tests/corpus, those of one seed, and those of a new seed, each as a model answers."""
 from __future__ import annotations
 
 import os
@@ -7,27 +7,27 @@ from lib import search, service
 from lib.table import lines_of
 from lib.world import SEED, Case, each
 
-LINES, FILES = 40_000, 400
+LINES = 40_000
 REQUESTS, = (subject for subject in search.SUBJECTS if subject.name == "requests")
 
 
 class Kept(Case):
-    @each([(f"{subject.name}/{os.path.basename(path)}", subject, path) for subject in search.ALL for path in subject.corpus()])
+    @each([(f"{subject.name}/{os.path.basename(path)}", subject, path) for subject in search.SUBJECTS for path in subject.corpus()])
     def test_kept(self, name: str, subject: search.Subject, path: str) -> None:
         self.assertIsNone(subject.difference(search.read(path)))
 
 
 class Drawn(Case):
     def searches(self, subject: search.Subject, seed: int) -> None:
-        wrong = search.search(subject, seed, LINES if subject in search.SUBJECTS else FILES)
+        wrong = search.search(subject, seed, LINES)
         if wrong is not None:
             self.fail(f"of the seed {seed}: {wrong}\n  again: tests/run -k {self.id().rpartition('.')[2]} --seed {seed}")
 
-    @each([(subject.name, subject) for subject in search.ALL])
+    @each([(subject.name, subject) for subject in search.SUBJECTS])
     def test_one_seed(self, name: str, subject: search.Subject) -> None:
         self.searches(subject, 1)
 
-    @each([(subject.name, subject) for subject in search.ALL])
+    @each([(subject.name, subject) for subject in search.SUBJECTS])
     def test_new_seed(self, name: str, subject: search.Subject) -> None:
         self.searches(subject, SEED)
 
