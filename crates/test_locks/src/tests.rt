@@ -2,10 +2,9 @@
 //!
 //! - `cases`: the cases by name, each with its locks and threads, and the tests that go through them.
 //! - `scripts`: threads whose calls have one answer each, and `steps`: how they are made.
-//! - `again`, `asleep`, `crosswise`, `crowd`, `many`, `patience`, `wakes`: threads that do more than a script can say.
+//! - `again`, `crosswise`, `crowd`, `many`, `patience`, `wakes`: threads that do more than a script can say.
 
 mod again;
-mod asleep;
 mod cases;
 mod crosswise;
 mod crowd;

@@ -3,7 +3,7 @@
 
 use crate::tests::helpers::{holds, same};
 use crate::tests::steps::{END, Row, take};
-use crate::tests::{again, asleep, crosswise, crowd, many, patience, wakes};
+use crate::tests::{again, crosswise, crowd, many, patience, wakes};
 use mm_locks::{Locks, ManagerConfig};
 use std::alloc::{AllocError, Global};
 use std::process::Abort;
@@ -11,7 +11,7 @@ use std::sync::atomic::AtomicU64;
 use std::sync::{Barrier, Wait};
 use std::thread;
 use std::thread::Threads;
-use std::time::{Clock, CpuClock};
+use std::time::Clock;
 
 /// What threads do with locks.
 #[derive(Clone, Copy)]
@@ -25,7 +25,6 @@ enum Work {
     Pause,
     Patience,
     BehindVictim,
-    Sleep,
     Crosswise,
     Crowd,
     /// Each of many commits so many transactions.
@@ -47,8 +46,6 @@ enum Ended {
         least: u64,
         most: u64,
     },
-    /// The sum of the numbers is below this.
-    Below(u64),
     /// The sum of the numbers is this or above.
     AtLeast(u64),
 }
@@ -76,7 +73,7 @@ fn nobody(alloc: Global, count: usize) -> Result<Vec<AtomicU64>, AllocError> {
 
 impl Work {
     /// What the thread of this number does. Returns a number, of which the sum over all threads is looked at.
-    fn part<R: Wait + Clock + CpuClock + Abort>(
+    fn part<R: Wait + Clock + Abort>(
         self,
         rt: &R,
         locks: &Locks,
@@ -104,7 +101,6 @@ impl Work {
                 patience::behind_a_victim(rt, locks, gate, owners, number);
                 0
             }
-            Work::Sleep => asleep::one_of_nine(rt, locks, gate, number),
             Work::Crosswise => crosswise::cross_often(rt, locks, gate, number),
             Work::Crowd => crowd::client(rt, locks, owners, number),
             Work::Many(commits) => many::client(rt, locks, gate, owners, number, commits),
@@ -143,7 +139,6 @@ impl Ended {
                 );
                 deadlocks_are(rt, locks, committed, sum);
             }
-            Ended::Below(bound) => holds(rt, "the sum is below its bound", sum < bound),
             Ended::AtLeast(bound) => holds(rt, "the sum is not below its bound", bound <= sum),
         }
     }
@@ -151,7 +146,7 @@ impl Ended {
 
 impl Case {
     /// Lets the threads do the work at once, and looks at what came of it.
-    fn done<R: Threads + Wait + Clock + CpuClock + Abort + Sync>(
+    fn done<R: Threads + Wait + Clock + Abort + Sync>(
         &self,
         rt: &R,
         alloc: Global,
@@ -176,11 +171,7 @@ impl Case {
 }
 
 /// Opens locks for the case, lets its threads do the work, and looks at what came of it.
-fn on_locks<R: Threads + Wait + Clock + CpuClock + Abort + Sync>(
-    rt: &R,
-    alloc: Global,
-    case: &Case,
-) {
+fn on_locks<R: Threads + Wait + Clock + Abort + Sync>(rt: &R, alloc: Global, case: &Case) {
     let owners = nobody(alloc, case.owners).expect(rt, "memory");
     let config = ManagerConfig {
         transactions: case.transactions,
@@ -209,7 +200,7 @@ const TWO: Case = Case {
 };
 
 /// Lets so many threads make their steps at locks for so many transactions and names.
-pub fn on_rows<R: Threads + Wait + Clock + CpuClock + Abort + Sync>(
+pub fn on_rows<R: Threads + Wait + Clock + Abort + Sync>(
     rt: &R,
     alloc: Global,
     numbers: (u32, u32, usize),
@@ -318,20 +309,6 @@ fn behind_a_victim(rt: HostRuntime) {
         owners: 2,
         threads: 3,
         work: Work::BehindVictim,
-        ..TWO
-    };
-    on_locks(&rt, rt.alloc(), &case);
-}
-
-/// All who waited used so much processor time.
-#[test]
-fn sleeps(rt: HostRuntime) {
-    let case = Case {
-        transactions: 9,
-        names: 1,
-        threads: 9,
-        work: Work::Sleep,
-        ended: Ended::Below(asleep::MOST),
         ..TWO
     };
     on_locks(&rt, rt.alloc(), &case);

@@ -293,13 +293,3 @@ pub static STANDS_IN_THE_WAY: [Row; 6] = [
     Row(0, Step::Call(Call::Lock(A), OWNS)),
     Row(0, Step::Commit),
 ];
-
-/// Owns `a` until all others have waited for half a second: after a begin and a lock, and a begin and a wait for each of the eight.
-pub static OWNS_FOR_LONG: [Row; 6] = [
-    Row(0, Step::Begin),
-    Row(0, Step::Call(Call::Lock(A), OWNS)),
-    Row(0, MEET),
-    Row(0, Step::Act(Act::Await(2 + 8 * 3))),
-    Row(0, Step::Act(Act::Sleep(500))),
-    Row(0, Step::Commit),
-];

@@ -4,7 +4,6 @@ use crate::tests::helpers::{Answer, await_events, begin, commits, owns, same, to
 use mm_locks::{LockError, Locks, Transaction};
 use std::process::Abort;
 use std::sync::{Barrier, Wait};
-use std::thread;
 use std::time::{Clock, Duration};
 
 /// Names that a step gives to a call.
@@ -127,8 +126,6 @@ pub enum Act {
     Meet,
     /// Waits until so many events were counted.
     Await(u64),
-    /// Sleeps for so many milliseconds.
-    Sleep(u64),
     /// Another transaction tries these three names, and finds which of them are owned by others.
     AreBusy(List, bool, bool, bool),
     /// There is no room for one more transaction.
@@ -160,7 +157,6 @@ impl Act {
                 gate.wait(rt);
             }
             Act::Await(events) => await_events(rt, locks, events),
-            Act::Sleep(time) => thread::sleep(rt, Duration::from_millis(time)),
             Act::AreBusy(list, first, second, third) => {
                 are_busy(rt, locks, list.names(rt), [first, second, third]);
             }
