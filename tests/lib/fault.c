@@ -308,14 +308,7 @@ int open(const char *path, int flags, ...)
     return result;
 }
 
-int open64(const char *path, int flags, ...)
-{
-    va_list more;
-    va_start(more, flags);
-    int result = opened(path, flags, more);
-    va_end(more);
-    return result;
-}
+int open64(const char *path, int flags, ...) __attribute__((alias("open")));
 
 int clock_gettime(clockid_t clock, struct timespec *time)
 {
