@@ -4,7 +4,7 @@ use Rattle.mm_arena.specs.declared.key.Key.{Key}
 use Rattle.mm_bit_set.specs.BitSet.{has}
 use Rattle.mm_lines.specs.Text.{Text}
 use Rattle.mm_lists.specs.Members.{Among}
-use Rattle.mm_owned.specs.Owned.{Ownership}
+use Rattle.mm_tagged_lists.specs.TaggedLists.{Listing}
 use Rattle.mm_rules.specs.TableState.{is_live}
 use Rattle.mm_apart.specs.Apart.{IsLeft}
 use Rattle.mm_connections.specs.Begun.{connection_of, IsOf}
@@ -21,7 +21,7 @@ StaysApart old t new =
     ⊎ ((has old.manager.due t.process ≡ true) × (is_live new.manager.table t ≡ false))
 
 -- this is said by the connection that began t, or asked by the operator
-abbrev pub MayTouch : Ownership → Said → Key → Type 0
+abbrev pub MayTouch : Listing → Said → Key → Type 0
 MayTouch begun said.Nobody t = ⊥
 MayTouch begun (said.Malformed c) t = ⊥
 MayTouch begun (said.HangsUp c) t = IsOf begun c t

@@ -1,19 +1,19 @@
 -- What a contract sees of a service with connections, and to whom a line goes.
 use Rattle.std.specs.Prelude.{ℕ, List, [], ◌++◌, Option, Some, None, codes, decimal}
-use Rattle.mm_owned.specs.Owned.{Ownership, ListsMatchOwners}
+use Rattle.mm_tagged_lists.specs.TaggedLists.{Listing, ListsMatchSpots}
 use Rattle.mm_manager.specs.LockState.{LockState, IsLawful}
 use Rattle.mm_connections.specs.declared.options.ConnectionOptions.{ConnectionOptions}
 
 pub record Hub : Type 0 where
   pub manager : LockState
-  pub begun : Ownership  -- which connection began each transaction
+  pub begun : Listing  -- which connection began each transaction
   pub counts : List ℕ  -- by connection: how many of its transactions are live and not due
   pub options : ConnectionOptions
 
 -- what holds of any hub that a service can hold
 pub record IsLawfulHub (h : Hub) : Type 0 where
   pub manager : IsLawful h.manager
-  pub lists : ListsMatchOwners h.begun
+  pub lists : ListsMatchSpots h.begun
 
 -- a line, with its newline, to connection c
 abbrev pub to : ℕ → List ℕ → List ℕ

@@ -2,7 +2,7 @@
 use Rattle.std.specs.Prelude.{ℕ, Bool, false, nat_eq, if◌then◌else◌}
 use Rattle.std.specs.Option.{option_map_or}
 use Rattle.mm_arena.specs.declared.key.Key.{Key}
-use Rattle.mm_owned.specs.Owned.{Ownership}
+use Rattle.mm_tagged_lists.specs.TaggedLists.{Listing}
 use Rattle.mm_service.specs.declared.line.Request.{Request}
 use Rattle.mm_service.specs.declared.line.Request.TheVariants as requests
 use Rattle.mm_service.specs.declared.requests.KeyRequest.{KeyRequest}
@@ -16,11 +16,11 @@ use Rattle.mm_connections.specs.declared.permission.Permission.{Permission}
 use Rattle.mm_connections.specs.declared.permission.Permission.TheVariants.{Make, NoTransaction, Operator}
 
 -- the connection began the transaction, and has not hung up since
-abbrev pub is_of : Ownership → ℕ → Key → Bool
+abbrev pub is_of : Listing → ℕ → Key → Bool
 is_of begun c k = option_map_or (λ d. nat_eq d c) (connection_of begun k) false
 
 -- a request of the connection's own transaction is made; one of another is answered as one of no live transaction
-abbrev pub of_own : Ownership → ℕ → Key → Permission
+abbrev pub of_own : Listing → ℕ → Key → Permission
 of_own begun c k = if is_of begun c k then Make else NoTransaction
 
 -- what the operator may ask of any transaction
@@ -31,7 +31,7 @@ of_any of_key.Commit = NoTransaction
 of_any of_key.Cancel = NoTransaction
 
 -- of a request that the lock service without connections has too
-abbrev pub plain_permission : Ownership → ℕ → Request → Permission
+abbrev pub plain_permission : Listing → ℕ → Request → Permission
 plain_permission begun c (requests.OfName request k) = of_own begun c k
 plain_permission begun c (requests.OfKey request k) = if nat_eq c 0 then of_any request else of_own begun c k
 plain_permission begun c requests.Owner = Make
@@ -39,7 +39,7 @@ plain_permission begun c requests.Totals = Make
 plain_permission begun c _ = Operator
 
 -- the operator reads all; others read what is theirs
-abbrev pub read_permission : Ownership → ℕ → ReadRequest → Permission
+abbrev pub read_permission : Listing → ℕ → ReadRequest → Permission
 read_permission begun c (reads.Holds k) = if nat_eq c 0 then Make else of_own begun c k
 read_permission begun c (reads.Cycle k) = if nat_eq c 0 then Make else of_own begun c k
 read_permission begun c (reads.Fence k) = of_own begun c k
@@ -47,7 +47,7 @@ read_permission begun c reads.Hello = Make
 read_permission begun c _ = if nat_eq c 0 then Make else Operator
 
 -- what becomes of a request
-abbrev pub permission_of : Ownership → ℕ → ClientRequest → Permission
+abbrev pub permission_of : Listing → ℕ → ClientRequest → Permission
 permission_of begun c asked.Begin = if nat_eq c 0 then Operator else Make
 permission_of begun c (asked.LockAll k) = of_own begun c k
 permission_of begun c (asked.Plain request) = plain_permission begun c request

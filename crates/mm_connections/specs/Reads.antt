@@ -4,7 +4,7 @@ use Rattle.std.specs.Option.{option_map_or}
 use Rattle.mm_arena.specs.declared.key.Key.{Key}
 use Rattle.mm_arena.specs.Key.{key_text}
 use Rattle.mm_arena.specs.Shelf.{key_eq}
-use Rattle.mm_owned.specs.Owned.{Ownership}
+use Rattle.mm_tagged_lists.specs.TaggedLists.{Listing}
 use Rattle.mm_rules.specs.TableState.{is_live}
 use Rattle.mm_manager.specs.LockState.{LockState, Owns}
 use Rattle.mm_manager.specs.Permit.{counts_left, labels_left}

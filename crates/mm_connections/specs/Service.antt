@@ -4,7 +4,7 @@ use Rattle.mm_lines.specs.declared.fault.Fault.{Fault}
 use Rattle.mm_lines.specs.Text as texts
 use Rattle.mm_manager.specs.Opening as manager
 use Rattle.mm_manager.specs.declared.config.ManagerConfig.{ManagerConfig}
-use Rattle.mm_owned.specs.Owned.{unowned}
+use Rattle.mm_tagged_lists.specs.TaggedLists.{unlisted}
 use Rattle.mm_connections.specs.Hub.{Hub}
 use Rattle.mm_connections.specs.Text.{Answers}
 use Rattle.mm_connections.specs.declared.options.ConnectionOptions.{ConnectionOptions}
@@ -17,7 +17,7 @@ input_limit = 18446744073709551614
 abbrev pub opening_hub : ManagerConfig → ConnectionOptions → Hub
 opening_hub config options = record {
   manager = manager.opening_state config;
-  begun = unowned options.connections config.transactions;
+  begun = unlisted options.connections config.transactions;
   counts = replicate options.connections 0;
   options = options;
 }

@@ -1,7 +1,8 @@
 -- What a connection is answered. What a request does, and its reply, are those of a service without connections (mm_service): here stands who is told what.
 use Rattle.std.specs.Prelude.{◌≡◌, ℕ, Bool, true, false, List, [], ◌∷◌, ◌++◌, drop, Option, Some, None, Result, Ok, Err, codes, decimal, nat_eq, nat_le, if◌then◌else◌, slice_set}
 use Rattle.mm_arena.specs.declared.key.Key.{Key}
-use Rattle.mm_owned.specs.Owned.{Ownership, owner_at, list_at, freed}
+use Rattle.mm_tagged_lists.specs.declared.spot.Spot.{Spot}
+use Rattle.mm_tagged_lists.specs.TaggedLists.{Listing, spot_at, list_at, freed}
 use Rattle.mm_lines.specs.Words.{words_of}
 use Rattle.mm_settled.specs.declared.reply.Grant.{Grant}
 use Rattle.mm_manager.specs.LockState.{LockState, IsLawful}
@@ -142,10 +143,10 @@ Serves c request name old out new = ServesBy (permission_of old.begun c request)
 
 -- the last transaction of the slot is nobody's from now on, and is aborted, or its abort is due; it may have ended before
 pub record Drops (c p : ℕ) (old : Hub) (out : List ℕ) (new : Hub) : Type 0 where
-  pub kept : Key
-  pub was : owner_at old.begun p ≡ Some kept
+  pub kept : Spot
+  pub was : spot_at old.begun p ≡ Some kept
   pub answer : Result abort.Abort Refusal
-  pub did : Aborted old.manager (record { process = p; generation = kept.generation }) answer new.manager
+  pub did : Aborted old.manager (record { process = p; generation = kept.tag }) answer new.manager
   pub lawful : IsLawful new.manager
   pub rest : new ≡ record old { manager = new.manager; begun = freed old.begun p }
   pub text : out ≡ told_text (Some c) new

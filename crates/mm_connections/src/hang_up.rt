@@ -1,7 +1,7 @@
 //! A connection hangs up.
 ghost use Rattle.std.specs.Prelude.{◌≡◌, ◌<◌, ◌≤◌, ◌++◌, ℕ, List, length, OnOk, IsOkUnless};
 ghost use Rattle.mm_lines.specs.Output.{Writes};
-ghost use Rattle.mm_owned.specs.Owned.{list_at};
+ghost use Rattle.mm_tagged_lists.specs.TaggedLists.{list_at};
 ghost use Rattle.mm_connections.specs.Hub.{IsLawfulHub};
 ghost use Rattle.mm_connections.specs.Text.{DropsAll, HangsUp};
 
@@ -27,7 +27,7 @@ impl ServedManager {
             × Writes (W.contents writer.old) (W.contents writer.new) (output.old.items ++ text) lost × OnOk result (lost ≡ output.new.items) }
         ensures fault { IsOkUnless result Fault.Write }
         ensures lists { length self.new.begun.lists ≡ length self.old.begun.lists }
-        ensures owners { length self.new.begun.owners ≡ length self.old.begun.owners }
+        ensures owners { length self.new.begun.spots ≡ length self.old.begun.spots }
         ensures config { self.new.manager.table.config ≡ self.old.manager.table.config }
         ensures options { self.new.options ≡ self.old.options }
     {
@@ -54,7 +54,7 @@ impl ServedManager {
             × Writes (W.contents writer.old) (W.contents writer.new) (output.old.items ++ told) lost × OnOk result (lost ≡ output.new.items) }
         ensures fault { IsOkUnless result Fault.Write }
         ensures lists { length self.new.begun.lists ≡ length self.old.begun.lists }
-        ensures owners { length self.new.begun.owners ≡ length self.old.begun.owners }
+        ensures owners { length self.new.begun.spots ≡ length self.old.begun.spots }
         ensures config { self.new.manager.table.config ≡ self.old.manager.table.config }
         ensures options { self.new.options ≡ self.old.options }
     {

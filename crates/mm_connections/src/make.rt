@@ -35,13 +35,13 @@ impl ServedManager {
     ) -> Result<(), Fault>
         requires room { array_vec_len output.old + MAX_NAMED ≤ OUTPUT_LEN }
         requires connection { connection < length self.old.begun.lists }
-        requires slots { self.old.manager.table.config.processes ≤ length self.old.begun.owners }
+        requires slots { self.old.manager.table.config.processes ≤ length self.old.begun.spots }
         requires short { IsShort request name.now }
         ensures makes { (reply : List ℕ) × (effect : Effect) × (lost : List ℕ) × RepliesTo connection request name.now (hub_of self.old) reply effect (hub_of self.new) × IsLawfulHub (hub_of self.new)
             × Writes (W.contents writer.old) (W.contents writer.new) (output.old.items ++ (reply ++ events_text (hub_of self.new) (effect_for connection effect))) lost × OnOk result (lost ≡ output.new.items) }
         ensures fault { IsOkUnless result Fault.Write }
         ensures lists { length self.new.begun.lists ≡ length self.old.begun.lists }
-        ensures owners { length self.new.begun.owners ≡ length self.old.begun.owners }
+        ensures owners { length self.new.begun.spots ≡ length self.old.begun.spots }
         ensures config { self.new.manager.table.config ≡ self.old.manager.table.config }
         ensures options { self.new.options ≡ self.old.options }
     {
@@ -65,13 +65,13 @@ impl ServedManager {
     ) -> Result<Effect, Fault>
         requires room { array_vec_len output.old + MAX_NAMED ≤ OUTPUT_LEN }
         requires connection { connection < length self.old.begun.lists }
-        requires slots { self.old.manager.table.config.processes ≤ length self.old.begun.owners }
+        requires slots { self.old.manager.table.config.processes ≤ length self.old.begun.spots }
         requires short { IsShort request name.now }
         ensures replies { (reply : List ℕ) × (effect : Effect) × (lost : List ℕ) × RepliesTo connection request name.now (hub_of self.old) reply effect (hub_of self.new)
             × Writes (W.contents writer.old) (W.contents writer.new) (output.old.items ++ reply) lost × MatchResult result (λ it. (it ≡ effect) × (lost ≡ output.new.items)) (λ _. effect ≡ Effect.Nothing) }
         ensures fault { IsOkUnless result Fault.Write }
         ensures lists { length self.new.begun.lists ≡ length self.old.begun.lists }
-        ensures owners { length self.new.begun.owners ≡ length self.old.begun.owners }
+        ensures owners { length self.new.begun.spots ≡ length self.old.begun.spots }
         ensures config { self.new.manager.table.config ≡ self.old.manager.table.config }
         ensures options { self.new.options ≡ self.old.options }
     {
@@ -128,11 +128,11 @@ impl ServedManager {
     fn begin(&mut self, connection: u32, line: &[u8], output: &mut Output) -> Effect
         requires room { array_vec_len output.old + MAX_NAMED ≤ OUTPUT_LEN }
         requires connection { connection < length self.old.begun.lists }
-        requires slots { self.old.manager.table.config.processes ≤ length self.old.begun.owners }
+        requires slots { self.old.manager.table.config.processes ≤ length self.old.begun.spots }
         requires short { length line.now ≤ MAX_REQUEST }
         ensures replies { (reply : List ℕ) × BeginsBy (is_full (hub_of self.old) connection) connection (drop 1 (words_of line.now)) (hub_of self.old) reply result (hub_of self.new) × (output.new.items ≡ output.old.items ++ reply) }
         ensures lists { length self.new.begun.lists ≡ length self.old.begun.lists }
-        ensures owners { length self.new.begun.owners ≡ length self.old.begun.owners }
+        ensures owners { length self.new.begun.spots ≡ length self.old.begun.spots }
         ensures config { self.new.manager.table.config ≡ self.old.manager.table.config }
         ensures options { self.new.options ≡ self.old.options }
     {

@@ -43,13 +43,13 @@ impl ServedManager {
     ) -> Result<bool, Fault>
         requires room { array_vec_len output.old + MAX_ANSWER ≤ OUTPUT_LEN }
         requires lists { length self.old.begun.lists ≡ self.old.options.connections }
-        requires slots { self.old.manager.table.config.processes ≤ length self.old.begun.owners }
+        requires slots { self.old.manager.table.config.processes ≤ length self.old.begun.spots }
         ensures answered { (reply : List ℕ) × (one : ℕ) × (lost : List ℕ) × Answers (hub_of self.old) line.now reply one (hub_of self.new)
             × Writes (W.contents writer.old) (W.contents writer.new) (output.old.items ++ reply) lost
             × IfOk result (λ malformed. (one ≡ (if malformed then 1 else 0)) × (lost ≡ output.new.items)) }
         ensures fault { IsOkUnless result Fault.Write }
         ensures lists { length self.new.begun.lists ≡ length self.old.begun.lists }
-        ensures owners { length self.new.begun.owners ≡ length self.old.begun.owners }
+        ensures spots { length self.new.begun.spots ≡ length self.old.begun.spots }
         ensures config { self.new.manager.table.config ≡ self.old.manager.table.config }
         ensures options { self.new.options ≡ self.old.options }
     {
@@ -83,13 +83,13 @@ impl ServedManager {
     ) -> Result<(), Fault>
         requires room { array_vec_len output.old + MAX_ANSWER ≤ OUTPUT_LEN }
         requires connection { connection < length self.old.begun.lists }
-        requires slots { self.old.manager.table.config.processes ≤ length self.old.begun.owners }
+        requires slots { self.old.manager.table.config.processes ≤ length self.old.begun.spots }
         requires short { IsShort request name.now }
         ensures serves { (text : List ℕ) × (lost : List ℕ) × IsLawfulHub (hub_of self.old) × Serves connection request name.now (hub_of self.old) text (hub_of self.new)
             × Writes (W.contents writer.old) (W.contents writer.new) (output.old.items ++ text) lost × OnOk result (lost ≡ output.new.items) }
         ensures fault { IsOkUnless result Fault.Write }
         ensures lists { length self.new.begun.lists ≡ length self.old.begun.lists }
-        ensures owners { length self.new.begun.owners ≡ length self.old.begun.owners }
+        ensures spots { length self.new.begun.spots ≡ length self.old.begun.spots }
         ensures config { self.new.manager.table.config ≡ self.old.manager.table.config }
         ensures options { self.new.options ≡ self.old.options }
     {

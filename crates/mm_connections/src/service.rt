@@ -32,7 +32,7 @@ impl Model for ConnectionService {
 
     ghost view = { λ it. hub_of it.served };
 
-    ghost invariant = { λ it. (length it.served.begun.lists ≡ it.served.options.connections) × (it.served.manager.table.config.processes ≤ length it.served.begun.owners) };
+    ghost invariant = { λ it. (length it.served.begun.lists ≡ it.served.options.connections) × (it.served.manager.table.config.processes ≤ length it.served.begun.spots) };
 }
 
 impl ConnectionService {

@@ -1,15 +1,14 @@
 //! The names.
 ghost use Rattle.std.specs.Prelude.{◌≡◌, ◌≤◌, ◌<◌, ◌↔◌, ℕ, None, Some, Err, length, IfOk, OnErr, IsTrue, IsSome, MatchOption, option_copied, option_map, vec_capacity};
 ghost use Rattle.std.specs.Bool.{OnTrue, OnFalse};
-ghost use Rattle.mm_owned.specs.Owned.{owner_at};
+ghost use Rattle.mm_tagged_lists.specs.TaggedLists.{spot_at};
 ghost use Rattle.mm_names.specs.Names.{nameless, name_of, with_name, IsNamed, IsRefusedAsFull, Interns, IsLawful, IsNamesOut, IsNameBytesOut};
 ghost use Rattle.mm_names.specs.private.Index.{AreAll};
 
 use crate::places::Places;
 use crate::spots::Spots;
 use crate::{NamesConfig, NamesError, OpenError};
-use mm_arena::Key;
-use mm_owned::Owned;
+use mm_tagged_lists::{Spot, TaggedLists};
 use std::alloc::{AllocError, Global};
 use std::marker::Model;
 
@@ -28,7 +27,7 @@ pub struct Entry {
 pub struct Names {
     places: Places,
     /// The list in which each number stands that has a name: that of the name's hash.
-    index: Owned,
+    index: TaggedLists,
     spots: Spots,
     /// The numbers without a name. The last one is the next to get one.
     free: Vec<u32>,
@@ -148,7 +147,7 @@ impl Names {
         if number >= self.places.numbers() {
             return false;
         }
-        self.index.owner(number).is_some()
+        self.index.spot(number).is_some()
     }
 
     /// How many bytes a name may have, in constant time.
@@ -177,7 +176,7 @@ fn no_names(alloc: Global, config: NamesConfig) -> Result<Names, AllocError>
 {
     let places = Places::new(alloc, config.names, config.name_bytes)?;
     let spots = Spots::new(config.seed, config.names);
-    let index = Owned::new(alloc, spots.lists(), config.names)?;
+    let index = TaggedLists::new(alloc, spots.lists(), config.names)?;
     let free = all_free(alloc, config.names)?;
     Ok(Names {
         places,
@@ -203,16 +202,16 @@ fn all_free(alloc: Global, numbers: u32) -> Result<Vec<u32>, AllocError>
 
 /// The number of a name that is nowhere but at this spot. Most lists have one number or none, so the first one is looked at here.
 #[inline(always)]
-fn find_at(places: &Places, index: &Owned, spot: Key, name: &[u8]) -> Option<u32>
-    requires in_range { spot.process < length index.now.lists }
-    requires numbers { length index.now.owners ≡ length places.now.names }
-    requires at_spot { (n : ℕ) → name_of places.now n ≡ Some name.now → owner_at index.now n ≡ Some spot }
+fn find_at(places: &Places, index: &TaggedLists, spot: Spot, name: &[u8]) -> Option<u32>
+    requires in_range { spot.list < length index.now.lists }
+    requires numbers { length index.now.spots ≡ length places.now.names }
+    requires at_spot { (n : ℕ) → name_of places.now n ≡ Some name.now → spot_at index.now n ≡ Some spot }
     ensures { MatchOption result (¬ IsNamed places.now name.now) (λ n. name_of places.now n ≡ Some name.now) }
 {
-    let Some(first) = index.first(spot.process) else {
+    let Some(first) = index.first(spot.list) else {
         return None;
     };
-    if has_tag(index, first, spot.generation) && places.has(first, name) {
+    if has_tag(index, first, spot.tag) && places.has(first, name) {
         return Some(first);
     }
     find_in_list(places, index, spot, name)
@@ -220,15 +219,15 @@ fn find_at(places: &Places, index: &Owned, spot: Key, name: &[u8]) -> Option<u32
 
 /// The number of a name that is nowhere but at this spot, wherever it stands in the list.
 #[inline(never)]
-fn find_in_list(places: &Places, index: &Owned, spot: Key, name: &[u8]) -> Option<u32>
-    requires in_range { spot.process < length index.now.lists }
-    requires numbers { length index.now.owners ≡ length places.now.names }
-    requires at_spot { (n : ℕ) → name_of places.now n ≡ Some name.now → owner_at index.now n ≡ Some spot }
+fn find_in_list(places: &Places, index: &TaggedLists, spot: Spot, name: &[u8]) -> Option<u32>
+    requires in_range { spot.list < length index.now.lists }
+    requires numbers { length index.now.spots ≡ length places.now.names }
+    requires at_spot { (n : ℕ) → name_of places.now n ≡ Some name.now → spot_at index.now n ≡ Some spot }
     ensures { MatchOption result (¬ IsNamed places.now name.now) (λ n. name_of places.now n ≡ Some name.now) }
 {
-    let mut next = index.first(spot.process);
+    let mut next = index.first(spot.list);
     'list: while let Some(number) = next {
-        if has_tag(index, number, spot.generation) && places.has(number, name) {
+        if has_tag(index, number, spot.tag) && places.has(number, name) {
             return Some(number);
         }
         next = index.next(number);
@@ -238,12 +237,12 @@ fn find_in_list(places: &Places, index: &Owned, spot: Key, name: &[u8]) -> Optio
 
 /// Whether a number stands in its list under this part of a hash. That is compared before the bytes: most other names are not read.
 #[inline(always)]
-fn has_tag(index: &Owned, number: u32, tag: u32) -> bool
-    requires { number < length index.now.owners }
-    ensures { IsTrue result ↔ (option_map (λ spot. spot.generation) (owner_at index.now number) ≡ Some tag) }
+fn has_tag(index: &TaggedLists, number: u32, tag: u32) -> bool
+    requires { number < length index.now.spots }
+    ensures { IsTrue result ↔ (option_map (λ spot. spot.tag) (spot_at index.now number) ≡ Some tag) }
 {
-    match index.owner(number) {
+    match index.spot(number) {
         None => false,
-        Some(spot) => spot.generation == tag,
+        Some(spot) => spot.tag == tag,
     }
 }

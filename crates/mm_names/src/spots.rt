@@ -4,13 +4,12 @@ ghost use Rattle.mm_names.specs.declared.config.TheConstants.NamesConfig.{MAX_NA
 ghost use Rattle.mm_names.specs.declared.spots.TheConstants.{LISTS_A_NAME};
 
 use crate::hash::NameHash;
-use mm_arena::Key;
+use mm_tagged_lists::Spot;
 
 /// How many lists there are for each name that there can be. With more of them fewer names share one.
 const LISTS_A_NAME: u32 = 4;
 
-/// The spots of names. A spot is a key: its process is one of the lists in which numbers stand, and its generation a part of the hash
-/// that tells names of one list apart.
+/// The spots of names: one of the lists in which numbers stand, and a tag, a part of the hash that tells names of one list apart.
 #[derive(Clone, Copy)]
 pub(crate) struct Spots {
     hash: NameHash,
@@ -39,14 +38,14 @@ impl Spots {
     /// The spot of a name, in `O(length)`.
     // In place, as the hash is.
     #[inline(always)]
-    pub(crate) fn of(&self, name: &[u8]) -> Key
+    pub(crate) fn of(&self, name: &[u8]) -> Spot
         ensures spot { result ≡ spot_of self.now name.now }
-        ensures in_range { result.process < self.now.lists }
+        ensures in_range { result.list < self.now.lists }
     {
         let hash = self.hash.of(name);
-        Key {
-            process: ((hash >> 32) * self.lists as u64 >> 32) as u32,
-            generation: (hash % (1 << 32)) as u32,
+        Spot {
+            list: ((hash >> 32) * self.lists as u64 >> 32) as u32,
+            tag: (hash % (1 << 32)) as u32,
         }
     }
 

@@ -9,7 +9,7 @@
 //! - `sweep`, `waiters`: the sweeps of a settle, and who is looked at next after a raise.
 use crate::labels::Labels;
 use crate::{Config, Totals};
-use mm_owned::Owned;
+use mm_tagged_lists::TaggedLists;
 use mm_transactions::Transactions;
 use std::marker::Model;
 
@@ -40,8 +40,8 @@ pub struct Records {
     /// What each waits for, and the queue of each resource.
     transactions: Transactions,
     labels: Labels,
-    /// The owner of each resource, and the resources of each process.
-    owned: Owned,
+    /// The resources of each process. The list of a process has its number, and the tag is the generation of the key that owns the resource.
+    owned: TaggedLists,
     totals: Totals,
 }
 

@@ -5,8 +5,9 @@ use Rattle.std.proofs.lemmas.Bool.{cases_Bool, cases_eq, eqb-true, eq-eqb}
 use Rattle.mm_arena.specs.declared.key.Key.{Key}
 use Rattle.mm_bit_set.specs.BitSet.{has}
 use Rattle.mm_lists.specs.Members.{Among, NoRepeat}
-use Rattle.mm_owned.specs.Owned.{Ownership, ListsMatchOwners, owner_at, list_at, freed}
-use Rattle.mm_owned.proofs.Lemmas.ListsMatchOwners.{in_its_list}
+use Rattle.mm_tagged_lists.specs.declared.spot.Spot.{Spot}
+use Rattle.mm_tagged_lists.specs.TaggedLists.{Listing, ListsMatchSpots, spot_at, list_at, freed}
+use Rattle.mm_tagged_lists.proofs.Lemmas.ListsMatchSpots.{in_its_list}
 use Rattle.mm_rules.specs.TableState.{TableState, is_live}
 use Rattle.mm_rules.specs.Event.{Begin, Step}
 use Rattle.mm_rules.specs.Laws.{Laws}
@@ -42,7 +43,7 @@ use Rattle.mm_connections.specs.declared.permission.Permission.TheVariants as pe
 use Rattle.mm_connections.specs.declared.request.ClientRequest.{ClientRequest}
 use Rattle.mm_connections.specs.declared.request.ClientRequest.TheVariants as asked
 use Rattle.mm_connections.specs.Apart.{StaysApart, MayTouch, LinesAreApart, HangUpEndsAll, HangUpLeavesNone}
-use Rattle.mm_connections.proofs.Lemmas.Begun.{none_here, freed_here, freed_owner_else, freed_else, begun_else, kept}
+use Rattle.mm_connections.proofs.Lemmas.Begun.{none_here, freed_here, freed_spot_else, freed_else, begun_else, kept}
 
 -- ---- a request is of the connection's own transaction
 
@@ -50,7 +51,7 @@ own_of : (o : Option ℕ) (c : ℕ) → option_map_or (λ d. nat_eq d c) o false
 own_of None c is = absurd (cc)
 own_of (Some d) c is = ap (λ x. Some x) (eqb-true d c is)
 
-own_made : (b : Ownership) (c : ℕ) (k : Key) → of_own b c k ≡ permit.Make → IsOf b c k
+own_made : (b : Listing) (c : ℕ) (k : Key) → of_own b c k ≡ permit.Make → IsOf b c k
 own_made b c k is = elim (cases_Bool (is_of b c k)) [
   | inl own ↦ own_of (connection_of b k) c own
   | inr other ↦
@@ -72,7 +73,7 @@ IsOfClient (asked.LockAll k) t = k ≡ t
 IsOfClient (asked.Plain request) t = IsOfKey request t
 IsOfClient (asked.Read request) t = ⊥
 
-plain_own : (b : Ownership) (c : ℕ) (request : Request) (t : Key) → c ≢ 0 → plain_permission b c request ≡ permit.Make → IsOfKey request t → IsOf b c t
+plain_own : (b : Listing) (c : ℕ) (request : Request) (t : Key) → c ≢ 0 → plain_permission b c request ≡ permit.Make → IsOfKey request t → IsOf b c t
 plain_own b c requests.Begin t other made never = absurd never
 plain_own b c (requests.OfName request k) t other made same = subst (λ j. IsOf b c j) same (own_made b c k made)
 plain_own b c (requests.OfKey request k) t other made same = subst (λ j. IsOf b c j) same (own_made b c k (else_made (of_any request) (of_own b c k) c other made))
@@ -81,7 +82,7 @@ plain_own b c requests.Owner t other made never = absurd never
 plain_own b c requests.Graph t other made never = absurd never
 plain_own b c requests.Totals t other made never = absurd never
 
-its_own : (b : Ownership) (c : ℕ) (request : ClientRequest) (t : Key) → c ≢ 0 → permission_of b c request ≡ permit.Make → IsOfClient request t → IsOf b c t
+its_own : (b : Listing) (c : ℕ) (request : ClientRequest) (t : Key) → c ≢ 0 → permission_of b c request ≡ permit.Make → IsOfClient request t → IsOf b c t
 its_own b c asked.Begin t other made never = absurd never
 its_own b c (asked.LockAll k) t other made same = subst (λ j. IsOf b c j) same (own_made b c k made)
 its_own b c (asked.Plain request) t other made same = plain_own b c request t other made same
@@ -151,41 +152,41 @@ serves_apart permit.Operator c request name out old new (text, same) lawful t li
 
 -- ---- a hang-up
 
-abbrev key_at : ℕ → Key → Key
-key_at p k = record { process = p; generation = k.generation }
+abbrev key_at : ℕ → Spot → Key
+key_at p k = record { process = p; generation = k.tag }
 
 -- what is kept of these slots is of connection c
-abbrev AreOf : Ownership → ℕ → List ℕ → Type 0
-AreOf b c ps = (p : ℕ) (k : Key) → Among p ps → owner_at b p ≡ Some k → k.process ≡ c
+abbrev AreOf : Listing → ℕ → List ℕ → Type 0
+AreOf b c ps = (p : ℕ) (k : Spot) → Among p ps → spot_at b p ≡ Some k → k.list ≡ c
 
-listed_are_of : (b : Ownership) (c : ℕ) → ListsMatchOwners b → AreOf b c (list_at b c)
+listed_are_of : (b : Listing) (c : ℕ) → ListsMatchSpots b → AreOf b c (list_at b c)
 listed_are_of b c lists p k among is =
-    let own : Some k.process ≡ Some c = sym (ap (option_map (λ (j : Key). j.process)) is) ∙ (lists.listed c p).0 among in
+    let own : Some k.list ≡ Some c = sym (ap (option_map (λ (j : Spot). j.list)) is) ∙ (lists.listed c p).0 among in
     cc
 
-freed_are_of : (b : Ownership) (c p : ℕ) (ps : List ℕ) → AreOf b c (p ∷ ps) → AreOf (freed b p) c ps
+freed_are_of : (b : Listing) (c p : ℕ) (ps : List ℕ) → AreOf b c (p ∷ ps) → AreOf (freed b p) c ps
 freed_are_of b c p ps are q k among is = elim (cases_eq q p) [
   | inl same ↦
-      let none : None ≡ Some k = sym (none_here b.owners q) ∙ ap (λ r. owner_at (freed b r) q) same ∙ is in
+      let none : None ≡ Some k = sym (none_here b.spots q) ∙ ap (λ r. spot_at (freed b r) q) same ∙ is in
       absurd (cc)
-  | inr apart ↦ are q k (inr among) (sym (freed_owner_else b p q apart) ∙ is)
+  | inr apart ↦ are q k (inr among) (sym (freed_spot_else b p q apart) ∙ is)
 ]
 
-of_kept : (b : Ownership) (c p : ℕ) (k : Key) → owner_at b p ≡ Some k → k.process ≡ c → IsOf b c (key_at p k)
+of_kept : (b : Listing) (c p : ℕ) (k : Spot) → spot_at b p ≡ Some k → k.list ≡ c → IsOf b c (key_at p k)
 of_kept b c p k is own =
-    ap (λ o. connection_in o k.generation) is ∙ ap (λ (x : Bool). if x then Some k.process else None) (eq-eqb k.generation k.generation refl) ∙ ap (λ x. Some x) own
+    ap (λ o. connection_in o k.tag) is ∙ ap (λ (x : Bool). if x then Some k.list else None) (eq-eqb k.tag k.tag refl) ∙ ap (λ x. Some x) own
 
 -- a transaction that is not of connection c is of nobody, where the slot's last one is of c
-not_of : (c : ℕ) (k t : Key) → k.process ≡ c → ¬ (connection_in (Some k) t.generation ≡ Some c) → connection_in (Some k) t.generation ≡ None
-not_of c k t own other = elim (cases_Bool (nat_eq k.generation t.generation)) [
-  | inl equal ↦ absurd (other (ap (λ (x : Bool). if x then Some k.process else None) equal ∙ ap (λ x. Some x) own))
-  | inr apart ↦ ap (λ (x : Bool). if x then Some k.process else None) apart
+not_of : (c : ℕ) (k : Spot) (t : Key) → k.list ≡ c → ¬ (connection_in (Some k) t.generation ≡ Some c) → connection_in (Some k) t.generation ≡ None
+not_of c k t own other = elim (cases_Bool (nat_eq k.tag t.generation)) [
+  | inl equal ↦ absurd (other (ap (λ (x : Bool). if x then Some k.list else None) equal ∙ ap (λ x. Some x) own))
+  | inr apart ↦ ap (λ (x : Bool). if x then Some k.list else None) apart
 ]
 
-freed_same : (b : Ownership) (c p : ℕ) (k t : Key) → owner_at b p ≡ Some k → k.process ≡ c → ¬ IsOf b c t → connection_of (freed b p) t ≡ connection_of b t
+freed_same : (b : Listing) (c p : ℕ) (k : Spot) (t : Key) → spot_at b p ≡ Some k → k.list ≡ c → ¬ IsOf b c t → connection_of (freed b p) t ≡ connection_of b t
 freed_same b c p k t is own other = elim (cases_eq t.process p) [
   | inl here ↦
-      let at : connection_of b t ≡ connection_in (Some k) t.generation = ap (λ o. connection_in o t.generation) (ap (owner_at b) here ∙ is) in
+      let at : connection_of b t ≡ connection_in (Some k) t.generation = ap (λ o. connection_in o t.generation) (ap (spot_at b) here ∙ is) in
       ap (λ q. connection_of (freed b q) t) (sym here) ∙ freed_here b t ∙ sym (at ∙ not_of c k t own (λ of_c. other (at ∙ of_c)))
   | inr apart ↦ freed_else b p t apart
 ]
@@ -272,11 +273,11 @@ over_still c (p ∷ ps) old out new t (mid, first, rest, one, later, text) lawfu
     over_still c ps mid rest new t later one.lawful (λ among. apart (inr among)) (over_next c p old first mid t one lawful (λ same. apart (inl (sym same))) over)
 
 -- its own turn
-own_turn : (p : ℕ) (old : Hub) (out : List ℕ) (mid : Hub) (c : ℕ) (t : Key) → Drops c p old out mid → IsLawful old.manager → t.process ≡ p → owner_at old.begun t.process ≡ Some (record { process = c; generation = t.generation }) → IsOver mid t
+own_turn : (p : ℕ) (old : Hub) (out : List ℕ) (mid : Hub) (c : ℕ) (t : Key) → Drops c p old out mid → IsLawful old.manager → t.process ≡ p → spot_at old.begun t.process ≡ Some (record { list = c; tag = t.generation }) → IsOver mid t
 own_turn p old out mid c t one lawful here is =
-    let both : Some one.kept ≡ Some (record { process = c; generation = t.generation }) = sym one.was ∙ ap (owner_at old.begun) (sym here) ∙ is in
-    let kept_is : one.kept ≡ record { process = c; generation = t.generation } = cc in
-    let same : key_at p one.kept ≡ t = λ i. record { process = sym here i; generation = ap (λ (k : Key). k.generation) kept_is i } in
+    let both : Some one.kept ≡ Some (record { list = c; tag = t.generation }) = sym one.was ∙ ap (spot_at old.begun) (sym here) ∙ is in
+    let kept_is : one.kept ≡ record { list = c; tag = t.generation } = cc in
+    let same : key_at p one.kept ≡ t = λ i. record { process = sym here i; generation = ap (λ (k : Spot). k.tag) kept_is i } in
     let ended : (is_live mid.manager.table t ≡ false) ⊎ (has mid.manager.due t.process ≡ true) =
     elim (cases_Bool (is_live old.manager.table t)) [
       | inr dead ↦ inl (drop_dead c p old out mid t one lawful dead)
@@ -287,24 +288,24 @@ own_turn p old out mid c t one lawful here is =
     (ended, ap (λ b. connection_of b t) (begun_after one ∙ ap (freed old.begun) (sym here)) ∙ freed_here old.begun t)
 
 all_over : (ps : List ℕ) (old : Hub) (out : List ℕ) (new : Hub) (c : ℕ) (t : Key) → DropsAll c ps old out new → IsLawful old.manager → NoRepeat ps → Among t.process ps
-    → owner_at old.begun t.process ≡ Some (record { process = c; generation = t.generation }) → IsOver new t
+    → spot_at old.begun t.process ≡ Some (record { list = c; tag = t.generation }) → IsOver new t
 all_over [] old out new c t drops lawful once among is = absurd among
 all_over (p ∷ ps) old out new c t (mid, first, rest, one, later, text) lawful once among is = elim (cases_eq t.process p) [
   | inl here ↦ over_still c ps mid rest new t later one.lawful (λ again. once.0 (subst (λ q. Among q ps) here again)) (own_turn p old first mid c t one lawful here is)
   | inr apart ↦ all_over ps mid rest new c t later one.lawful once.1 (elim among [ inl same ↦ absurd (apart same) | inr further ↦ further ])
-      (ap (λ b. owner_at b t.process) (begun_after one) ∙ freed_owner_else old.begun p t.process apart ∙ is)
+      (ap (λ b. spot_at b t.process) (begun_after one) ∙ freed_spot_else old.begun p t.process apart ∙ is)
 ]
 
 over_of : (c : ℕ) (old new : Hub) (out : List ℕ) → HangsUp c old out new → IsLawfulHub old → (t : Key) → IsOf old.begun c t → IsOver new t
 over_of c old new out did lawful t of_c =
     let is = kept old.begun c t of_c in
-    subst (λ (h : Hub). IsOver h t) (sym did.rest) (all_over (list_at old.begun c) old did.told did.last c t did.drops lawful.manager (lawful.lists.once c) (in_its_list old.begun lawful.lists t.process (record { process = c; generation = t.generation }) is) is)
+    subst (λ (h : Hub). IsOver h t) (sym did.rest) (all_over (list_at old.begun c) old did.told did.last c t did.drops lawful.manager (lawful.lists.once c) (in_its_list old.begun lawful.lists t.process (record { list = c; tag = t.generation }) is) is)
 
 pub hang_up_ends_all : HangUpEndsAll
 hang_up_ends_all c old new out did lawful t of_c = (over_of c old new out did lawful t of_c).0
 
 -- who is nobody's stays so, and who is another one's
-none_by : (p : ℕ) (b : Ownership) (t : Key) (c : ℕ) → IsOf (freed b p) c t → IsOf b c t
+none_by : (p : ℕ) (b : Listing) (t : Key) (c : ℕ) → IsOf (freed b p) c t → IsOf b c t
 none_by p b t c of_c = elim (cases_eq t.process p) [
   | inl same ↦ (let never : None ≡ Some c = sym (ap (λ q. connection_of (freed b q) t) (sym same) ∙ freed_here b t) ∙ of_c in absurd (cc))
   | inr apart ↦ sym (freed_else b p t apart) ∙ of_c

@@ -6,82 +6,83 @@ use Rattle.std.proofs.lemmas.List.{get_or_past}
 use Rattle.mm_arena.specs.declared.key.Key.{Key}
 use Rattle.mm_lists.specs.Members.{Among, NoRepeat, head, without}
 use Rattle.mm_lists.proofs.Lemmas.Filter.{without-absent}
-use Rattle.mm_owned.specs.Owned.{Ownership, ListsMatchOwners, owner_at, list_at, freed}
-use Rattle.mm_owned.proofs.Lemmas.ListsMatchOwners.{in_no_list, in_range, list_at-freed, freed_matches, given_matches}
-use Rattle.mm_owned.proofs.Lemmas.Walk.{Among-head}
+use Rattle.mm_tagged_lists.specs.declared.spot.Spot.{Spot}
+use Rattle.mm_tagged_lists.specs.TaggedLists.{Listing, ListsMatchSpots, spot_at, list_at, freed}
+use Rattle.mm_tagged_lists.proofs.Lemmas.ListsMatchSpots.{in_no_list, in_range, list_at-freed, freed_matches, given_matches}
+use Rattle.mm_tagged_lists.proofs.Lemmas.Walk.{Among-head}
 use Rattle.mm_connections.specs.Begun.{connection_in, connection_of, IsOf, begun_by}
 
-pub none_here : (os : List (Option Key)) (p : ℕ) → slice_index_or (slice_set os p None) p None ≡ None
+pub none_here : (os : List (Option Spot)) (p : ℕ) → slice_index_or (slice_set os p None) p None ≡ None
 none_here os p = elim (cases_lt p (length os)) [
   | inl within ↦ get_or-set_same os p None None within
   | inr past ↦ get_or_past (slice_set os p None) p None (omega (arith, length-set os p None))
 ]
 
 -- nobody began the transaction of a process that was freed
-pub freed_here : (b : Ownership) (t : Key) → connection_of (freed b t.process) t ≡ None
-freed_here b t = ap (λ o. connection_in o t.generation) (none_here b.owners t.process)
+pub freed_here : (b : Listing) (t : Key) → connection_of (freed b t.process) t ≡ None
+freed_here b t = ap (λ o. connection_in o t.generation) (none_here b.spots t.process)
 
-pub freed_owner_else : (b : Ownership) (p q : ℕ) → q ≢ p → owner_at (freed b p) q ≡ owner_at b q
-freed_owner_else b p q apart = get_or-set_other b.owners p q None None apart
+pub freed_spot_else : (b : Listing) (p q : ℕ) → q ≢ p → spot_at (freed b p) q ≡ spot_at b q
+freed_spot_else b p q apart = get_or-set_other b.spots p q None None apart
 
-pub freed_else : (b : Ownership) (p : ℕ) (t : Key) → t.process ≢ p → connection_of (freed b p) t ≡ connection_of b t
-freed_else b p t apart = ap (λ o. connection_in o t.generation) (freed_owner_else b p t.process apart)
+pub freed_else : (b : Listing) (p : ℕ) (t : Key) → t.process ≢ p → connection_of (freed b p) t ≡ connection_of b t
+freed_else b p t apart = ap (λ o. connection_in o t.generation) (freed_spot_else b p t.process apart)
 
-pub begun_else : (b : Ownership) (c : ℕ) (k t : Key) → t.process ≢ k.process → connection_of (begun_by b c k) t ≡ connection_of b t
+pub begun_else : (b : Listing) (c : ℕ) (k t : Key) → t.process ≢ k.process → connection_of (begun_by b c k) t ≡ connection_of b t
 begun_else b c k t apart =
-    ap (λ o. connection_in o t.generation) (get_or-set_other (freed b k.process).owners k.process t.process (Some (record { process = c; generation = k.generation })) None apart ∙ freed_owner_else b k.process t.process apart)
+    ap (λ o. connection_in o t.generation) (get_or-set_other (freed b k.process).spots k.process t.process (Some (record { list = c; tag = k.generation })) None apart ∙ freed_spot_else b k.process t.process apart)
 
 -- what is kept of a transaction of connection c
-kept_by : (o : Option Key) (g c : ℕ) → connection_in o g ≡ Some c → o ≡ Some (record { process = c; generation = g })
+kept_by : (o : Option Spot) (g c : ℕ) → connection_in o g ≡ Some c → o ≡ Some (record { list = c; tag = g })
 kept_by None g c is = absurd (cc)
-kept_by (Some k) g c is = elim (cases_Bool (nat_eq k.generation g)) [
+kept_by (Some k) g c is = elim (cases_Bool (nat_eq k.tag g)) [
   | inl equal ↦
-      let some : Some k.process ≡ Some c = sym (ap (λ (b : Bool). if b then Some k.process else None) equal) ∙ is in
-      let process : k.process ≡ c = cc in
-      let generation : k.generation ≡ g = eqb-true k.generation g equal in
-      λ i. Some (record { process = process i; generation = generation i })
+      let some : Some k.list ≡ Some c = sym (ap (λ (b : Bool). if b then Some k.list else None) equal) ∙ is in
+      let list : k.list ≡ c = cc in
+      let tag : k.tag ≡ g = eqb-true k.tag g equal in
+      λ i. Some (record { list = list i; tag = tag i })
   | inr other ↦
-      let none : None ≡ Some c = sym (ap (λ (b : Bool). if b then Some k.process else None) other) ∙ is in
+      let none : None ≡ Some c = sym (ap (λ (b : Bool). if b then Some k.list else None) other) ∙ is in
       absurd (cc)
 ]
 
-pub kept : (b : Ownership) (c : ℕ) (t : Key) → IsOf b c t → owner_at b t.process ≡ Some (record { process = c; generation = t.generation })
-kept b c t is = kept_by (owner_at b t.process) t.generation c is
+pub kept : (b : Listing) (c : ℕ) (t : Key) → IsOf b c t → spot_at b t.process ≡ Some (record { list = c; tag = t.generation })
+kept b c t is = kept_by (spot_at b t.process) t.generation c is
 
 -- a process of which something is kept is one of those that there are
-pub kept_within : (b : Ownership) (p : ℕ) (k : Key) → owner_at b p ≡ Some k → p < length b.owners
-kept_within b p k is = elim (cases_lt p (length b.owners)) [
+pub kept_within : (b : Listing) (p : ℕ) (k : Spot) → spot_at b p ≡ Some k → p < length b.spots
+kept_within b p k is = elim (cases_lt p (length b.spots)) [
   | inl within ↦ within
-  | inr past ↦ (let none : owner_at b p ≡ None = get_or_past b.owners p None past in let never : None ≡ Some k = sym none ∙ is in absurd (cc))
+  | inr past ↦ (let none : spot_at b p ≡ None = get_or_past b.spots p None past in let never : None ≡ Some k = sym none ∙ is in absurd (cc))
 ]
 
 -- ---- the lists
 
-module _ (b : Ownership) (c p : ℕ) (matched : ListsMatchOwners b) (first : Some p ≡ head (list_at b c)) where
+module _ (b : Listing) (c p : ℕ) (matched : ListsMatchSpots b) (first : Some p ≡ head (list_at b c)) where
   first_listed : Among p (list_at b c)
   first_listed = Among-head (list_at b c) p (sym first)
 
-  pub first_within : p < length b.owners
+  pub first_within : p < length b.spots
   first_within = in_range b matched c p first_listed
 
-  pub first_is_kept : None ≡ owner_at b p → ⊥
+  pub first_is_kept : None ≡ spot_at b p → ⊥
   first_is_kept none = in_no_list b matched p (sym none) c first_listed
 
-  pub first_taken : (kept : Key) → Some kept ≡ owner_at b p → (head (list_at b c) ≡ Some p) × (owner_at b p ≡ Some (record { process = c; generation = kept.generation }))
+  pub first_taken : (kept : Spot) → Some kept ≡ spot_at b p → (head (list_at b c) ≡ Some p) × (spot_at b p ≡ Some (record { list = c; tag = kept.tag }))
   first_taken kept is =
-      let own : option_map (λ (k : Key). k.process) (Some kept) ≡ Some c = ap (option_map (λ (k : Key). k.process)) is ∙ (matched.listed c p).0 first_listed in
-      let process : kept.process ≡ c = cc in
-      (sym first, sym is ∙ ap (λ n. Some (record { process = n; generation = kept.generation })) process)
+      let own : option_map (λ (k : Spot). k.list) (Some kept) ≡ Some c = ap (option_map (λ (k : Spot). k.list)) is ∙ (matched.listed c p).0 first_listed in
+      let list : kept.list ≡ c = cc in
+      (sym first, sym is ∙ ap (λ n. Some (record { list = n; tag = kept.tag })) list)
 
-  pub freed_first : ListsMatchOwners (freed b p)
+  pub freed_first : ListsMatchSpots (freed b p)
   freed_first = freed_matches b p first_within matched
 
 -- a transaction that begins
-module _ (b : Ownership) (c : ℕ) (k : Key) (matched : ListsMatchOwners b) (connection : c < length b.lists) (process : k.process < length b.owners) where
-  pub begun_matches : ListsMatchOwners (begun_by b c k)
+module _ (b : Listing) (c : ℕ) (k : Key) (matched : ListsMatchSpots b) (connection : c < length b.lists) (process : k.process < length b.spots) where
+  pub begun_matches : ListsMatchSpots (begun_by b c k)
   begun_matches =
-      given_matches (freed b k.process) (record { process = c; generation = k.generation }) k.process
-      (rw (length-map b.lists (without k.process)) connection) (omega (arith, process, length-set b.owners k.process None)) (none_here b.owners k.process)
+      given_matches (freed b k.process) (record { list = c; tag = k.generation }) k.process
+      (rw (length-map b.lists (without k.process)) connection) (omega (arith, process, length-set b.spots k.process None)) (none_here b.spots k.process)
       (freed_matches b k.process process matched)
 
 -- the list of a connection without its first process
@@ -94,5 +95,5 @@ rest_of (x ∷ xs) p is once =
     let same : x ≡ p = cc in
     subst (λ q. x ∷ xs ≡ q ∷ without q (x ∷ xs)) same (ap (λ ys. x ∷ ys) (sym (without_first x xs once.0)))
 
-pub list_after : (b : Ownership) (c p : ℕ) → ListsMatchOwners b → head (list_at b c) ≡ Some p → list_at b c ≡ p ∷ list_at (freed b p) c
+pub list_after : (b : Listing) (c p : ℕ) → ListsMatchSpots b → head (list_at b c) ≡ Some p → list_at b c ≡ p ∷ list_at (freed b p) c
 list_after b c p matched is = rest_of (list_at b c) p is (matched.once c) ∙ ap (λ ys. p ∷ ys) (sym (list_at-freed b p c))

@@ -5,7 +5,7 @@ use Rattle.mm_bit_set.specs.BitSet.{has}
 use Rattle.mm_lines.specs.Text.{Text}
 use Rattle.mm_lines.specs.Words.{words_of}
 use Rattle.mm_lists.specs.Members.{Among}
-use Rattle.mm_owned.specs.Owned.{Ownership, list_at}
+use Rattle.mm_tagged_lists.specs.TaggedLists.{Listing, list_at}
 use Rattle.mm_rules.specs.TableState.{is_live}
 use Rattle.mm_manager.specs.LockState.{LockState}
 use Rattle.mm_manager.specs.declared.refusal.Refusal.{Refusal}
@@ -61,7 +61,7 @@ answers_options old line out one new did = (let says = said_of old.options.conne
 
 -- ---- one line after the other
 
-touch_same : (a b : Ownership) (s : Said) (t : Key) → connection_of b t ≡ connection_of a t → MayTouch b s t → MayTouch a s t
+touch_same : (a b : Listing) (s : Said) (t : Key) → connection_of b t ≡ connection_of a t → MayTouch b s t → MayTouch a s t
 touch_same a b said.Nobody t same never = never
 touch_same a b (said.Malformed c) t same never = never
 touch_same a b (said.HangsUp c) t same own = sym same ∙ own

@@ -1,7 +1,7 @@
 -- How the counts change, by whether the abort of the transaction was due before; and what a transaction that began asks for.
 use Rattle.std.specs.Prelude.{◌≡◌, ◌++◌, ℕ, Bool, true, false, List, Option, if◌then◌else◌}
 use Rattle.mm_arena.specs.declared.key.Key.{Key}
-use Rattle.mm_owned.specs.Owned.{Ownership}
+use Rattle.mm_tagged_lists.specs.TaggedLists.{Listing}
 use Rattle.mm_manager.specs.LockState.{LockState}
 use Rattle.mm_service.specs.declared.effect.Effect.{Effect}
 use Rattle.mm_service.specs.declared.effect.Effect.TheVariants as effects
@@ -20,10 +20,10 @@ abbrev pub was_aborting : LockState → Request → Bool
 was_aborting m (requests.OfKey request k) = is_aborting (status_of m k)
 was_aborting m _ = false
 
-abbrev pub released_by : Bool → Ownership → List ℕ → Key → List ℕ
+abbrev pub released_by : Bool → Listing → List ℕ → Key → List ℕ
 released_by was begun counts k = if was then counts else fewer counts (connection_of begun k)
 
-abbrev pub counts_by : Bool → Ownership → List ℕ → Effect → List ℕ
+abbrev pub counts_by : Bool → Listing → List ℕ → Effect → List ℕ
 counts_by was begun counts (effects.Ended k) = released_by was begun counts k
 counts_by was begun counts (effects.Due k) = released_by was begun counts k
 counts_by was begun counts _ = counts

@@ -7,7 +7,7 @@ use Rattle.mm_lists.proofs.Lemmas.Among.{among_append, among_left, among_right}
 use Rattle.mm_lists.proofs.Lemmas.Cut.{no_repeat_around}
 use Rattle.mm_lists.proofs.Lemmas.NoRepeat.{length-NoRepeat}
 use Rattle.mm_lists.proofs.Lemmas.Set.{read_replicate}
-use Rattle.mm_owned.specs.Owned.{Ownership, unowned, owner_at, given, freed}
+use Rattle.mm_tagged_lists.specs.TaggedLists.{Listing, unlisted, spot_at, given, freed}
 use Rattle.mm_names.specs.declared.config.TheConstants.NamesConfig.{MAX_NAMES}
 use Rattle.mm_names.specs.declared.spots.Spots.{Spots}
 use Rattle.mm_names.specs.Names.{NameTable, name_of, nameless, with_name, IsNamed, IsFree, IsFull}
@@ -31,9 +31,9 @@ some_in_range t n some = elim (cases_lt n (length t.names)) [
 pub free_not_full : (t : NameTable) (n : ℕ) → IsFree t n → IsFull t → ⊥
 free_not_full t n free full = let never : is_some (name_of t n) ≡ false = ap is_some free.1 in absurd (let both : true ≡ false = sym (full n free.0) ∙ never in cc)
 
-module _ (t : NameTable) (index : Ownership) (spots : Spots) (free : List ℕ) (indexed : AreIndexed t index spots free) where
+module _ (t : NameTable) (index : Listing) (spots : Spots) (free : List ℕ) (indexed : AreIndexed t index spots free) where
   -- a free number stands nowhere
-  pub at_none : (n : ℕ) → IsFree t n → owner_at index n ≡ None
+  pub at_none : (n : ℕ) → IsFree t n → spot_at index n ≡ None
   at_none n is_free = indexed.spots_of n ∙ ap (option_map (spot_of spots)) is_free.1
 
   -- a number that gets this name, or loses its own
@@ -56,12 +56,12 @@ module _ (t : NameTable) (index : Ownership) (spots : Spots) (free : List ℕ) (
       ]
     ]
 
-    module _ (after : Ownership) (owners : after.owners ≡ set index.owners n (option_map (spot_of spots) name)) where
-      owner-here : owner_at after n ≡ option_map (spot_of spots) name
-      owner-here = ap (λ os. get_or os n None) owners ∙ get_or-set_same index.owners n _ None (omega (arith, indexed.size))
+    module _ (after : Listing) (spots_are : after.spots ≡ set index.spots n (option_map (spot_of spots) name)) where
+      spot-here : spot_at after n ≡ option_map (spot_of spots) name
+      spot-here = ap (λ os. get_or os n None) spots_are ∙ get_or-set_same index.spots n _ None (omega (arith, indexed.size))
 
-      owner-elsewhere : (m : ℕ) → m ≢ n → owner_at after m ≡ owner_at index m
-      owner-elsewhere m apart = ap (λ os. get_or os m None) owners ∙ get_or-set_other index.owners n m _ None apart
+      spot-elsewhere : (m : ℕ) → m ≢ n → spot_at after m ≡ spot_at index m
+      spot-elsewhere m apart = ap (λ os. get_or os m None) spots_are ∙ get_or-set_other index.spots n m _ None apart
 
       AreIndexed-set : length after.lists ≡ length index.lists → (left : List ℕ) → ((m : ℕ) → Among m left ↔ IsFree (with_name t n name) m) → NoRepeat left
           → AreIndexed (with_name t n name) after spots left
@@ -69,11 +69,11 @@ module _ (t : NameTable) (index : Ownership) (spots : Spots) (free : List ℕ) (
           let long = length-set t.names n name in
           record {
             few = omega (arith, long, indexed.few);
-            size = ap length owners ∙ length-set index.owners n _ ∙ indexed.size ∙ sym long;
+            size = ap length spots_are ∙ length-set index.spots n _ ∙ indexed.size ∙ sym long;
             lists = lists ∙ indexed.lists;
             spots_of = λ m. elim (cases_eq m n) [
-              | inl same ↦ subst (λ i. owner_at after i ≡ option_map (spot_of spots) (name_of (with_name t n name) i)) (sym same) (owner-here ∙ ap (option_map (spot_of spots)) (sym name-here))
-              | inr apart ↦ owner-elsewhere m apart ∙ indexed.spots_of m ∙ ap (option_map (spot_of spots)) (sym (name-elsewhere m apart))
+              | inl same ↦ subst (λ i. spot_at after i ≡ option_map (spot_of spots) (name_of (with_name t n name) i)) (sym same) (spot-here ∙ ap (option_map (spot_of spots)) (sym name-here))
+              | inr apart ↦ spot-elsewhere m apart ∙ indexed.spots_of m ∙ ap (option_map (spot_of spots)) (sym (name-elsewhere m apart))
             ];
             distinct = distinct;
             listed = is_free;
@@ -88,7 +88,7 @@ NoRepeat-push (y ∷ ys) x once apart = (
   NoRepeat-push ys x once.1 (λ later. apart (inr later)),
 )
 
-module _ (t : NameTable) (index : Ownership) (spots : Spots) (free : List ℕ) (indexed : AreIndexed t index spots free) (n : ℕ) where
+module _ (t : NameTable) (index : Listing) (spots : Spots) (free : List ℕ) (indexed : AreIndexed t index spots free) (n : ℕ) where
   -- the last of the free numbers is free
   pub last_is_free : (rest : List ℕ) → free ≡ rest ++ n ∷ [] → IsFree t n
   last_is_free rest is = (indexed.listed n).0 (subst (Among n) (sym is) (among_right rest (n ∷ []) n (inl refl)))
@@ -102,7 +102,7 @@ module _ (t : NameTable) (index : Ownership) (spots : Spots) (free : List ℕ) (
       let once = no_repeat_around n rest [] (subst NoRepeat is indexed.once) in
       let rest_is : rest ++ [] ≡ rest = append-nil rest in
       AreIndexed-set t index spots free indexed n was.0 (Some name) (λ m x same has. new (m, has ∙ sym same)) (given index (spot_of spots name) n) refl
-      (length-set index.lists (spot_of spots name).process _) rest
+      (length-set index.lists (spot_of spots name).list _) rest
       (λ m. (
         λ among.
             let old : IsFree t m = (indexed.listed m).0 (subst (Among m) (sym is) (among_left rest (n ∷ []) m among)) in
@@ -159,17 +159,17 @@ module _ (t : NameTable) (index : Ownership) (spots : Spots) (free : List ℕ) (
       omega (arith, length-append free (n ∷ []), length-NoRepeat (free ++ n ∷ []) (length t.names) (once_more some) within)
 
 -- at the opening
-pub AreIndexed-nameless : (t : NameTable) (index : Ownership) (spots : Spots) (free : List ℕ) (numbers name_bytes : ℕ) → numbers ≤ MAX_NAMES → t ≡ nameless numbers name_bytes
-    → index ≡ unowned spots.lists numbers → AreAll numbers free → AreIndexed t index spots free
-AreIndexed-nameless t index spots free numbers name_bytes small is owned all =
+pub AreIndexed-nameless : (t : NameTable) (index : Listing) (spots : Spots) (free : List ℕ) (numbers name_bytes : ℕ) → numbers ≤ MAX_NAMES → t ≡ nameless numbers name_bytes
+    → index ≡ unlisted spots.lists numbers → AreAll numbers free → AreIndexed t index spots free
+AreIndexed-nameless t index spots free numbers name_bytes small is made all =
     let long : length t.names ≡ numbers = ap (λ (s : NameTable). length s.names) is ∙ length-replicate numbers None in
     let none : (n : ℕ) → name_of t n ≡ None = λ n. ap (λ s. name_of s n) is ∙ read_replicate None numbers n in
     let nothing : (n : ℕ) (name : List ℕ) → name_of t n ≡ Some name → ⊥ = λ n name has. (let never : None ≡ Some name = sym (none n) ∙ has in cc) in
     record {
       few = omega (arith, long, small);
-      size = ap (λ (o : Ownership). length o.owners) owned ∙ length-replicate numbers None ∙ sym long;
-      lists = ap (λ (o : Ownership). length o.lists) owned ∙ length-replicate spots.lists [];
-      spots_of = λ n. ap (λ o. owner_at o n) owned ∙ read_replicate None numbers n ∙ ap (option_map (spot_of spots)) (sym (none n));
+      size = ap (λ (o : Listing). length o.spots) made ∙ length-replicate numbers None ∙ sym long;
+      lists = ap (λ (o : Listing). length o.lists) made ∙ length-replicate spots.lists [];
+      spots_of = λ n. ap (λ o. spot_at o n) made ∙ read_replicate None numbers n ∙ ap (option_map (spot_of spots)) (sym (none n));
       distinct = λ m n name has _. absurd (nothing m name has);
       listed = λ n. (λ among. (let below : n < numbers = (all.all n).0 among in (omega (arith, below, long), none n)), λ now. (all.all n).1 (omega (arith, now.0, long)));
       once = all.once;

@@ -9,7 +9,7 @@ use Rattle.mm_rules.specs.declared.config.Config.{Config}
 use Rattle.mm_rules.specs.declared.reply.Totals.{Totals}
 use Rattle.mm_rules.specs.TableState.{TableState, Wait, public_of, waiters_of, resources_of}
 use Rattle.mm_rules.specs.Change.{label_against, block_fits, give_to_fits, hand_over_fits, vacate_fits}
-use Rattle.mm_owned.specs.Owned.{Ownership}
+use Rattle.mm_tagged_lists.specs.TaggedLists.{Listing}
 use Rattle.mm_table.specs.declared.labels.ProcessLabels.{ProcessLabels}
 use Rattle.mm_table.specs.declared.records.Records.TheInside.{Inside}
 use Rattle.mm_table.specs.private.Labels.{both, public_in, AreAtMost}
@@ -22,7 +22,7 @@ pub labels_written : (c : Config) (s : Transactions) (ls : List ProcessLabels) (
     → state_of_fields c s (slice_set ls n (both l)) os t ≡ labelled (state_of_fields c s ls os t) n l
 labels_written c s ls os t n l = rw (map-set (λ q. q.private) ls n (both l), map-set (λ q. q.public) ls n (both l)) refl
 
-pub sized_labels : {c : Config} {t : Transactions} {ls : List ProcessLabels} {o : Ownership} (new : List ProcessLabels) → length new ≡ length ls → FieldsAreSized c t ls o → FieldsAreSized c t new o
+pub sized_labels : {c : Config} {t : Transactions} {ls : List ProcessLabels} {o : Listing} (new : List ProcessLabels) → length new ≡ length ls → FieldsAreSized c t ls o → FieldsAreSized c t new o
 sized_labels new long sizes = record {
   config = sizes.config;
   slots = sizes.slots;

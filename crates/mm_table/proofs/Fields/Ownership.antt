@@ -1,39 +1,41 @@
 -- Who owns what: the sizes after a resource is given or freed, and that the list of each process has what it owns by the state.
-use Rattle.std.proofs.Common.{nat_eq, true, false, IsTrue, ◌≡◌, ◌≢◌, ℕ, ◌<◌, List, [], ◌∷◌, Option, Some, None, option_map, inl, inr, refl, ap, sym, ◌∙◌, arith, subst, length-set}
+use Rattle.std.proofs.Common.{nat_eq, true, false, IsTrue, ◌≡◌, ◌≢◌, ℕ, ◌<◌, List, [], ◌∷◌, Option, Some, None, option_map, inl, inr, refl, ap, sym, ◌∙◌, arith, subst, map, set, length-set}
 use Rattle.std.proofs.lemmas.Bool.{cases_Bool, eq-eqb, eqb-true}
-use Rattle.std.proofs.lemmas.List.{length-map}
+use Rattle.std.proofs.lemmas.List.{length-map, map-set}
+use Rattle.std.proofs.Math.ListN.{get_or-map}
 use Rattle.std.specs.List.{range_with_len}
 use Rattle.std.specs.Option.{option_map_or}
 use Rattle.mm_arena.specs.declared.key.Key.{Key}
 use Rattle.mm_lists.specs.Members.{Among, NoRepeat, head, without}
-use Rattle.mm_owned.specs.Owned.{Ownership, ListsMatchOwners, FollowsInList, owner_at, list_at, given, freed}
-use Rattle.mm_owned.proofs.Lemmas.Walk.{Among-next, next-apart}
-use Rattle.mm_owned.proofs.Lemmas.ListsMatchOwners.{in_range}
+use Rattle.mm_tagged_lists.specs.declared.spot.Spot.{Spot}
+use Rattle.mm_tagged_lists.specs.TaggedLists.{Listing, ListsMatchSpots, FollowsInList, spot_at, list_at, given, freed}
+use Rattle.mm_tagged_lists.proofs.Lemmas.Walk.{Among-next, next-apart}
+use Rattle.mm_tagged_lists.proofs.Lemmas.ListsMatchSpots.{in_range}
 use Rattle.mm_rules.specs.declared.config.Config.{Config}
 use Rattle.mm_table.specs.declared.records.Records.TheInside.{Inside}
 use Rattle.mm_table.specs.declared.labels.ProcessLabels.{ProcessLabels}
 use Rattle.mm_transactions.specs.Transactions.{Transactions}
 use Rattle.mm_rules.specs.TableState.{TableState, owns, resources_of}
 use Rattle.mm_rules.specs.Change.{hand_over_fits, vacate_fits}
-use Rattle.mm_table.specs.private.Records.{FieldsAreSized, IsConsistent, state_of_records}
+use Rattle.mm_table.specs.private.Records.{FieldsAreSized, IsConsistent, key_of, owners_of, state_of_records}
 use Rattle.mm_lists.proofs.Lemmas.Filter.{filter_gives, filter_keeps}
 use Rattle.mm_lists.proofs.Lemmas.Among.{list_all_at, list_all_from}
 use Rattle.mm_lists.proofs.Lemmas.Range.{among_range, among_range_gives}
 
 -- ---- sizes
 
-pub given_sized : {c : Config} {s : Transactions} {ls : List ProcessLabels} {o : Ownership} (k : Key) (r : ℕ) → FieldsAreSized c s ls o → FieldsAreSized c s ls (given o k r)
+pub given_sized : {c : Config} {s : Transactions} {ls : List ProcessLabels} {o : Listing} (k : Spot) (r : ℕ) → FieldsAreSized c s ls o → FieldsAreSized c s ls (given o k r)
 given_sized {c} {s} {ls} {o} k r sizes = record {
   config = sizes.config;
   slots = sizes.slots;
   last_generation = sizes.last_generation;
   queues = sizes.queues;
   labels = sizes.labels;
-  lists = length-set o.lists k.process _ ∙ sizes.lists;
-  owners = length-set o.owners r (Some k) ∙ sizes.owners;
+  lists = length-set o.lists k.list _ ∙ sizes.lists;
+  owners = length-set o.spots r (Some k) ∙ sizes.owners;
 }
 
-pub freed_sized : {c : Config} {s : Transactions} {ls : List ProcessLabels} {o : Ownership} (r : ℕ) → FieldsAreSized c s ls o → FieldsAreSized c s ls (freed o r)
+pub freed_sized : {c : Config} {s : Transactions} {ls : List ProcessLabels} {o : Listing} (r : ℕ) → FieldsAreSized c s ls o → FieldsAreSized c s ls (freed o r)
 freed_sized {c} {s} {ls} {o} r sizes = record {
   config = sizes.config;
   slots = sizes.slots;
@@ -41,37 +43,49 @@ freed_sized {c} {s} {ls} {o} r sizes = record {
   queues = sizes.queues;
   labels = sizes.labels;
   lists = length-map o.lists (without r) ∙ sizes.lists;
-  owners = length-set o.owners r None ∙ sizes.owners;
+  owners = length-set o.spots r None ∙ sizes.owners;
 }
+
+-- ---- the owners
+
+-- the state with another owner, or none, of a resource
+pub owner_written : (t : Inside) (s : TableState) (r : ℕ) (o : Option Spot) (new : Listing) → state_of_records t ≡ s → new.spots ≡ set t.owned.spots r o
+    → record (state_of_records t) { owners = owners_of new } ≡ record s { owners = set s.owners r (option_map key_of o) }
+owner_written t s r o new is spots =
+    ap (λ os. record (state_of_records t) { owners = os }) (ap (map (option_map key_of)) spots ∙ map-set (option_map key_of) t.owned.spots r o)
+    ∙ ap (λ (u : TableState). record u { owners = set u.owners r (option_map key_of o) }) is
 
 -- ---- the lists, by the state
 
 -- The list of each process of a state has the resources that it owns.
-pub record Listed (s : TableState) (o : Ownership) : Type 0 where
+pub record Listed (s : TableState) (o : Listing) : Type 0 where
   pub within : (n r : ℕ) → Among r (list_at o n) → r < s.config.resources
   pub mine : (n r : ℕ) → Among r (list_at o n) → IsTrue (owns s n r)
   pub all : (n r : ℕ) → IsTrue (owns s n r) → Among r (list_at o n)
 
-owned_by : (o : Option Key) (n : ℕ) → option_map (λ k. k.process) o ≡ Some n → option_map_or (λ k. nat_eq k.process n) o false ≡ true
+owned_by : (o : Option Spot) (n : ℕ) → option_map (λ k. k.list) o ≡ Some n → option_map_or (λ k. nat_eq k.process n) (option_map key_of o) false ≡ true
 owned_by None n e = let never : None ≡ Some n = e in cc
-owned_by (Some k) n e = let one : Some k.process ≡ Some n = e in let same : k.process ≡ n = cc in eq-eqb k.process n same
+owned_by (Some k) n e = let one : Some k.list ≡ Some n = e in let same : k.list ≡ n = cc in eq-eqb k.list n same
 
-by_owner : (o : Option Key) (n : ℕ) → option_map_or (λ k. nat_eq k.process n) o false ≡ true → option_map (λ k. k.process) o ≡ Some n
+by_owner : (o : Option Spot) (n : ℕ) → option_map_or (λ k. nat_eq k.process n) (option_map key_of o) false ≡ true → option_map (λ k. k.list) o ≡ Some n
 by_owner None n e = let never : false ≡ true = e in cc
-by_owner (Some k) n e = ap Some (eqb-true k.process n e)
+by_owner (Some k) n e = ap Some (eqb-true k.list n e)
 
-pub listed : (t : Inside) (s : TableState) → IsConsistent t → state_of_records t ≡ s → ListsMatchOwners t.owned → Listed s t.owned
-listed t s fits is matched = subst (λ (u : TableState). Listed u t.owned) is (record {
-  within = λ n r among. omega (arith, in_range t.owned matched n r among, fits.sizes.owners);
-  mine = λ n r among. owned_by (owner_at t.owned r) n ((matched.listed n r).0 among);
-  all = λ n r own. (matched.listed n r).1 (by_owner (owner_at t.owned r) n own);
-})
+pub listed : (t : Inside) (s : TableState) → IsConsistent t → state_of_records t ≡ s → ListsMatchSpots t.owned → Listed s t.owned
+listed t s fits is matched =
+    let owned : (n r : ℕ) → option_map_or (λ k. nat_eq k.process n) (option_map key_of (spot_at t.owned r)) false ≡ owns (state_of_records t) n r =
+    λ n r. ap (λ o. option_map_or (λ (k : Key). nat_eq k.process n) o false) (sym (get_or-map (option_map key_of) t.owned.spots r None)) in
+    subst (λ (u : TableState). Listed u t.owned) is (record {
+      within = λ n r among. omega (arith, in_range t.owned matched n r among, fits.sizes.owners);
+      mine = λ n r among. sym (owned n r) ∙ owned_by (spot_at t.owned r) n ((matched.listed n r).0 among);
+      all = λ n r own. (matched.listed n r).1 (by_owner (spot_at t.owned r) n (owned n r ∙ own));
+    })
 
 pub below : (s : TableState) (n r : ℕ) → Among r (resources_of s n) → r < s.config.resources
 below s n r among =
     omega (arith, (among_range_gives 0 s.config.resources r (filter_gives (owns s n) (range_with_len 0 s.config.resources) r among).0).1)
 
-module _ (s : TableState) (owned : Ownership) (lists : Listed s owned) (n : ℕ) where
+module _ (s : TableState) (owned : Listing) (lists : Listed s owned) (n : ℕ) where
   pub in_resources : (r : ℕ) → Among r (list_at owned n) → Among r (resources_of s n)
   in_resources r among =
       filter_keeps (owns s n) (range_with_len 0 s.config.resources) r (among_range 0 s.config.resources r (omega arith) (omega (arith, lists.within n r among))) (lists.mine n r among)

@@ -29,7 +29,7 @@ impl Records {
         ensures touched { Touches self.old self.new touched.old touched.new }
     {
         self.may_use(key, resource)?;
-        let Some(holder) = self.owned.owner(resource) else {
+        let Some(holder) = self.owner_of(resource) else {
             self.grant(key, resource);
             self.count();
             return Ok(Acquired::Granted);

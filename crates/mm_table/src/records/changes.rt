@@ -5,6 +5,7 @@ ghost use Rattle.mm_rules.specs.Change.{activate};
 
 use super::Records;
 use crate::Key;
+use mm_tagged_lists::Spot;
 
 impl Records {
     /// Makes the key the owner of a free resource.
@@ -14,7 +15,11 @@ impl Records {
         requires free { owner_of self.old resource ≡ None }
         ensures { self.new ≡ record self.old { owners = slice_set self.old.owners resource (Some key) } }
     {
-        self.owned.push(key, resource);
+        let spot = Spot {
+            list: key.process,
+            tag: key.generation,
+        };
+        self.owned.push(spot, resource);
     }
 
     /// Takes away the wait of a live transaction that waits.

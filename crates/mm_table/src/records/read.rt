@@ -37,7 +37,21 @@ impl Records {
         if resource >= self.config.resources {
             return Err(Refusal::NoResource);
         }
-        Ok(self.owned.owner(resource))
+        Ok(self.owner_of(resource))
+    }
+
+    /// The owner of a resource that there is.
+    #[inline]
+    pub(super) fn owner_of(&self, resource: u32) -> Option<Key>
+        requires { resource < self.now.config.resources }
+        ensures owner { result ≡ owner_of self.now resource }
+        ensures in_range { IfSome result (λ owner. owner.process < self.now.config.processes) }
+    {
+        let spot = self.owned.spot(resource)?;
+        Some(Key {
+            process: spot.list,
+            generation: spot.tag,
+        })
     }
 
     /// The live key of the process; a process that has none waits for nothing. Constant time.
@@ -110,7 +124,7 @@ impl Records {
         requires { resource < self.now.config.resources }
         ensures { result ≡ owns self.now process resource }
     {
-        let owner = self.owned.owner(resource);
+        let owner = self.owner_of(resource);
         owner.is_some_and(|owner| owner.process == process)
     }
 
@@ -121,7 +135,7 @@ impl Records {
         ensures in_range { IfSome result (λ holder. holder < self.now.config.processes) }
     {
         let resource = self.transactions.get(key)?.waits_for?;
-        let holder = self.owned.owner(resource)?;
+        let holder = self.owner_of(resource)?;
         Some(holder.process)
     }
 

@@ -2,7 +2,7 @@ use Rattle.std.proofs.Common.{◌≡◌, ◌∙◌, ap, ℕ, List, sym, subst, r
 use Rattle.mm_lines.specs.declared.fault.Fault.{Fault}
 use Rattle.mm_lines.specs.declared.fault.Fault.TheVariants.{Write}
 use Rattle.mm_lines.specs.Output.{Writes}
-use Rattle.mm_owned.specs.Owned.{Ownership, list_at}
+use Rattle.mm_tagged_lists.specs.TaggedLists.{Listing, list_at}
 use Rattle.mm_connections.specs.Hub.{Hub}
 use Rattle.mm_connections.specs.Text.{Drops, DropsAll, told_text}
 use Rattle.mm_connections.specs.private.Served.{hub_of}
@@ -25,9 +25,9 @@ key-preserved-in-Ok g c =
     let old : Hub = hub_of c.key.self in
     let mid : Hub = record { manager = c.abort-answer.new.self; begun = c.take_first.new.self; counts = c.key.self.counts; options = c.key.self.options } in
     let one = told_text (Some c.args.connection) mid in
-    let with_begun : Ownership → Hub = λ b. record { manager = c.abort-answer.new.self; begun = b; counts = c.key.self.counts; options = c.key.self.options } in
+    let with_begun : Listing → Hub = λ b. record { manager = c.abort-answer.new.self; begun = b; counts = c.key.self.counts; options = c.key.self.options } in
     let drop : Drops c.args.connection c.in-Some.key.process old one mid = record {
-      kept = record { process = c.args.connection; generation = c.in-Some.key.generation };
+      kept = record { list = c.args.connection; tag = c.in-Some.key.generation };
       was = taken.2;
       answer = c.abort-answer.result;
       did = record { aborts = c.abort-answer.ensures.aborts; totals = c.abort-answer.ensures.totals };
@@ -41,7 +41,7 @@ key-preserved-in-Ok g c =
     record {
       options = inv.options;
       lists = c.in-Some.ensures.lists ∙ inv.lists;
-      owners = c.in-Some.ensures.owners ∙ inv.owners;
+      spots = c.in-Some.ensures.spots ∙ inv.spots;
       matched = c.keeps_laws-in-Some-2.ensures;
       config = aborts_config c.key.self.manager c.abort-answer.new.self c.in-Some.key c.abort-answer.result c.abort-answer.ensures.aborts ∙ inv.config;
       told = inv.told ++ one;
@@ -60,9 +60,9 @@ key-preserved g c =
     let old : Hub = hub_of c.key.self in
     let mid : Hub = record { manager = c.abort-answer.new.self; begun = c.take_first.new.self; counts = c.key.self.counts; options = c.key.self.options } in
     let one = told_text (Some c.args.connection) mid in
-    let with_begun : Ownership → Hub = λ b. record { manager = c.abort-answer.new.self; begun = b; counts = c.key.self.counts; options = c.key.self.options } in
+    let with_begun : Listing → Hub = λ b. record { manager = c.abort-answer.new.self; begun = b; counts = c.key.self.counts; options = c.key.self.options } in
     let drop : Drops c.args.connection c.in-Some.key.process old one mid = record {
-      kept = record { process = c.args.connection; generation = c.in-Some.key.generation };
+      kept = record { list = c.args.connection; tag = c.in-Some.key.generation };
       was = taken.2;
       answer = c.abort-answer.result;
       did = record { aborts = c.abort-answer.ensures.aborts; totals = c.abort-answer.ensures.totals };
@@ -73,7 +73,7 @@ key-preserved g c =
     record {
       options = inv.options;
       lists = c.in-Some.ensures.lists ∙ inv.lists;
-      owners = c.in-Some.ensures.owners ∙ inv.owners;
+      spots = c.in-Some.ensures.spots ∙ inv.spots;
       matched = c.keeps_laws-in-Some-2.ensures;
       config = aborts_config c.key.self.manager c.abort-answer.new.self c.in-Some.key c.abort-answer.result c.abort-answer.ensures.aborts ∙ inv.config;
       told = inv.told ++ one;
@@ -94,7 +94,7 @@ returns-clause-drops g c =
     let drops : DropsAll n (list_at start.begun n) start inv.told last = drops_end n start last inv.told taken.0 inv.drops in (
       inv.told,
       inv.lost,
-      subst (λ (b : Ownership). DropsAll n (list_at start.begun n) start inv.told (record { manager = c.key.self.manager; begun = b; counts = c.key.self.counts; options = c.key.self.options })) (sym taken.1) drops,
+      subst (λ (b : Listing). DropsAll n (list_at start.begun n) start inv.told (record { manager = c.key.self.manager; begun = b; counts = c.key.self.counts; options = c.key.self.options })) (sym taken.1) drops,
       inv.writes,
       inv.kept,
     )

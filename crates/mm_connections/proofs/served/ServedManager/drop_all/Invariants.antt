@@ -1,7 +1,7 @@
 use Rattle.std.proofs.Common.{◌≡◌, ℕ, List, ◌++◌, length, OnOk, IsOkUnless}
 use Rattle.mm_lines.specs.declared.fault.Fault.TheVariants.{Write}
 use Rattle.mm_lines.specs.Output.{Writes}
-use Rattle.mm_owned.specs.Owned.{ListsMatchOwners, list_at}
+use Rattle.mm_tagged_lists.specs.TaggedLists.{ListsMatchSpots, list_at}
 use Rattle.mm_connections.specs.private.Served.{hub_of}
 use Rattle.mm_connections.proofs.Lemmas.Drops.{DropsOn}
 use Rattle.mm_connections.proofs.served.ServedManager.drop_all.Given as goal
@@ -11,8 +11,8 @@ abbrev pub invariant-key : goal.invariant-key
 invariant-key g l = record {
   options : l.self.options ≡ l.initial.self.options;
   lists : length l.self.begun.lists ≡ length l.initial.self.begun.lists;
-  owners : length l.self.begun.owners ≡ length l.initial.self.begun.owners;
-  matched : ListsMatchOwners l.self.begun;
+  spots : length l.self.begun.spots ≡ length l.initial.self.begun.spots;
+  matched : ListsMatchSpots l.self.begun;
   config : l.self.manager.table.config ≡ l.initial.self.manager.table.config;
   told : List ℕ;
   lost : List ℕ;

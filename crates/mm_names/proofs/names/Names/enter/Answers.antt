@@ -4,8 +4,8 @@ use Rattle.mm_names.specs.Names.{NameTable, IsFree, Interns}
 use Rattle.mm_names.proofs.Lemmas.Index.{free_not_full, at_none, last_is_free, AreIndexed-given}
 use Rattle.mm_names.proofs.names.Names.enter.Goals as goal
 
-pub push-requires-clause-unowned : goal.push-requires-clause-unowned
-push-requires-clause-unowned c =
+pub push-requires-clause-unlisted : goal.push-requires-clause-unlisted
+push-requires-clause-unlisted c =
     let n = c.self.inside in
     let rest = c.pop.new.self.items in
     let is = c.pop.ensures.items ∙ ap (λ o. rest ++ option_to_list o) c.in-Some-pop.is in
@@ -19,8 +19,8 @@ put-requires-clause-in_range c =
     let is = c.pop.ensures.items ∙ ap (λ o. rest ++ option_to_list o) c.in-Some-pop.is in
     (last_is_free n.places n.index n.spots n.free.items c.self.invariant.0 c.in-Some-pop.number rest is).0
 
-pub push-requires-clause-resource_in_range : goal.push-requires-clause-resource_in_range
-push-requires-clause-resource_in_range c =
+pub push-requires-clause-item_in_range : goal.push-requires-clause-item_in_range
+push-requires-clause-item_in_range c =
     let n = c.self.inside in
     let rest = c.pop.new.self.items in
     let is = c.pop.ensures.items ∙ ap (λ o. rest ++ option_to_list o) c.in-Some-pop.is in

@@ -30,13 +30,13 @@ returns-in_err-may_use-clause-touched c = touches_nobody c.args.self.now c.args.
 pub returns-in_default-clause-step : goal.returns-in_default-clause-step
 returns-in_default-clause-step c =
     let passed = sym c.may_use.ensures.tests ∙ c.in_ok-may_use.was in
-    let owned = ap (λ (t : TableState). owner_of t c.args.resource) (sym c.self.view_is) ∙ sym c.owner.ensures.owner in
+    let owned = sym c.owner_of.ensures.owner in
     let gives = gives_granted c.args.self.now c.args.key c.args.resource passed (owned ∙ c.in_default.is) in
     (gives.0, c.count.ensures ∙ ap (λ (t : TableState). counting t (t.totals.accepted + 1)) c.grant.ensures ∙ gives.1)
 
 pub returns-in_default-clause-touched : goal.returns-in_default-clause-touched
 returns-in_default-clause-touched c =
-    let owned = ap (λ (t : TableState). owner_of t c.args.resource) (sym c.self.view_is) ∙ sym c.owner.ensures.owner in
+    let owned = sym c.owner_of.ensures.owner in
     let s = c.args.self.now in
     let set = c.args.touched.now in
     subst (λ (t : TableState). Touches s t set set) (sym c.count.ensures)
@@ -48,7 +48,7 @@ returns-in_default-clause-touched c =
 pub returns-then-holder-key-clause-step : goal.returns-then-holder-key-clause-step
 returns-then-holder-key-clause-step c =
     let passed = sym c.may_use.ensures.tests ∙ c.in_ok-may_use.was in
-    let owned = ap (λ (t : TableState). owner_of t c.args.resource) (sym c.self.view_is) ∙ sym c.owner.ensures.owner in
+    let owned = sym c.owner_of.ensures.owner in
     gives_owned c.args.self.now c.args.key c.args.resource passed c.in-Some.holder (owned ∙ c.in-Some.is) c.if-holder-key.true
 
 pub returns-then-holder-key-clause-touched : goal.returns-then-holder-key-clause-touched
@@ -59,7 +59,7 @@ returns-then-holder-key-clause-touched c = touches_nobody c.args.self.now c.args
 pub returns-in_default-wait-clause-step : goal.returns-in_default-wait-clause-step
 returns-in_default-wait-clause-step c =
     let passed = sym c.may_use.ensures.tests ∙ c.in_ok-may_use.was in
-    let owned = ap (λ (t : TableState). owner_of t c.args.resource) (sym c.self.view_is) ∙ sym c.owner.ensures.owner in
+    let owned = sym c.owner_of.ensures.owner in
     let waits = c.in_default-wait.ensures.state in
     let gives = gives_exhausted c.args.self.now c.args.key c.args.resource passed c.in-Some.holder (owned ∙ c.in-Some.is) c.if-holder-key.false waits.0 in
     (gives.0, waits.1 ∙ gives.1)
@@ -74,7 +74,7 @@ returns-in_default-wait-clause-touched c =
 pub returns-clause-step : goal.returns-clause-step
 returns-clause-step c =
     let passed = sym c.may_use.ensures.tests ∙ c.in_ok-may_use.was in
-    let owned = ap (λ (t : TableState). owner_of t c.args.resource) (sym c.self.view_is) ∙ sym c.owner.ensures.owner in
+    let owned = sym c.owner_of.ensures.owner in
     let waits = c.in-Some-wait.ensures.state in
     gives_waits c.args.self.now c.args.key c.args.resource passed c.in-Some.holder c.in-Some-wait.label c.wait.new.self (owned ∙ c.in-Some.is) c.if-holder-key.false waits.0 waits.1 waits.2
 

@@ -1,8 +1,8 @@
 use Rattle.std.proofs.Common.{◌≡◌, ◌∷◌, length, refl, sym, ap, subst, ◌∙◌, inl, inr, arith}
 use Rattle.mm_lists.specs.Members.{Among}
-use Rattle.mm_owned.specs.Owned.{list_at}
-use Rattle.mm_owned.proofs.Lemmas.ListsMatchOwners.{in_range}
-use Rattle.mm_owned.proofs.Lemmas.Walk.{rest_from, Among-head, Among-next, rest_from-head, rest_from-next}
+use Rattle.mm_tagged_lists.specs.TaggedLists.{list_at}
+use Rattle.mm_tagged_lists.proofs.Lemmas.ListsMatchSpots.{in_range}
+use Rattle.mm_tagged_lists.proofs.Lemmas.Walk.{rest_from, Among-head, Among-next, rest_from-head, rest_from-next}
 use Rattle.mm_rules.specs.TableState.{waiters_of}
 use Rattle.mm_settle_lemmas.proofs.Lemmas.Waiters.{adds_by_queues}
 use Rattle.mm_table.proofs.Fields.Ownership.{listed}

@@ -1,8 +1,8 @@
 use Rattle.std.proofs.Common.{◌≡◌, ◌⊎◌, ℕ, true, Some, length}
 use Rattle.mm_lists.specs.Members.{Among}
 use Rattle.mm_bit_set.specs.BitSet.{has}
-use Rattle.mm_owned.specs.Owned.{list_at}
-use Rattle.mm_owned.proofs.Lemmas.Walk.{rest_from}
+use Rattle.mm_tagged_lists.specs.TaggedLists.{list_at}
+use Rattle.mm_tagged_lists.proofs.Lemmas.Walk.{rest_from}
 use Rattle.mm_rules.specs.TableState.{Wait, waiters_of}
 use Rattle.mm_table.proofs.records.Records.add_waiters.Given as goal
 

@@ -1,4 +1,6 @@
-use Rattle.mm_table.proofs.Fields.Ownership.{freed_sized}
+use Rattle.std.proofs.Common.{None, ap}
+use Rattle.mm_tagged_lists.specs.TaggedLists.{Listing}
+use Rattle.mm_table.proofs.Fields.Ownership.{freed_sized, owner_written}
 use Rattle.mm_table.proofs.records.Records.free.Goals as goal
 
 pub invariant_of-self : goal.invariant_of-self
@@ -6,3 +8,6 @@ invariant_of-self c = record {
   sizes = rw c.remove.ensures (freed_sized c.args.resource c.self.invariant.sizes);
   arrivals = c.self.invariant.arrivals;
 }
+
+pub returns : goal.returns
+returns c = owner_written c.self.inside c.args.self.now c.args.resource None c.remove.new.self c.self.view_is (ap (λ (o : Listing). o.spots) c.remove.ensures)

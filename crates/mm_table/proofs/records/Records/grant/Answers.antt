@@ -1,8 +1,13 @@
-use Rattle.mm_table.proofs.Fields.Ownership.{given_sized}
+use Rattle.std.proofs.Common.{ap}
+use Rattle.mm_tagged_lists.specs.TaggedLists.{Listing}
+use Rattle.mm_table.proofs.Fields.Ownership.{given_sized, owner_written}
 use Rattle.mm_table.proofs.records.Records.grant.Goals as goal
 
 pub invariant_of-self : goal.invariant_of-self
 invariant_of-self c = record {
-  sizes = rw c.push.ensures (given_sized c.args.key c.args.resource c.self.invariant.sizes);
+  sizes = rw c.push.ensures (given_sized _ c.args.resource c.self.invariant.sizes);
   arrivals = c.self.invariant.arrivals;
 }
+
+pub returns : goal.returns
+returns c = owner_written c.self.inside c.args.self.now c.args.resource _ c.push.new.self c.self.view_is (ap (λ (o : Listing). o.spots) c.push.ensures)

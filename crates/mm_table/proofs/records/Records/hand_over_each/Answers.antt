@@ -1,7 +1,7 @@
 use Rattle.std.proofs.Common.{◌≡◌, ℕ, ◌<◌, ap, sym, subst, ◌∙◌, arith, fold, length, Some, None}
 use Rattle.mm_lists.specs.Members.{Among}
-use Rattle.mm_owned.specs.Owned.{list_at}
-use Rattle.mm_owned.proofs.Lemmas.Walk.{Among-head}
+use Rattle.mm_tagged_lists.specs.TaggedLists.{list_at}
+use Rattle.mm_tagged_lists.proofs.Lemmas.Walk.{Among-head}
 use Rattle.mm_rules.specs.TableState.{TableState, resources_of}
 use Rattle.mm_rules.specs.Change.{hand_over}
 use Rattle.mm_rules.proofs.States.HandOverAll.{IsUnderWay, starts, handed_one, fewer_left, stays_in}

@@ -1,10 +1,11 @@
 use Rattle.std.proofs.Common.{[], length, ap, ◌∙◌, arith, None, rules}
 use Rattle.std.proofs.lemmas.List.{length-replicate}
 use Rattle.std.proofs.lemmas.List.FromFn.{length-map-range_with_len}
-use Rattle.mm_owned.specs.Owned.{Ownership}
+use Rattle.mm_tagged_lists.specs.TaggedLists.{Listing}
 use Rattle.mm_transactions.specs.Transactions.{Transactions}
 use Rattle.mm_table.specs.private.Labels.{opening_labels}
-use Rattle.mm_table.proofs.Fields.Opening.{opened}
+use Rattle.mm_table.specs.private.Records.{owners_of}
+use Rattle.mm_table.proofs.Fields.Opening.{no_owners, opened}
 use Rattle.mm_table.proofs.records.Records.open.Goals as goal
 
 pub invariant_of-result : goal.invariant_of-result
@@ -15,8 +16,8 @@ invariant_of-result c = record {
     last_generation = ap (λ (t : Transactions). t.generation_limit) c.in-Ok.ensures;
     queues = ap (λ (t : Transactions). t.resources) c.in-Ok.ensures;
     labels = ap length c.in-Ok-open.ensures ∙ length-map-range_with_len opening_labels 0 c.args.config.processes;
-    lists = ap (λ (o : Ownership). length o.lists) c.in-Ok-new.ensures ∙ length-replicate c.args.config.processes [];
-    owners = ap (λ (o : Ownership). length o.owners) c.in-Ok-new.ensures ∙ length-replicate c.args.config.resources None;
+    lists = ap (λ (o : Listing). length o.lists) c.in-Ok-new.ensures ∙ length-replicate c.args.config.processes [];
+    owners = ap (λ (o : Listing). length o.spots) c.in-Ok-new.ensures ∙ length-replicate c.args.config.resources None;
   };
   arrivals = omega (arith, ap (λ (t : Transactions). t.latest) c.in-Ok.ensures);
 }
@@ -24,5 +25,5 @@ invariant_of-result c = record {
 pub returns : goal.returns
 returns c = (
   search rules,
-  opened c.args.config c.in-Ok.transactions c.in-Ok-open.labels c.in-Ok-new.owned.owners c.in-Ok.ensures c.in-Ok-open.ensures (ap (λ (o : Ownership). o.owners) c.in-Ok-new.ensures),
+  opened c.args.config c.in-Ok.transactions c.in-Ok-open.labels (owners_of c.in-Ok-new.owned) c.in-Ok.ensures c.in-Ok-open.ensures (ap owners_of c.in-Ok-new.ensures ∙ no_owners c.args.config.resources),
 )

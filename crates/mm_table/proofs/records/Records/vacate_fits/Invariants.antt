@@ -1,7 +1,7 @@
 use Rattle.std.proofs.Common.{◌≡◌, ◌⊎◌, ℕ, Some, length, IsTrue}
 use Rattle.mm_lists.specs.Members.{Among}
-use Rattle.mm_owned.specs.Owned.{list_at}
-use Rattle.mm_owned.proofs.Lemmas.Walk.{rest_from}
+use Rattle.mm_tagged_lists.specs.TaggedLists.{list_at}
+use Rattle.mm_tagged_lists.proofs.Lemmas.Walk.{rest_from}
 use Rattle.mm_rules.specs.Change.{hand_over_fits}
 use Rattle.mm_table.proofs.records.Records.vacate_fits.Given as goal
 

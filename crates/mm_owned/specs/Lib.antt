@@ -1,4 +1,0 @@
-pub mod Owned
-pub use Rattle.mm_lists.specs.Members
--- private: how the fields keep what is seen; no public clause cites these
-pub mod private

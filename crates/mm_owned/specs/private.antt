@@ -1,3 +1,0 @@
-pub mod Owner
-pub mod Linked
-pub mod Path
