@@ -1,7 +1,8 @@
 -- All that a process owns is freed, where nobody waits.
-use Rattle.std.proofs.Common.{◌≡◌, ℕ, Bool, List, [], ◌∷◌, fold, slice_set, Option, None, option_map, refl, sym, ap, ◌∙◌, subst}
-use Rattle.std.proofs.lemmas.List.{map-set}
+use Rattle.std.proofs.Common.{◌≡◌, ℕ, Bool, List, [], ◌∷◌, fold, slice_set, Option, None, option_map, refl, sym, ap, ◌∙◌, subst, length-set}
+use Rattle.std.proofs.lemmas.List.{length-map, map-set}
 use Rattle.mm_arena.specs.declared.key.Key.{Key}
+use Rattle.mm_lists.specs.Members.{without}
 use Rattle.mm_tagged_lists.specs.TaggedLists.{Listing, ListsMatchSpots, list_at, freed}
 use Rattle.mm_rules.specs.declared.config.Config.{Config}
 use Rattle.mm_rules.specs.TableState.{TableState, resources_of, waiters_of, wait_of, owns}
@@ -16,7 +17,7 @@ use Rattle.mm_settle_lemmas.proofs.Lemmas.Touched.{touches_nobody}
 use Rattle.mm_table.specs.declared.records.Records.TheInside.{Inside}
 use Rattle.mm_table.specs.declared.labels.ProcessLabels.{ProcessLabels}
 use Rattle.mm_table.specs.private.Records.{FieldsAreSized, IsConsistent, key_of, owners_of, state_of_records}
-use Rattle.mm_table.proofs.Fields.Ownership.{freed_sized, listed, in_resources, of_resources}
+use Rattle.mm_table.proofs.Fields.Ownership.{owned_sized, listed, in_resources, of_resources}
 use Rattle.mm_transactions.specs.Transactions.{Transactions}
 
 -- with r owned by nobody
@@ -40,7 +41,7 @@ owners_freed (r ∷ rs) o = owners_freed rs (freed o r) ∙ ap (λ os. fold no_o
 
 pub all_freed_sized : {c : Config} {t : Transactions} {ls : List ProcessLabels} (rs : List ℕ) (o : Listing) → FieldsAreSized c t ls o → FieldsAreSized c t ls (fold freed o rs)
 all_freed_sized [] o sizes = sizes
-all_freed_sized (r ∷ rs) o sizes = all_freed_sized rs (freed o r) (freed_sized r sizes)
+all_freed_sized (r ∷ rs) o sizes = all_freed_sized rs (freed o r) (owned_sized (freed o r) (length-map o.lists (without r)) (length-set o.spots r None) sizes)
 
 -- the state then
 pub all_freed_state : (t : Inside) (s : TableState) (n : ℕ) (o : Listing) → IsConsistent t → state_of_records t ≡ s → ListsMatchSpots t.owned → Laws s → s.waits ≡ [] → o ≡ fold freed t.owned (list_at t.owned n)

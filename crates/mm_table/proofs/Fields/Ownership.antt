@@ -1,14 +1,14 @@
--- Who owns what: the sizes after a resource is given or freed, and that the list of each process has what it owns by the state.
-use Rattle.std.proofs.Common.{nat_eq, true, false, IsTrue, ◌≡◌, ◌≢◌, ℕ, ◌<◌, List, [], ◌∷◌, Option, Some, None, option_map, inl, inr, refl, ap, sym, ◌∙◌, arith, subst, map, set, length-set}
+-- Who owns what: the sizes and the owners after a resource is given or freed, and that the list of each process has what it owns by the state.
+use Rattle.std.proofs.Common.{nat_eq, true, false, IsTrue, ◌≡◌, ◌≢◌, ℕ, ◌<◌, List, [], ◌∷◌, Option, Some, None, option_map, inl, inr, refl, ap, sym, ◌∙◌, arith, subst, map, set, length}
 use Rattle.std.proofs.lemmas.Bool.{cases_Bool, eq-eqb, eqb-true}
-use Rattle.std.proofs.lemmas.List.{length-map, map-set}
+use Rattle.std.proofs.lemmas.List.{map-set}
 use Rattle.std.proofs.Math.ListN.{get_or-map}
 use Rattle.std.specs.List.{range_with_len}
 use Rattle.std.specs.Option.{option_map_or}
 use Rattle.mm_arena.specs.declared.key.Key.{Key}
-use Rattle.mm_lists.specs.Members.{Among, NoRepeat, head, without}
+use Rattle.mm_lists.specs.Members.{Among, NoRepeat, head}
 use Rattle.mm_tagged_lists.specs.declared.spot.Spot.{Spot}
-use Rattle.mm_tagged_lists.specs.TaggedLists.{Listing, ListsMatchSpots, FollowsInList, spot_at, list_at, given, freed}
+use Rattle.mm_tagged_lists.specs.TaggedLists.{Listing, ListsMatchSpots, FollowsInList, spot_at, list_at}
 use Rattle.mm_tagged_lists.proofs.Lemmas.Walk.{Among-next, next-apart}
 use Rattle.mm_tagged_lists.proofs.Lemmas.ListsMatchSpots.{in_range}
 use Rattle.mm_rules.specs.declared.config.Config.{Config}
@@ -24,26 +24,15 @@ use Rattle.mm_lists.proofs.Lemmas.Range.{among_range, among_range_gives}
 
 -- ---- sizes
 
-pub given_sized : {c : Config} {s : Transactions} {ls : List ProcessLabels} {o : Listing} (k : Spot) (r : ℕ) → FieldsAreSized c s ls o → FieldsAreSized c s ls (given o k r)
-given_sized {c} {s} {ls} {o} k r sizes = record {
+pub owned_sized : {c : Config} {s : Transactions} {ls : List ProcessLabels} {o : Listing} (new : Listing) → length new.lists ≡ length o.lists → length new.spots ≡ length o.spots → FieldsAreSized c s ls o → FieldsAreSized c s ls new
+owned_sized new lists spots sizes = record {
   config = sizes.config;
   slots = sizes.slots;
   last_generation = sizes.last_generation;
   queues = sizes.queues;
   labels = sizes.labels;
-  lists = length-set o.lists k.list _ ∙ sizes.lists;
-  owners = length-set o.spots r (Some k) ∙ sizes.owners;
-}
-
-pub freed_sized : {c : Config} {s : Transactions} {ls : List ProcessLabels} {o : Listing} (r : ℕ) → FieldsAreSized c s ls o → FieldsAreSized c s ls (freed o r)
-freed_sized {c} {s} {ls} {o} r sizes = record {
-  config = sizes.config;
-  slots = sizes.slots;
-  last_generation = sizes.last_generation;
-  queues = sizes.queues;
-  labels = sizes.labels;
-  lists = length-map o.lists (without r) ∙ sizes.lists;
-  owners = length-set o.spots r None ∙ sizes.owners;
+  lists = lists ∙ sizes.lists;
+  owners = spots ∙ sizes.owners;
 }
 
 -- ---- the owners
