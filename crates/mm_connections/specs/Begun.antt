@@ -4,7 +4,7 @@ use Rattle.mm_arena.specs.declared.key.Key.{Key}
 use Rattle.mm_tagged_lists.specs.declared.spot.Spot.{Spot}
 use Rattle.mm_tagged_lists.specs.TaggedLists.{Listing, spot_at, given, freed}
 
--- the connection at whose spot a process is, where its tag is this generation
+-- the connection of a spot, if its tag is this generation
 abbrev pub connection_in : Option Spot → ℕ → Option ℕ
 connection_in spot generation = option_and_then (λ (o : Spot). if nat_eq o.tag generation then Some o.list else None) spot
 

@@ -91,7 +91,7 @@ impl TaggedLists {
         self.items[item as usize].spot.get()
     }
 
-    /// The first item of a list, in constant time. `None` where the list is empty.
+    /// The first item of a list, in constant time. `None` if the list is empty.
     #[inline]
     pub fn first(&self, list: u32) -> Option<u32>
         requires { list < length self.now.lists }
