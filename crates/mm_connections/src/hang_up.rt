@@ -27,7 +27,7 @@ impl ServedManager {
             × Writes (W.contents writer.old) (W.contents writer.new) (output.old.items ++ text) lost × OnOk result (lost ≡ output.new.items) }
         ensures fault { IsOkUnless result Fault.Write }
         ensures lists { length self.new.begun.lists ≡ length self.old.begun.lists }
-        ensures owners { length self.new.begun.spots ≡ length self.old.begun.spots }
+        ensures spots { length self.new.begun.spots ≡ length self.old.begun.spots }
         ensures config { self.new.manager.table.config ≡ self.old.manager.table.config }
         ensures options { self.new.options ≡ self.old.options }
     {
@@ -54,7 +54,7 @@ impl ServedManager {
             × Writes (W.contents writer.old) (W.contents writer.new) (output.old.items ++ told) lost × OnOk result (lost ≡ output.new.items) }
         ensures fault { IsOkUnless result Fault.Write }
         ensures lists { length self.new.begun.lists ≡ length self.old.begun.lists }
-        ensures owners { length self.new.begun.spots ≡ length self.old.begun.spots }
+        ensures spots { length self.new.begun.spots ≡ length self.old.begun.spots }
         ensures config { self.new.manager.table.config ≡ self.old.manager.table.config }
         ensures options { self.new.options ≡ self.old.options }
     {

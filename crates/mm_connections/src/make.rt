@@ -41,7 +41,7 @@ impl ServedManager {
             × Writes (W.contents writer.old) (W.contents writer.new) (output.old.items ++ (reply ++ events_text (hub_of self.new) (effect_for connection effect))) lost × OnOk result (lost ≡ output.new.items) }
         ensures fault { IsOkUnless result Fault.Write }
         ensures lists { length self.new.begun.lists ≡ length self.old.begun.lists }
-        ensures owners { length self.new.begun.spots ≡ length self.old.begun.spots }
+        ensures spots { length self.new.begun.spots ≡ length self.old.begun.spots }
         ensures config { self.new.manager.table.config ≡ self.old.manager.table.config }
         ensures options { self.new.options ≡ self.old.options }
     {
@@ -71,7 +71,7 @@ impl ServedManager {
             × Writes (W.contents writer.old) (W.contents writer.new) (output.old.items ++ reply) lost × MatchResult result (λ it. (it ≡ effect) × (lost ≡ output.new.items)) (λ _. effect ≡ Effect.Nothing) }
         ensures fault { IsOkUnless result Fault.Write }
         ensures lists { length self.new.begun.lists ≡ length self.old.begun.lists }
-        ensures owners { length self.new.begun.spots ≡ length self.old.begun.spots }
+        ensures spots { length self.new.begun.spots ≡ length self.old.begun.spots }
         ensures config { self.new.manager.table.config ≡ self.old.manager.table.config }
         ensures options { self.new.options ≡ self.old.options }
     {
@@ -132,7 +132,7 @@ impl ServedManager {
         requires short { length line.now ≤ MAX_REQUEST }
         ensures replies { (reply : List ℕ) × BeginsBy (is_full (hub_of self.old) connection) connection (drop 1 (words_of line.now)) (hub_of self.old) reply result (hub_of self.new) × (output.new.items ≡ output.old.items ++ reply) }
         ensures lists { length self.new.begun.lists ≡ length self.old.begun.lists }
-        ensures owners { length self.new.begun.spots ≡ length self.old.begun.spots }
+        ensures spots { length self.new.begun.spots ≡ length self.old.begun.spots }
         ensures config { self.new.manager.table.config ≡ self.old.manager.table.config }
         ensures options { self.new.options ≡ self.old.options }
     {
