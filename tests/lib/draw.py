@@ -17,7 +17,7 @@ WEIGHTS = {b"begin": 8, b"acquire": 30, b"release": 6, b"transmit": 14, b"detect
 NAMES = [b"a", b"b", b"c", b"accounts/1", b"accounts/2", "Müller".encode(), "账户".encode(), b"\xff\x80", b"~!", b"thirteenbytes"]
 KINDS = {b"lock": 14, b"try": 3, b"unlock": 4, b"commit": 2, b"abort": 2.5, b"cancel": 3, b"begin": 4, b"owner": 1, b"status": 1, b"holds": 1,
          b"graph": 0.5, b"totals": 0.5}  # fmt: skip
-FURTHER = {b"begin": 4, b"lock": 8, b"cycle": 2, b"fence": 2, b"hello": 0.5, b"list": 0.5, b"counts": 0.5}
+FURTHER = {b"begin": 4, b"lock": 8, b"cycle": 2, b"fence": 2, b"hello": 1, b"list": 1, b"counts": 1}
 SIZES = [(12, 7, 12), (3, 2, 12), (60, 9, 12), (5, 40, 64), (200, 3, 1024)]
 PLAIN = [b"fly", b"acquire 0.1", b"begin 1", b"release 0 0", b"state -1.1", b"settle now", b"x" * 129, b"acquire 0.1 4294967296", b"", b"   ", b"# a comment"]
 SILENT = [b"", b" ", b"\r", b"   \r", b"#", b"# begin", b"  #x", b"#\0\xff"]
@@ -194,7 +194,7 @@ class Connections(Requests):
         return self.hub.answer(line)
 
     def line(self) -> bytes:
-        connection = self.chance.choices([0, 1, 2, 3, 4, 5], [2, 10, 10, 10, 10, 0.1])[0]
+        connection = self.chance.choices([0, 1, 2, 3, 4, 5], [4, 10, 10, 10, 10, 0.1])[0]
         if self.chance.random() < 0.01:
             return b"- %d" % connection
         own = [key for key, owner in self.hub.began.items() if owner == connection and key in self.model.keys]

@@ -59,6 +59,7 @@ owner b
 commit 0.1
 totals
 """
+CONNECTIONS = b"1 begin a b\n2 begin\n2 lock 1.1 c a\n1 lock 0.1 c\n0 list\n0 graph\n0 counts\n1 hello\n1 cycle 0.1\n1 holds 0.1\n2 fence 1.1 c\n0 abort 0.1\n- 1\n- 2\n"
 # One transaction owns a name for good, and another one in each round.
 ROUND = "begin\nlock 1.{0} z\ngraph\ncancel 1.{0}\nlock 1.{0} a\ntry 1.{0} b\nunlock 1.{0} b\nholds 1.{0}\nstatus 1.{0}\nowner a\nlock 1.{0} z\nabort 1.{0}\ntotals\n"
 # What test_memory calls, by its words: each takes memory.
@@ -177,11 +178,11 @@ class InTurn(MemoryCase):
     def test_storm(self, words: str, ends: int) -> None:
         self.in_turn(ends_of(ends), PROGRAM, "storm", *words.split())
 
-    @each(["--seed 7", ""])
-    def test_locks(self, words: str) -> None:
-        """With a seed of its own, and with one of the system."""
+    @each([("--seed 7", LOCKS), ("", LOCKS), ("--connections 3 --epoch 1", CONNECTIONS)])
+    def test_locks(self, words: str, given: bytes) -> None:
+        """With a seed of its own, with one of the system, and of connections."""
         command = [PROGRAM, "locks", "--transactions", "8", "--names", "8", *words.split()]
-        self.in_turn(as_ample(self.ample(*command, given=LOCKS)), *command, given=LOCKS)
+        self.in_turn(as_ample(self.ample(*command, given=given)), *command, given=given)
 
     @each(["", "--mermaid --dot --all --at 9"])
     def test_explain(self, words: str) -> None:

@@ -25,7 +25,7 @@ locks --seed -1|locks --seed x|locks --names|locks extra|locks --verbose|locks -
 TOLD = {
     "script": ["1 to 17592186044415", " 7 LabelsExhausted ", "15 CountsExhausted ", "refused N Name"],
     "locks": ["* granted K NAME", "* aborted K", "no-transaction", "must-abort", "waiting", "not-waiting", "name-too-long", "not-owner",
-              "names-full", "transactions-full", "labels-full", "counts-full"],
+              "names-full", "transactions-full", "labels-full", "counts-full", "operator", "not-deadlocked", "no-epoch", "too-many"],
 }  # fmt: skip
 
 
@@ -84,6 +84,18 @@ class Words(Case):
         self.assertEqual(words_in("locks"), words)
         self.assertEqual(re.findall(r"^\| `([a-z]+)[ `]", page[1], re.M), words)
         self.assertEqual(sorted(FORMS), sorted(word.encode() for word in words))
+
+    def test_requests_of_connections(self) -> None:
+        """So it is of the requests that only connections have."""
+        from lib.hub import FURTHER
+
+        words = words_of("mm_connections/src/forms.rt")
+        text = re.search(r"Further requests:\n(.*?)^The operator", text_of("wrapper/help/locks.txt").decode(), re.M | re.S)
+        page = re.search(r"^Further requests:(.*?)^A fence ", text_of("docs/SERVICE.md").decode(), re.M | re.S)
+        assert text and page
+        self.assertEqual(re.findall(r"^  ([a-z]+) ", text[1], re.M), words)
+        self.assertEqual(re.findall(r"^\| `([a-z]+)[ `]", page[1], re.M), words)
+        self.assertEqual(list(FURTHER), [word.encode() for word in words])
 
     def test_calls(self) -> None:
         """The help lists each word of a call, and no other; so does the model of the tests."""
