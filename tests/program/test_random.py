@@ -5,10 +5,10 @@ import os
 
 from lib import search, service
 from lib.table import lines_of
-from lib.world import SEED, Case, each
+from lib.world import SEED, Case, each, run
 
 LINES = 40_000
-REQUESTS, = (subject for subject in search.SUBJECTS if subject.name == "requests")
+REQUESTS, CONNECTIONS = (subject for subject in search.SUBJECTS if subject.name in ("requests", "connections"))
 
 
 class Kept(Case):
@@ -43,6 +43,12 @@ class Drawn(Case):
                 if kind in seen:
                     seen[kind] += 1
         self.assertEqual([kind for kind, count in seen.items() if count < 20], [], seen)
+
+    def test_same_bytes(self) -> None:
+        """The same lines, seed and epoch give the same bytes."""
+        for data in search.inputs(CONNECTIONS, 2, 3_000):
+            command = [*CONNECTIONS.command(data), "--seed", "5"]
+            self.assertEqual(run(*command, given=data), run(*command, given=data))
 
     def test_end_without_promise(self) -> None:
         """The model's order of grants is the program's, by the numbers of names, which no page promises."""
