@@ -1,0 +1,151 @@
+#define _GNU_SOURCE
+#include "front.h"
+
+#include "clock.h"
+#include "log.h"
+
+#include <errno.h>
+#include <stdio.h>
+#include <stdlib.h>
+#include <string.h>
+#include <sys/socket.h>
+#include <unistd.h>
+
+enum { AT_ONCE = 64 }; /* clients that are taken in before others have their turn */
+
+static const char full[] = "refused connections-full\n";
+
+/* Gives a number that is free. */
+static struct client *free_client(struct front *front)
+{
+    if (front->free_count == 0)
+        return NULL;
+    unsigned number = front->numbers[front->free_count - 1];
+    if (front->clients[number] == NULL)
+        front->clients[number] = calloc(1, sizeof **front->clients);
+    if (front->clients[number] == NULL)
+        return NULL;
+    front->clients[number]->number = number;
+    front->free_count--;
+    return front->clients[number];
+}
+
+static struct client *free_admin(struct front *front)
+{
+    for (unsigned place = 0; place < ADMINS; place++)
+        if (front->admins[place].file < 0 && front->admins[place].unanswered == 0)
+            return &front->admins[place];
+    return NULL;
+}
+
+/* Makes a client of a connection. What queues it is in stays. */
+static void takes_in(struct front *front, struct client *client, int file)
+{
+    struct ucred who = {0};
+    socklen_t length = sizeof who;
+    getsockopt(file, SOL_SOCKET, SO_PEERCRED, &who, &length);
+    client->file = file;
+    client->head_length = (unsigned)snprintf(client->head, sizeof client->head, "%u ", client->number);
+    client->watched = 0;
+    client->skips = client->is_over = client->is_leaving = client->is_stalled = false;
+    client->process = who.pid;
+    client->user = who.uid;
+    client->since = clock_seconds();
+    watch_reads(front, client, true);
+}
+
+/* Says whether an accept failed for want of room. */
+static bool is_want_of_room(int error)
+{
+    return error == EMFILE || error == ENFILE || error == ENOBUFS || error == ENOMEM;
+}
+
+void clients_accept(struct front *front, bool is_admin)
+{
+    int place = is_admin ? front->admin_place.socket : front->place.socket;
+    for (int count = 0; count < AT_ONCE; count++) {
+        if (!is_admin && front->free_count == 0 && front->leaving > 0) {
+            watch_accepts(front, false); /* until a number has come back */
+            return;
+        }
+        int file = accept4(place, NULL, NULL, SOCK_CLOEXEC | SOCK_NONBLOCK);
+        if (file < 0) {
+            if (is_want_of_room(errno) && !is_admin)
+                watch_accepts(front, false);
+            return;
+        }
+        struct client *client = is_admin ? free_admin(front) : free_client(front);
+        if (client != NULL) {
+            takes_in(front, client, file);
+            continue;
+        }
+        if (send(file, full, strlen(full), MSG_NOSIGNAL | MSG_DONTWAIT) < 0)
+            notes("a client was not told that there is no room for it");
+        close(file);
+    }
+}
+
+/* Tells the program that a client hung up. */
+static void hangs_up(struct front *front, struct client *client)
+{
+    client->is_over = true;
+    client->skips = false;
+    buffer_clear(&client->in);
+    if (client->number == 0 || client->is_leaving)
+        return;
+    client->is_leaving = true;
+    front->leaving++;
+    if (!buffer_add(&front->program.waiting, "- ", 2)
+        || !buffer_add(&front->program.waiting, client->head, client->head_length - 1)
+        || !buffer_add(&front->program.waiting, "\n", 1))
+        front->end = BY_MEMORY;
+}
+
+/* Closes the socket of a client, and frees its number if nothing of it is left in the program. */
+static void closes(struct front *front, struct client *client)
+{
+    if (client->file >= 0)
+        close(client->file);
+    client->file = -1;
+    client->watched = 0;
+    buffer_clear(&client->out);
+    if (client == front->last_asked)
+        front->last_asked = NULL;
+    if (client->number != 0 && !client->is_leaving)
+        front->numbers[front->free_count++] = client->number;
+    if (front->is_open)
+        watch_accepts(front, true);
+}
+
+void client_closes_if_done(struct front *front, struct client *client)
+{
+    bool is_answered = client->number != 0 ? !client->is_leaving : client->unanswered == 0;
+    if (client->file >= 0 && client->is_over && is_answered && buffer_length(&client->out) == 0)
+        closes(front, client);
+}
+
+void client_ends(struct front *front, struct client *client)
+{
+    hangs_up(front, client);
+    watch_reads(front, client, false);
+    client_closes_if_done(front, client);
+}
+
+void client_cut(struct front *front, struct client *client)
+{
+    if (client->file < 0)
+        return;
+    if (!client->is_over)
+        hangs_up(front, client);
+    closes(front, client);
+}
+
+void client_came_back(struct front *front, struct client *client)
+{
+    client->is_leaving = false;
+    front->leaving--;
+    if (client->file >= 0)
+        client_touch(front, client); /* it is closed when it has read what it is owed */
+    else
+        closes(front, client);
+}

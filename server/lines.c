@@ -1,0 +1,110 @@
+#define _GNU_SOURCE
+#include "front.h"
+
+#include <errno.h>
+#include <string.h>
+#include <sys/socket.h>
+
+enum { SIZE = 4096 };
+
+static const char malformed[] = "malformed";
+static const char clients[] = "clients";
+
+bool lines_may_take(const struct client *client)
+{
+    return client->file >= 0 && !client->is_over && client->unanswered < UNANSWERED && buffer_length(&client->out) <= UNREAD;
+}
+
+bool lines_are_held(const struct front *front)
+{
+    return buffer_length(&front->program.waiting) >= WAITING;
+}
+
+/* Passes on a line behind the number of its client. */
+static void passes(struct front *front, struct client *client, const char *line, size_t length)
+{
+    struct buffer *waiting = &front->program.waiting;
+    client->unanswered++;
+    if (!buffer_add(waiting, client->head, client->head_length) || !buffer_add(waiting, line, length) || !buffer_add(waiting, "\n", 1))
+        front->end = BY_MEMORY;
+}
+
+/* Says whether a line of an operator asks for the clients, which the front answers. */
+static bool asks_for_clients(const char *line, size_t length)
+{
+    size_t wanted = strlen(clients);
+    return length >= wanted && memcmp(line, clients, wanted) == 0 && (length == wanted || (length == wanted + 1 && line[wanted] == '\r'));
+}
+
+/* Passes on what a client sent as one line: unchanged, unless it is longer than a line may be. */
+static void passes_line(struct front *front, struct client *client, const char *line, size_t length)
+{
+    size_t counted = length > 0 && line[length - 1] == '\r' ? length - 1 : length;
+    bool is_long = client->skips || counted > LINE_BYTES;
+    bool is_clients = client->number == 0 && !is_long && asks_for_clients(line, length);
+    if (client->number == 0)
+        admin_asks(front, client, is_clients);
+    if (is_clients)
+        passes(front, client, "totals", strlen("totals")); /* its reply has the turn of this one */
+    else
+        passes(front, client, is_long ? malformed : line, is_long ? strlen(malformed) : length);
+}
+
+bool lines_greet(struct front *front)
+{
+    front->askers[front->asker_count++] = (struct asker){.kind = GREETING};
+    return buffer_add(&front->program.waiting, "0 totals\n", strlen("0 totals\n"));
+}
+
+/* Finds the end of the first line that a client sent. Of a line that is too long nothing is kept. */
+static char *end_of_line(struct client *client)
+{
+    size_t length = buffer_length(&client->in);
+    char *end = length == 0 ? NULL : memchr(buffer_bytes(&client->in), '\n', length);
+    if (end != NULL)
+        return end;
+    if (length > LINE_BYTES + 1)
+        client->skips = true;
+    if (client->skips || length == 0)
+        buffer_clear(&client->in);
+    return NULL;
+}
+
+/* Reads once of a client that has no whole line left. */
+static void receives(struct front *front, struct client *client)
+{
+    char bytes[SIZE];
+    ssize_t count = recv(client->file, bytes, sizeof bytes, MSG_DONTWAIT);
+    if (count > 0 && !buffer_add(&client->in, bytes, (size_t)count))
+        client_cut(front, client);
+    else if (count == 0)
+        client_ends(front, client);
+    else if (count < 0 && errno != EAGAIN && errno != EINTR)
+        client_cut(front, client);
+}
+
+void lines_turn(struct front *front, struct client *client)
+{
+    if (!lines_may_take(client)) {
+        client->is_stalled = client->file >= 0 && !client->is_over;
+        return;
+    }
+    char *end = end_of_line(client);
+    if (end == NULL) {
+        receives(front, client);
+        if (client->file < 0 || client->is_over)
+            return;
+        end = end_of_line(client);
+    }
+    if (end != NULL) {
+        char *line = buffer_bytes(&client->in);
+        passes_line(front, client, line, (size_t)(end - line));
+        client->skips = false;
+        buffer_drop(&client->in, (size_t)(end - line) + 1);
+        end = end_of_line(client);
+    }
+    if (end != NULL)
+        ready_add(front, client);
+    else
+        watch_reads(front, client, true);
+}

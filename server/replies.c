@@ -1,0 +1,140 @@
+#define _GNU_SOURCE
+#include "front.h"
+
+#include "log.h"
+
+#include <errno.h>
+#include <string.h>
+#include <sys/socket.h>
+
+void client_touch(struct front *front, struct client *client)
+{
+    if (client->is_touched)
+        return;
+    client->is_touched = true;
+    client->next_touched = NULL;
+    if (front->touched.first == NULL)
+        front->touched.first = client;
+    else
+        front->touched.last->next_touched = client;
+    front->touched.last = client;
+}
+
+/* Reads the number at the front of a line, without zeros before it. Returns what stands behind it, or NULL. */
+static const char *number_of(const char *line, const char *end, unsigned *number)
+{
+    const char *place = line;
+    *number = 0;
+    while (place < end && place < line + 5 && *place >= '0' && *place <= '9')
+        *number = *number * 10 + (unsigned)(*place++ - '0');
+    return place == line || (*line == '0' && place > line + 1) ? NULL : place;
+}
+
+/* Finds the client of a number that is in use. */
+static struct client *client_of(struct front *front, unsigned number)
+{
+    struct client *client = number >= 1 && number <= front->connections ? front->clients[number] : NULL;
+    return client != NULL && (client->file >= 0 || client->is_leaving) ? client : NULL;
+}
+
+/* Gives a client a line without its number, and its newline. */
+static bool gives(struct front *front, struct client *client, const char *line, size_t length)
+{
+    bool is_event = length >= 2 && line[0] == '*' && line[1] == ' ';
+    if (!is_event && client->unanswered == 0)
+        return false;
+    client->unanswered -= !is_event;
+    if (client->file < 0)
+        return true;
+    if (!buffer_add(&client->out, line, length))
+        client_cut(front, client);
+    client_touch(front, client);
+    return true;
+}
+
+/* Takes a line of the program with its newline. Returns false if it is none that a lock service writes. */
+static bool takes_line(struct front *front, const char *line, const char *end)
+{
+    unsigned number;
+    bool is_back = end - line > 2 && line[0] == '-' && line[1] == ' ';
+    const char *rest = number_of(is_back ? line + 2 : line, end, &number);
+    if (rest == NULL || *rest != (is_back ? '\n' : ' '))
+        return false;
+    if (number == 0 && !is_back)
+        return admin_take(front, rest + 1, (size_t)(end - rest - 1));
+    struct client *client = client_of(front, number);
+    if (client == NULL || (is_back && (!client->is_leaving || client->unanswered > 0)))
+        return false;
+    if (is_back)
+        client_came_back(front, client);
+    return is_back || gives(front, client, rest + 1, (size_t)(end - rest - 1));
+}
+
+bool replies_take(struct front *front, const char *bytes, size_t count)
+{
+    struct buffer *begun = &front->program.line;
+    const char *end = bytes + count, *newline;
+    while ((newline = memchr(bytes, '\n', (size_t)(end - bytes))) != NULL) {
+        const char *line = bytes, *behind = newline + 1;
+        bytes = behind;
+        if (buffer_length(begun) > 0) {
+            if (!buffer_add(begun, line, (size_t)(behind - line))) {
+                front->end = BY_MEMORY;
+                return true;
+            }
+            line = buffer_bytes(begun);
+            behind = line + buffer_length(begun);
+        }
+        if (!takes_line(front, line, behind))
+            return false;
+        if (buffer_length(begun) > 0)
+            buffer_clear(begun);
+        if (front->end != GOES_ON)
+            return true;
+    }
+    if (bytes < end && !buffer_add(begun, bytes, (size_t)(end - bytes)))
+        front->end = BY_MEMORY;
+    return true;
+}
+
+/* Sends once, unless the heartbeat is late. Returns false if the client is gone. */
+static bool sends(struct front *front, struct client *client)
+{
+    if (heartbeat_is_late(&front->heartbeat)) {
+        front->end = BY_HEARTBEAT;
+        return true;
+    }
+    ssize_t count = send(client->file, buffer_bytes(&client->out), buffer_length(&client->out), MSG_NOSIGNAL | MSG_DONTWAIT);
+    if (count < 0)
+        return errno == EAGAIN || errno == EINTR;
+    buffer_drop(&client->out, (size_t)count);
+    return true;
+}
+
+/* Says how many bytes a client may leave unread. */
+static uint64_t most_unread(const struct front *front, const struct client *client)
+{
+    return client->number != 0 ? front->unread : (uint64_t)128 << 20;
+}
+
+void client_send(struct front *front, struct client *client)
+{
+    if (client->file >= 0 && buffer_length(&client->out) > 0 && !sends(front, client))
+        client_cut(front, client);
+    if (client->file < 0)
+        return;
+    size_t left = buffer_length(&client->out);
+    if (left > most_unread(front, client)) {
+        notes("client %u is hung up: it left %zu bytes unread", client->number, left);
+        client_cut(front, client);
+        return;
+    }
+    if (left == 0)
+        buffer_clear(&client->out);
+    watch_writes(front, client, left > 0);
+    if (client->is_stalled && lines_may_take(client)) {
+        client->is_stalled = false;
+        ready_add(front, client);
+    }
+    client_closes_if_done(front, client);
+}

@@ -1,0 +1,71 @@
+#define _GNU_SOURCE
+#include "front.h"
+
+#include <sys/epoll.h>
+
+static unsigned long long word_of(enum source source, unsigned place)
+{
+    return (unsigned long long)source << 32 | place;
+}
+
+bool watch_file(struct front *front, int file, unsigned events, enum source source)
+{
+    struct epoll_event event = {.events = events, .data.u64 = word_of(source, 0)};
+    return epoll_ctl(front->events, EPOLL_CTL_ADD, file, &event) == 0;
+}
+
+/* Looks for these events of a client from now on. One of which nothing is wanted is taken out, so that its hang-up is not told again and
+   again. */
+static void watch(struct front *front, struct client *client, unsigned wanted)
+{
+    unsigned place = client->number != 0 ? client->number : (unsigned)(client - front->admins);
+    struct epoll_event event = {.events = wanted, .data.u64 = word_of(client->number != 0 ? OF_CLIENT : OF_ADMIN, place)};
+    if (wanted == client->watched || client->file < 0)
+        return;
+    int what = wanted == 0 ? EPOLL_CTL_DEL : client->watched == 0 ? EPOLL_CTL_ADD : EPOLL_CTL_MOD;
+    client->watched = wanted;
+    if (epoll_ctl(front->events, what, client->file, &event) < 0)
+        front->end = BY_MEMORY;
+}
+
+void watch_reads(struct front *front, struct client *client, bool is_wanted)
+{
+    watch(front, client, (client->watched & ~(unsigned)EPOLLIN) | (is_wanted ? EPOLLIN : 0));
+}
+
+void watch_writes(struct front *front, struct client *client, bool is_wanted)
+{
+    watch(front, client, (client->watched & ~(unsigned)EPOLLOUT) | (is_wanted ? EPOLLOUT : 0));
+}
+
+void watch_accepts(struct front *front, bool is_wanted)
+{
+    if (is_wanted == front->accepts)
+        return;
+    front->accepts = is_wanted;
+    if (!is_wanted)
+        epoll_ctl(front->events, EPOLL_CTL_DEL, front->place.socket, NULL);
+    else if (!watch_file(front, front->place.socket, EPOLLIN, OF_PLACE))
+        front->end = BY_MEMORY;
+}
+
+void ready_add(struct front *front, struct client *client)
+{
+    if (client->is_ready)
+        return;
+    client->is_ready = true;
+    client->next_ready = NULL;
+    if (front->ready.first == NULL)
+        front->ready.first = client;
+    else
+        front->ready.last->next_ready = client;
+    front->ready.last = client;
+}
+
+struct client *ready_take(struct front *front)
+{
+    struct client *client = front->ready.first;
+    front->ready.first = client->next_ready;
+    client->is_ready = false;
+    return client;
+}
