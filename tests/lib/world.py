@@ -19,8 +19,8 @@ CLIENTS = os.environ.get("TESTED_CLIENTS") or os.path.join(TOP, "clients")
 """The folder of the clients: a copy of it where a wrong body is planted."""
 PACKAGE = os.path.join(CLIENTS, "python")
 PROGRAM = os.environ.get("TESTED_PROGRAM") or os.path.join(TOP, "crates/mm_detect/out/mm_detect")
-SERVER = shlex.split(os.environ.get("TESTED_SERVER") or f"{shlex.quote(sys.executable)} -m pashkure serve")
-"""The command that starts a server, to which --socket, --program and the limits are added."""
+SERVER = shlex.split(os.environ.get("TESTED_SERVER") or "")
+"""The command that starts a server, to which --socket, --program, the limits and other options are added. tests/run builds it."""
 SEED = int(os.environ.get("TESTED_SEED") or 1)
 """The seed of what is drawn anew in each run."""
 IS_SLOW = bool(os.environ.get("TESTED_SLOW"))
@@ -156,8 +156,15 @@ class Case(unittest.TestCase):
         self.assertEqual(told.status, status, "the status")
         return told
 
+    def needs_server(self) -> list[str]:
+        """The command that starts a server. Skips the test if none could be built."""
+        if not SERVER:
+            self.skipTest("no C compiler cc is on the PATH")
+        return SERVER
+
     def server(self, *words: str, path: Optional[str] = None, program: Optional[str] = None, **how: Any) -> "Server":
         """A server that answers, or that has ended. It ends with the test."""
+        self.needs_server()
         server = Server(self, program or PROGRAM, path or self.path("socket"), list(words), **how)
         self.addCleanup(server.kill)
         return server
@@ -173,15 +180,19 @@ class Server:
     """A server in a process of its own, known by its command and its socket."""
 
     def __init__(
-        self, case: Case, program: str, path: str, words: list[str], env: Optional[dict[str, str]] = None, before: Iterable[str] = ()
-    ) -> None:
+        self, case: Case, program: str, path: str, words: list[str], env: Optional[dict[str, str]] = None, before: Iterable[str] = (),
+        is_quiet: bool = True, **how: Any,
+    ) -> None:  # fmt: skip
         self.path = path
         self._pid_file = case.path("pid")
         self._err = case.path("stderr")
         wrapper = case.script(f'echo $$ > "{self._pid_file}"\nexec "{program}" "$@"')
-        command = [*before, *SERVER, "--socket", path, "--program", wrapper, *words]
+        if "--each" not in words and "--transactions" in words:  # one connection may have all, unless a test says otherwise
+            words += ["--each", words[words.index("--transactions") + 1]]
+        command = [*before, *SERVER, "--socket", path, "--program", wrapper, *(["--quiet"] if is_quiet else []), *words]
         with open(self._err, "wb") as err:
-            self.process = subprocess.Popen(command, env=environment(**(env or {})), stdin=subprocess.DEVNULL, stdout=subprocess.DEVNULL, stderr=err)
+            how = {"stdin": subprocess.DEVNULL, "stdout": subprocess.DEVNULL, "stderr": err, **how}
+            self.process = subprocess.Popen(command, env=environment(**(env or {})), **how)
         until(lambda: self.process.poll() is not None or answers(path), "the server answers or ends")
 
     def program_pid(self) -> int:

@@ -1,0 +1,510 @@
+"""What the front does with lines, numbers and connections, before a program that knows nothing of locks (lib/stub.py) and notes each line."""
+from __future__ import annotations
+
+import os
+import select
+import signal
+import socket
+import stat
+import subprocess
+import sys
+from typing import Any
+
+from lib.world import LIMIT, TOP, Server, Wire, each, environment, run, until
+from service.test_server import ServerCase, fills
+
+STUB = os.path.join(TOP, "tests", "lib", "stub.py")
+LONGEST = 1048
+BYTES = [bytes([byte]) for byte in range(256) if byte != 0x0A]
+LINES = [
+    b"", b"\r", b"\r\r", b" ", b"#", b"hangup", b"- 0", b"- 1", b"- 3", b"-", b"0 graph", b"1 begin", b"3 * granted 0.1 a", b"* granted 0.1 a",
+    b"malformed", b"begin\r", b"begin\r\r", *BYTES, b"".join(BYTES), b"x" * LONGEST, b"x" * LONGEST + b"\r", b"\r" * (LONGEST + 1),
+]  # fmt: skip
+LONG = [b"x" * (LONGEST + 1), b"x" * (LONGEST + 1) + b"\r", b"\r" * (LONGEST + 2), b"x" * LONGEST + b"\r\r", b"-" * 4095, b"x" * 4096, b"x" * 70_000]
+NONSENSE = ["x", "", "1", "1granted", "01 granted", "9 granted", "70000 granted", "123456 x", "- 1", "- 9", "-", "- 0", "- 1 ", " 1 x", "1 a|1 b",
+            "9 * granted 0.1 a", "0 one|0 two"]  # fmt: skip
+
+
+class StubCase(ServerCase):
+    """A server before the stub, and an operator's connection to it."""
+
+    def stubbed(self, *words: str, **how: Any) -> Server:
+        self.log, self.admin_path = self.file("log", ""), self.path("admin")
+        program = self.script(f'exec "{sys.executable}" "{STUB}" "{self.log}" "$@"')
+        server = self.server("--admin", self.admin_path, *words, program=program, **how)
+        self.seen = 0
+        self.admin = self.wire(self.admin_path)
+        until(lambda: b"- 1" in self.came(), "the first one, who looked whether it answers, has hung up")
+        self.turn()
+        self.seen = len(self.came())
+        return server
+
+    def came(self) -> list[bytes]:
+        """The lines that came to the program, but for those of operators: since `stubbed` has returned, without the words that started it."""
+        with open(self.log, "rb") as file:
+            return [line for line in file.read().split(b"\n")[1:-1] if not line.startswith(b"0 ")][self.seen :]
+
+    def words(self) -> list[str]:
+        """The words that the program was started with."""
+        with open(self.log, encoding="ascii") as file:
+            return file.readline().split()
+
+    def turn(self) -> None:
+        """Returns when the server has passed on what it had read before."""
+        for _ in range(3):
+            self.asks(self.admin, (b"turn", b"heard " + b"turn".hex().encode()))
+
+
+class Lines(StubCase):
+    def test_each_is_passed_on(self) -> None:
+        """Every byte is, behind the number: what a client sends never begins a line of the program's input."""
+        wire = self.wire(self.stubbed())
+        wire.send(b"".join(line + b"\n" for line in LINES))
+        self.assertEqual(wire.lines(len(LINES)), [b"heard " + line.hex().encode() for line in LINES])
+        self.assertEqual(self.came(), [b"1 " + line for line in LINES])
+
+    def test_long_ones(self) -> None:
+        """In place of a line that is too long the program is given one that is malformed, also if it comes in pieces."""
+        wire, heard = self.wire(self.stubbed()), b"heard " + b"malformed".hex().encode()
+        for line in LONG:
+            self.asks(wire, (line, heard), (b"", b"heard "))
+        for line in LONG:
+            for place in 1, LONGEST, LONGEST + 1:
+                wire.send(line[:place])
+                self.turn()
+                wire.send(line[place:] + b"\nnext\n")
+                self.assertEqual(wire.lines(2), [heard, b"heard " + b"next".hex().encode()])
+        self.assertEqual({len(line) for line in self.came()}, {2, 6, 11})
+
+    def test_longest_in_pieces(self) -> None:
+        wire = self.wire(self.stubbed())
+        for line in b"x" * LONGEST, b"x" * LONGEST + b"\r":
+            for place in 1, LONGEST - 1, LONGEST, len(line):
+                wire.send(line[:place])
+                self.turn()
+                self.assertEqual(wire.ask(line[place:]), b"heard " + line.hex().encode())
+
+    def test_of_64_megabytes(self) -> None:
+        """It is not kept."""
+        server = self.stubbed()
+        wire, before = self.wire(server), server.memory()
+        for _ in range(64):
+            wire.send(b"x" * 1_000_000)
+        self.asks(wire, (b"", b"heard " + b"malformed".hex().encode()))
+        self.assertLess(server.memory() - before, 4_000_000)
+
+    def test_of_operators(self) -> None:
+        """They come from connection 0, and only there."""
+        self.stubbed()
+        self.asks(self.admin, (b"- 1", b"heard " + b"- 1".hex().encode()), (b"x" * 2000, b"heard " + b"malformed".hex().encode()))
+        self.admin.close()
+        other = self.wire(self.admin_path)
+        self.asks(other, (b"a", b"heard 61"))
+        with open(self.log, "rb") as file:
+            self.assertNotIn(b"- 0", file.read().split(b"\n"))
+
+    def test_one_of_each_in_a_round(self) -> None:
+        server, count = self.stubbed(), 60
+        wires = [self.wire(server) for _ in range(4)]
+        for wire in wires:
+            wire.ask(b"first")
+        self.seen += len(wires)
+        os.kill(server.process.pid, signal.SIGSTOP)
+        for wire in wires:
+            wire.send(b"".join(b"%d\n" % number for number in range(count)))
+        os.kill(server.process.pid, signal.SIGCONT)
+        for wire in wires:
+            wire.lines(count)
+        came = self.came()
+        for number in range(count):
+            group = came[number * len(wires) : (number + 1) * len(wires)]
+            self.assertEqual(sorted(group), [b"%d %d" % (place, number) for place in range(1, len(wires) + 1)])
+
+
+class Bounds(StubCase):
+    def test_unanswered(self) -> None:
+        """At most 64 requests of a client are in the program, and others are served."""
+        server, count = self.stubbed(), 300
+        wire, other = self.wire(server), self.wire(server)
+        self.asks(self.admin, (b"hold", b"hold"))
+        wire.send(b"".join(b"%d\n" % number for number in range(count)))
+        until(lambda: len(self.came()) == 64, "64 have come")
+        other.send(b"other\n")
+        until(lambda: self.came()[64:] == [b"2 other"], "another one is read, and of the first no more")
+        self.turn()
+        self.assertEqual(len(self.came()), 65)
+        self.admin.send(b"let\n")
+        self.assertEqual(wire.lines(count), [b"heard " + (b"%d" % number).hex().encode() for number in range(count)])
+        self.asks(self.wire(server), (b"a", b"heard 61"))
+
+    def test_unread(self) -> None:
+        """Of a client that does not read no more than some replies are asked for. It loses none."""
+        server, count, size = self.stubbed(), 2000, 10_000
+        wire, before = self.wire(server), server.memory()
+        fills(wire, b"big %d\n" % size * count, self.admin, server, b"turn")
+        self.assertLess(len(self.came()), 64 + 100)
+        self.assertLess(server.memory() - before, 4_000_000)
+        self.assertEqual(set(wire.lines(100)), {b"x" * size})
+
+    def test_much_that_nobody_asked_for(self) -> None:
+        """Events come all the same, up to --unread bytes. Then the client is hung up, and nothing of it is left."""
+        server = self.stubbed("--unread", "1000000", is_quiet=False)
+        slow, other = self.wire(server), self.wire(server)
+        slow.ask(b"a")
+        self.asks(other, (b"flood 1 100 9000", b"flooded"), (b"a", b"heard 61"))
+        self.assertNotIn(b"- 1", self.came())
+        self.asks(other, (b"flood 1 100 9000", b"flooded"))
+        until(lambda: b"- 1" in self.came(), "it is hung up")
+        self.assertRegex(server.stderr(), r"(?m)^pashkure: client 1 is hung up: it left \d+ bytes unread$")
+        told = slow.all()
+        self.assertEqual(set(told.split(b"\n")[:-1]), {b"* " + b"x" * 100})
+        self.asks(self.wire(server), (b"a", b"heard 61"))
+
+    def test_a_large_line(self) -> None:
+        """A reply of a megabyte comes whole, also to one that reads slowly, and an operator may be told more."""
+        server = self.stubbed()
+        wire = self.wire(server)
+        self.asks(wire, (b"big 3000000", b"x" * 3_000_000), (b"a", b"heard 61"))
+        self.asks(self.admin, (b"big 30000000", b"x" * 30_000_000))
+
+    def test_program_that_is_slow(self) -> None:
+        """While much waits for the program nobody is read, and so nobody makes the server grow."""
+        server, count = self.stubbed(), 60
+        wires, line = [self.wire(server) for _ in range(120)], b"y" * 1000
+        for wire in wires:
+            wire.ask(b"first")
+        before, pid = server.memory(), server.program_pid()
+        os.kill(pid, signal.SIGSTOP)
+        for wire in wires:
+            wire.send((line + b"\n") * count)
+        select.select([], [wires[0].socket], [], 0)
+        until(lambda: fuller(server, before + 700_000), "it has read a megabyte")
+        self.assertLess(server.memory() - before, 4_000_000)
+        os.kill(pid, signal.SIGCONT)
+        for wire in wires:
+            self.assertEqual(wire.lines(count), [b"heard " + line.hex().encode()] * count)
+
+    def test_program_that_is_not_read(self) -> None:
+        """The server goes on to read the program while the program takes nothing."""
+        server = self.stubbed()
+        wires = [self.wire(server) for _ in range(3)]
+        for wire in wires:
+            wire.send(b"big 100000\n" * 50)
+        for wire in wires:
+            self.assertEqual(set(wire.lines(50)), {b"x" * 100_000})
+
+
+def fuller(server: Server, size: int) -> bool:
+    return server.memory() > size
+
+
+class Leaving(StubCase):
+    def test_end_in_good_order(self) -> None:
+        """What was sent before is passed on, then the hang-up; what comes until it is answered is still sent, and then the end."""
+        server = self.stubbed()
+        wire = self.wire(server)
+        self.asks(self.admin, (b"hold", b"hold"))
+        wire.send(b"".join(b"%d\n" % number for number in range(200)) + b"half")
+        wire.socket.shutdown(socket.SHUT_WR)
+        self.admin.send(b"say 1 * granted 0.1 a\nlet\n")
+        self.assertEqual(self.admin.lines(1), [b"let"])
+        wanted = b"".join(b"heard " + (b"%d" % number).hex().encode() + b"\n" for number in range(200))
+        told = wire.all()
+        self.assertEqual(told.replace(b"* granted 0.1 a\n", b"", 1), wanted)
+        self.assertEqual(self.came(), [b"1 %d" % number for number in range(200)] + [b"- 1"])
+
+    def test_events_until_it_is_over(self) -> None:
+        server = self.stubbed()
+        wire = self.wire(server)
+        wire.ask(b"a")
+        self.asks(self.admin, (b"hold", b"hold"))
+        wire.socket.shutdown(socket.SHUT_WR)
+        until(lambda: b"- 1" in self.came(), "it has hung up")
+        self.admin.send(b"say 1 * granted 0.1 a\nlet\n")
+        self.assertEqual((self.admin.lines(1), wire.all()), ([b"let"], b"* granted 0.1 a\n"))
+
+    def test_number_that_is_not_free_yet(self) -> None:
+        """A number is used again only when its hang-up has been answered."""
+        server = self.stubbed("--connections", "1")
+        one = self.wire(server)
+        one.ask(b"one")
+        self.asks(self.admin, (b"hold", b"hold"))
+        one.close()
+        until(lambda: self.came() == [b"1 one", b"- 1"], "it has hung up")
+        two = self.wire(server)
+        two.send(b"two\n")
+        self.turn()
+        self.assertEqual(self.came(), [b"1 one", b"- 1"])
+        self.asks(self.admin, (b"let", b"let"))
+        self.assertEqual(two.lines(1), [b"heard " + b"two".hex().encode()])
+        self.assertEqual(self.came(), [b"1 one", b"- 1", b"1 two"])
+
+    def test_gone_at_once(self) -> None:
+        """Of one that is gone, and is owed replies, no further line is passed on, and nothing is kept."""
+        server = self.stubbed()
+        wire = self.wire(server)
+        self.asks(self.admin, (b"hold", b"hold"))
+        wire.send(b"a\n" * 200)
+        until(lambda: len(self.came()) == 64, "64 have come")
+        wire.close()
+        self.asks(self.admin, (b"let", b"let"))
+        until(lambda: b"- 1" in self.came(), "it has hung up")
+        self.turn()
+        self.assertEqual(self.came(), [b"1 a"] * 64 + [b"- 1"])
+        self.asks(self.wire(server), (b"b", b"heard 62"))
+
+    def test_full(self) -> None:
+        """One more than there may be is told so, unasked, and there is room again when one leaves."""
+        server = self.stubbed("--connections", "2")
+        wires = [self.wire(server) for _ in range(2)]
+        for wire in wires:
+            wire.ask(b"a")
+        for _ in range(3):
+            self.assertEqual(self.wire(server).all(), b"refused connections-full\n")
+        wires[0].close()
+        self.asks(self.wire(server), (b"a", b"heard 61"))
+        self.assertEqual(self.words()[1:3], ["--connections", "3"])
+
+    def test_no_descriptors(self) -> None:
+        """A server that may have few descriptors serves fewer, and says so."""
+        server = self.stubbed(before=["prlimit", "--nofile=40:40"], is_quiet=False)
+        wires = [self.wire(server) for _ in range(8)]
+        for wire in wires:
+            self.asks(wire, (b"a", b"heard 61"))
+        self.assertEqual(self.wire(server).all(), b"refused connections-full\n")
+        self.assertIn("the system gives 40 descriptors, so at most 8 clients are served\n", server.stderr())
+        self.assertEqual(self.words()[1:3], ["--connections", "9"])
+
+    def test_many(self) -> None:
+        """Hundreds at once, each with its own replies."""
+        server = self.stubbed()
+        wires = [self.wire(server) for _ in range(400)]
+        for turn in range(3):
+            for number, wire in enumerate(wires):
+                wire.send(b"%d\n" % (number + turn) * 3)
+            for number, wire in enumerate(wires):
+                self.assertEqual(wire.lines(3), [b"heard " + (b"%d" % (number + turn)).hex().encode()] * 3)
+        for wire in wires[::2]:
+            wire.close()
+        until(lambda: len([line for line in self.came() if line.startswith(b"- ")]) == 200, "half of them have hung up")
+        for number, wire in enumerate(wires[1::2]):
+            self.asks(wire, (b"%d" % number, b"heard " + (b"%d" % number).hex().encode()))
+
+
+class Operators(StubCase):
+    def test_events(self) -> None:
+        """A deadlock is told to all; other lines with a star to whom the last reply was sent."""
+        self.stubbed()
+        other = self.wire(self.admin_path)
+        self.asks(other, (b"a", b"heard 61"))
+        self.admin.send(b"say 0 list 2|0 * 0.1 1 active|0 * deadlock 0.1 a 1.1 b|0 * 1.1 - active\n")
+        self.assertEqual(self.admin.lines(4), [b"list 2", b"* 0.1 1 active", b"* deadlock 0.1 a 1.1 b", b"* 1.1 - active"])
+        self.assertEqual(other.lines(1), [b"* deadlock 0.1 a 1.1 b"])
+        self.asks(other, (b"b", b"heard 62"))
+        self.admin.send(b"say 0 one|0 * two\n")
+        self.assertEqual(self.admin.lines(2), [b"one", b"* two"])
+
+    def test_one_that_left(self) -> None:
+        """The replies for it are dropped, and so are the lines behind."""
+        server = self.stubbed()
+        other, wire = self.wire(self.admin_path), self.wire(server)
+        self.asks(other, (b"a", b"heard 61"))
+        os.kill(server.program_pid(), signal.SIGSTOP)
+        self.admin.send(b"say 0 list 1|0 * 0.1 1 active\n" + b"b\n" * 20)
+        other.send(b"c\n")
+        self.admin.close()
+        again = self.wire(self.admin_path)
+        again.send(b"d\n")
+        os.kill(server.program_pid(), signal.SIGCONT)
+        self.assertEqual((other.lines(1), again.lines(1)), ([b"heard 63"], [b"heard 64"]))
+        self.asks(wire, (b"e", b"heard 65"))
+
+    def test_half_an_end(self) -> None:
+        self.stubbed()
+        self.admin.send(b"a\n" * 200 + b"clients\nhalf")
+        self.admin.socket.shutdown(socket.SHUT_WR)
+        self.assertEqual(self.admin.all(), b"heard 61\n" * 200 + b"clients 0\n")
+
+    def test_clients(self) -> None:
+        """It is answered by the front in its turn: who is connected, with process, user and seconds."""
+        server = self.stubbed()
+        wires = [self.wire(server) for _ in range(3)]
+        for wire in wires:
+            wire.ask(b"a")
+        wires[1].close()
+        until(lambda: b"- 2" in self.came(), "it has hung up")
+        self.admin.send(b"say 0 list 1|0 * 0.1 1 active\nclients\nb\nclients\r\nclients now\n")
+        told = self.admin.lines(10)
+        self.assertEqual(told[:3] + [told[5], told[9]], [b"list 1", b"* 0.1 1 active", b"clients 2", b"heard 62", b"heard " + b"clients now".hex().encode()])
+        for line, number in zip(told[3:5] + told[7:9], (b"1", b"3", b"1", b"3")):
+            self.assertRegex(line, rb"\A\* %b %d %d \d+\Z" % (number, os.getpid(), os.geteuid()))
+        self.asks(wires[0], (b"clients", b"heard " + b"clients".hex().encode()))
+
+    def test_rights(self) -> None:
+        self.stubbed("--mode", "666")
+        status = os.stat(self.admin_path)
+        self.assertEqual((stat.S_IMODE(status.st_mode), stat.S_IMODE(os.stat(self.admin_path + ".lock").st_mode)), (0o600, 0o600))
+
+    def test_as_many_as_there_may_be(self) -> None:
+        self.stubbed()
+        others = [self.wire(self.admin_path) for _ in range(15)]
+        for other in others:
+            self.asks(other, (b"a", b"heard 61"))
+        self.assertEqual(self.wire(self.admin_path).all(), b"refused connections-full\n")
+        others[0].close()
+        self.asks(others[1], (b"b", b"heard 62"))
+        self.asks(self.wire(self.admin_path), (b"c", b"heard 63"))
+
+    def test_path_in_use(self) -> None:
+        """A second server does not start at the operator's path of another one."""
+        self.stubbed()
+        path = self.path("socket")
+        told = run(*self.needs_server(), "--socket", path, "--admin", self.admin_path, "--program", "/bin/false", env=environment())
+        self.assertRegex(told.err.decode(), rf"\A[^\n]*{self.admin_path}[^\n]*another server[^\n]*\n\Z")
+        self.assertEqual((told.status, os.path.exists(path)), (1, False))
+
+    def test_graph_that_is_not_read(self) -> None:
+        """An operator that asks for much and does not read is read no further, and others are served."""
+        server = self.stubbed()
+        wire, other, before = self.wire(server), self.wire(self.admin_path), server.memory()
+        fills(self.admin, b"say 0 graph 2|0 * " + b"a" * 900 + b"|0 * b\n", other, server, b"turn")
+        self.asks(wire, (b"a", b"heard 61"))
+        self.assertLess(server.memory() - before, 8_000_000)
+        self.assertEqual(self.admin.lines(3), [b"graph 2", b"* " + b"a" * 900, b"* b"])
+
+
+class Log(StubCase):
+    def test_lines(self) -> None:
+        """A line for the start, the end, and each deadlock, whose bytes are text."""
+        server = self.stubbed(is_quiet=False)
+        self.admin.send("say 0 * deadlock 0.1 Müller 1.1 ~!|0 done\n".encode())
+        self.assertEqual(self.admin.lines(2), ["* deadlock 0.1 Müller 1.1 ~!".encode(), b"done"])
+        self.assertEqual(server.close(), 0)
+        self.assertRegex(server.stderr(), rf"\Apashkure: serves at {server.path}, for 16384 clients, of epoch \d+\n"
+                         r"pashkure: deadlock 0\.1 M\\xc3\\xbcller 1\.1 ~!\npashkure: ends by signal 15\n\Z")  # fmt: skip
+
+    def test_many_deadlocks(self) -> None:
+        """At most a hundred are told in a second, and the others are counted."""
+        server, count, left = self.stubbed(is_quiet=False), 5000, b"|".join([b"0 * deadlock 0.1 a 1.1 b"] * 40)
+        for _ in range(count // 40):
+            self.admin.send(b"say " + left + b"|0 done\n")
+            self.admin.lines(41)
+        self.assertEqual(server.close(), 0)
+        text = server.stderr()
+        told, counted = text.count(" deadlock 0.1 a 1.1 b\n"), [int(line.split()[1]) for line in text.splitlines() if line.endswith(" more deadlocks")]
+        self.assertEqual(told + sum(counted), count)
+        self.assertGreaterEqual(told, 100)
+        self.assertLessEqual(told, 100 * (len(counted) + 1))
+
+    def test_that_nobody_reads(self) -> None:
+        """What standard error has no room for is dropped, and nobody waits."""
+        reads, writes = os.pipe()
+        try:
+            self.stubbed(is_quiet=False, stderr=writes)
+            for _ in range(60):
+                self.admin.send(b"say 0 * deadlock " + b"x" * 900 + b"|0 done\n")
+                self.admin.lines(2)
+            long = b"say 0 * deadlock " + b"\xff" * 1000 + b"|0 done\n"
+            for _ in range(40):
+                self.admin.send(long)
+                self.admin.lines(2)
+        finally:
+            os.close(reads)
+            os.close(writes)
+
+
+class Program(StubCase):
+    @each(NONSENSE)
+    def test_nonsense(self, text: str) -> None:
+        """A program that writes what no lock service does ends the server. What it wrote before is still sent."""
+        server = self.stubbed()
+        wire, other = self.wire(server), self.wire(server)
+        other.ask(b"a")
+        wire.send(b"say 2 * granted 0.1 a|" + text.encode() + b"\n")
+        self.assertEqual(other.all(), b"* granted 0.1 a\n")
+        self.assertEqual((server.process.wait(LIMIT), os.path.exists(server.path), os.path.exists(self.admin_path)), (1, False, False))
+        self.assertTrue(server.stderr().endswith("wrote what is no reply\n"), server.stderr())
+
+    def test_end(self) -> None:
+        for status in 0, 1, 3:
+            server = self.stubbed()
+            self.wire(server).send(b"end %d\n" % status)
+            self.assertEqual(server.process.wait(LIMIT), 1)
+            self.assertRegex(server.stderr(), rf"\A[^\n]* ended with status {status}\n\Z")
+
+    def test_lines_in_pieces(self) -> None:
+        """A line of the program may come in pieces."""
+        script = r"""read a; printf '0 tot'; sleep 0.05; printf 'als 0 0 0 0'; sleep 0.05; echo
+        while read number word; do
+          if [ "$number" = - ]; then echo "- $word"; else printf "$number"; sleep 0.01; printf ' h'; sleep 0.01; printf 'eard\n%s * x\n' "$number"; fi
+        done"""
+        server = self.server(program=self.script(script))
+        wire = self.wire(server)
+        wire.send(b"a\nb\n")
+        self.assertEqual(wire.lines(4), [b"heard", b"* x"] * 2)
+
+    def test_options(self) -> None:
+        server = self.stubbed("--transactions", "7", "--names=8", "--name-bytes", "9", "--each", "3", "--epoch", "11", "--connections", "20")
+        self.assertEqual(self.words(), "locks --transactions 7 --names 8 --name-bytes 9 --connections 21 --epoch 11 --each 3".split())
+        self.assertFalse(os.path.exists(server.path + ".epoch"))
+        self.stubbed()
+        self.assertRegex(" ".join(self.words()), r"\Alocks --connections 16385 --epoch \d{13,}\Z")
+
+    def test_what_it_inherits(self) -> None:
+        """Three descriptors, no signal that is blocked or dropped, and nothing of the service manager's."""
+        told = self.path("told")
+        program = self.script(f'ls -l /proc/$$/fd > "{told}"; grep -E "^Sig(Blk|Ign)" /proc/$$/status >> "{told}"; env >> "{told}"; exit 3')
+        server = self.server(program=program)
+        self.assertEqual(server.process.wait(LIMIT), 1)
+        with open(told, encoding="utf-8") as file:
+            text = file.read()
+        self.assertLessEqual(len([line for line in text.splitlines() if " -> " in line]), 5, text)  # (the shell has the script and the file open)
+        masks = [int(line.split()[1], 16) for line in text.splitlines() if line.startswith("Sig")]
+        self.assertEqual([mask & 0x7FFF_FFFF for mask in masks], [0, 0], text)
+
+
+class Manager(StubCase):
+    def test_readiness(self) -> None:
+        """NOTIFY_SOCKET is told when clients may come, and when the server ends."""
+        for path in self.path("notify"), f"@{self.path('notify')}":
+            with socket.socket(socket.AF_UNIX, socket.SOCK_DGRAM) as told:
+                told.settimeout(LIMIT)
+                told.bind("\0" + path[1:] if path.startswith("@") else path)
+                server = self.server(program=self.script(f'exec "{sys.executable}" "{STUB}" /dev/null "$@"'), env={"NOTIFY_SOCKET": path})
+                self.assertEqual(told.recv(100), b"READY=1")
+                self.assertEqual(server.close(), 0)
+                self.assertEqual(told.recv(100), b"STOPPING=1")
+
+    def test_passed_socket(self) -> None:
+        """A socket that was passed is served, and its file is left."""
+        path = self.path("socket")
+        with socket.socket(socket.AF_UNIX) as listener:
+            listener.bind(path)
+            listener.listen()
+            os.set_inheritable(listener.fileno(), True)
+            early = self.wire(path)  # before there is any server
+            before = ["bash", "-c", f'export LISTEN_PID=$$ LISTEN_FDS=1; exec "$@" 3<&{listener.fileno()}', "bash"]
+            for _ in range(2):
+                server = self.server(program=self.script(f'exec "{sys.executable}" "{STUB}" /dev/null "$@"'), path=path, before=before, pass_fds=[listener.fileno()])
+                self.asks(early, (b"a", b"heard 61"))
+                self.assertEqual((server.close(), os.path.exists(path)), (0, True))
+                early = self.wire(path)
+
+    def test_what_is_no_socket(self) -> None:
+        path = self.path("socket")
+        for count, file in (1, "/dev/null"), (2, "/dev/null"):
+            words = ["bash", "-c", f'export LISTEN_PID=$$ LISTEN_FDS={count}; exec "$@" 3< {file}', "bash", *self.needs_server(), "--socket", path]
+            told = run(*words, "--program", "/bin/false", env=environment())
+            self.assertEqual((told.status, told.err), (1, b"pashkure: LISTEN_FDS: it has to pass one Unix socket that listens\n"))
+        words = ["bash", "-c", 'export LISTEN_PID=1 LISTEN_FDS=1; exec "$@"', "bash", *self.needs_server(), "--socket", path]
+        self.assertIn(b"/bin/false did not start", run(*words, "--program", "/bin/false", env=environment()).err)
+
+    def test_unit(self) -> None:
+        """The unit of examples/ is one that systemd takes."""
+        if run("sh", "-c", "command -v systemd-analyze").status:
+            self.skipTest("systemd-analyze is not on the PATH (Debian's package systemd)")
+        with open(os.path.join(TOP, "examples/pashkure.service"), encoding="ascii") as file:
+            text = file.read()
+        unit = self.file("pashkure.service", text.replace("/usr/local/bin/", "/bin/true #"))
+        told = run("systemd-analyze", "verify", unit)
+        self.assertEqual(told.status, 0, told.err)
