@@ -1,10 +1,10 @@
 /* A library that is loaded into a program (LD_PRELOAD) and lets calls of the C library fail, be short, or be late. The environment says which:
 
      FAULTS="RULE .."  each rule is CALL[/WHERE]:KIND[=VALUE][WHEN]
-       CALL    read write recv send poll epoll_wait accept connect open clock futex yield start malloc (each with its relatives)
+       CALL    read write recv send poll epoll_wait accept connect open clock boottime futex yield start malloc (each with its relatives)
        WHERE   of read and write a descriptor; else only pipes, sockets and terminals count. /thread: calls of threads that were started
        KIND    an error's name (EINTR EAGAIN ENOSPC EPIPE EMFILE ENOMEM EIO ECONNRESET ENFILE); short=BYTES, late=MILLISECONDS,
-               jump=SECONDS of the clock that can be set (CLOCK_REALTIME), or told, which only writes the call into the log (of futex and poll with the time-out in milliseconds)
+               jump=SECONDS of the clock that can be set (CLOCK_REALTIME) or of CLOCK_BOOTTIME, or told, which only writes the call into the log (of futex and poll with the time-out in milliseconds)
        WHEN    @N the N-th such call, >N all after it, %P of a hundred by chance; none: all
      FAULT_SEED=N      of what is drawn by chance: which calls, and how many bytes if short has no value
      FAULT_LOG=FILE    each fault is written there as a rule, so that FAULTS="$(cat FILE)" does the same again
@@ -40,9 +40,9 @@ extern void *__libc_calloc(size_t count, size_t size);
 extern void *__libc_realloc(void *old, size_t size);
 extern void *__libc_memalign(size_t alignment, size_t size);
 
-enum call { READ, WRITE, RECV, SEND, POLL, EPOLL_WAIT, ACCEPT, CONNECT, OPEN, CLOCK, FUTEX, YIELD, START, MALLOC, CALLS };
+enum call { READ, WRITE, RECV, SEND, POLL, EPOLL_WAIT, ACCEPT, CONNECT, OPEN, CLOCK, BOOTTIME, FUTEX, YIELD, START, MALLOC, CALLS };
 static const char *const call_names[CALLS] = {
-    "read", "write", "recv", "send", "poll", "epoll_wait", "accept", "connect", "open", "clock", "futex", "yield", "start", "malloc",
+    "read", "write", "recv", "send", "poll", "epoll_wait", "accept", "connect", "open", "clock", "boottime", "futex", "yield", "start", "malloc",
 };
 enum kind { SHORT = 1, LATE, JUMP, TOLD, ERROR };
 static const struct { const char *name; int number; } errors[] = {
@@ -313,8 +313,8 @@ int open64(const char *path, int flags, ...) __attribute__((alias("open")));
 int clock_gettime(clockid_t clock, struct timespec *time)
 {
     long jump = 0;
-    if (clock == CLOCK_REALTIME)
-        faulty(CLOCK, -1, &jump);
+    if (clock == CLOCK_REALTIME || clock == CLOCK_BOOTTIME)
+        faulty(clock == CLOCK_REALTIME ? CLOCK : BOOTTIME, -1, &jump);
     int result = REAL(clock_gettime)(clock, time);
     time->tv_sec += jump;
     return result;

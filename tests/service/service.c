@@ -3,6 +3,7 @@
 
 #include "check.h"
 
+#include <limits.h>
 #include <pthread.h>
 #include <signal.h>
 #include <stdlib.h>
@@ -33,15 +34,20 @@ static void count_wait(void *context, const pashkure_wait_for *wait)
     ++*(int *)context;
 }
 
-/* Rests until so many transactions wait, however long that takes. */
+/* Rests until so many transactions wait, however long that takes. The operator may ask who does, at the service's path and `.admin`. */
 static void until_waiting(int wanted)
 {
+    pashkure_connection operator;
+    char admin[PATH_MAX];
     int waiting;
+    snprintf(admin, sizeof admin, "%s.admin", path);
     do {
         waiting = 0;
         rest(2);
-        if (pashkure_graph(&one, count_wait, &waiting) != PASHKURE_OK)
+        if (pashkure_open(&operator, admin) != PASHKURE_OK)
             break;
+        pashkure_graph(&operator, count_wait, &waiting);
+        pashkure_close(&operator);
     } while (waiting != wanted);
     CHECK(waiting == wanted);
 }

@@ -75,7 +75,8 @@ class Staff:
 class Bank(ServerCase):
     @each([("one seed", 1), ("a new seed", SEED)])
     def test_bank(self, name: str, seed: int) -> None:
-        server = self.server()
+        admin = self.path("admin")
+        server = self.server("--admin", admin)
         staff = Staff(self, server, seed)
         self.addCleanup(staff.file.close)
         for _ in range(KILLS):
@@ -91,7 +92,7 @@ class Bank(ServerCase):
         for number in range(ACCOUNTS):
             staff.file.recover(number)
         self.assertEqual(sum(staff.file.balance(number) for number in range(ACCOUNTS)), ACCOUNTS * OPENING)
-        self.asks(wire, (b"graph", b"graph 0"))
+        self.asks(self.wire(admin), (b"graph", b"graph 0"))
         begun_, committed, aborted, _ = self.counts(wire)
         self.assertEqual(begun_, committed + aborted + 1)
         self.assertGreater(staff.within, 0, "nobody was killed in the middle of a transfer")

@@ -7,8 +7,8 @@ import random
 import threading
 from typing import Iterator
 
-from lib.kinds import COUNTED, DEAD, DRAWN, OTHER, Chance, Kind, Line, among_requests
-from lib.service import Service
+from lib.kinds import COUNTED, DRAWN, LIMIT, OTHER, Chance, Kind, Line, among_requests
+from lib.hub import Hub
 from lib.world import IS_SLOW, SEED, Wire, each, until
 from service.test_server import ServerCase
 
@@ -19,6 +19,8 @@ EVERY = 1 if IS_SLOW else 7
 BATCHES = [1, 5, 20, 100, 300]
 FEWEST = 8
 """Transactions that are live at the start of a batch."""
+OWN, OTHERS = b"1", b"2"
+"""The numbers of the connection that is tried and of the other one."""
 PROBE, PROBED = b"owner probe", b"owner " + OTHER
 """Only the other client owns that name, and no other line asks for it."""
 
@@ -37,13 +39,20 @@ def pieces(data: bytes, chance: random.Random) -> Iterator[bytes]:
 class Bytes(ServerCase):
     def begins(self) -> None:
         """Starts a server. `other` has one transaction, OTHER, and `one` sends the lines that are tried, with the keys that it begins."""
-        assert len(OTHER) == len(DEAD)
-        self.model = Service(32, 256, 1024)
+        self.hub = Hub(5, transactions=32, names=256, name_bytes=1024)
+        self.model = self.hub.service
         self.started = self.server("--transactions", "32", "--names", "256", "--name-bytes", "1024")
         self.other, self.one = self.wire(self.started), self.wire(self.started)
         keys = [b"%d.1" % number for number in range(12)]
         for line in [b"begin"] * 12 + [b"abort " + key for key in keys[:-1]] + [b"lock " + OTHER + b" other", b"lock " + OTHER + b" probe"]:
-            self.assertEqual([self.other.ask(line)], self.model.answer(line))
+            self.assertEqual([self.other.ask(line)], self.answers(OTHERS, line))
+
+    def answers(self, number: bytes, line: bytes) -> list[bytes]:
+        """What the model says to a connection that sends a line."""
+        is_long = len(line) - line.endswith(b"\r") > LIMIT
+        lines = [reply.partition(b" ") for reply in self.hub.answer(number + b" " + (b"malformed" if is_long else line))]
+        assert {told for told, _, _ in lines} == {number}, lines
+        return [reply for _, _, reply in lines]
 
     def tries(self, chance: Chance, lines: Iterator[Line]) -> None:
         self.begins()
@@ -57,7 +66,7 @@ class Bytes(ServerCase):
 
     def batch(self, chance: Chance, lines: list[Line]) -> None:
         """Sends some lines. Fails unless the replies are right, and the other client has what it had."""
-        groups = [self.model.answer(line) for _, line in lines]
+        groups = [self.answers(OWN, line) for line, _ in lines]
         sender = threading.Thread(target=self.sends, args=(b"".join(line + b"\n" for line, _ in [*lines, (PROBE, PROBE)]), chance.random))
         sender.start()
         told = self.until_probed(self.one)

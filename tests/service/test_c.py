@@ -5,9 +5,10 @@ import os
 import re
 import subprocess
 import tempfile
+from typing import Any
 
 from lib.faults import FaultCase, variables
-from lib.world import CLIENTS, LIMIT, SEED, TOP, Run, each, environment, run
+from lib.world import CLIENTS, LIMIT, SEED, TOP, Run, Server, each, environment, run
 
 HERE = os.path.join(TOP, "tests", "service")
 CLIENT = os.path.join(CLIENTS, "c")
@@ -82,8 +83,13 @@ class Replies(CCase):
 class Service(CCase):
     """A service that was just started."""
 
+    def started(self, **how: Any) -> Server:
+        """A server, with an operator's socket beside that of the clients."""
+        path = self.path("socket")
+        return self.server(*LIMITS, "--admin", f"{path}.admin", path=path, **how)
+
     def path_of_server(self) -> str:
-        return self.server(*LIMITS).path
+        return self.started().path
 
     @each([name for name in tests("service") if name != "killed"])
     def test_sanitized(self, name: str) -> None:
@@ -97,7 +103,7 @@ class Service(CCase):
 
     def test_killed(self) -> None:
         """The service is killed: who waits for a lock is told that the connection is closed."""
-        server = self.server(*LIMITS)
+        server = self.started()
         with subprocess.Popen([self.program("service.sanitized"), "killed", server.path], stdout=subprocess.PIPE, stderr=subprocess.PIPE) as client:
             assert client.stdout and client.stderr
             self.assertEqual(client.stdout.readline(), b"waits\n")
@@ -125,6 +131,6 @@ class Service(CCase):
     def test_service_that_is_slow(self) -> None:
         """A server whose program is late, and whose own calls are short, makes no difference to a client."""
         rules = "send:short%30 recv:short%30 read:late=1%5 write:short%20"
-        server = self.server(*LIMITS, env=variables(rules, only="python"))
+        server = self.started(env=variables(rules, only="pashkure-serve"))
         for name in "alone", "two", "deadlock", "one_connection":
             self.passes(run(self.program("service"), name, server.path, env=environment()))

@@ -7,7 +7,7 @@ import socket
 import stat
 import subprocess
 
-from lib.world import LIMIT, PROGRAM, SERVER, Server, Wire, answers, environment, run, until
+from lib.world import LIMIT, PROGRAM, Server, Wire, answers, each, environment, run, until
 from service.test_server import ServerCase, begun
 
 
@@ -26,6 +26,11 @@ class Clients:
         case.assertEqual([wire.all() for wire in self.wires], [b""] * 6)
 
 
+def read(path: str) -> str:
+    with open(path, encoding="ascii", newline="") as file:
+        return file.read()
+
+
 class Ends(ServerCase):
     def program_is_over(self, pid: int) -> None:
         until(lambda: not os.path.exists(f"/proc/{pid}"), "the program ends")
@@ -41,8 +46,8 @@ class Ends(ServerCase):
 
     def test_program_nonsense(self) -> None:
         """A program that is no lock service ends the server with a line that says so."""
-        program = self.script("read line; echo totals; read line; printf 'one\\ntwo\\n'; read line")
-        server = self.server(program=program)  # which asks the program as soon as a client looks whether it answers
+        program = self.script("read line; echo 0 totals 0 0 0 0; read line; printf 'one\\ntwo\\n'; read line")
+        server = self.server(program=program)  # which tells the program when the client that looked whether it answers hangs up
         self.assertEqual(server.process.wait(LIMIT), 1)
         self.assertTrue(server.stderr().endswith("wrote what is no reply\n"), server.stderr())
 
@@ -65,6 +70,27 @@ class Ends(ServerCase):
             clients.are_closed(self)
             self.assertEqual((server.process.wait(LIMIT), server.stderr(), os.path.exists(server.path)), (0, "", False))
             self.assertFalse(os.path.exists(f"/proc/{pid}"))
+
+    def test_hang_up_of_the_terminal(self) -> None:
+        """SIGHUP does nothing."""
+        server = self.server()
+        wire = self.wire(server)
+        for _ in range(3):
+            server.process.send_signal(signal.SIGHUP)
+            self.asks(wire, (b"totals", b"totals 0 0 0 0"))
+        self.assertEqual((server.close(), server.stderr()), (0, ""))
+
+    @each([signal.SIGTERM, signal.SIGINT])
+    def test_signal_at_the_start(self, number: signal.Signals) -> None:
+        """A server ends while its program starts, and never answers."""
+        path, started = self.path("socket"), self.path("started")
+        program = self.script(f'trap "" TERM INT; echo $$ > "{started}"; exec sleep 1000')
+        words = [*self.needs_server(), "--quiet", "--socket", path, "--program", program]
+        with subprocess.Popen(words, env=environment(), stderr=subprocess.PIPE) as server:
+            pid = int(until(lambda: os.path.exists(started) and read(started), "the program starts"))
+            server.send_signal(number)
+            self.assertEqual((server.communicate()[1], server.returncode, os.path.exists(path)), (b"", 0, False))
+        self.program_is_over(pid)
 
     def test_quiet(self) -> None:
         """A program that is ended while replies of it are due has no write fault."""
@@ -107,7 +133,7 @@ class Starts(ServerCase):
         if run("sh", "-c", "command -v strace").status:
             self.skipTest("strace is not on the PATH (Debian's package strace)")
         path, log = self.path("socket"), self.path("log")
-        command = ["strace", "-f", "-o", log, "-e", "trace=umask,bind,chmod,fchmod,fchmodat", *SERVER, "--socket", path, "--program", PROGRAM]
+        command = ["strace", "-f", "-o", log, "-e", "trace=umask,bind,chmod,fchmod,fchmodat", *self.needs_server(), "--socket", path, "--program", PROGRAM]
         with subprocess.Popen(command, env=environment(), stderr=subprocess.DEVNULL) as child:
             until(lambda: child.poll() is not None or answers(path), "the server answers or ends")
             with open(log, encoding="ascii") as file:
@@ -156,7 +182,7 @@ class Starts(ServerCase):
         """Of two servers that start together at one path exactly one serves. The other starts no program, and names the path."""
         path, starts, count = self.path("socket"), self.path("starts"), 15
         program = self.script(f'echo started >> "{starts}"\nexec "{PROGRAM}" "$@"')
-        command = [*SERVER, "--socket", path, "--program", program]
+        command = [*self.needs_server(), "--quiet", "--socket", path, "--program", program]
         locked = []
         for _ in range(count):
             both = [subprocess.Popen(command, env=environment(), stderr=subprocess.PIPE, text=True) for _ in range(2)]
@@ -195,21 +221,105 @@ class Starts(ServerCase):
     def test_wrong_words(self) -> None:
         path = self.path("socket")
         for words in [], ["--socket", "x", "--mode", "9"], ["--socket", "x", "--names", "many"], ["--socket", path, "--fly"]:
-            told = run(*SERVER, *words, env=environment())
+            told = run(*self.needs_server(), *words, env=environment())
             self.assertEqual((told.status, told.out, bool(told.err)), (2, b"", True), words)
         for program in self.path("no.program"), "/bin/false":
-            told = run(*SERVER, "--socket", path, "--program", program, env=environment())
+            told = run(*self.needs_server(), "--socket", path, "--program", program, env=environment())
             self.assertEqual((told.status, told.err.count(b"\n")), (1, 1), told.err)
-        server = self.server("--transactions", "0")
-        self.assertEqual(server.process.wait(LIMIT), 1)
-        self.assertTrue(server.stderr().endswith("did not start\n"), server.stderr())
-        self.assertFalse(os.path.exists(path))
+        for words in (["--transactions", "0"], ["--names", "65537"], ["--each", "0"], ["--connections", "65536"], ["--epoch", "0"], ["--epoch", "9223372036854775808"],
+                      ["--heartbeat-fd", "0"], ["--heartbeat-ms", "1"], ["--group", "no such group"], ["--admin", path], ["--mode", "1000"], ["--names"], ["x"]):
+            told = run(*self.needs_server(), "--socket", path, "--program", "/bin/false", *words, env=environment())
+            self.assertEqual((told.status, told.out, told.err.count(b"\n")), (2, b"", 1), words)
+
+    def test_help(self) -> None:
+        told = run(*self.needs_server(), "--help", env=environment())
+        self.assertEqual((told.status, told.err, told.out.startswith(b"usage: pashkure-serve --socket PATH ")), (0, b"", True))
+
+    def test_group(self) -> None:
+        """The socket belongs to the group that was asked for."""
+        if os.geteuid() != 0:
+            self.skipTest("only root may give a file to any group")
+        path = self.server("--group", "65534", "--mode", "660").path
+        status = os.stat(path)
+        self.assertEqual((status.st_gid, stat.S_IMODE(status.st_mode)), (65534, 0o660))
 
     def test_seed(self) -> None:
-        """The program is given a seed if the user gave one, and else draws its own: no list of processes shows it."""
+        """The program draws its seed itself: no list of processes shows it."""
         words = self.path("words")
-        program = self.script(f'echo "$*" > "{words}"\nexec "{PROGRAM}" "$@"')
-        for given, wanted in ([], "locks\n"), (["--seed", "7"], "locks --seed 7\n"):
-            self.assertEqual(self.server(*given, program=program).close(), 0)
-            with open(words, encoding="ascii") as file:
-                self.assertEqual(file.read(), wanted)
+        self.assertEqual(self.server(program=self.script(f'echo "$*" > "{words}"\nexec "{PROGRAM}" "$@"')).close(), 0)
+        self.assertRegex(read(words), r"\Alocks --connections 16385 --epoch \d+\n\Z")
+
+
+class Epochs(ServerCase):
+    def epoch(self, *words: str, path: str) -> int:
+        """The epoch that a server gives its program."""
+        told = self.path("words")
+        server = self.server(*words, path=path, program=self.script(f'echo "$*" > "{told}"\nexec "{PROGRAM}" "$@"'))
+        self.assertEqual((server.close(), server.stderr()), (0, ""))
+        return int(read(told).partition("--epoch ")[2].split()[0])
+
+    def test_rises(self) -> None:
+        """Each start has a greater one, also if the file is gone, and if it is ahead of the clock."""
+        path, last = self.path("socket"), 1_000_000_000_000
+        for number in range(6):
+            if number == 3:
+                os.unlink(path + ".epoch")
+            if number == 4:
+                self.write(path + ".epoch", "9000000000000000000\n")
+                last = 9 * 10**18
+            now = self.epoch(path=path)
+            self.assertGreater(now, last)
+            self.assertEqual((read(path + ".epoch"), os.path.exists(path + ".epoch.new")), (f"{now}\n", False))
+            self.assertEqual(stat.S_IMODE(os.stat(path + ".epoch").st_mode), 0o600)
+            last = now
+        self.assertEqual(last, 9 * 10**18 + 2)
+
+    def write(self, path: str, text: str) -> None:
+        with open(path, "w", encoding="ascii") as file:
+            file.write(text)
+
+    def test_file_of_its_own(self) -> None:
+        path, file = self.path("socket"), self.path("epoch")
+        first = self.epoch("--epoch-file", file, path=path)
+        self.assertEqual((read(file), os.path.exists(path + ".epoch")), (f"{first}\n", False))
+        self.assertGreater(self.epoch("--epoch-file", file, path=self.path("another")), first)
+
+    def test_given(self) -> None:
+        """One that is given has to be above that of the file, if there is one."""
+        path, file = self.path("socket"), self.path("epoch")
+        self.assertEqual(self.epoch("--epoch", "7", path=path), 7)
+        self.assertFalse(os.path.exists(path + ".epoch"))
+        self.assertEqual(self.epoch("--epoch", "7", "--epoch-file", file, path=path), 7)
+        self.assertEqual(read(file), "7\n")
+        server = self.server("--epoch", "7", "--epoch-file", file)
+        self.assertEqual((server.process.wait(LIMIT), server.stderr().count("\n"), file in server.stderr()), (1, 1, True), server.stderr())
+        self.assertEqual(self.epoch("--epoch", "9223372036854775807", "--epoch-file", file, path=path), 2**63 - 1)
+        server = self.server("--epoch-file", file)
+        self.assertEqual((server.process.wait(LIMIT), file in server.stderr()), (1, True), server.stderr())
+
+    @each(["", "\n", "x", "12 13", "-1", "+1", " 1", "1\n\n", "1\r\n", "9223372036854775807", "18446744073709551617", "1\0", "0x1", "1" * 4096])
+    def test_file_that_is_none(self, text: str) -> None:
+        """What is no number is left as it is, and the server does not start."""
+        file, path = self.file("epoch", text), self.path("socket")
+        server = self.server("--epoch-file", file, path=path)
+        self.assertEqual((server.process.wait(LIMIT), server.stderr().count("\n"), file in server.stderr()), (1, 1, True), server.stderr())
+        self.assertEqual((read(file), os.path.exists(path)), (text, False))
+
+    def test_files_of_others(self) -> None:
+        """A link is not followed, and a file of another user is not taken."""
+        target, link = self.file("target", "1"), self.path("epoch")
+        os.symlink(target, link)
+        places = [link, self.folder]
+        if os.geteuid() == 0:
+            other, folder = self.file("other", "1"), self.path("folder")
+            os.chown(other, 65534, 65534)
+            os.makedirs(folder)
+            places += [other]
+            self.write(os.path.join(folder, "socket.lock"), "")
+            os.chown(os.path.join(folder, "socket.lock"), 65534, 65534)
+            server = self.server(path=os.path.join(folder, "socket"))
+            self.assertEqual((server.process.wait(LIMIT), "no file of this user" in server.stderr()), (1, True), server.stderr())
+        for place in places:
+            server = self.server("--epoch-file", place)
+            self.assertEqual((server.process.wait(LIMIT), place in server.stderr()), (1, True), server.stderr())
+        self.assertEqual(read(target), "1")

@@ -10,6 +10,7 @@ import subprocess
 import sys
 from typing import Any
 
+from lib.faults import FaultCase, variables
 from lib.world import LIMIT, TOP, Server, Wire, each, environment, run, until
 from service.test_server import ServerCase, fills
 
@@ -461,6 +462,67 @@ class Program(StubCase):
         self.assertLessEqual(len([line for line in text.splitlines() if " -> " in line]), 5, text)  # (the shell has the script and the file open)
         masks = [int(line.split()[1], 16) for line in text.splitlines() if line.startswith("Sig")]
         self.assertEqual([mask & 0x7FFF_FFFF for mask in masks], [0, 0], text)
+
+
+class Heartbeat(StubCase, FaultCase):
+    """Lines without which the server stops. Its clock is the test's: it jumps after so many looks at it."""
+
+    def beaten(self, *rules: str) -> Server:
+        """A server that needs a line in ten minutes, and a pipe for them."""
+        self.reads, self.writes = os.pipe()
+        self.addCleanup(os.close, self.reads)
+        self.faults = self.path("faults")
+        env = variables(" ".join([*rules, "boottime:told", "send:told"]), log=self.faults, only="pashkure-serve")
+        words = ["--heartbeat-fd", str(self.reads), "--heartbeat-ms", "600000"]
+        return self.stubbed(*words, env=env, pass_fds=[self.reads])
+
+    def asks_to_the_end(self, wire: Wire, heartbeat: bytes) -> None:
+        """Asks until the server has closed the connection."""
+        while True:
+            os.write(self.writes, heartbeat)
+            try:
+                wire.send(b"a\n")
+                if not wire.socket.recv(65536):
+                    return
+            except (BrokenPipeError, ConnectionResetError):
+                return
+
+    def stops(self, server: Server, wires: list[Wire], jumps: int) -> None:
+        """Fails unless the server has ended with a line that says why, closed all connections, and sent nothing more when its clock had jumped so often."""
+        for wire in wires:
+            self.assertEqual(wire.all(), b"")
+        self.assertEqual((server.process.wait(LIMIT), os.path.exists(server.path)), (1, False))
+        self.assertEqual(server.stderr(), f"pashkure: no line came on descriptor {self.reads} for 600000 milliseconds\n")
+        with open(self.faults, encoding="ascii") as file:
+            before, jump, behind = file.read().partition(f"boottime:told={jumps}@")
+        self.assertEqual(("send:" in before, bool(jump), "send:" in behind), (True, True, False))
+
+    @each([40, 90, 91, 92, 93, 94, 95, 96, 97, 98])
+    def test_no_line_in_time(self, looks: int) -> None:
+        """It stops, whatever it is about to do: also if lines were written before the jump, since they may be as old as the last look."""
+        server = self.beaten(f"boottime:jump=601>{looks}")
+        wires = [self.wire(server) for _ in range(3)]
+        self.asks_to_the_end(wires[0], b"" if looks == 40 else b"beat\n")
+        self.stops(server, wires, 601)
+        os.close(self.writes)
+
+    def test_lines_in_time(self) -> None:
+        """It goes on as long as lines come. The end of the descriptor is none, and neither are bytes without a newline."""
+        for last in b"", b"no newline":
+            server = self.beaten(*(f"boottime:jump=250>{looks}" for looks in range(300, 2300, 50)))
+            wire = self.wire(server)
+            for _ in range(200):
+                os.write(self.writes, b"beat\n")
+                self.asks(wire, (b"a", b"heard 61"))
+            self.assertIsNone(server.process.poll())
+            with open(self.faults, encoding="ascii") as file:
+                self.assertIn("boottime:told=2500@", file.read())
+            if not last:
+                os.close(self.writes)
+                self.writes = os.open(os.devnull, os.O_WRONLY)
+            self.asks_to_the_end(wire, last)
+            self.assertEqual((server.process.wait(LIMIT), server.stderr().count("no line came")), (1, 1))
+            os.close(self.writes)
 
 
 class Manager(StubCase):

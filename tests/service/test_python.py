@@ -39,6 +39,7 @@ class Calls:
     """The cases that pipes and a socket, threads and asyncio have in common."""
 
     locks: Any
+    is_socket = False
 
     def setUp(self) -> None:
         super().setUp()  # type: ignore[misc]
@@ -47,6 +48,13 @@ class Calls:
     def socket(self, options: dict[str, int]) -> str:
         """The socket of a server with these limits."""
         return self.server(*(word for name, value in options.items() for word in ("--" + name.replace("_", "-"), str(value)))).path  # type: ignore[attr-defined]
+
+    def same_graph(self, *wanted: Wait) -> None:
+        """Over a socket only the operator may ask for it."""
+        if self.is_socket:
+            raises(Malformed, self.locks.graph)
+        else:
+            same(self.locks.graph(), list(wanted))
 
     def test_calls(self) -> None:
         """Locks are granted, held, busy, unlocked, and read"""
@@ -71,7 +79,7 @@ class Calls:
         raises(NoTransaction, tx.commit)
         raises(NoTransaction, tx.abort)
         same(locks.totals(), Totals(2, 2, 0, 0))
-        same(locks.graph(), [])
+        self.same_graph()
 
     def test_deadlock(self) -> None:
         """A deadlock is told to the one who closes the cycle, and the others go on after its abort"""
@@ -81,7 +89,7 @@ class Calls:
         two.lock("2")
         thread = Apart(one.lock, "2")
         waits(locks, one)
-        same(locks.graph(), [Wait(one.key, "2", two.key)])
+        self.same_graph(Wait(one.key, "2", two.key))
         same(one.status(), Status("waiting", "2", two.key, False))
         error = raises(Deadlock, two.lock, "1")
         same((error.name, error.holder), ("1", one.key))
@@ -270,7 +278,7 @@ class Calls:
         same(totals.committed, len(done))
         same(totals.begun, totals.committed + totals.aborted)
         same(totals.deadlocks, totals.aborted)
-        same(locks.graph(), [])
+        self.same_graph()
 
     def test_closing(self) -> None:
         """After `close` every call raises `Closed`, also one that waits"""
@@ -302,6 +310,7 @@ class OfThreads(Calls):
                 raise Interrupt
 
         raised: List[int] = []
+        keys: List[str] = []
 
         one = locks.transaction()
         one.lock("a")
@@ -309,13 +318,14 @@ class OfThreads(Calls):
         main = threading.get_ident()
 
         def kills() -> None:
-            until(lambda: locks.graph(), "somebody waits")
+            until(lambda: keys and locks.status(keys[0]).state == "waiting", "somebody waits")
             while not raised:  # one that comes just before a system call is noticed only when that call returns
                 signal.pthread_kill(main, signal.SIGUSR1)
                 time.sleep(0.05)
 
         def waits_in_block() -> None:
             with locks.transaction() as two:
+                keys.append(two.key)
                 two.lock("b")
                 two.lock("a")
 
@@ -352,6 +362,8 @@ class Pipes(OfThreads, Case):
 
 
 class Socket(OfThreads, Case):
+    is_socket = True
+
     def opened(self, **options: int) -> Locks:
         locks = Locks(socket=self.socket(options))
         self.addCleanup(locks.close)
@@ -368,6 +380,8 @@ class AsyncioPipes(Calls, Case):
 
 
 class AsyncioSocket(Calls, Case):
+    is_socket = True
+
     def opened(self, **options: int) -> Any:
         locks = Asyncio(socket=self.socket(options))
         self.addCleanup(locks.ends)

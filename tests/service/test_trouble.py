@@ -252,7 +252,8 @@ USES = """if True:
             except Timeout:
                 told.append("timeout")
             other.abort()
-        assert locks.graph() == [] and locks.totals().begun == locks.totals().committed + locks.totals().aborted
+        assert sys.argv[1] == "socket" or locks.graph() == []  # over a socket only the operator may ask for it
+        assert locks.totals().begun == locks.totals().committed + locks.totals().aborted
     print(len(told))
 """
 ASYNC_USES = """if True:
@@ -287,10 +288,15 @@ class Faults(FaultCase):
     @each([("one", 1), ("two", 2), ("a new seed", SEED)])
     def test_server(self, name: str, seed: int) -> None:
         """The same below the server."""
-        server = self.server("--name-bytes", "64", env=variables(FAULTS + " read:late=1%5 accept:EINTR%30", seed, only="python"))
+        log = self.path("log")
+        server = self.server("--name-bytes", "64", env=variables(FAULTS + " read:late=1%5 accept:EINTR%30", seed, log, "pashkure-serve"))
         told = run(sys.executable, "-c", USES, "socket", server.path, env=environment())
         self.assertEqual(told, (0, b"17\n", b""))
         self.assertEqual((server.close(), server.stderr()), (0, ""))
+        with open(log, encoding="ascii") as file:
+            text = file.read()
+        for fault in "read:short", "write:short", "recv:short", "send:short", "recv:EINTR", "send:EINTR", "epoll_wait:EINTR":
+            self.assertIn(fault, text)
 
     def test_faults_are_made(self) -> None:
         log = self.path("log")
