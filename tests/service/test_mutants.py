@@ -1,4 +1,5 @@
-"""Wrong bodies of the clients and the server, in tests/mutants: each is put into a copy of clients/, and there the test that it names fails."""
+"""Wrong bodies of the clients and the server, in tests/mutants: each is put into a copy of clients/ or server/, and there the test that it names
+fails."""
 from __future__ import annotations
 
 import concurrent.futures
@@ -35,20 +36,21 @@ def edit_of(path: str) -> Edit:
 
 
 def tried(path: str) -> tuple[int, str]:
-    """The status and the words of the test that the edit names, in a copy of clients/ with the edit."""
+    """The status and the words of the test that the edit names, in a copy of clients/ or server/ with the edit."""
     edit = edit_of(path)
+    part = edit.file.split("/")[0]
     with tempfile.TemporaryDirectory(prefix="pashkure.") as folder:
-        copy = os.path.join(folder, "clients")
-        shutil.copytree(os.path.join(TOP, "clients"), copy, ignore=shutil.ignore_patterns("__pycache__", "out"))
-        changed = os.path.join(folder, edit.file)
-        with open(changed, encoding="utf-8") as file:
+        shutil.copytree(os.path.join(TOP, part), os.path.join(folder, part), ignore=shutil.ignore_patterns("__pycache__", "out"))
+        file_changed = os.path.join(folder, edit.file)
+        with open(file_changed, encoding="utf-8") as file:
             text = file.read()
         if text.count(edit.old) != 1:
             return -1, f"what is to be changed stands {text.count(edit.old)} times in {edit.file}"
-        with open(changed, "w", encoding="utf-8") as file:
+        with open(file_changed, "w", encoding="utf-8") as file:
             file.write(text.replace(edit.old, edit.new))
         command = [sys.executable, os.path.join(TOP, "tests/run"), "-k", edit.test, "--seed", os.environ["TESTED_SEED"], edit.test.rsplit(".", 2)[0]]
-        environment = {**os.environ, "TESTED_CLIENTS": copy, "TESTED_LIMIT": LIMIT}
+        changed = {"TESTED_SOURCES": folder, "TESTED_SERVER": ""} if part == "server" else {"TESTED_CLIENTS": os.path.join(folder, part)}
+        environment = {**os.environ, **changed, "TESTED_LIMIT": LIMIT}
         told = subprocess.run(command, env=environment, stdout=subprocess.PIPE, stderr=subprocess.STDOUT, text=True, check=False)
         return told.returncode, told.stdout
 

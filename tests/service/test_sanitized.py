@@ -1,0 +1,48 @@
+"""The tests of the server again, with one that is built with sanitizers; and with calls that fail or are short below that."""
+from __future__ import annotations
+
+import os
+import subprocess
+import sys
+import tempfile
+
+from lib.faults import FaultCase, variables
+from lib.front import SANITIZED, built
+from lib.world import SEED, TOP, each, environment, run
+from service.test_server import ServerCase
+
+MODULES = ["service.test_front", "service.test_ends", "service.test_server", "service.test_crowd", "service.test_bytes", "service.test_between"]
+FAULTS = "read:short%30 write:short%30 recv:short%30 send:short%30 recv:EINTR%10 send:EINTR%10 write:EINTR%10 read:EINTR%10 epoll_wait:EINTR%10 accept:EINTR%20"
+OPTIONS = {"ASAN_OPTIONS": "quarantine_size_mb=1:detect_stack_use_after_return=0", "UBSAN_OPTIONS": "print_stacktrace=1"}
+
+
+class Sanitized(FaultCase, ServerCase):
+    @classmethod
+    def setUpClass(cls) -> None:
+        super().setUpClass()
+        folder = tempfile.TemporaryDirectory(prefix="pashkure.")
+        cls.addClassCleanup(folder.cleanup)
+        cls.front = os.path.join(folder.name, "pashkure-serve")
+        try:
+            built(cls.front, *SANITIZED, "-static-libasan")
+        except subprocess.CalledProcessError:
+            cls.front = ""
+
+    def needs_sanitizers(self) -> str:
+        self.needs_server()
+        if not self.front or run(self.front, "--help").status != 0:
+            self.skipTest("this C compiler has no sanitizers that run here (Debian's package libasan)")
+        return self.front
+
+    def tries(self, module: str, **env: str) -> None:
+        words = [sys.executable, os.path.join(TOP, "tests/run"), "--seed", str(SEED), module]
+        told = run(*words, env=environment(**OPTIONS, TESTED_SERVER=self.needs_sanitizers(), TESTED_SANITIZED="yes", **env))
+        self.assertEqual((told.status, told.err), (0, b""), told.out.decode(errors="replace"))
+
+    @each(MODULES)
+    def test_module(self, module: str) -> None:
+        self.tries(module)
+
+    @each(["service.test_between", "service.test_crowd"])
+    def test_with_faults(self, module: str) -> None:
+        self.tries(module, **variables(FAULTS, SEED, only="pashkure-serve"))
