@@ -11,7 +11,10 @@
 #include <sys/socket.h>
 #include <unistd.h>
 
-enum { AT_ONCE = 64 }; /* clients that are taken in before others have their turn */
+enum {
+    AT_ONCE = 64, /* clients that are taken in before others have their turn */
+    ROUNDS = 4, /* in which the end of one that is gone is read */
+};
 
 static const char full[] = "refused connections-full\n";
 
@@ -60,14 +63,21 @@ static bool is_want_of_room(int error)
     return error == EMFILE || error == ENFILE || error == ENOBUFS || error == ENOMEM;
 }
 
+/* Says whether a client for which there is no number waits: of some that are gone the end may not be read yet, or not be answered. */
+static bool may_become_free(struct front *front)
+{
+    if (front->leaving == 0)
+        return front->full_rounds++ < ROUNDS;
+    watch_accepts(front, false); /* until a number has come back */
+    return true;
+}
+
 void clients_accept(struct front *front, bool is_admin)
 {
     int place = is_admin ? front->admin_place.socket : front->place.socket;
     for (int count = 0; count < AT_ONCE; count++) {
-        if (!is_admin && front->free_count == 0 && front->leaving > 0) {
-            watch_accepts(front, false); /* until a number has come back */
+        if (!is_admin && front->free_count == 0 && may_become_free(front))
             return;
-        }
         int file = accept4(place, NULL, NULL, SOCK_CLOEXEC | SOCK_NONBLOCK);
         if (file < 0) {
             if (is_want_of_room(errno) && !is_admin)
@@ -75,6 +85,7 @@ void clients_accept(struct front *front, bool is_admin)
             return;
         }
         struct client *client = is_admin ? free_admin(front) : free_client(front);
+        front->full_rounds = 0;
         if (client != NULL) {
             takes_in(front, client, file);
             continue;

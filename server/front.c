@@ -104,10 +104,10 @@ static void opens(struct front *front)
 {
     const struct options *options = &front->options;
     bool is_passed = front->place.socket >= 0;
-    if (!is_passed && !place_open(&front->place, options->mode, options->group_id))
+    if (options->admin != NULL && (!place_open(&front->admin_place, 0600, (gid_t)-1)
+                                   || !watch_file(front, front->admin_place.socket, EPOLLIN, OF_ADMIN_PLACE)))
         front->end = BY_START;
-    else if (options->admin != NULL && (!place_open(&front->admin_place, 0600, (gid_t)-1)
-                                        || !watch_file(front, front->admin_place.socket, EPOLLIN, OF_ADMIN_PLACE)))
+    else if (!is_passed && !place_open(&front->place, options->mode, options->group_id))
         front->end = BY_START;
     else
         watch_accepts(front, true);

@@ -59,6 +59,7 @@ struct front {
     unsigned connections; /* the greatest number */
     unsigned *numbers; /* those that are free, of which the last one is given next */
     unsigned free_count, leaving; /* how many are free, and of how many `- C` has to come back */
+    unsigned full_rounds; /* for how many rounds a client has waited for which there is no number */
     struct client admins[ADMINS];
     struct asker askers[ADMINS * UNANSWERED + 1]; /* a ring */
     unsigned first_asker, asker_count;

@@ -11,7 +11,7 @@ import sys
 import tempfile
 import zipfile
 
-from lib.world import PACKAGE, PROGRAM, Case
+from lib.world import PACKAGE, PROGRAM, Case, run
 
 CLIENT = pathlib.Path(PACKAGE)
 PIP = {"PIP_NO_INDEX": "1", "PIP_DISABLE_PIP_VERSION_CHECK": "1", "PIP_CONFIG_FILE": os.devnull, "PYTHONDONTWRITEBYTECODE": "1"}
@@ -62,7 +62,8 @@ class Install(Case):
     def is_used(self, path: object) -> None:
         """The package that is installed locks a name, and lies at this path; its script runs."""
         self.assertEqual(self.runs(self.bin / "python", "-c", USE), f"['a'] 0.1.0 {path}\n")
-        self.assertIn("serve", self.runs(self.bin / "pashkure", "--help"))
+        told = run(str(self.bin / "pashkure"), env=self.environment)
+        self.assertEqual((told.status, told.out, b"mmdetect serve" in told.err), (2, b"", True))
         self.addCleanup(self.pip, "uninstall", "-y", "pashkure")
 
     def library(self) -> pathlib.Path:

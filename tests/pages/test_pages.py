@@ -5,6 +5,7 @@ import importlib.util
 import os
 import pathlib
 import re
+import shlex
 import signal
 import subprocess
 import sys
@@ -54,7 +55,8 @@ class Pasted(Case):
             self.skipTest("this Python has no ensurepip (Debian's package python3-venv)")
         if " cc " in f" {commands}" and run("sh", "-c", "command -v cc").status:
             self.skipTest("no C compiler cc is on the PATH")
-        told = self.pasted(commands.replace("/tmp/", f"{self.folder}/").replace("./mmdetect", PROGRAM))
+        commands = commands.replace("/tmp/", f"{self.folder}/").replace("./mmdetect serve", f"{shlex.join(self.needs_server())} --program {PROGRAM}")
+        told = self.pasted(commands.replace("./mmdetect", PROGRAM))
         self.assertEqual(deadlocks_left_out(told), deadlocks_left_out(wanted))
 
     def pasted(self, commands: str) -> str:

@@ -126,10 +126,16 @@ class Tries(Checkout):
         self.assertIn(b"tried example_script try -- typed", shown)
 
     def test_help(self) -> None:
-        with open(os.path.join(TOP, "wrapper/help.txt"), encoding="utf-8") as text, open(os.path.join(TOP, "wrapper/help/prove.txt"), encoding="utf-8") as prove:
-            own = "\nCommands of ./mmdetect alone:\n  prove    Proves and builds the program, and runs nothing\n"
-            self.gives(0, text.read() + own, "", "", "--help")
-            self.gives(0, prove.read(), "", "", "help", "prove")
+        texts = {}
+        for name in "help.txt", "help/prove.txt", "help/serve.txt":
+            with open(os.path.join(TOP, "wrapper", name), encoding="utf-8") as file:
+                texts[name] = file.read()
+        own = "\nCommands of ./mmdetect alone:\n"
+        for word in "prove", "serve":
+            own += f"  {word}    {texts[f'help/{word}.txt'].splitlines()[0]}\n"
+            self.gives(0, texts[f"help/{word}.txt"], "", "", "help", word)
+            self.gives(0, texts[f"help/{word}.txt"], "", "", word, "--help")
+        self.gives(0, texts["help.txt"] + own, "", "", "--help")
 
     def test_pipe_that_stays_open(self) -> None:
         reads, writes = os.pipe()
@@ -288,6 +294,63 @@ def is_over(process: str) -> bool:
             return file.read().rpartition(")")[2].split()[0] in "XZ"
     except OSError:
         return True
+
+
+class Serves(Checkout):
+    """The server, which is built once by cc, and stands here for one that prints its words."""
+
+    def setUp(self) -> None:
+        super().setUp()
+        os.makedirs(f"{self.top}/server")
+        self.writes(f"{self.top}/server/main.c", '#include "text.h"\nint main(int n, char **w) { puts(TEXT); while (*++w) puts(*w); return n > 20; }\n')
+        self.text("one")
+        self.front = f"{self.top}/crates/mm_detect/out/pashkure-serve"
+        self.writes(f"{self.fake}/bin/cc", f'#!/bin/sh\necho cc >> "{self.fake}/calls"\nexec {shutil.which("cc")} "$@"\n')
+        os.chmod(f"{self.fake}/bin/cc", 0o755)
+
+    def text(self, text: str) -> None:
+        self.writes(f"{self.top}/server/text.h", f'#include <stdio.h>\n#define TEXT "{text}"\n')
+
+    def needs_cc(self) -> None:
+        if not shutil.which("cc"):
+            self.skipTest("no C compiler cc is on the PATH")
+
+    def test_proved_program(self) -> None:
+        """It is built for its sources, and started with the proved program unless another one is named."""
+        self.needs_cc()
+        self.proved()
+        words, program = ["serve", "--socket", "x y", "--quiet"], f"{self.top}/crates/mm_detect/out/mm_detect"
+        self.gives(0, f"one\n--program\n{program}\n--socket\nx y\n--quiet\n", "", "cc", *words)
+        self.gives(0, f"one\n--program\n{program}\n--socket\nx y\n--quiet\n", "", "", *words)
+        self.text("two")
+        self.gives(0, "two\n--program\nother\n", "", "cc", "serve", "--program", "other")
+        self.gives(0, "two\n--program=other\n", "", "", "serve", "--program=other")
+
+    def test_nothing_proved(self) -> None:
+        """Nothing is tried or proved. Another program needs no proof."""
+        self.needs_cc()
+        for build in "", "proved", "never":
+            self.gives(126, "", PROVE_FIRST, "", "serve", "--socket", "x", build=build)
+        self.gives(0, "one\n--program\nother\n", "", "cc", "serve", "--program", "other")
+
+    def test_no_compiler(self) -> None:
+        """Without cc there is status 127, unless the server is built."""
+        bare = self.path("bin")
+        os.makedirs(bare)
+        for name in "bash", "env", "dirname", "readlink", "sha256sum", "cut", "cat":
+            os.symlink(str(shutil.which(name)), os.path.join(bare, name))
+        words = ["serve", "--program", "other"]
+        self.ends(self.wrapped(*words, path=bare), 127, "", "mmdetect: the server is built by a C compiler, and no command cc is on the PATH\n")
+        self.needs_cc()
+        self.gives(0, "one\n--program\nother\n", "", "cc", *words)
+        self.ends(self.wrapped(*words, path=bare), 0, "one\n--program\nother\n")
+
+    def test_compiler_that_fails(self) -> None:
+        self.needs_cc()
+        self.text('" ! "')
+        told = self.gives(126, "", None, "cc", "serve", "--program", "other")
+        self.assertTrue(told.err.endswith(b"mmdetect: cc did not build the server\n"), told.err)
+        self.assertEqual(os.listdir(os.path.dirname(self.front)), [])
 
 
 class Desk(Checkout):

@@ -8,7 +8,7 @@
             tx.lock("accounts/2", timeout=2.0)
         locks.run(transfer, "accounts/1", "accounts/2")   # again after Deadlock
 
-`pashkure.aio` has the same for asyncio. `python3 -m pashkure serve --socket PATH` serves many processes.
+`pashkure.aio` has the same for asyncio. `mmdetect serve --socket PATH` serves many processes.
 """
 from .errors import (
     Aborted,

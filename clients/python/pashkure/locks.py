@@ -36,7 +36,7 @@ class Locks:
     - `name_bytes`: how many bytes a name may have;
     - `seed`: of the hash of names; the program draws one where this is missing.
 
-    `Locks(socket=PATH)` reaches a server that runs already (`python3 -m pashkure serve`), which many processes can share.
+    `Locks(socket=PATH)` reaches a server that runs already (`mmdetect serve`), which many processes can share.
 
     All threads may use one object at the same time. In a `with` statement it is closed at the end. After a fork the child opens its own.
     """
