@@ -349,6 +349,26 @@ class Epochs(ServerCase):
             last = now
         self.assertEqual(last, 9 * 10**18 + 2)
 
+    def test_fences(self) -> None:
+        """The fence of a new service is greater than each of an old one, also if the file of the epoch is gone."""
+        if b"fence" not in self.run_program("help", "locks").out:
+            self.skipTest("the program has no fences")
+        path, fences = self.path("socket"), []
+        for number in range(3):
+            if number == 2:
+                os.unlink(path + ".epoch")
+            server = self.server(path=path)
+            wire = self.wire(server)
+            key = begun(wire, b"a")
+            for _ in range(2):
+                word, *fence = wire.ask(b"fence %b a" % key).split(b" ")
+                self.assertEqual((word, len(fence)), (b"fence", 2))
+                fences.append(tuple(map(int, fence)))
+                begun(wire, b"b%d" % len(fences))
+            self.assertEqual(wire.ask(b"hello").split(b" ")[:3], [b"hello", b"1", b"%d" % fences[-1][0]])
+            self.assertEqual(server.close(), 0)
+        self.assertEqual(fences, sorted(set(fences)))
+
     def write(self, path: str, text: str) -> None:
         with open(path, "w", encoding="ascii") as file:
             file.write(text)

@@ -7,6 +7,7 @@ import socket
 import stat
 import subprocess
 import sys
+import time
 from typing import Any
 
 from lib.faults import FaultCase, variables
@@ -386,6 +387,7 @@ class Log(StubCase):
 
     def test_many_deadlocks(self) -> None:
         """At most a hundred are told in a second, and the others are counted."""
+        began = time.monotonic()
         server, count, left = self.stubbed(is_quiet=False), 5000, b"|".join([b"0 * deadlock 0.1 a 1.1 b"] * 40)
         for _ in range(count // 40):
             self.admin.send(b"say " + left + b"|0 done\n")
@@ -395,7 +397,7 @@ class Log(StubCase):
         told, counted = text.count(" deadlock 0.1 a 1.1 b\n"), [int(line.split()[1]) for line in text.splitlines() if line.endswith(" more deadlocks")]
         self.assertEqual(told + sum(counted), count)
         self.assertGreaterEqual(told, 100)
-        self.assertLessEqual(told, 100 * (len(counted) + 1))
+        self.assertLessEqual(told, 100 * (time.monotonic() - began + 2))
 
     def test_that_nobody_reads(self) -> None:
         """What standard error has no room for is dropped, and nobody waits."""
