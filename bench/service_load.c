@@ -1,0 +1,307 @@
+/* service_load WHAT PATH CLIENTS SECONDS KIND NAMES: clients of a service at a Unix socket, a thread and a connection each, for so many seconds.
+ * service_load echo-server PATH: a server of one thread that sends back what it gets.
+ *
+ * WHAT is service (mmdetect serve), redis or echo. KIND is requests, which locks and unlocks a name of the client's own; ordered, transactions
+ * of four names out of NAMES in rising order; or any, the same in any order. It prints how many requests, or transactions that committed, and
+ * how many deadlocks or tries in vain, there were a second. */
+#define _GNU_SOURCE
+#include <pthread.h>
+#include <stdbool.h>
+#include <stdint.h>
+#include <stdio.h>
+#include <stdlib.h>
+#include <string.h>
+#include <sys/epoll.h>
+#include <sys/socket.h>
+#include <sys/un.h>
+#include <time.h>
+#include <unistd.h>
+
+#define OWNED 4
+
+struct client {
+    const char *path;
+    bool is_redis, is_any;
+    unsigned names;
+    int socket, number;
+    char input[65536];
+    size_t start, end;
+    uint64_t chance, done, vain;
+};
+
+static double seconds_for;
+static const char *what, *kind;
+
+static void must(bool is_so, const char *text)
+{
+    if (!is_so) {
+        perror(text);
+        exit(1);
+    }
+}
+
+static double now(void)
+{
+    struct timespec time;
+    clock_gettime(CLOCK_MONOTONIC, &time);
+    return (double)time.tv_sec + (double)time.tv_nsec / 1e9;
+}
+
+static unsigned drawn(struct client *client, unsigned below)
+{
+    client->chance = client->chance * 6364136223846793005u + 1442695040888963407u;
+    return (unsigned)((client->chance >> 33) % below);
+}
+
+static void send_text(struct client *client, const char *text, size_t length)
+{
+    while (length > 0) {
+        ssize_t count = send(client->socket, text, length, MSG_NOSIGNAL);
+        must(count > 0, "send");
+        text += count;
+        length -= (size_t)count;
+    }
+}
+
+/* The next line, without its end. It stays until the next call. */
+static char *line_of(struct client *client)
+{
+    for (;;) {
+        char *from = client->input + client->start, *end = memchr(from, '\n', client->end - client->start);
+        if (end != NULL) {
+            client->start = (size_t)(end - client->input) + 1;
+            *end = '\0';
+            return from;
+        }
+        memmove(client->input, from, client->end - client->start);
+        client->end -= client->start;
+        client->start = 0;
+        ssize_t count = recv(client->socket, client->input + client->end, sizeof client->input - 1 - client->end, 0);
+        must(count > 0, "recv");
+        client->end += (size_t)count;
+    }
+}
+
+static void sleep_some(struct client *client, unsigned most)
+{
+    struct timespec pause = {0, (long)drawn(client, most) * 1000};
+    nanosleep(&pause, NULL);
+}
+
+/* Four different numbers. */
+static void draw(struct client *client, unsigned *names)
+{
+    for (int i = 0; i < OWNED; i++) {
+        bool is_new;
+        do {
+            is_new = true;
+            names[i] = drawn(client, client->names);
+            for (int j = 0; j < i; j++)
+                is_new = is_new && names[j] != names[i];
+        } while (!is_new);
+    }
+    for (int i = 1; i < OWNED && !client->is_any; i++)
+        for (int j = i; j > 0 && names[j - 1] > names[j]; j--) {
+            unsigned other = names[j];
+            names[j] = names[j - 1];
+            names[j - 1] = other;
+        }
+}
+
+/* ---- the service ---- */
+
+/* Waits for the grant of a wait, and returns false if the transaction was aborted instead. */
+static bool is_granted(struct client *client)
+{
+    return strncmp(line_of(client), "* granted ", 10) == 0;
+}
+
+/* One transaction: begun with all names; the rest is asked for after each grant. Returns whether it committed. */
+static bool transaction(struct client *client, const unsigned *names)
+{
+    char text[256], key[32], *reply;
+    int length = snprintf(text, sizeof text, "begin %u %u %u %u\n", names[0], names[1], names[2], names[3]), next = 0;
+    send_text(client, text, (size_t)length);
+    reply = line_of(client);
+    must(sscanf(reply, "begun %31s", key) == 1, reply);
+    reply += 6 + strlen(key);
+    reply += *reply == ' ';
+    for (;;) {
+        int place = 0;
+        if (*reply == '\0' || strcmp(reply, "granted") == 0)
+            break;
+        if (strncmp(reply, "deadlock ", 9) == 0) {
+            send_text(client, text, (size_t)snprintf(text, sizeof text, "abort %s\n", key));
+            must(strcmp(line_of(client), "aborted") == 0, "abort");
+            return false;
+        }
+        must(strncmp(reply, "waits ", 6) == 0, reply);
+        if (next < OWNED - 1)
+            must(sscanf(reply, "waits %d ", &place) == 1, reply);
+        must(is_granted(client), "grant");
+        next += place + 1;
+        if (next == OWNED)
+            break;
+        length = snprintf(text, sizeof text, "lock %s", key);
+        for (int i = next; i < OWNED; i++)
+            length += snprintf(text + length, sizeof text - (size_t)length, " %u", names[i]);
+        text[length++] = '\n';
+        send_text(client, text, (size_t)length);
+        reply = line_of(client);
+    }
+    send_text(client, text, (size_t)snprintf(text, sizeof text, "commit %s\n", key));
+    must(strcmp(line_of(client), "committed") == 0, "commit");
+    return true;
+}
+
+/* ---- Redis: a script sets four keys that are not there, or none ---- */
+
+static const char SCRIPT[] = "for i=1,4 do if redis.call('EXISTS',KEYS[i])==1 then return 0 end end for i=1,4 do redis.call('SET',KEYS[i],ARGV[1]) end return 1";
+static char script_sum[64];
+
+static void load_script(struct client *client)
+{
+    char text[512];
+    send_text(client, text, (size_t)snprintf(text, sizeof text, "*3\r\n$6\r\nSCRIPT\r\n$4\r\nLOAD\r\n$%zu\r\n%s\r\n", strlen(SCRIPT), SCRIPT));
+    line_of(client);
+    must(sscanf(line_of(client), "%63s", script_sum) == 1, "script");
+}
+
+static int with_keys(char *text, size_t room, const unsigned *names)
+{
+    int length = 0;
+    for (int i = 0; i < OWNED; i++) {
+        char key[16];
+        int size = snprintf(key, sizeof key, "%u", names[i]);
+        length += snprintf(text + length, room - (size_t)length, "$%d\r\n%s\r\n", size, key);
+    }
+    return length;
+}
+
+static bool redis_transaction(struct client *client, const unsigned *names)
+{
+    char text[512];
+    int length = snprintf(text, sizeof text, "*8\r\n$7\r\nEVALSHA\r\n$40\r\n%s\r\n$1\r\n4\r\n", script_sum);
+    length += with_keys(text + length, sizeof text - (size_t)length, names);
+    length += snprintf(text + length, sizeof text - (size_t)length, "$1\r\nx\r\n");
+    for (;;) {
+        send_text(client, text, (size_t)length);
+        if (line_of(client)[1] == '1')
+            break;
+        client->vain++;
+        sleep_some(client, 100);
+    }
+    length = snprintf(text, sizeof text, "*5\r\n$3\r\nDEL\r\n");
+    length += with_keys(text + length, sizeof text - (size_t)length, names);
+    send_text(client, text, (size_t)length);
+    line_of(client);
+    return true;
+}
+
+/* ---- clients ---- */
+
+static void requests(struct client *client, double end)
+{
+    char key[32] = "", lock[64], unlock[64];
+    bool is_echo = strcmp(what, "echo") == 0;
+    if (!is_echo) {
+        send_text(client, "begin\n", 6);
+        must(sscanf(line_of(client), "begun %31s", key) == 1, "begin");
+    }
+    int locks = snprintf(lock, sizeof lock, "lock %s own%d\n", key, client->number);
+    int unlocks = snprintf(unlock, sizeof unlock, "unlock %s own%d\n", key, client->number);
+    while (now() < end)
+        for (int i = 0; i < 50; i++) {
+            send_text(client, lock, (size_t)locks);
+            line_of(client);
+            send_text(client, unlock, (size_t)unlocks);
+            line_of(client);
+            client->done += 2;
+        }
+}
+
+static void *run(void *given)
+{
+    struct client *client = given;
+    struct sockaddr_un address = {.sun_family = AF_UNIX};
+    double end = now() + seconds_for;
+    unsigned names[OWNED];
+    strncpy(address.sun_path, client->path, sizeof address.sun_path - 1);
+    client->socket = socket(AF_UNIX, SOCK_STREAM, 0);
+    must(connect(client->socket, (struct sockaddr *)&address, sizeof address) == 0, "connect");
+    if (strcmp(kind, "requests") == 0) {
+        requests(client, end);
+        return NULL;
+    }
+    if (client->is_redis && client->number == 0)
+        load_script(client);
+    while (client->is_redis && script_sum[39] == '\0')
+        usleep(1000);
+    while (now() < end) {
+        draw(client, names);
+        if (client->is_redis ? redis_transaction(client, names) : transaction(client, names)) {
+            client->done++;
+        } else {
+            client->vain++;
+            sleep_some(client, 200);
+        }
+    }
+    return NULL;
+}
+
+/* Sends back what comes, of all clients. */
+static int echo_server(const char *path)
+{
+    struct sockaddr_un address = {.sun_family = AF_UNIX};
+    static char bytes[65536];
+    struct epoll_event event = {.events = EPOLLIN}, ready[64];
+    int listener = socket(AF_UNIX, SOCK_STREAM, 0), all = epoll_create1(0);
+    strncpy(address.sun_path, path, sizeof address.sun_path - 1);
+    must(bind(listener, (struct sockaddr *)&address, sizeof address) == 0 && listen(listener, 64) == 0, path);
+    event.data.fd = listener;
+    epoll_ctl(all, EPOLL_CTL_ADD, listener, &event);
+    for (;;) {
+        int count = epoll_wait(all, ready, 64, -1);
+        for (int i = 0; i < count; i++) {
+            int one = ready[i].data.fd;
+            if (one == listener) {
+                event.data.fd = accept(listener, NULL, NULL);
+                epoll_ctl(all, EPOLL_CTL_ADD, event.data.fd, &event);
+                continue;
+            }
+            ssize_t length = recv(one, bytes, sizeof bytes, 0);
+            if (length <= 0 || send(one, bytes, (size_t)length, MSG_NOSIGNAL) < length)
+                close(one);
+        }
+    }
+}
+
+int main(int count, char **words)
+{
+    if (count == 3 && strcmp(words[1], "echo-server") == 0)
+        return echo_server(words[2]);
+    int clients = count == 7 ? atoi(words[3]) : 0;
+    uint64_t done = 0, vain = 0;
+    if (clients < 1 || clients > 4096) {
+        fprintf(stderr, "usage: service_load WHAT PATH CLIENTS SECONDS KIND NAMES\n");
+        return 2;
+    }
+    what = words[1];
+    kind = words[5];
+    seconds_for = atof(words[4]);
+    struct client *all = calloc((size_t)clients, sizeof *all);
+    pthread_t *threads = calloc((size_t)clients, sizeof *threads);
+    for (int i = 0; i < clients; i++) {
+        all[i] = (struct client){.path = words[2], .number = i, .names = (unsigned)atoi(words[6]), .chance = (uint64_t)i * 977 + 1};
+        all[i].is_redis = strcmp(what, "redis") == 0;
+        all[i].is_any = strcmp(kind, "any") == 0;
+        must(pthread_create(&threads[i], NULL, run, &all[i]) == 0, "thread");
+    }
+    for (int i = 0; i < clients; i++) {
+        pthread_join(threads[i], NULL);
+        done += all[i].done;
+        vain += all[i].vain;
+    }
+    printf("%.0f %.0f\n", (double)done / seconds_for, (double)vain / seconds_for);
+    return 0;
+}
