@@ -143,10 +143,8 @@ impl<S: Steps + Drop, G: Gate + Drop> Client<S, G> {
         ensures aborts { (S.shares self.new).aborts ≡ (S.shares self.old).aborts }
         ensures parts { (S.shares self.new).parts ≡ (S.shares self.old).parts }
     {
-        for _ in 0..u64::MAX {
-            if !self.spend() {
-                return Err(End::Spent);
-            }
+        for left in (0..self.turns).rev() {
+            self.turns = left;
             match self.table.begin() {
                 Ok(key) => return Ok(key),
                 Err(Refusal::Full) => thread::yield_now(),
@@ -154,17 +152,6 @@ impl<S: Steps + Drop, G: Gate + Drop> Client<S, G> {
             }
         }
         Err(End::Spent)
-    }
-
-    /// Uses a turn. `false` where all are used.
-    fn spend(&mut self) -> bool
-        ensures { self.new ≡ self.old }
-    {
-        if self.turns == 0 {
-            return false;
-        }
-        self.turns -= 1;
-        true
     }
 
     /// All steps in order, up to a verdict.
@@ -211,10 +198,8 @@ impl<S: Steps + Drop, G: Gate + Drop> Client<S, G> {
         ensures aborts { (S.shares self.new).aborts ≡ (S.shares self.old).aborts }
         ensures parts { (S.shares self.new).parts ≡ (S.shares self.old).parts }
     {
-        for _ in 0..u64::MAX {
-            if !self.spend() {
-                return Err(End::Spent);
-            }
+        for left in (0..self.turns).rev() {
+            self.turns = left;
             match self.round(key) {
                 Ok(Some(next)) => return Ok(next),
                 Ok(None) => thread::yield_now(),
@@ -243,10 +228,8 @@ impl<S: Steps + Drop, G: Gate + Drop> Client<S, G> {
         ensures same { self.new ≡ self.old }
     {
         self.gate.arrive();
-        for _ in 0..u64::MAX {
-            if !self.spend() {
-                return Err(End::Spent);
-            }
+        for left in (0..self.turns).rev() {
+            self.turns = left;
             if self.gate.may_pass(arrivals) {
                 return Ok(Next::GoOn);
             }

@@ -1,5 +1,5 @@
 use Rattle.std.specs.Prelude.{◌≡◌}
 use Rattle.mm_clients.proofs.client.Client.meet.Given as goal
 
-abbrev pub invariant-loop : goal.invariant-loop
-invariant-loop g l = l.self ≡ l.fn.self
+abbrev pub invariant-loop-left : goal.invariant-loop-left
+invariant-loop-left g l = l.self-inside.table ≡ l.fn.self
