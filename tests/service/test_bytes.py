@@ -39,7 +39,7 @@ def pieces(data: bytes, chance: random.Random) -> Iterator[bytes]:
 class Bytes(ServerCase):
     def begins(self) -> None:
         """Starts a server. `other` has one transaction, OTHER, and `one` sends the lines that are tried, with the keys that it begins."""
-        self.hub = Hub(5, transactions=32, names=256, name_bytes=1024)
+        self.hub = Hub(5, 32, transactions=32, names=256, name_bytes=1024)
         self.model = self.hub.service
         self.started = self.server("--transactions", "32", "--names", "256", "--name-bytes", "1024")
         self.other, self.one = self.wire(self.started), self.wire(self.started)

@@ -20,7 +20,7 @@ class Crowd:
     def __init__(self, wires: list[Wire], seed: int) -> None:
         self.wires = wires
         self.draws = Requests(random.Random(f"crowd {seed}"), SIZE)
-        self.hub = Hub(len(wires) + 1, transactions=SIZE[0], names=SIZE[1], name_bytes=SIZE[2])
+        self.hub = Hub(len(wires) + 1, SIZE[0], transactions=SIZE[0], names=SIZE[1], name_bytes=SIZE[2])
         self.draws.model = self.hub.service
 
     def batch(self) -> None:
@@ -34,7 +34,8 @@ class Crowd:
             for told in self.hub.answer(b"%d " % which + line):
                 number, _, reply = told.partition(b" ")
                 self.draws.note([reply])
-                wanted[int(number)].append(reply)
+                if number != b"0":
+                    wanted[int(number)].append(reply)
         self.wires[which - 1].send(b"\n".join([*lines, END]) + b"\n")
         compare(self.wires[which - 1].lines(len(wanted[which])), wanted[which], lines)
         for number, wire in enumerate(self.wires, 1):
