@@ -253,12 +253,12 @@ static void test_limits(void)
     GIVES(TRANSACTIONS_FULL, pashkure_begin(&one, &more));
     for (place = 0; place < 2048; place++) {
         snprintf(name, sizeof name, "%048d/%015d", place, place * 7 % 2048);
-        GIVES(OK, pashkure_lock(&one, &transactions[0], name));
+        GIVES(OK, pashkure_lock(&one, &transactions[place / 1024], name));
     }
     GIVES(NAMES_FULL, pashkure_lock(&one, &transactions[1], "b"));
     GIVES(NAMES_FULL, pashkure_try_lock(&one, &transactions[1], "b"));
     GIVES(OK, pashkure_holds(&one, &transactions[0], take_name, &names));
-    CHECK(names.count == 2048 && names.is_ordered);
+    CHECK(names.count == 1024 && names.is_ordered);
     for (place = 0; place < 64; place++)
         GIVES(OK, pashkure_commit(&one, &transactions[place]));
     more = begun(&one);

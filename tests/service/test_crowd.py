@@ -33,7 +33,7 @@ class Crowd:
         for line in [*lines, END]:
             for told in self.hub.answer(b"%d " % which + line):
                 number, _, reply = told.partition(b" ")
-                self.draws.note([reply])
+                self.draws.ended += [reply[6:]] if reply.startswith(b"begun ") else []
                 if number != b"0":
                     wanted[int(number)].append(reply)
         self.wires[which - 1].send(b"\n".join([*lines, END]) + b"\n")

@@ -99,7 +99,7 @@ class Lines(ServerCase):
         """Each line has one reply: what is no request is malformed, also an empty line and a comment."""
         wire = self.wire(self.server())
         self.asks(wire, *((line, b"malformed") for line in (b"", b"# begin", b"\r", b"#", b"  ", b" # begin")), (b"begin\r", b"begun 0.1"))
-        wire.send(b"begin now\nlock 0.1\nlock 0.1 a b\nlock 0.1 a\x01\n  lock   0.1   a \nLOCK 0.1 a\n")
+        wire.send(b"begin a\x01\nlock 0.1\ntry 0.1 a b\nlock 0.1 a\x01\n  lock   0.1   a \nLOCK 0.1 a\n")
         self.assertEqual(wire.lines(6), [b"malformed"] * 4 + [b"granted", b"malformed"])
         wire.send(b"lock 00.01 b\nlock 0.1.1 b\nlock 0. b\nlock -0.1 b\nlock 4294967296.1 b\ngraph all\nholds\nholds 0.1\n")
         self.assertEqual(wire.lines(8), [b"granted"] + [b"malformed"] * 6 + [b"holds a b"])
