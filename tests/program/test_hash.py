@@ -1,14 +1,15 @@
 """Which names share a list of the program's hash, by the seed."""
 from __future__ import annotations
 
-import resource
+import re
+import shutil
 import struct
 from typing import List, Tuple
 
-from lib.world import Case
+from lib.world import PROGRAM, Case, run
 
 MASK = 2**64 - 1
-COUNT = 16_384
+COUNT = 1000
 """Names that are locked. Where all of them are in one list, each look-up passes those that came before."""
 
 
@@ -57,15 +58,20 @@ def chosen() -> Tuple[int, List[bytes]]:
 
 
 class Seeds(Case):
-    def processor_time(self, seed: int, names: List[bytes]) -> float:
-        """Locks the names in one transaction. Returns the seconds of processor time that the program took."""
+    def instructions(self, seed: int, names: List[bytes]) -> int:
+        """Locks the names in one transaction. Returns how many instructions the program executed."""
         text = b"begin\n" + b"".join(b"lock 0.1 %b\n" % name for name in names)
-        before = resource.getrusage(resource.RUSAGE_CHILDREN)
-        self.ends(self.run_program("locks", "--seed", str(seed), given=text), 0, b"begun 0.1\n" + b"granted\n" * len(names))
-        return resource.getrusage(resource.RUSAGE_CHILDREN).ru_utime - before.ru_utime
+        counts = ["valgrind", "--tool=callgrind", "--callgrind-out-file=/dev/null"]
+        told = run(*counts, PROGRAM, "locks", "--transactions", "4", "--names", "4096", "--seed", str(seed), given=text)
+        self.assertEqual((told.status, told.out), (0, b"begun 0.1\n" + b"granted\n" * len(names)))
+        collected = re.search(rb"Collected : (\d+)", told.err)
+        assert collected, told.err
+        return int(collected[1])
 
     def test_seed_decides(self) -> None:
-        """Names that were chosen to share one list of the hash of a seed do so with that seed, and not with another one. (The program then does
-        some ten thousand times as many comparisons, so its own processor time tells.)"""
+        """Names that were chosen to share one list of the hash of a seed do so with that seed, and not with another one: the program then makes
+        half a million comparisons, so it executes ten times as many instructions."""
+        if shutil.which("valgrind") is None:
+            self.skipTest("valgrind is not on the PATH (Debian's package valgrind)")
         seed, names = chosen()
-        self.assertGreater(self.processor_time(seed, names), 4 * self.processor_time(seed + 1, names))
+        self.assertGreater(self.instructions(seed, names), 4 * self.instructions(seed + 1, names))
