@@ -150,6 +150,8 @@ class Workloads(Case):
         ("no steps and one turn", workload([[]], processes=1, transmitters=0, turns=1), 0, lines(1)),
         ("eight in one order", workload([[["acquire", place] for place in range(3)]] * 8, processes=8, resources=3, label_limit=1_000_000, transmitters=4,
          turns=1_000_000_000), 0, lines(8)),
+        ("32 deadlocks at once", workload([[["acquire", place], ["meet", 64], ["acquire", place ^ 1]] for place in range(64)], processes=64, resources=64,
+         turns=1_000_000_000), 0, lines(32, 32)),
         ("a table that is refused", workload([[]], processes=0), 4, "refused 11 BadConfig\n"),
         ("the same without a transmitter", workload([[]], processes=0, transmitters=0, turns=1), 4, "refused 11 BadConfig\n"),
     ]  # fmt: skip
