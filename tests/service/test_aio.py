@@ -1,4 +1,4 @@
-"""What only the asyncio form of the Python client has: tasks that are cancelled, and many of them. (Its calls are in test_python.)"""
+"""What only the asyncio form of the Python client has: tasks that are cancelled, and many that are told of an end. (Its calls are in test_python.)"""
 from __future__ import annotations
 
 import asyncio
@@ -7,8 +7,8 @@ import signal
 import unittest
 from typing import Any, Awaitable, List
 
-from lib.clients import BAD_GRAPHS, same
-from lib.world import PROGRAM, Case, each
+from lib.clients import same
+from lib.world import PROGRAM, Case
 
 from pashkure import Closed
 from pashkure.aio import Locks
@@ -130,25 +130,6 @@ class Calls:
             return
         raise AssertionError("the task has an end of its own")
 
-    async def test_crowd(self) -> None:
-        """two hundred tasks change counters by `run`, and no change is lost"""
-        locks = self.locks
-        counters = [0] * 5
-
-        async def add(tx: Any, one: int, two: int) -> None:
-            await tx.lock(f"counter/{one}")
-            await tx.lock(f"counter/{two}")
-            before = counters[one], counters[two]
-            await asyncio.sleep(0)
-            counters[one], counters[two] = before[0] + 1, before[1] + 1
-
-        pairs = [(number % 5, number // 5 % 4) for number in range(200)]
-        pairs = [(one, two if two < one else two + 1) for one, two in pairs]
-        await asyncio.gather(*(locks.run(add, one, two, attempts=1000) for one, two in pairs))
-        same(sum(counters), 400)
-        totals = await locks.totals()
-        same((totals.committed, totals.deadlocks), (200, totals.aborted))
-
 
 class Pipes(Calls, Case, unittest.IsolatedAsyncioTestCase):
     def opened(self) -> Locks:
@@ -161,18 +142,6 @@ class Socket(Calls, Case, unittest.IsolatedAsyncioTestCase):
 
 
 class Ends(Case):
-    @each(BAD_GRAPHS)
-    def test_graph(self, reply: str) -> None:
-        """A reply to `graph` that no service writes ends the connection, and each call with it."""
-
-        async def over_pipes() -> None:
-            async with Locks(self.script(f"read line; printf '{reply}\\n'; cat > /dev/null")) as locks:
-                told = await asyncio.gather(locks.graph(), locks.graph(), return_exceptions=True)
-                same([(type(error), str(error)) for error in told], [(Closed, "the service was not understood")] * 2)
-                await raises(Closed, locks.totals())
-
-        asyncio.run(over_pipes())
-
     def test_killed(self) -> None:
         """The program is killed, and each task is told `Closed`."""
 

@@ -406,7 +406,11 @@ class NoService(Case):
     @each(BAD_GRAPHS)
     def test_graph(self, reply: str) -> None:
         """A reply to `graph` that no service writes ends the connection, and each call with it."""
-        with Locks(self.script(f"read line; printf '{reply}\\n'; cat > /dev/null")) as locks:
+        program = self.script(f"read line; printf '{reply}\\n'; cat > /dev/null")
+        plain, tasks = Locks(program), Asyncio(program)
+        self.addCleanup(plain.close)
+        self.addCleanup(tasks.ends)
+        for locks in plain, tasks:
             for error in [thread.ends() for thread in [Apart(locks.graph), Apart(locks.graph)]]:
                 same((type(error), str(error)), (Closed, "the service was not understood"))
             raises(Closed, locks.totals)
