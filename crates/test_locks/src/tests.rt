@@ -2,14 +2,12 @@
 //!
 //! - `cases`: the cases by name, each with its locks and threads, and the tests that go through them.
 //! - `scripts`: threads whose calls have one answer each, and `steps`: how they are made.
-//! - `again`, `crosswise`, `crowd`, `many`, `patience`, `wakes`: threads that do more than a script can say.
+//! - `again`, `crowd`, `patience`, `wakes`: threads that do more than a script can say.
 
 mod again;
 mod cases;
-mod crosswise;
 mod crowd;
 mod helpers;
-mod many;
 mod patience;
 mod scripts;
 mod steps;

@@ -1,12 +1,10 @@
 //! Work that is done again after a deadlock.
 use crate::tests::cases::ROUNDS;
 use crate::tests::helpers::{await_events, holds, same, totals_are};
-use crate::tests::many::{Visit, visit_all};
 use crate::tests::scripts::STANDS_IN_THE_WAY;
 use crate::tests::steps::take;
 use mm_locks::{LockError, Locks, Transaction};
 use std::process::Abort;
-use std::sync::atomic::AtomicU64;
 use std::sync::{Barrier, Wait};
 use std::time::{Clock, Instant};
 
@@ -36,8 +34,6 @@ pub enum Plan {
     Crosses { is_first: bool },
     /// It closes a cycle.
     Closes,
-    /// It locks the names of a visit.
-    Visits(Visit),
 }
 
 /// Locks the first name, meets the other thread the first time, and locks the second name.
@@ -93,7 +89,6 @@ impl Plan {
         rt: &R,
         locks: &Locks,
         gate: &Barrier,
-        owners: &[AtomicU64],
         transaction: &mut Transaction<'_, R>,
         attempt: u32,
     ) -> Result<(), LockError> {
@@ -102,7 +97,6 @@ impl Plan {
             Plan::Refused => lock_none(transaction),
             Plan::Crosses { is_first } => cross(rt, gate, transaction, is_first, attempt),
             Plan::Closes => close(rt, locks, gate, transaction),
-            Plan::Visits(visit) => visit_all(rt, owners, transaction, visit),
         }
     }
 
@@ -121,13 +115,12 @@ impl Plan {
         rt: &R,
         locks: &Locks,
         gate: &Barrier,
-        owners: &[AtomicU64],
         most: u32,
         attempts: &mut u32,
     ) -> Result<u32, WorkError> {
         locks.run(rt, most, |transaction| {
             *attempts = attempts.saturating_add(1);
-            let locked = self.locked(rt, locks, gate, owners, transaction, *attempts);
+            let locked = self.locked(rt, locks, gate, transaction, *attempts);
             self.outcome(locked)
         })
     }
@@ -138,27 +131,26 @@ impl Plan {
         rt: &R,
         locks: &Locks,
         gate: &Barrier,
-        owners: &[AtomicU64],
         most: u32,
     ) -> u64 {
         let mut attempts: u32 = 0;
-        let outcome = self.run(rt, locks, gate, owners, most, &mut attempts);
+        let outcome = self.run(rt, locks, gate, most, &mut attempts);
         holds(rt, "one of the attempts commits", outcome.is_ok());
         u64::from(attempts).saturating_sub(1)
     }
 }
 
 /// A value is returned once its transaction is committed; an error of the work is returned, and its transaction rolled back.
-pub fn outcomes<R: Wait + Abort>(rt: &R, locks: &Locks, gate: &Barrier, owners: &[AtomicU64]) {
+pub fn outcomes<R: Wait + Abort>(rt: &R, locks: &Locks, gate: &Barrier) {
     let mut attempts: u32 = 0;
-    let poor = Plan::Poor.run(rt, locks, gate, owners, 3, &mut attempts);
+    let poor = Plan::Poor.run(rt, locks, gate, 3, &mut attempts);
     holds(rt, "its own error", matches!(poor, Err(WorkError::Poor)));
-    let refused = Plan::Refused.run(rt, locks, gate, owners, 3, &mut attempts);
+    let refused = Plan::Refused.run(rt, locks, gate, 3, &mut attempts);
     let is_empty = matches!(refused, Err(WorkError::Refused(LockError::NameEmpty)));
     holds(rt, "the name has no bytes", is_empty);
-    let rich = Plan::Rich.run(rt, locks, gate, owners, 3, &mut attempts);
+    let rich = Plan::Rich.run(rt, locks, gate, 3, &mut attempts);
     holds(rt, "a value", matches!(rich, Ok(7)));
-    let rich = Plan::Rich.run(rt, locks, gate, owners, 0, &mut attempts);
+    let rich = Plan::Rich.run(rt, locks, gate, 0, &mut attempts);
     holds(rt, "a value", matches!(rich, Ok(7)));
     totals_are(rt, locks, [4, 2, 2, 0]);
     // Four begins and locks, four ends.
@@ -166,19 +158,13 @@ pub fn outcomes<R: Wait + Abort>(rt: &R, locks: &Locks, gate: &Barrier, owners: 
 }
 
 /// Meets the other thread so many times, which locks the names in the opposite order. Returns how often this thread was to try again.
-pub fn cross_often<R: Wait + Abort>(
-    rt: &R,
-    locks: &Locks,
-    gate: &Barrier,
-    owners: &[AtomicU64],
-    number: usize,
-) -> u64 {
+pub fn cross_often<R: Wait + Abort>(rt: &R, locks: &Locks, gate: &Barrier, number: usize) -> u64 {
     let plan = Plan::Crosses {
         is_first: number == 0,
     };
     let mut again: u64 = 0;
     for _ in 0..ROUNDS {
-        again = again.saturating_add(plan.committed(rt, locks, gate, owners, 1_000));
+        again = again.saturating_add(plan.committed(rt, locks, gate, 1_000));
         gate.wait(rt);
     }
     again
@@ -196,7 +182,6 @@ pub fn give_up<R: Wait + Clock + Abort>(
     rt: &R,
     locks: &Locks,
     gate: &Barrier,
-    owners: &[AtomicU64],
     number: usize,
     most: u32,
 ) -> u64 {
@@ -204,7 +189,7 @@ pub fn give_up<R: Wait + Clock + Abort>(
     if number == 0 {
         stand_in_the_way(rt, locks, gate, most);
     } else {
-        let outcome = Plan::Closes.run(rt, locks, gate, owners, most, &mut attempts);
+        let outcome = Plan::Closes.run(rt, locks, gate, most, &mut attempts);
         let is_told = matches!(outcome, Err(WorkError::Refused(LockError::Deadlock)));
         holds(rt, "the last error is a deadlock", is_told);
     }
@@ -212,22 +197,17 @@ pub fn give_up<R: Wait + Clock + Abort>(
 }
 
 /// How many attempts are made whose time is measured.
-const LONG: u32 = 24;
+const LONG: u32 = 11;
 
-/// The time, in milliseconds, that the pauses between these take at the least. From the eleventh one on, thirteen pauses have random
-/// lengths below 33 milliseconds, and so 213 milliseconds together on the average: of 10^10 runs, less than one has less than this.
-pub const LEAST: u64 = 30;
+/// The time, in milliseconds, that the pauses between these take at the least. The length of a pause is drawn from the transaction's key
+/// alone, and each attempt has keys of its own number as their generation: the ten pauses take 19.8 milliseconds or more, whichever of the
+/// two processes each attempt has.
+pub const LEAST: u64 = 19;
 
 /// As `give_up`. Returns how long the attempts took the one who made them, in milliseconds. Threads sleep, so the clock is the system's.
-pub fn pause<R: Wait + Clock + Abort>(
-    rt: &R,
-    locks: &Locks,
-    gate: &Barrier,
-    owners: &[AtomicU64],
-    number: usize,
-) -> u64 {
+pub fn pause<R: Wait + Clock + Abort>(rt: &R, locks: &Locks, gate: &Barrier, number: usize) -> u64 {
     let start = Instant::now(rt).expect(rt, "the clock can be read");
-    let attempts = give_up(rt, locks, gate, owners, number, LONG);
+    let attempts = give_up(rt, locks, gate, number, LONG);
     let took = start.elapsed(rt).expect(rt, "the clock can be read");
     if attempts == 0 {
         return 0;

@@ -3,7 +3,7 @@
 
 use crate::tests::helpers::{holds, same};
 use crate::tests::steps::{END, Row, take};
-use crate::tests::{again, crosswise, crowd, many, patience, wakes};
+use crate::tests::{again, crowd, patience, wakes};
 use mm_locks::{Locks, ManagerConfig};
 use std::alloc::{AllocError, Global};
 use std::process::Abort;
@@ -25,10 +25,7 @@ enum Work {
     Pause,
     Patience,
     BehindVictim,
-    Crosswise,
     Crowd,
-    /// Each of many commits so many transactions.
-    Many(u64),
     Wakes,
 }
 
@@ -87,12 +84,12 @@ impl Work {
                 0
             }
             Work::Outcomes => {
-                again::outcomes(rt, locks, gate, owners);
+                again::outcomes(rt, locks, gate);
                 0
             }
-            Work::BothCommit => again::cross_often(rt, locks, gate, owners, number),
-            Work::GiveUp(attempts) => again::give_up(rt, locks, gate, owners, number, attempts),
-            Work::Pause => again::pause(rt, locks, gate, owners, number),
+            Work::BothCommit => again::cross_often(rt, locks, gate, number),
+            Work::GiveUp(attempts) => again::give_up(rt, locks, gate, number, attempts),
+            Work::Pause => again::pause(rt, locks, gate, number),
             Work::Patience => {
                 patience::each_time_passes(rt, locks);
                 0
@@ -101,9 +98,7 @@ impl Work {
                 patience::behind_a_victim(rt, locks, gate, owners, number);
                 0
             }
-            Work::Crosswise => crosswise::cross_often(rt, locks, gate, number),
             Work::Crowd => crowd::client(rt, locks, owners, number),
-            Work::Many(commits) => many::client(rt, locks, gate, owners, number, commits),
             Work::Wakes => {
                 wakes::one_wakes_all(rt, locks, gate, number);
                 0
@@ -314,22 +309,6 @@ fn behind_a_victim(rt: HostRuntime) {
     on_locks(&rt, rt.alloc(), &case);
 }
 
-/// Each time that they meet one of the two was told of the deadlock, and the other one owned both names.
-#[test]
-fn one_of_two_is_told(rt: HostRuntime) {
-    let case = Case {
-        names: 3,
-        work: Work::Crosswise,
-        ended: Ended::Deadlocks {
-            committed: ROUNDS,
-            least: ROUNDS,
-            most: ROUNDS,
-        },
-        ..TWO
-    };
-    on_locks(&rt, rt.alloc(), &case);
-}
-
 /// No name has two owners at a time, all threads end, and each deadlock is told to one.
 #[test]
 fn a_crowd_ends(rt: HostRuntime) {
@@ -341,45 +320,6 @@ fn a_crowd_ends(rt: HostRuntime) {
         work: Work::Crowd,
         ended: Ended::Deadlocks {
             committed: 6 * crowd::COMMITS,
-            least: 0,
-            most: u64::MAX,
-        },
-        ..TWO
-    };
-    on_locks(&rt, rt.alloc(), &case);
-}
-
-/// Nobody is left over, and each deadlock was told to one who was then rolled back.
-#[test]
-fn over_sixteen_names(rt: HostRuntime) {
-    let case = Case {
-        transactions: 64,
-        names: 384,
-        seed: 5,
-        owners: 16,
-        threads: 64,
-        work: Work::Many(2),
-        ended: Ended::Deadlocks {
-            committed: 128,
-            least: 0,
-            most: u64::MAX,
-        },
-        ..TWO
-    };
-    on_locks(&rt, rt.alloc(), &case);
-}
-
-#[test]
-fn over_a_thousand_names(rt: HostRuntime) {
-    let case = Case {
-        transactions: 64,
-        names: 384,
-        seed: 5,
-        owners: 1_000,
-        threads: 64,
-        work: Work::Many(10),
-        ended: Ended::Deadlocks {
-            committed: 640,
             least: 0,
             most: u64::MAX,
         },

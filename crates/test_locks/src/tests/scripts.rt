@@ -209,6 +209,28 @@ fn stops_at_a_deadlock(rt: HostRuntime) {
     on_rows(&rt, rt.alloc(), (3, 8, 2), &STOPS_AT_A_DEADLOCK);
 }
 
+/// As above, and each further call is refused. The commit is refused too, and rolls the transaction back.
+static COMMITS_IN_A_DEADLOCK: [Row; 13] = [
+    Row(0, Step::Begin),
+    Row(0, Step::Call(Call::Lock(A), OWNS)),
+    Row(1, Step::Begin),
+    Row(1, Step::Call(Call::Lock(B), OWNS)),
+    Row(0, MEET),
+    Row(1, MEET),
+    Row(0, Step::Call(Call::Lock(B), OWNS)),
+    Row(1, Step::Act(Act::Await(2 + 2 + 2))),
+    Row(1, Step::Call(Call::Lock(A), Err(LockError::Deadlock))),
+    Row(1, Step::Call(Call::Lock(Z), Err(LockError::Deadlock))),
+    Row(1, Step::CommitsNot(LockError::Deadlock)),
+    Row(0, Step::Commit),
+    Row(END, Step::Act(Act::Totals(2, 1, 1, 1))),
+];
+
+#[test]
+fn a_commit_in_a_deadlock_rolls_back(rt: HostRuntime) {
+    on_rows(&rt, rt.alloc(), (3, 8, 2), &COMMITS_IN_A_DEADLOCK);
+}
+
 /// A transaction that is dropped hands over what it owns, and whoever waits for that is woken. A wait counts as two events: the request, and
 /// the settle that follows.
 static OWNER_IS_DROPPED: [Row; 9] = [

@@ -182,6 +182,8 @@ pub enum Step {
     Call(Call, Answer),
     /// Commits its transaction.
     Commit,
+    /// A commit of its transaction is refused so, and the transaction rolled back.
+    CommitsNot(LockError),
     /// Drops its transaction.
     Drop,
     /// Another transaction finds that all names but `z` are free, and commits.
@@ -240,6 +242,10 @@ impl Step {
             Step::BeginWith(list) => *transaction = Some(begin_with(rt, locks, list.names(rt))),
             Step::Call(call, answer) => make_call(rt, transaction, call, answer),
             Step::Commit => commits(rt, transaction.take().expect(rt, "a transaction")),
+            Step::CommitsNot(error) => {
+                let transaction = transaction.take().expect(rt, "a transaction");
+                same(rt, owns(transaction.commit()), Err(error));
+            }
             Step::Drop => drop(transaction.take()),
             Step::NothingIsLeft => nothing_is_left(rt, locks),
             Step::Act(act) => act.done(rt, locks, gate),
