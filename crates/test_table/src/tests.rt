@@ -1,4 +1,4 @@
-//! One module for each library, `shelf` for the shelves of mm_arena, and `wake` and `watch` for example_calls.
+//! A module for a library each, and `wake` and `watch` for example_calls.
 
 /// The key of a process and a generation.
 macro_rules! key {
@@ -10,14 +10,11 @@ macro_rules! key {
     };
 }
 
-mod arena;
 mod bit_set;
 mod label;
 mod links;
 mod queue;
 mod same;
-mod shelf;
 mod table;
-mod tagged_lists;
 mod wake;
 mod watch;
