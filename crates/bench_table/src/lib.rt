@@ -1,7 +1,7 @@
 //! Workloads over a table, to be timed from outside.
 //!
 //! Each opens tables of its own, works on them in a loop, and answers how many events were accepted, or 0 where a call was
-//! refused. A table cannot be handed to C and back, so no export makes one call alone.
+//! refused.
 #![tactic(auto)]
 
 ghost use Rattle.std.specs.Prelude.{◌≡◌};
