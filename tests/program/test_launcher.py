@@ -41,6 +41,10 @@ case $1 in
     ;;
 esac
 """
+# Makes the C library in the folder of its crate.
+RATTLE = """#!/bin/sh
+echo "$*" > out/libpashkure.a
+"""
 TRIED = "mmdetect: no program is built: a try of these sources answers in about a minute, unproved; to prove and build: ./mmdetect prove\n"
 COMPLAINT = TRIED + "one complaint\n"
 PROVE_FIRST = "mmdetect: prove it first: ./mmdetect prove\n"
@@ -55,23 +59,26 @@ class Checkout(Case):
         super().setUp()
         self.top, self.fake = self.path("checkout"), self.path("fake")
         self.work = self.path("work")
-        for folder in ("bin", "tmp"):
+        for folder in ("bin", "tmp", "c"):
             os.makedirs(f"{self.fake}/{folder}")
         os.makedirs(f"{self.work}")
-        for crate in ("mm_low", "mm_other", "mm_detect", "example_script"):
+        for crate in ("mm_low", "mm_other", "mm_detect", "pashkure", "example_script"):
             os.makedirs(f"{self.top}/crates/{crate}/src")
         shutil.copytree(os.path.join(TOP, "wrapper"), f"{self.top}/wrapper")
         shutil.copy(os.path.join(TOP, "mmdetect"), self.top)
         self.low = f"{self.top}/crates/mm_low/src/lib.rt"
         os.makedirs(f"{self.top}/crates/mm_detect/must-fail")
-        for path, text in (("crates.txt", "mm_low:\nmm_other:\nexample_script: mm_low\nmm_detect: mm_low kit # the program\n"),
+        for path, text in (("crates.txt", "mm_low:\nmm_other:\nexample_script: mm_low\nmm_detect: mm_low kit # the program\npashkure staticlib: mm_low\n"),
                            ("HANDLES", "Handles allowed: none.\n"), ("crates/mm_low/src/lib.rt", "low\n"),
-                           ("crates/mm_detect/src/main.rt", "main\n"), ("crates/mm_detect/must-fail/one.edit", "edit\n")):  # fmt: skip
+                           ("crates/mm_detect/src/main.rt", "main\n"), ("crates/pashkure/src/lib.rt", "calls\n"), ("crates/mm_detect/must-fail/one.edit", "edit\n")):  # fmt: skip
             self.writes(f"{self.top}/{path}", text)
         self.writes(f"{self.fake}/version", "kit-1\n")
         self.writes(f"{self.fake}/calls", "")
         self.writes(f"{self.fake}/bin/rt", RT)
-        os.chmod(f"{self.fake}/bin/rt", 0o755)
+        self.writes(f"{self.fake}/bin/rattle", RATTLE)
+        self.writes(f"{self.fake}/c/liblibc_c.a", "heap\n")
+        for name in "rt", "rattle":
+            os.chmod(f"{self.fake}/bin/{name}", 0o755)
 
     def writes(self, path: str, text: str) -> None:
         with open(path, "w", encoding="ascii") as file:
@@ -127,12 +134,12 @@ class Tries(Checkout):
 
     def test_help(self) -> None:
         texts = {}
-        for name in "help.txt", "help/prove.txt", "help/serve.txt":
+        for name in "help.txt", "help/prove.txt", "help/serve.txt", "help/library.txt":
             with open(os.path.join(TOP, "wrapper", name), encoding="utf-8") as file:
                 texts[name] = file.read()
         own = "\nCommands of ./mmdetect alone:\n"
-        for word in "prove", "serve":
-            own += f"  {word}    {texts[f'help/{word}.txt'].splitlines()[0]}\n"
+        for word in "prove", "serve", "library":
+            own += f"  {word:9}{texts[f'help/{word}.txt'].splitlines()[0]}\n"
             self.gives(0, texts[f"help/{word}.txt"], "", "", "help", word)
             self.gives(0, texts[f"help/{word}.txt"], "", "", word, "--help")
         self.gives(0, texts["help.txt"] + own, "", "", "--help")
@@ -187,11 +194,25 @@ class Proofs(Checkout):
         told = self.wrapped("prove")
         err = re.sub(rb"\d+ s$", b"N s", told.err, flags=re.M).decode()
         self.ends(told._replace(err=err.encode()), 0, "", "mmdetect: the program is proved and built; from nothing that takes about a quarter of an "
-                  "hour on four processors\nmmdetect: 1 of 2 crates proved, mm_low just now; N s\nmmdetect: 2 of 2 crates proved, mm_detect just now; "
+                  "hour on four processors\nmmdetect: 1 of 3 crates proved, mm_low just now; N s\nmmdetect: 2 of 3 crates proved, mm_detect just now; "
                   "N s\nmmdetect: proved and built in N s\n")  # fmt: skip
         self.called("ci")
         with open(f"{self.fake}/staged", encoding="ascii") as file:
-            self.assertEqual(file.read().split(), ["./HANDLES", "./crates.txt", "./crates/mm_detect/src/main.rt", "./crates/mm_low/src/lib.rt"])
+            self.assertEqual(file.read().split(), ["./HANDLES", "./crates.txt", "./crates/mm_detect/src/main.rt", "./crates/mm_low/src/lib.rt",
+                                                  "./crates/pashkure/src/lib.rt"])  # fmt: skip
+
+    def test_library(self) -> None:
+        """It is that of the proved build, and of no other sources. What it writes, test_library tries."""
+        self.gives(2, "", "mmdetect: usage: mmdetect library [DIR]\n", "", "library", self.work, "b")
+        self.gives(126, "", PROVE_FIRST, "", "library", self.work)
+        self.proved()
+        with open(f"{self.top}/crates/pashkure/out/libpashkure.a", encoding="utf-8") as file:
+            made = file.read()
+        self.assertIn("--extern mm_low=", made)
+        self.assertIn("--crate-type staticlib", made)
+        self.writes(f"{self.top}/crates/pashkure/src/lib.rt", "other calls\n")
+        self.gives(126, "", PROVE_FIRST, "", "library", self.work)
+        self.assertEqual(os.listdir(self.work), [])
 
     def test_what_is_proved_is_run(self) -> None:
         """It is run until a source changes: also one with an old time, a new one, one that is gone again, the toolchain or the program."""
@@ -237,7 +258,7 @@ class Proofs(Checkout):
             child = subprocess.Popen([f"{self.top}/mmdetect"], env=self.env("proved"), stdin=subprocess.DEVNULL, stdout=subprocess.PIPE, stderr=err,
                                      preexec_fn=signals)  # fmt: skip
         self.addCleanup(child.kill)
-        until(lambda: "1 of 2 crates proved" in self.told(), "a crate is proved")
+        until(lambda: "1 of 3 crates proved" in self.told(), "a crate is proved")
         return child
 
     def told(self) -> str:

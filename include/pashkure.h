@@ -1,0 +1,201 @@
+/* pashkure.h - exclusive locks on names, for transactions, in your own process.             C99, C++98 and later.
+ *
+ * A manager answers each request at once, and for good: the transaction owns the name, or it waits, or its request closed a cycle of waits
+ * (a deadlock, which only the requester is ever told of). No call sleeps, calls back, starts a thread, or prints. What each call below does
+ * is proved, but for pashkure_message: README.md says what the proofs rest on.
+ *
+ * Whenever a call ends somebody's wait, pashkure_woken names them, and the caller wakes them as it likes: a condition variable, an eventfd,
+ * uv_async_send, a run queue. An event loop needs no more than that.
+ *
+ *   WHAT THE CALLER OWES, and nothing tests. All else is an answer: a wrong key, a closed manager, a full table, a name of any bytes.
+ *   1. One call at a time uses a manager, the reading calls too. A call happens before the next one (by a mutex, a join, or one thread).
+ *   2. A `pashkure` begins as PASHKURE_CLOSED, or as zero bytes. After pashkure_open only these calls write it; it may be moved, not copied.
+ *   3. Pointers are valid and not NULL, and what a call writes does not overlap what it reads. With length 0 a name is not read.
+ *   4. No call in a signal handler, and none in the child of a fork for a manager of its parent (the child would exclude nobody).
+ *
+ * Memory. pashkure_open takes all of it, from malloc: at most (name_bytes + 71) * names + 102 * transactions + 1,200 bytes. pashkure_close
+ * gives all of it back, by free. No other call takes memory, so none fails for want of it.
+ *
+ * Time. Each call takes constant time, but: a name is hashed and compared; an end hands on each name that the transaction owns; a request
+ * that waits, and an end that hands something on, pass labels to those that wait behind it.
+ *
+ * Versions. While the major number is 0 a minor number may change anything, and pashkure_open wants the same minor. From 1.0.0 on, programs run
+ * with each later library of one major number: no call goes or changes, no struct changes its size, no number its meaning. A new minor number may
+ * add calls, and results that only these new calls give. */
+#ifndef PASHKURE_H
+#define PASHKURE_H
+
+#include <stdbool.h>
+#include <stddef.h>
+#include <stdint.h>
+
+#define PASHKURE_VERSION 1000u /* of this header: major * 1,000,000 + minor * 1,000 + patch */
+
+#if defined(__GNUC__) || defined(__clang__)
+#define PASHKURE_CHECKED __attribute__((warn_unused_result)) /* an answer that is not looked at is a bug */
+#else
+#define PASHKURE_CHECKED
+#endif
+
+#ifdef __cplusplus
+extern "C" {
+#endif
+
+/* ---- Results. The number of each is for good. From PASHKURE_REFUSED on, the call has changed nothing. ---- */
+typedef enum pashkure_result {
+    PASHKURE_OK = 0,       /* done. Of a request: the transaction owns the name from now on */
+    PASHKURE_HELD = 1,     /* the transaction owned the name before; it is still owned once */
+    PASHKURE_WAITS = 2,    /* it waits, and is never a victim later: pashkure_woken will name it. Until then it makes no request */
+    PASHKURE_DEADLOCK = 3, /* it closed a cycle of waits, and keeps what it owns: undo its work, then pashkure_abort, its one possible call */
+    PASHKURE_BUSY = 4,     /* another one owns the name, and nothing was changed */
+    PASHKURE_LATER = 5,    /* of abort: it waits behind a victim that has yet to abort, and ends in the call that ends its wait */
+    PASHKURE_CARRIED = 6,  /* of cancel: it waits behind a victim that has yet to abort; try again after some pashkure_abort */
+    PASHKURE_FREE = 7,     /* nobody owns the name, nobody has the slot, nobody has the number */
+    PASHKURE_ABORTED = 8,  /* its wait has ended, since it has: its abort was LATER, and has come due */
+    PASHKURE_TIMED_OUT = 9,    /* 9 to 11 are for callers that sleep, no call below gives them. Its time is up: it waits no longer, and may go on */
+    PASHKURE_INTERRUPTED = 10, /* the same, since another thread said so */
+    PASHKURE_NOT_ASKED = 11,   /* of several names, one behind the name that was not given */
+
+    PASHKURE_REFUSED = 16,           /* not an answer: the first number of a refusal */
+    PASHKURE_NO_TRANSACTION = 16,    /* the key is of no live transaction: it ended, or never was */
+    PASHKURE_MUST_ABORT = 17,        /* it was told PASHKURE_DEADLOCK */
+    PASHKURE_WAITING = 18,           /* it waits */
+    PASHKURE_NOT_WAITING = 19,       /* it does not wait: what it asked for it was given */
+    PASHKURE_NAME_EMPTY = 20,        /* the length is 0 */
+    PASHKURE_NAME_TOO_LONG = 21,     /* the length is above config.name_bytes */
+    PASHKURE_NOT_OWNER = 22,         /* it does not own the name */
+    PASHKURE_TRANSACTIONS_FULL = 23, /* config.transactions are live. Ends make room */
+    PASHKURE_NAMES_FULL = 24,        /* config.names are owned, and this is a further one. Ends make room; PASHKURE_WAITS is never refused so */
+    PASHKURE_LABELS_FULL = 25,       /* 8,796,093,022,207 events: nobody may begin to wait any more. End all, close, open */
+    PASHKURE_COUNTS_FULL = 26,       /* 4,611,686,018,426,339,328 events: only ends are taken. End all, close, open */
+    PASHKURE_NOT_OPEN = 32,          /* the manager is closed */
+    PASHKURE_IN_USE = 33,            /* pashkure_open of an open one */
+    PASHKURE_BAD_VERSION = 34,       /* the library does not serve config.header, or it is 0: the config did not begin as PASHKURE_CONFIG */
+    PASHKURE_BAD_TRANSACTIONS = 35,  /* out of the range beside the member; so the next two */
+    PASHKURE_BAD_NAMES = 36,
+    PASHKURE_BAD_NAME_BYTES = 37,
+    PASHKURE_BAD_RESERVED = 38,      /* config.reserved is not 0 */
+    PASHKURE_NO_MEMORY = 39,
+    /* 64 to 95 are for the client of the lock service, whose other results have the numbers above. */
+    PASHKURE_RESULT_BITS_ = 0x7fffffff /* no result: gives the enum 32 bits with each compiler */
+} pashkure_result;
+
+#define PASHKURE_OWNS(result) ((result) <= PASHKURE_HELD)           /* a request: the transaction owns the name now */
+#define PASHKURE_IS_REFUSAL(result) ((result) >= PASHKURE_REFUSED)  /* the call has changed nothing */
+
+/* What a result means, in English, as "the transaction waits". Never NULL. Any thread, any time; the text is for ever. */
+const char *pashkure_message(pashkure_result result);
+
+/* ---- Values. All are plain, and may be copied. ---- */
+
+/* The key of a transaction. Of one manager no two transactions ever have the same key, and none has {0, 0}. So a key that is out of date does
+ * no harm: calls refuse it. `slot` is below config.transactions, and no two live transactions share it: an index for what you keep of each. */
+typedef struct pashkure_key { uint32_t slot, generation; } pashkure_key;
+
+typedef struct pashkure_config {
+    uint32_t header;       /* PASHKURE_VERSION, by PASHKURE_CONFIG: how the library knows what you were compiled with */
+    uint32_t transactions; /* how many can be live at a time: 1 to 65,536. Each slot serves 4,294,967,295, then begin is full for good */
+    uint32_t names;        /* how many can be owned at a time: 1 to 65,536; a later version may take more */
+    uint32_t name_bytes;   /* how many bytes a name may have: 1 to 1,024. Any bytes; a name of numbers is as good as text */
+    uint64_t seed;         /* of the hash of names: any number that those who choose names do not know, as of getrandom */
+    uint64_t reserved;     /* 0 */
+} pashkure_config;
+#define PASHKURE_CONFIG {PASHKURE_VERSION, 1024, 4096, 64, 0, 0} /* pashkure_config config = PASHKURE_CONFIG; then set members */
+
+/* A manager. Its members are the library's. */
+typedef struct pashkure { void *manager; uint64_t state; } pashkure;
+#define PASHKURE_CLOSED {NULL, 0}
+
+/* Whose wait the last call ended, and how: PASHKURE_OK, it owns the name of this number; or PASHKURE_ABORTED, it has ended. */
+typedef struct pashkure_wake { pashkure_key key; uint32_t number; uint32_t result; } pashkure_wake;
+
+/* A live transaction, as pashkure_look sees it. Holder and number are those of its wait; without one they are 0. */
+typedef struct pashkure_seen { pashkure_key key, holder; uint32_t number; uint32_t is_aborting; } pashkure_seen;
+
+/* What was counted since the opening. Live now: begun - committed - aborted. */
+typedef struct pashkure_counts {
+    uint64_t begun, committed, aborted, deadlocks;
+    uint64_t waits, withdrawn; /* requests answered PASHKURE_WAITS; waits that were cancelled */
+    uint64_t events;           /* by which PASHKURE_LABELS_FULL and PASHKURE_COUNTS_FULL go */
+    uint64_t reserved;
+} pashkure_counts;
+
+/* The version of the library, as PASHKURE_VERSION is of this header. pashkure_open compares them. */
+uint32_t pashkure_version(void);
+
+/* ---- Opening and closing ---- */
+
+/* OK, or IN_USE, BAD_.. (the first that applies, in the order of the members), NO_MEMORY. A refused one stays as it was. */
+pashkure_result pashkure_open(pashkure *locks, const pashkure_config *config) PASHKURE_CHECKED;
+
+/* Gives all memory back, whoever is live. The manager may be opened again. Nothing, if it is closed. */
+void pashkure_close(pashkure *locks);
+
+/* ---- Transactions. Refusals of each: those listed, in this order; NOT_OPEN before all of them. ---- */
+
+/* Begins one: OK, and its key. COUNTS_FULL, TRANSACTIONS_FULL. A refused call writes no key. Transactions belong to no thread. */
+pashkure_result pashkure_begin(pashkure *locks, pashkure_key *key) PASHKURE_CHECKED;
+
+/* Asks for a name: OK, HELD, WAITS, or DEADLOCK exactly where the wait would close a cycle of waits. Those that wait for one name are given it
+ * in the order in which they asked. After OK (and not HELD) note the name, if you have savepoints: to roll back to one is to unlock what was
+ * noted since. NO_TRANSACTION, MUST_ABORT, WAITING, COUNTS_FULL, NAME_EMPTY, NAME_TOO_LONG, NAMES_FULL, LABELS_FULL. */
+pashkure_result pashkure_lock(pashkure *locks, pashkure_key key, const void *name, size_t length) PASHKURE_CHECKED;
+
+/* As pashkure_lock, but never waits: OK, HELD, or BUSY where another one owns the name. Never DEADLOCK. Refusals as there, no LABELS_FULL. */
+pashkure_result pashkure_try_lock(pashkure *locks, pashkure_key key, const void *name, size_t length) PASHKURE_CHECKED;
+
+/* ---- Ends. After each of these four read pashkure_woken, or somebody sleeps for ever. None is ever refused for want of room or counts. ---- */
+
+/* Gives one name back: OK. NO_TRANSACTION, MUST_ABORT, WAITING, NAME_EMPTY, NAME_TOO_LONG, NOT_OWNER. */
+pashkure_result pashkure_unlock(pashkure *locks, pashkure_key key, const void *name, size_t length) PASHKURE_CHECKED;
+
+/* Ends the transaction, and gives back all that it owns: OK. NO_TRANSACTION, MUST_ABORT, WAITING. */
+pashkure_result pashkure_commit(pashkure *locks, pashkure_key key) PASHKURE_CHECKED;
+
+/* The same, of a transaction in any state: OK, or LATER of one that waits. Undo its work first: others own its names when this returns.
+ * NO_TRANSACTION. */
+pashkure_result pashkure_abort(pashkure *locks, pashkure_key key) PASHKURE_CHECKED;
+
+/* Takes the wait of the transaction back (a time-out, a killed query): OK, it goes on with what it owns; or CARRIED, it waits on for now.
+ * NO_TRANSACTION, MUST_ABORT, NOT_WAITING (it was given the name before). */
+pashkure_result pashkure_cancel(pashkure *locks, pashkure_key key) PASHKURE_CHECKED;
+
+/* Whose waits the last unlock, commit, abort or cancel ended, in order, by index from 0: false where there are no more. One that is told of
+ * twice was given its name and ended then: the later one counts. It stays until the next call that is no reading one.
+ *     pashkure_wake woken;
+ *     for (size_t i = 0; pashkure_woken(&locks, i, &woken); i++) wake(woken.key.slot, woken.result);                                      */
+bool pashkure_woken(const pashkure *locks, size_t index, pashkure_wake *woken);
+
+/* ---- Reading. These change nothing. ---- */
+
+/* What is in a slot: OK (active), WAITS or DEADLOCK, or FREE. Over the slots below config.transactions it gives all transactions, and the
+ * wait-for graph. From a victim on, holder by holder, it gives the deadlock: each one on it waits for the next one, until the victim is back.
+ * Of one that is no victim, the walk ends at OK (who works) or FREE.
+ *     pashkure_seen at;
+ *     uint32_t slot = victim.slot;
+ *     do {
+ *         pashkure_result does = pashkure_look(&locks, slot, &at);
+ *         if (does != PASHKURE_WAITS && does != PASHKURE_DEADLOCK) break;
+ *         report(at.key, at.number, at.holder);
+ *         slot = at.holder.slot;
+ *     } while (slot != victim.slot);                                                                                                       */
+pashkure_result pashkure_look(const pashkure *locks, uint32_t slot, pashkure_seen *seen);
+
+/* The name of a number, and its owner: OK, or FREE. A name has one number, below config.names, as long as it is owned. The length is written,
+ * and the bytes where there is room. Over the numbers below config.names this gives all locks. */
+pashkure_result pashkure_name(const pashkure *locks, uint32_t number, void *bytes, size_t room, size_t *length, pashkure_key *owner);
+
+/* Who owns the name: OK, or FREE. */
+pashkure_result pashkure_owner(const pashkure *locks, const void *name, size_t length, pashkure_key *owner);
+
+/* What was counted. Of a closed manager all is 0. */
+void pashkure_totals(const pashkure *locks, pashkure_counts *counts);
+
+/* The sizes that the library was built for. An error in these lines: a compiler whose layout is another one. */
+typedef char pashkure_sizes_[sizeof(pashkure_result) == 4 && sizeof(pashkure_key) == 8 && sizeof(pashkure_config) == 32
+    && sizeof(pashkure_wake) == 16 && sizeof(pashkure_seen) == 24 && sizeof(pashkure_counts) == 64 && sizeof(pashkure) == 16 ? 1 : -1];
+
+#ifdef __cplusplus
+}
+#endif
+#endif
