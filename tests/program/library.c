@@ -238,6 +238,25 @@ TEST(requests)
     pashkure_close(&locks);
 }
 
+TEST(order_of_waiters)
+{
+    pashkure locks = opened(4, 4);
+    pashkure_key t[4];
+    pashkure_wake wake = {{7, 7}, 7, 7};
+    for (int i = 0; i < 4; i++) t[i] = begun(&locks);
+    GIVES(locks_name(&locks, t[3], "x"), PASHKURE_OK);
+    for (int i = 2; i >= 0; i--) GIVES(locks_name(&locks, t[i], "x"), PASHKURE_WAITS);
+    for (int i = 3; i >= 1; i--) {
+        GIVES(pashkure_commit(&locks, t[i]), PASHKURE_OK);
+        CHECK(pashkure_woken(&locks, 0, &wake) && is_same(wake.key, t[i - 1]) && wake.result == PASHKURE_OK);
+        CHECK(strcmp(named(&locks, wake.number), "x") == 0);
+        CHECK(!pashkure_woken(&locks, 1, &wake) && !pashkure_woken(&locks, SIZE_MAX, &wake) && is_same(wake.key, t[i - 1]));
+    }
+    GIVES(pashkure_commit(&locks, t[3]), PASHKURE_NO_TRANSACTION);
+    CHECK(*woken(&locks) == 0); /* what was told stays until the next call that is no reading one */
+    pashkure_close(&locks);
+}
+
 TEST(deadlock_by_names)
 {
     pashkure locks = opened(8, 8);
@@ -257,6 +276,8 @@ TEST(deadlock_by_names)
     GIVES(pashkure_look(&locks, 2, &seen), PASHKURE_DEADLOCK);
     CHECK(is_same(seen.key, t[2]) && is_same(seen.holder, t[0]) && !seen.is_aborting);
     GIVES(locks_name(&locks, t[2], "grey"), PASHKURE_MUST_ABORT);
+    GIVES(pashkure_try_lock(&locks, t[2], "grey", 4), PASHKURE_MUST_ABORT);
+    GIVES(pashkure_unlock(&locks, t[2], "blue", 4), PASHKURE_MUST_ABORT);
     GIVES(pashkure_commit(&locks, t[2]), PASHKURE_MUST_ABORT);
     GIVES(pashkure_cancel(&locks, t[2]), PASHKURE_MUST_ABORT);
     GIVES(pashkure_abort(&locks, t[2]), PASHKURE_OK);
@@ -405,7 +426,7 @@ TEST(messages)
 
 static const struct { const char *name; void (*run)(void); } TESTS[] = {
 #define ROW(name) {#name, name}
-    ROW(version), ROW(closed_manager), ROW(refused_open), ROW(transactions), ROW(requests), ROW(deadlock_by_names), ROW(cancelled_wait),
+    ROW(version), ROW(closed_manager), ROW(refused_open), ROW(transactions), ROW(requests), ROW(order_of_waiters), ROW(deadlock_by_names), ROW(cancelled_wait),
     ROW(behind_a_victim), ROW(names), ROW(moved_and_opened_again), ROW(memory), ROW(bytes_of_an_open), ROW(messages),
 };
 

@@ -195,6 +195,12 @@ class Linked(LibraryCase):
         source = self.file("shared.c", '#include "pashkure.h"\nint main(void) { return pashkure_version() != PASHKURE_VERSION; }\n')
         self.ends(run(self.built(source, archive=False)))
 
+    def test_page(self) -> None:
+        """The program of EMBEDDING.md is built without a warning, and prints what the page says."""
+        page = text_of(TOP, "docs", "EMBEDDING.md")
+        source, printed = re.findall(r"^```c\n(.*?)^```.*?^```text\n(.*?)^```", page, re.M | re.S)[0]
+        self.ends(run(self.built(self.file("page.c", source))), 0, printed)
+
     def test_static_program(self) -> None:
         source = self.file("static.c", '#include "pashkure.h"\nint main(void) { return pashkure_version() != PASHKURE_VERSION; }\n')
         self.ends(run(self.built(source, "-static")))
