@@ -214,6 +214,10 @@ class Linked(LibraryCase):
         self.assertEqual(places, [f"{self.top}/include", f"{self.top}/lib"])
         self.ends(run("pkg-config", "--modversion", "pashkure", env=env), 0, "0.1.0\n")
 
+    def test_folder_by_a_relative_path(self) -> None:
+        self.ends(run(f"{TOP}/mmdetect", "library", "in/here", cwd=self.folder), 0, "", "mmdetect: the C library is in in/here\n")
+        self.assertEqual(sorted(os.listdir(f"{self.folder}/in/here/lib")), ["libpashkure.a", "libpashkure.so", "libpashkure.so.0.1", "pkgconfig"])
+
     def test_folder_that_cannot_be_written(self) -> None:
         place = self.file("file", "")
         self.ends(run(f"{TOP}/mmdetect", "library", f"{place}/in"), 125, "", f"mmdetect: the folder {place}/in cannot be written\n")
