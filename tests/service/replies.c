@@ -4,32 +4,40 @@
 #include "check.h"
 
 #include <errno.h>
+#include <fcntl.h>
 #include <pthread.h>
 #include <sys/socket.h>
 #include <unistd.h>
 
-static pashkure_connection here;
+static pashkure_remote_connection here;
 static int there;
-static const pashkure_transaction first = {"0.1"};
+static const pashkure_remote_transaction first = {0, 1, 1};
 
-/* A new connection, at whose other end these bytes were sent; with an end behind them or not. */
+/* What the other end says. */
+static void say(const char *text)
+{
+    while (*text != '\0') {
+        ssize_t count = send(there, text, strlen(text), MSG_NOSIGNAL);
+        if (count < 0 && errno != EINTR)
+            break;
+        text += count < 0 ? 0 : count;
+    }
+}
+
+/* A new connection, whose other end has said this; with an end behind it or not. */
 static void answered(const char *replies, bool is_end)
 {
     int pair[2];
-    pashkure_close(&here);
+    pashkure_remote_close(&here);
     if (there >= 0)
         close(there);
     if (socketpair(AF_UNIX, SOCK_STREAM, 0, pair) != 0)
         return;
     here.socket = pair[0];
-    here.fault = PASHKURE_OK;
+    here.is_open = true;
+    here.opening = 1;
     there = pair[1];
-    while (*replies != '\0') {
-        ssize_t count = write(there, replies, strlen(replies));
-        if (count < 0 && errno != EINTR)
-            break;
-        replies += count < 0 ? 0 : count;
-    }
+    say(replies);
     if (is_end)
         shutdown(there, SHUT_WR);
 }
@@ -39,20 +47,26 @@ static void replies(const char *text)
     answered(text, false);
 }
 
-/* Whether these are the bytes that the client sent. */
-static bool sent(const char *wanted)
+/* What the client sent. */
+static const char *all_sent(void)
 {
-    char bytes[4096];
+    static char bytes[8192];
     size_t length = 0;
     ssize_t count;
     do {
-        count = recv(there, bytes + length, sizeof bytes - length, MSG_DONTWAIT);
+        count = recv(there, bytes + length, sizeof bytes - 1 - length, MSG_DONTWAIT);
         length += count > 0 ? (size_t)count : 0;
     } while (count > 0 || (count < 0 && errno == EINTR));
-    return length == strlen(wanted) && memcmp(bytes, wanted, length) == 0;
+    bytes[length] = '\0';
+    return bytes;
 }
 
-/* What the other end reads, and what it writes then. The last one has no request: it is written when all others are. */
+static bool sent(const char *wanted)
+{
+    return strcmp(all_sent(), wanted) == 0;
+}
+
+/* What the other end reads, and what it says then. The last one has no request: it is said when all others are. */
 struct turn {
     const char *request, *reply;
 };
@@ -74,132 +88,249 @@ static void *answer(void *argument)
         }
         if (length < wanted || (wanted > 0 && memcmp(line, turn->request, wanted) != 0))
             break;
-        for (length = 0; length < strlen(turn->reply);) {
-            ssize_t count = send(there, turn->reply + length, strlen(turn->reply) - length, MSG_NOSIGNAL);
-            if (count > 0)
-                length += (size_t)count;
-            else if (errno != EINTR)
-                break;
-        }
+        say(turn->reply);
     }
     shutdown(there, SHUT_WR);
     return NULL;
 }
 
-/* A new connection, whose other end takes these turns, and then ends. */
-static void turns(const struct turn *given)
+/* Gives what a lock says in so many milliseconds over a new connection, whose other end takes these turns and then ends. */
+static pashkure_remote_result after_turns(const struct turn *turns, unsigned milliseconds)
 {
+    pashkure_remote_result result;
     answered("", false);
-    CHECK(pthread_create(&other_end, NULL, answer, (void *)given) == 0);
+    CHECK(pthread_create(&other_end, NULL, answer, (void *)turns) == 0);
+    result = pashkure_remote_lock_for(&here, first, "a", milliseconds);
+    pthread_join(other_end, NULL);
+    return result;
+}
+
+/* The requests of a transaction, and their replies. */
+static const struct {
+    pashkure_remote_result (*named)(pashkure_remote_connection *, pashkure_remote_transaction, const char *);
+    pashkure_remote_result (*plain)(pashkure_remote_connection *, pashkure_remote_transaction);
+    const char *sent, *reply;
+    pashkure_remote_result result;
+} words[] = {
+    {pashkure_remote_ask, NULL, "lock 0.1 a\n", "granted\n", IS(OK)}, {pashkure_remote_ask, NULL, "lock 0.1 a\n", "held\n", IS(HELD)},
+    {pashkure_remote_ask, NULL, "lock 0.1 a\n", "waits 1.1\n", IS(WAITS)}, {pashkure_remote_ask, NULL, "lock 0.1 a\n", "deadlock 1.1\n", IS(DEADLOCK)},
+    {pashkure_remote_lock, NULL, "lock 0.1 a\n", "held\n", IS(HELD)}, {pashkure_remote_try_lock, NULL, "try 0.1 a\n", "granted\n", IS(OK)},
+    {pashkure_remote_try_lock, NULL, "try 0.1 a\n", "held\n", IS(HELD)}, {pashkure_remote_try_lock, NULL, "try 0.1 a\n", "busy 1.1\n", IS(BUSY)},
+    {pashkure_remote_unlock, NULL, "unlock 0.1 a\n", "unlocked\n", IS(OK)}, {NULL, pashkure_remote_commit, "commit 0.1\n", "committed\n", IS(OK)},
+    {NULL, pashkure_remote_abort, "abort 0.1\n", "aborted\n", IS(OK)}, {NULL, pashkure_remote_abort, "abort 0.1\n", "later\n", IS(LATER)},
+    {NULL, pashkure_remote_cancel, "cancel 0.1\n", "cancelled\n", IS(OK)}, {NULL, pashkure_remote_cancel, "cancel 0.1\n", "carried\n", IS(CARRIED)},
+    {NULL, pashkure_remote_wait, "status 0.1\n", "active\n", IS(OK)},
+};
+#define WORDS (sizeof words / sizeof *words)
+
+static pashkure_remote_result asked(size_t row, pashkure_remote_transaction of)
+{
+    return words[row].plain != NULL ? words[row].plain(&here, of) : words[row].named(&here, of, "a");
 }
 
 static void test_words(void)
 {
-    pashkure_transaction transaction;
+    pashkure_remote_transaction begun;
+    size_t row;
     replies("begun 65535.4294967295\n");
-    GIVES(OK, pashkure_begin(&here, &transaction));
-    CHECK(sent("begin\n") && strcmp(transaction.key, "65535.4294967295") == 0);
-    replies("granted\nheld\nwaits 1.1\ndeadlock 1.1\n");
-    GIVES(OK, pashkure_ask(&here, &first, "a"));
-    GIVES(OK, pashkure_ask(&here, &first, "a"));
-    GIVES(WAITS, pashkure_ask(&here, &first, "b"));
-    GIVES(DEADLOCK, pashkure_ask(&here, &first, "b"));
-    CHECK(sent("lock 0.1 a\nlock 0.1 a\nlock 0.1 b\nlock 0.1 b\n"));
-    replies("granted\nheld\nbusy 1.1\n");
-    GIVES(OK, pashkure_try_lock(&here, &first, "a"));
-    GIVES(OK, pashkure_try_lock(&here, &first, "a"));
-    GIVES(BUSY, pashkure_try_lock(&here, &first, "a"));
-    CHECK(sent("try 0.1 a\ntry 0.1 a\ntry 0.1 a\n"));
-    replies("unlocked\ncommitted\naborted\nlater\ncancelled\ncarried\n");
-    GIVES(OK, pashkure_unlock(&here, &first, "a"));
-    GIVES(OK, pashkure_commit(&here, &first));
-    GIVES(OK, pashkure_abort(&here, &first));
-    GIVES(LATER, pashkure_abort(&here, &first));
-    GIVES(OK, pashkure_cancel(&here, &first));
-    GIVES(CARRIED, pashkure_cancel(&here, &first));
-    CHECK(sent("unlock 0.1 a\ncommit 0.1\nabort 0.1\nabort 0.1\ncancel 0.1\ncancel 0.1\n"));
+    GIVES(OK, pashkure_remote_begin(&here, &begun));
+    CHECK(sent("begin\n") && same(begun, KEY(65535, 4294967295)));
+    for (row = 0; row < WORDS; row++) {
+        replies(words[row].reply);
+        CHECK(asked(row, first) == words[row].result && sent(words[row].sent));
+    }
 }
 
+/* Their numbers are those of the library for a program of its own, and from 64 on the client's. */
 static void test_refusals(void)
 {
-    static const char *const words[] = {"no-transaction", "must-abort", "waiting", "name-too-long", "not-owner", "not-waiting",
-        "transactions-full", "names-full", "labels-full", "counts-full", "of-another-time"};
+    static const char *const refusals[85] = {[16] = "no-transaction", "must-abort", "waiting", "not-waiting", [21] = "name-too-long", "not-owner",
+        "transactions-full", "names-full", "labels-full", "counts-full", [65] = "of-another-time", [80] = "operator", "no-epoch", "not-deadlocked", "too-many",
+        "connections-full"};
     char line[64];
-    int place;
-    for (place = 0; place < 11; place++) {
-        snprintf(line, sizeof line, "refused %s\n", words[place]);
+    int number;
+    for (number = 0; number < 85; number++) {
+        bool is_over = number == 65 || number == 84;
+        if (refusals[number] == NULL)
+            continue;
+        snprintf(line, sizeof line, "refused %s\ngranted\n", refusals[number]);
         replies(line);
-        CHECK((int)pashkure_lock(&here, &first, "a") == (int)PASHKURE_NO_TRANSACTION + place);
+        CHECK((int)pashkure_remote_lock(&here, first, "a") == number);
+        CHECK((int)pashkure_remote_lock(&here, first, "a") == (is_over ? number : 0) && here.is_open != is_over);
     }
-    replies("malformed\ngranted\n");
-    GIVES(NAME_TOO_LONG, pashkure_lock(&here, &first, "a"));
-    GIVES(OK, pashkure_lock(&here, &first, "a"));
+    answered("refused connections-full\n", true);
+    shutdown(there, SHUT_RD); /* it was closed before anything was sent */
+    GIVES(CONNECTIONS_FULL, pashkure_remote_lock(&here, first, "a"));
+}
+
+/* A key of before this opening, and one of nobody, are refused, whatever the request: nothing is sent. */
+static void test_other_openings(void)
+{
+    static const char *const names[] = {"a", "b"};
+    static const pashkure_remote_transaction others[] = {{0, 1, 2}, {0, 1, 0}, {0, 0, 0}};
+    pashkure_remote_status status;
+    pashkure_remote_fence fence;
+    size_t place, row, other;
     replies("granted\n");
-    GIVES(NO_TRANSACTION, pashkure_lock(&here, &(pashkure_transaction){""}, "a"));
-    GIVES(OK, pashkure_lock(&here, &first, "a"));
+    for (other = 0; other < 3; other++) {
+        for (row = 0; row < WORDS; row++)
+            GIVES(NO_TRANSACTION, asked(row, others[other]));
+        GIVES(NO_TRANSACTION, pashkure_remote_lock_all(&here, others[other], names, 2, 0, &place));
+        GIVES(NO_TRANSACTION, pashkure_remote_status_of(&here, others[other], &status));
+        GIVES(NO_TRANSACTION, pashkure_remote_holds(&here, others[other], NULL, NULL));
+        GIVES(NO_TRANSACTION, pashkure_remote_cycle(&here, others[other], NULL, NULL));
+        GIVES(NO_TRANSACTION, pashkure_remote_fence_of(&here, others[other], "a", &fence));
+    }
+    GIVES(OK, pashkure_remote_lock(&here, first, "a"));
     CHECK(sent("lock 0.1 a\n"));
 }
 
 static void test_names(void)
 {
     static const char *const bad[] = {"", "a b", " a", "a\nabort 0.1", "a\r", "a\tb", "\x7f", "\x01"};
-    char name[PASHKURE_NAME_BYTES + 2], line[PASHKURE_NAME_BYTES + 16];
-    size_t place;
-    replies("granted\ngranted\n");
-    for (place = 0; place < sizeof bad / sizeof *bad; place++)
-        GIVES(BAD_NAME, pashkure_lock(&here, &first, bad[place]));
+    char name[PASHKURE_REMOTE_NAME_BYTES + 2], line[PASHKURE_REMOTE_NAME_BYTES + 32];
+    pashkure_remote_transaction nobody = first;
+    pashkure_remote_fence fence;
+    size_t place, stopped;
+    replies("unlocked\ngranted\n");
+    for (place = 0; place < sizeof bad / sizeof *bad; place++) {
+        const char *const names[] = {"a", bad[place], "b"};
+        GIVES(BAD_NAME, pashkure_remote_lock(&here, first, bad[place]));
+        GIVES(BAD_NAME, pashkure_remote_owner(&here, bad[place], &nobody));
+        GIVES(BAD_NAME, pashkure_remote_fence_of(&here, first, bad[place], &fence));
+        GIVES(BAD_NAME, pashkure_remote_lock_all(&here, first, names, 3, 0, &stopped));
+        CHECK(stopped == 1);
+        GIVES(BAD_NAME, pashkure_remote_begin_with(&here, &nobody, names, 3, 0, &stopped));
+        CHECK(stopped == 1 && same(nobody, NOBODY));
+    }
     memset(name, 'n', sizeof name);
-    name[PASHKURE_NAME_BYTES + 1] = '\0';
-    GIVES(BAD_NAME, pashkure_lock(&here, &first, name));
-    CHECK(recv(there, line, 1, MSG_DONTWAIT) < 0);
-    name[PASHKURE_NAME_BYTES] = '\0';
-    GIVES(OK, pashkure_lock(&here, &first, name));
-    snprintf(line, sizeof line, "lock 0.1 %s\n", name);
+    name[PASHKURE_REMOTE_NAME_BYTES + 1] = '\0';
+    GIVES(BAD_NAME, pashkure_remote_lock(&here, first, name));
+    CHECK(sent(""));
+    name[PASHKURE_REMOTE_NAME_BYTES] = '\0';
+    GIVES(OK, pashkure_remote_unlock(&here, KEY(65535, 4294967295), name));
+    snprintf(line, sizeof line, "unlock 65535.4294967295 %s\n", name);
     CHECK(sent(line));
-    GIVES(OK, pashkure_lock(&here, &first, "!~\xc3\xbc#"));
+    GIVES(OK, pashkure_remote_lock(&here, first, "!~\xc3\xbc#"));
     CHECK(sent("lock 0.1 !~\xc3\xbc#\n"));
 }
 
 static void test_waits(void)
 {
-    replies("waits 1.1\n* granted 2.1 b\n* aborted 3.1\n* granted 0.1 a\n");
-    GIVES(OK, pashkure_lock(&here, &first, "a"));
+    replies("waits 1.1\n* granted 2.1 b\n* aborted 3.1\n* granted 0.2 a\n* granted 0.1 a\n");
+    GIVES(OK, pashkure_remote_lock(&here, first, "a"));
     replies("* granted 2.1 b\nwaits 1.1\n* aborted 0.1\n");
-    GIVES(NO_TRANSACTION, pashkure_lock(&here, &first, "a"));
+    GIVES(ABORTED, pashkure_remote_lock(&here, first, "a"));
     answered("waits 1.1\n", true);
-    GIVES(CLOSED, pashkure_lock(&here, &first, "a"));
+    GIVES(LOST, pashkure_remote_lock(&here, first, "a"));
     answered("waits 1.1\n* granted 0.", true);
-    GIVES(CLOSED, pashkure_lock(&here, &first, "a"));
-    replies("* granted 0.1 a\nactive\nwaiting a 1.1\n* granted 0.1 a\nwaiting a 1.1 aborting\n* granted 0.1 a\n* aborted 0.1\n"
-            "waiting a 1.1 aborting\n* aborted 0.1\ndeadlock a 1.1\n");
-    GIVES(OK, pashkure_wait(&here, &first));
-    GIVES(OK, pashkure_wait(&here, &first));
-    GIVES(NO_TRANSACTION, pashkure_wait(&here, &first));
-    GIVES(NO_TRANSACTION, pashkure_wait(&here, &first));
-    GIVES(MUST_ABORT, pashkure_wait(&here, &first));
+    GIVES(LOST, pashkure_remote_lock(&here, first, "a"));
+    replies("* granted 0.1 a\nactive\nwaiting a 1.1\n* granted 0.1 a\nwaiting a 1.1 aborting\n* aborted 0.1\ndeadlock a 1.1\n");
+    GIVES(OK, pashkure_remote_wait(&here, first));
+    GIVES(OK, pashkure_remote_wait(&here, first));
+    GIVES(ABORTED, pashkure_remote_wait(&here, first));
+    GIVES(MUST_ABORT, pashkure_remote_wait(&here, first));
+}
+
+/* Several names: where it stops, and what is sent for them, and for the rest after a grant. */
+static void test_several(void)
+{
+    static const char *const names[] = {"a", "b", "c"};
+    static const struct {
+        const char *replies, *rest;
+        pashkure_remote_result result;
+        size_t place;
+    } rows[] = {
+        {"refused must-abort\n", "", IS(MUST_ABORT), 0}, {"granted\n", "", IS(OK), 3}, /* these two are no replies behind `begun K` */
+        {"deadlock 2 1.1\n", "", IS(DEADLOCK), 2}, {"refused 1 names-full\n", "", IS(NAMES_FULL), 1},
+        {"waits 0 1.1\n* granted 0.1 a\nwaits 0 1.1\n* granted 0.1 b\nheld\n", "lock 0.1 b c\nlock 0.1 c\n", IS(OK), 3},
+        {"waits 1 1.1\n* granted 0.1 b\nwaits 1.1\n* granted 0.1 c\n", "lock 0.1 c\n", IS(OK), 3},
+        {"waits 1 1.1\n* granted 0.1 b\nrefused names-full\n", "lock 0.1 c\n", IS(NAMES_FULL), 2},
+        {"waits 1 1.1\n* granted 0.1 b\ndeadlock 1.1\n", "lock 0.1 c\n", IS(DEADLOCK), 2},
+        {"waits 1 1.1\n* aborted 0.1\n", "", IS(ABORTED), 1}, {"waits 3 1.1\n", "", IS(PROTOCOL), 0}, {"waits 1.1\n", "", IS(PROTOCOL), 0},
+        {"refused 3 names-full\n", "", IS(PROTOCOL), 0}, {"refused 1x names-full\n", "", IS(PROTOCOL), 0}, {"refused 1\n", "", IS(PROTOCOL), 0},
+        {"held\n", "", IS(PROTOCOL), 0}, {"malformed\n", "", IS(PROTOCOL), 0},
+    };
+    pashkure_remote_transaction begun;
+    char line[256];
+    size_t row, place;
+    for (row = 0; row < sizeof rows / sizeof *rows; row++) {
+        bool is_fault = rows[row].result == IS(PROTOCOL);
+        replies(rows[row].replies);
+        CHECK(pashkure_remote_lock_all(&here, first, names, 3, PASHKURE_REMOTE_FOREVER, &place) == rows[row].result);
+        snprintf(line, sizeof line, "lock 0.1 a b c\n%s", rows[row].rest);
+        CHECK(is_fault || (place == rows[row].place && sent(line)));
+        snprintf(line, sizeof line, "begun 0.1 %s", row == 1 ? "\n" : rows[row].replies);
+        replies(line);
+        if (row > 0)
+            CHECK(pashkure_remote_begin_with(&here, &begun, names, 3, PASHKURE_REMOTE_FOREVER, &place) == rows[row].result);
+        snprintf(line, sizeof line, "begin a b c\n%s", rows[row].rest);
+        CHECK(is_fault || row == 0 || (place == rows[row].place && same(begun, KEY(0, 1)) && sent(line)));
+    }
+    replies("refused transactions-full\nbegun 0.1\nbegun 0.1 waits 0 1.1\n* granted 0.1 a\n");
+    GIVES(TRANSACTIONS_FULL, pashkure_remote_begin_with(&here, &begun, names, 3, 0, &place));
+    CHECK(place == 0 && same(begun, NOBODY));
+    GIVES(OK, pashkure_remote_begin_with(&here, &begun, names, 0, 0, &place));
+    GIVES(OK, pashkure_remote_lock_all(&here, first, names, 0, 0, &place));
+    GIVES(OK, pashkure_remote_begin_with(&here, &begun, names, 1, 0, &place));
+    CHECK(place == 1 && sent("begin a b c\nbegin\nbegin a\n"));
+}
+
+/* More names than a line has: the rest of them are asked for in further lines, none of which is too long. */
+static void test_many_names(void)
+{
+    static char text[500][8], *line;
+    const char *names[500];
+    pashkure_remote_transaction begun;
+    size_t place;
+    for (place = 0; place < 500; names[place] = text[place], place++)
+        snprintf(text[place], sizeof *text, "%06d", (int)place);
+    replies("begun 0.1\ngranted\ngranted\nwaits 6 1.1\n* granted 0.1 x\ngranted\n");
+    GIVES(OK, pashkure_remote_begin_with(&here, &begun, names, 500, 1, &place));
+    CHECK(place == 500);
+    for (line = strtok((char *)all_sent(), "\n"), place = 0; line != NULL; line = strtok(NULL, "\n"), place++)
+        CHECK(strlen(line) <= 1048 && strncmp(line, place == 0 ? "begin 000000 " : "lock 0.1 000", 12) == 0);
+    CHECK(place == 5);
 }
 
 static void test_reads(void)
 {
-    pashkure_transaction owner;
-    pashkure_status status;
-    pashkure_counts counts;
-    replies("owner 7.3\nfree\nactive\nwaiting a 1.1\nwaiting a 1.1 aborting\ndeadlock a 1.1\ntotals 4 3 2 18446744073709551615\n");
-    GIVES(OK, pashkure_owner(&here, "a", &owner));
-    CHECK(strcmp(owner.key, "7.3") == 0);
-    GIVES(FREE, pashkure_owner(&here, "a", &owner));
-    CHECK(owner.key[0] == '\0');
-    GIVES(OK, pashkure_status_of(&here, &first, &status));
-    CHECK(status.mode == PASHKURE_IS_ACTIVE && status.name[0] == '\0' && status.holder.key[0] == '\0');
-    GIVES(OK, pashkure_status_of(&here, &first, &status));
-    CHECK(status.mode == PASHKURE_IS_WAITING && !status.is_aborting && strcmp(status.name, "a") == 0);
-    GIVES(OK, pashkure_status_of(&here, &first, &status));
-    CHECK(status.mode == PASHKURE_IS_WAITING && status.is_aborting && strcmp(status.holder.key, "1.1") == 0);
-    GIVES(OK, pashkure_status_of(&here, &first, &status));
-    CHECK(status.mode == PASHKURE_IS_DEADLOCKED);
-    GIVES(OK, pashkure_totals(&here, &counts));
-    CHECK(counts.begun == 4 && counts.committed == 3 && counts.aborted == 2 && counts.deadlocks == UINT64_MAX);
-    CHECK(sent("owner a\nowner a\nstatus 0.1\nstatus 0.1\nstatus 0.1\nstatus 0.1\ntotals\n"));
+    static const pashkure_remote_mode modes[] = {IS(IS_ACTIVE), IS(IS_WAITING), IS(IS_WAITING), IS(IS_DEADLOCKED)};
+    pashkure_remote_transaction owner;
+    pashkure_remote_status status;
+    pashkure_remote_counts counts;
+    pashkure_remote_fence fence;
+    pashkure_remote_service service;
+    char text[PASHKURE_REMOTE_FENCE_BYTES];
+    size_t row;
+    replies("owner 7.3\nfree\nactive\nwaiting a 1.1\nwaiting a 1.1 aborting\ndeadlock a 1.1\ntotals 4 3 2 18446744073709551615\n"
+            "counts 1 2 3 4 5 6 7 8 9\nfence 9223372036854775807 42\nhello 1 7 65536 1024 64\n");
+    GIVES(OK, pashkure_remote_owner(&here, "a", &owner));
+    CHECK(same(owner, KEY(7, 3)));
+    GIVES(FREE, pashkure_remote_owner(&here, "a", &owner));
+    CHECK(same(owner, NOBODY));
+    for (row = 0; row < 4; row++) {
+        bool waits = row > 0;
+        GIVES(OK, pashkure_remote_status_of(&here, first, &status));
+        CHECK(status.mode == modes[row] && status.is_aborting == (row == 2));
+        CHECK(strcmp(status.name, waits ? "a" : "") == 0 && same(status.holder, waits ? KEY(1, 1) : NOBODY));
+    }
+    GIVES(OK, pashkure_remote_totals(&here, &counts));
+    CHECK(counts.begun == 4 && counts.committed == 3 && counts.aborted == 2 && counts.deadlocks == UINT64_MAX && counts.events == 0);
+    GIVES(OK, pashkure_remote_counts_of(&here, &counts));
+    CHECK(counts.begun == 1 && counts.deadlocks == 4 && counts.waits == 5 && counts.withdrawn == 6 && counts.events == 7);
+    CHECK(counts.labels_left == 8 && counts.counts_left == 9);
+    GIVES(OK, pashkure_remote_fence_of(&here, first, "a", &fence));
+    pashkure_remote_fence_text(fence, text);
+    CHECK(strcmp(text, "9223372036854775807.0000000000000000042") == 0);
+    pashkure_remote_fence_text((pashkure_remote_fence){UINT64_MAX, UINT64_MAX}, text);
+    GIVES(OK, pashkure_remote_hello(&here, &service));
+    CHECK(service.epoch == 7 && service.transactions == 65536 && service.names == 1024 && service.name_bytes == 64);
+    CHECK(sent("owner a\nowner a\nstatus 0.1\nstatus 0.1\nstatus 0.1\nstatus 0.1\ntotals\ncounts\nfence 0.1 a\nhello\n"));
+    replies("hello 2 7 65536 1024 64\n"); /* another protocol */
+    GIVES(PROTOCOL, pashkure_remote_hello(&here, &service));
+    replies("fence 1 9223372036854775808\n");
+    GIVES(PROTOCOL, pashkure_remote_fence_of(&here, first, "a", &fence));
 }
 
 static void add_name(void *context, const char *name)
@@ -207,131 +338,145 @@ static void add_name(void *context, const char *name)
     strcat(strcat(context, name), " ");
 }
 
-static void add_wait(void *context, const pashkure_wait_for *wait)
+static void add_wait(void *context, const pashkure_remote_wait_for *wait)
 {
-    sprintf((char *)context + strlen(context), "%s-%s-%s ", wait->waiter.key, wait->name, wait->holder.key);
+    sprintf((char *)context + strlen(context), "%d-%s-%d%s ", (int)wait->waiter.slot, wait->name, (int)wait->holder.slot, wait->holder.opening ? "" : "?");
+}
+
+static void add_live(void *context, const pashkure_remote_live *live)
+{
+    sprintf((char *)context + strlen(context), "%d:%d:%d%s ", (int)live->transaction.slot, (int)live->connection, (int)live->status.mode, live->status.name);
 }
 
 static void test_lists(void)
 {
-    char text[256] = "";
-    replies("holds\nholds a b c\n* granted 5.1 x\ngraph 0\ngraph 2\n* 0.1 a 1.1\n* 1.1 b 2.1\n* granted 6.1 x\nfree\n");
-    GIVES(OK, pashkure_holds(&here, &first, add_name, text));
-    CHECK(strcmp(text, "") == 0);
-    GIVES(OK, pashkure_holds(&here, &first, add_name, text));
-    CHECK(strcmp(text, "a b c ") == 0);
+    char text[256] = "", told[256] = "";
+    pashkure_remote_on_deadlock(&here, add_wait, told);
+    replies("holds\nholds a b c\n* granted 5.1 x\ngraph 0\ngraph 2\n* 0.1 a 1.1\n* 1.1 b 2.1\n* deadlock 3.1 x 4.1 y\ncycle 0.1 a 1.1 b\n"
+            "* granted 6.1 x\ncycle 0.1 a 1.1 b 2.1 c ..\nlist 0\nlist 3\n* 0.1 1 active\n* 1.1 - waiting a 0.1 aborting\n* 2.1 3 deadlock b 0.1\n"
+            "* deadlock 5.1 a ..\nfree\n");
+    GIVES(OK, pashkure_remote_holds(&here, first, add_name, text));
+    GIVES(OK, pashkure_remote_holds(&here, first, add_name, text));
+    GIVES(OK, pashkure_remote_graph(&here, add_wait, text));
+    GIVES(OK, pashkure_remote_graph(&here, add_wait, text));
+    CHECK(strcmp(text, "a b c 0-a-1 1-b-2 ") == 0);
     text[0] = '\0';
-    GIVES(OK, pashkure_graph(&here, add_wait, text));
-    CHECK(strcmp(text, "") == 0);
-    GIVES(OK, pashkure_graph(&here, add_wait, text));
-    CHECK(strcmp(text, "0.1-a-1.1 1.1-b-2.1 ") == 0);
-    GIVES(FREE, pashkure_owner(&here, "a", &(pashkure_transaction){""}));
+    GIVES(OK, pashkure_remote_cycle(&here, first, add_wait, text));
+    CHECK(strcmp(told, "3-x-4 4-y-3 ") == 0);
+    GIVES(OK, pashkure_remote_cycle(&here, first, add_wait, text));
+    GIVES(OK, pashkure_remote_list(&here, add_live, text));
+    GIVES(OK, pashkure_remote_list(&here, add_live, text));
+    CHECK(strcmp(text, "0-a-1 1-b-0 0-a-1 1-b-2 2-c-0? 0:1:0 1:0:1a 2:3:2b ") == 0);
+    GIVES(FREE, pashkure_remote_owner(&here, "a", &NOBODY));
+    CHECK(strcmp(told, "3-x-4 4-y-3 5-a-0? ") == 0);
+    replies("* aborted 1.1\n* deadlock 3.1 x 4.1 y\n");
+    GIVES(OK, pashkure_remote_listen(&here, PASHKURE_REMOTE_FOREVER));
+    GIVES(TIMED_OUT, pashkure_remote_listen(&here, 1));
+    pashkure_remote_on_deadlock(&here, NULL, NULL);
+    replies("* deadlock 3.1 x 4.1 y\nrefused no-transaction\ngranted\n");
+    GIVES(NO_TRANSACTION, pashkure_remote_holds(&here, first, add_name, text));
+    GIVES(PROTOCOL, pashkure_remote_listen(&here, 1));
     replies("graph 3\n* 0.1 a 1.1\ngranted\n");
-    GIVES(BAD_REPLY, pashkure_graph(&here, add_wait, text));
-    replies("refused no-transaction\n");
-    GIVES(NO_TRANSACTION, pashkure_holds(&here, &first, add_name, text));
+    GIVES(PROTOCOL, pashkure_remote_graph(&here, add_wait, text));
+    replies("list 2\n* 0.1 1 active\n* 0.1 x active\n");
+    GIVES(PROTOCOL, pashkure_remote_list(&here, add_live, text));
 }
 
 static void test_bad_replies(void)
 {
     static const char *const bad[] = {"\n", "hello\n", "committed\n", "granted again\n", "waits\n", "waits 1.1 2.1\n", "refused\n",
         "refused a b\n", "* moved 0.1 a\n", "* granted 1.1\n", "* aborted 1.1 a\n", "*\n", "waits 1.1\ngranted\n",
-        "waits 123456789012345678901234567890\n"};
+        "waits 123456789012345678901234567890\n", "waits 1\n", "waits 1.\n", "waits 1.4294967296\n", "waits 1.1x\n", "waits 1.-1\n", "malformed\n",
+        "* deadlock 1.1 a 1.1\n", "* deadlock 1.1\n", "* deadlock 1.1 a .. b\n", "refused 0 names-full\n"};
     size_t place;
     for (place = 0; place < sizeof bad / sizeof *bad; place++) {
         replies(bad[place]);
-        GIVES(BAD_REPLY, pashkure_lock(&here, &first, "a"));
-        GIVES(BAD_REPLY, pashkure_commit(&here, &first));
-        CHECK(here.socket == -1);
+        GIVES(PROTOCOL, pashkure_remote_lock(&here, first, "a"));
+        GIVES(PROTOCOL, pashkure_remote_commit(&here, first));
+        CHECK(!here.is_open);
     }
     answered("", true);
-    GIVES(CLOSED, pashkure_lock(&here, &first, "a"));
-    GIVES(CLOSED, pashkure_lock(&here, &first, "a"));
+    GIVES(LOST, pashkure_remote_lock(&here, first, "a"));
+    GIVES(LOST, pashkure_remote_lock(&here, first, "a"));
+}
+
+/* A connection that was never opened, and one that was closed. */
+static void test_closed(void)
+{
+    pashkure_remote_connection zero;
+    pashkure_remote_transaction begun;
+    pashkure_remote_counts counts;
+    memset(&zero, 0, sizeof zero);
+    GIVES(NOT_OPEN, pashkure_remote_begin(&zero, &begun));
+    GIVES(NOT_OPEN, pashkure_remote_commit(&zero, begun));
+    GIVES(NOT_OPEN, pashkure_remote_totals(&zero, &counts));
+    GIVES(NOT_OPEN, pashkure_remote_listen(&zero, 0));
+    pashkure_remote_close(&zero);
+    CHECK(fcntl(STDIN_FILENO, F_GETFD) >= 0); /* descriptor 0 is left alone */
     replies("granted\n");
-    pashkure_close(&here);
-    pashkure_close(&here);
-    GIVES(CLOSED, pashkure_lock(&here, &first, "a"));
-    GIVES(CLOSED, pashkure_wait(&here, &first));
+    pashkure_remote_close(&here);
+    pashkure_remote_close(&here);
+    GIVES(NOT_OPEN, pashkure_remote_lock(&here, first, "a"));
+    GIVES(NOT_OPEN, pashkure_remote_wait(&here, first));
 }
 
 static void test_time_outs(void)
 {
     replies("waits 1.1\n");
     shutdown(there, SHUT_RD);
-    GIVES(CLOSED, pashkure_lock_for(&here, &first, "a", 1)); /* and SIGPIPE does not end the program */
+    GIVES(LOST, pashkure_remote_lock_for(&here, first, "a", 1)); /* and SIGPIPE does not end the program */
     replies("granted\n");
-    GIVES(OK, pashkure_lock_for(&here, &first, "a", 0));
+    GIVES(OK, pashkure_remote_lock_for(&here, first, "a", 0));
     replies("deadlock 1.1\n");
-    GIVES(DEADLOCK, pashkure_lock_for(&here, &first, "a", 0));
+    GIVES(DEADLOCK, pashkure_remote_lock_for(&here, first, "a", 0));
     replies("waits 1.1\n* granted 0.1 a\n");
-    GIVES(OK, pashkure_lock_for(&here, &first, "a", 0));
+    GIVES(OK, pashkure_remote_lock_for(&here, first, "a", 0));
     CHECK(sent("lock 0.1 a\n"));
 }
 
 /* The time of a lock is up: the wait is taken back, again and again while it may not be. Each turn of the other end comes after a request. */
 static void test_taken_back(void)
 {
-    static const struct turn back[] = {{"lock 0.1 a\n", "waits 1.1\n"}, {"cancel 0.1\n", "carried\n"}, {"cancel 0.1\n", "carried\n"},
-        {"cancel 0.1\n", "cancelled\n"}, {NULL, NULL}};
-    static const struct turn granted[] = {{"lock 0.1 a\n", "waits 1.1\n"}, {"cancel 0.1\n", "* granted 0.1 a\nrefused not-waiting\n"}, {NULL, NULL}};
-    static const struct turn late[] = {{"lock 0.1 a\n", "waits 1.1\n"}, {"cancel 0.1\n", "carried\n* granted 2.1 b\n* granted 0.1 a\n"}, {NULL, NULL}};
-    static const struct turn over[] = {{"lock 0.1 a\n", "waits 1.1\n"}, {"cancel 0.1\n", "carried\n* aborted 0.1\n"}, {NULL, NULL}};
-    static const struct turn gone[] = {{"lock 0.1 a\n", "waits 1.1\n"}, {"cancel 0.1\n", "carried\n"}, {NULL, NULL}};
-    turns(back);
-    GIVES(TIMED_OUT, pashkure_lock_for(&here, &first, "a", 0));
-    pthread_join(other_end, NULL);
-    turns(granted);
-    GIVES(OK, pashkure_lock_for(&here, &first, "a", 1));
-    pthread_join(other_end, NULL);
-    turns(late);
-    GIVES(OK, pashkure_lock_for(&here, &first, "a", 0));
-    pthread_join(other_end, NULL);
-    turns(over);
-    GIVES(NO_TRANSACTION, pashkure_lock_for(&here, &first, "a", 0));
-    pthread_join(other_end, NULL);
-    turns(gone);
-    GIVES(CLOSED, pashkure_lock_for(&here, &first, "a", 0));
-    pthread_join(other_end, NULL);
+#define LOCKED {"lock 0.1 a\n", "waits 1.1\n"}
+    static const struct turn back[] = {LOCKED, {"cancel 0.1\n", "carried\n"}, {"cancel 0.1\n", "carried\n"}, {"cancel 0.1\n", "cancelled\n"}, {0, 0}};
+    static const struct turn granted[] = {LOCKED, {"cancel 0.1\n", "* granted 0.1 a\nrefused not-waiting\n"}, {0, 0}};
+    static const struct turn late[] = {LOCKED, {"cancel 0.1\n", "carried\n* granted 2.1 b\n* granted 0.1 a\n"}, {0, 0}};
+    static const struct turn over[] = {LOCKED, {"cancel 0.1\n", "carried\n* aborted 0.1\n"}, {0, 0}};
+    static const struct turn gone[] = {LOCKED, {"cancel 0.1\n", "carried\n"}, {0, 0}};
+    GIVES(TIMED_OUT, after_turns(back, 0));
+    GIVES(OK, after_turns(granted, 1));
+    GIVES(OK, after_turns(late, 0));
+    GIVES(ABORTED, after_turns(over, 0));
+    GIVES(LOST, after_turns(gone, 0));
 }
 
 /* A lock that may take more than 2 to the 31 milliseconds. (What poll is told the test of the program reads in a log.) */
 static void test_long_time(void)
 {
-    static const struct turn granted[] = {{"lock 0.1 a\n", "waits 1.1\n"}, {NULL, "* granted 0.1 a\n"}, {NULL, NULL}};
-    turns(granted);
-    GIVES(OK, pashkure_lock_for(&here, &first, "a", 4294967295u));
-    pthread_join(other_end, NULL);
+    static const struct turn granted[] = {LOCKED, {NULL, "* granted 0.1 a\n"}, {0, 0}};
+    GIVES(OK, after_turns(granted, PASHKURE_REMOTE_FOREVER - 1));
 }
 
 /* A message for each result, each another one, which names what there is none left of. */
 static void test_messages(void)
 {
-    static const struct {
-        pashkure_result result;
-        const char *part;
-    } parts[] = {
-        {PASHKURE_OK, "done"}, {PASHKURE_DEADLOCK, "cycle"}, {PASHKURE_TIMED_OUT, "in time"}, {PASHKURE_BUSY, "owns the name"},
-        {PASHKURE_WAITS, "waits for the name"}, {PASHKURE_CARRIED, "cannot be taken back"}, {PASHKURE_LATER, "as soon as"},
-        {PASHKURE_FREE, "nobody owns"}, {PASHKURE_NO_TRANSACTION, "has ended"}, {PASHKURE_MUST_ABORT, "to be aborted"},
-        {PASHKURE_WAITING, "the transaction waits"}, {PASHKURE_NAME_TOO_LONG, "longer"}, {PASHKURE_NOT_OWNER, "does not own"},
-        {PASHKURE_NOT_WAITING, "does not wait"}, {PASHKURE_TRANSACTIONS_FULL, "transactions"}, {PASHKURE_NAMES_FULL, "names"},
-        {PASHKURE_LABELS_FULL, "wait"}, {PASHKURE_COUNTS_FULL, "counted"}, {PASHKURE_REFUSED, "does not know"}, {PASHKURE_BAD_NAME, "control"},
-        {PASHKURE_BAD_PATH, "path"}, {PASHKURE_NO_SERVICE, "no connection"}, {PASHKURE_CLOSED, "is closed"}, {PASHKURE_BAD_REPLY, "no reply"},
-    };
-    size_t place, other;
-    for (place = 0; place < sizeof parts / sizeof *parts; place++) {
-        const char *message = pashkure_message(parts[place].result);
-        CHECK(strstr(message, parts[place].part) != NULL);
-        for (other = 0; other < place; other++)
-            CHECK(strcmp(message, pashkure_message(parts[other].result)) != 0);
+    static const char *const parts[85] = {"done", "owned the name before", "waits for the name", "cycle", "another transaction owns", "as soon as",
+        "cannot be taken back", "nobody owns", "aborted while", "in time", [16] = "has ended", "to be aborted", "the transaction waits", "does not wait",
+        [21] = "longer", "does not own", "transactions", "names", "wait", "counted", [32] = "is closed", "is open", [64] = "lost", "does not understand",
+        "no connection", "control", [80] = "operator", "epoch", "no deadlock", "more names", "clients"};
+    int place, other;
+    for (place = 0; place < 85; place++) {
+        const char *message = pashkure_remote_message((pashkure_remote_result)place);
+        CHECK(strstr(message, parts[place] == NULL ? "no result of this client" : parts[place]) != NULL);
+        for (other = 0; other < place && parts[place] != NULL; other++)
+            CHECK(strcmp(message, pashkure_remote_message((pashkure_remote_result)other)) != 0);
     }
-    CHECK(strcmp(pashkure_message((pashkure_result)99), "no result of this client") == 0);
 }
 
 int main(int count, char *words[])
 {
-    static const struct test tests[] = {TEST(words), TEST(refusals), TEST(names), TEST(waits), TEST(reads), TEST(lists), TEST(bad_replies),
-        TEST(time_outs), TEST(taken_back), TEST(long_time), TEST(messages)};
-    there = here.socket = -1;
+    static const struct test tests[] = {TEST(words), TEST(refusals), TEST(other_openings), TEST(names), TEST(waits), TEST(several), TEST(many_names),
+        TEST(reads), TEST(lists), TEST(bad_replies), TEST(closed), TEST(time_outs), TEST(taken_back), TEST(long_time), TEST(messages)};
+    there = -1;
     return tested(tests, sizeof tests / sizeof *tests, count > 1 ? words[1] : "");
 }

@@ -3,6 +3,7 @@
 
 #include "check.h"
 
+#include <errno.h>
 #include <limits.h>
 #include <pthread.h>
 #include <signal.h>
@@ -11,15 +12,15 @@
 #include <time.h>
 #include <unistd.h>
 
-typedef pashkure_transaction key;
+typedef pashkure_remote_transaction key;
 
 static const char *path;
-static pashkure_connection one, two;
+static pashkure_remote_connection one, two;
 
-static key begun(pashkure_connection *connection)
+static key begun(pashkure_remote_connection *connection)
 {
     key transaction;
-    GIVES(OK, pashkure_begin(connection, &transaction));
+    GIVES(OK, pashkure_remote_begin(connection, &transaction));
     return transaction;
 }
 
@@ -28,47 +29,52 @@ static void rest(long milliseconds)
     nanosleep(&(struct timespec){milliseconds / 1000, milliseconds % 1000 * 1000000}, NULL);
 }
 
-static void count_wait(void *context, const pashkure_wait_for *wait)
+static void count_wait(void *context, const pashkure_remote_wait_for *wait)
 {
     (void)wait;
     ++*(int *)context;
 }
 
-/* Rests until so many transactions wait, however long that takes. The operator may ask who does, at the service's path and `.admin`. */
+/* Connects the operator, whose socket is at the service's path and `.admin`. */
+static void open_operator(pashkure_remote_connection *operator)
+{
+    char admin[PATH_MAX];
+    memset(operator, 0, sizeof *operator);
+    snprintf(admin, sizeof admin, "%s.admin", path);
+    GIVES(OK, pashkure_remote_open(operator, admin));
+}
+
+/* Rests until so many transactions wait, however long that takes. */
 static void until_waiting(int wanted)
 {
-    pashkure_connection operator;
-    char admin[PATH_MAX];
-    int waiting;
-    snprintf(admin, sizeof admin, "%s.admin", path);
-    do {
+    pashkure_remote_connection operator;
+    int waiting = -1;
+    open_operator(&operator);
+    while (waiting != wanted && failed == 0) {
         waiting = 0;
         rest(2);
-        if (pashkure_open(&operator, admin) != PASHKURE_OK)
-            break;
-        pashkure_graph(&operator, count_wait, &waiting);
-        pashkure_close(&operator);
-    } while (waiting != wanted);
-    CHECK(waiting == wanted);
+        GIVES(OK, pashkure_remote_graph(&operator, count_wait, &waiting));
+    }
+    pashkure_remote_close(&operator);
 }
 
 /* A thread that asks for a name by a connection of its own. */
 struct asker {
     pthread_t thread;
-    pashkure_connection connection;
+    pashkure_remote_connection connection;
     key transaction;
     const char *name;
     unsigned milliseconds; /* 0: for ever */
-    pashkure_result result;
+    pashkure_remote_result result;
 };
 
 static void *ask(void *argument)
 {
     struct asker *asker = argument;
     if (asker->milliseconds == 0)
-        asker->result = pashkure_lock(&asker->connection, &asker->transaction, asker->name);
+        asker->result = pashkure_remote_lock(&asker->connection, asker->transaction, asker->name);
     else
-        asker->result = pashkure_lock_for(&asker->connection, &asker->transaction, asker->name, asker->milliseconds);
+        asker->result = pashkure_remote_lock_for(&asker->connection, asker->transaction, asker->name, asker->milliseconds);
     return NULL;
 }
 
@@ -76,12 +82,13 @@ static void start(struct asker *asker, const char *name, unsigned milliseconds)
 {
     asker->name = name;
     asker->milliseconds = milliseconds;
-    GIVES(OK, pashkure_open(&asker->connection, path));
+    memset(&asker->connection, 0, sizeof asker->connection);
+    GIVES(OK, pashkure_remote_open(&asker->connection, path));
     asker->transaction = begun(&asker->connection);
     CHECK(pthread_create(&asker->thread, NULL, ask, asker) == 0);
 }
 
-static pashkure_result joined(struct asker *asker)
+static pashkure_remote_result joined(struct asker *asker)
 {
     pthread_join(asker->thread, NULL);
     return asker->result;
@@ -90,147 +97,147 @@ static pashkure_result joined(struct asker *asker)
 static void test_alone(void)
 {
     key first = begun(&one), owner;
-    GIVES(OK, pashkure_lock(&one, &first, "a"));
-    GIVES(OK, pashkure_lock(&one, &first, "a"));
-    GIVES(OK, pashkure_try_lock(&one, &first, "\xc3\xbc"));
-    GIVES(OK, pashkure_owner(&two, "a", &owner));
-    CHECK(strcmp(owner.key, first.key) == 0);
-    GIVES(OK, pashkure_unlock(&one, &first, "a"));
-    GIVES(NOT_OWNER, pashkure_unlock(&one, &first, "a"));
-    GIVES(FREE, pashkure_owner(&two, "a", &owner));
-    GIVES(NOT_WAITING, pashkure_cancel(&one, &first));
-    GIVES(OK, pashkure_commit(&one, &first));
-    GIVES(NO_TRANSACTION, pashkure_commit(&one, &first));
-    GIVES(NO_TRANSACTION, pashkure_abort(&one, &first));
-    GIVES(FREE, pashkure_owner(&one, "\xc3\xbc", &owner));
+    GIVES(OK, pashkure_remote_lock(&one, first, "a"));
+    GIVES(HELD, pashkure_remote_lock(&one, first, "a"));
+    GIVES(OK, pashkure_remote_try_lock(&one, first, "\xc3\xbc"));
+    GIVES(OK, pashkure_remote_owner(&two, "a", &owner));
+    CHECK(same(owner, first));
+    GIVES(OK, pashkure_remote_unlock(&one, first, "a"));
+    GIVES(NOT_OWNER, pashkure_remote_unlock(&one, first, "a"));
+    GIVES(FREE, pashkure_remote_owner(&two, "a", &owner));
+    GIVES(NOT_WAITING, pashkure_remote_cancel(&one, first));
+    GIVES(OK, pashkure_remote_commit(&one, first));
+    GIVES(NO_TRANSACTION, pashkure_remote_commit(&one, first));
+    GIVES(NO_TRANSACTION, pashkure_remote_abort(&one, first));
+    GIVES(FREE, pashkure_remote_owner(&one, "\xc3\xbc", &owner));
 }
 
 static void test_two(void)
 {
     key first = begun(&one), second = begun(&two);
     struct asker third;
-    GIVES(NO_TRANSACTION, pashkure_lock(&one, &second, "a")); /* it is the other connection's */
-    GIVES(NO_TRANSACTION, pashkure_abort(&one, &second));
-    GIVES(OK, pashkure_lock(&one, &first, "a"));
-    GIVES(OK, pashkure_lock(&two, &second, "b"));
-    GIVES(BUSY, pashkure_try_lock(&two, &second, "a"));
-    GIVES(TIMED_OUT, pashkure_lock_for(&two, &second, "a", 20));
-    GIVES(OK, pashkure_lock(&two, &second, "b"));
+    GIVES(NO_TRANSACTION, pashkure_remote_lock(&one, second, "a")); /* it is the other connection's */
+    GIVES(NO_TRANSACTION, pashkure_remote_abort(&one, second));
+    GIVES(OK, pashkure_remote_lock(&one, first, "a"));
+    GIVES(OK, pashkure_remote_lock(&two, second, "b"));
+    GIVES(BUSY, pashkure_remote_try_lock(&two, second, "a"));
+    GIVES(TIMED_OUT, pashkure_remote_lock_for(&two, second, "a", 20));
+    GIVES(HELD, pashkure_remote_lock(&two, second, "b"));
     start(&third, "a", 0);
     until_waiting(1);
-    GIVES(OK, pashkure_commit(&one, &first));
+    GIVES(OK, pashkure_remote_commit(&one, first));
     GIVES(OK, joined(&third));
-    GIVES(OK, pashkure_commit(&two, &second));
-    pashkure_close(&third.connection);
+    GIVES(OK, pashkure_remote_commit(&two, second));
+    pashkure_remote_close(&third.connection);
 }
 
 static void test_deadlock(void)
 {
     key first = begun(&one), second = begun(&two);
-    pashkure_status status;
-    GIVES(OK, pashkure_lock(&one, &first, "a"));
-    GIVES(OK, pashkure_lock(&two, &second, "b"));
-    GIVES(WAITS, pashkure_ask(&one, &first, "b"));
-    GIVES(DEADLOCK, pashkure_lock(&two, &second, "a"));
-    GIVES(OK, pashkure_status_of(&two, &second, &status));
-    CHECK(status.mode == PASHKURE_IS_DEADLOCKED && strcmp(status.name, "a") == 0 && strcmp(status.holder.key, first.key) == 0);
-    GIVES(MUST_ABORT, pashkure_lock(&two, &second, "c"));
-    GIVES(MUST_ABORT, pashkure_commit(&two, &second));
-    GIVES(MUST_ABORT, pashkure_cancel(&two, &second));
-    GIVES(WAITING, pashkure_commit(&one, &first));
-    GIVES(OK, pashkure_abort(&two, &second));
-    GIVES(OK, pashkure_wait(&one, &first));
-    GIVES(OK, pashkure_commit(&one, &first));
+    pashkure_remote_status status;
+    GIVES(OK, pashkure_remote_lock(&one, first, "a"));
+    GIVES(OK, pashkure_remote_lock(&two, second, "b"));
+    GIVES(WAITS, pashkure_remote_ask(&one, first, "b"));
+    GIVES(DEADLOCK, pashkure_remote_lock(&two, second, "a"));
+    GIVES(OK, pashkure_remote_status_of(&two, second, &status));
+    CHECK(status.mode == PASHKURE_REMOTE_IS_DEADLOCKED && strcmp(status.name, "a") == 0 && same(status.holder, first));
+    GIVES(MUST_ABORT, pashkure_remote_lock(&two, second, "c"));
+    GIVES(MUST_ABORT, pashkure_remote_commit(&two, second));
+    GIVES(MUST_ABORT, pashkure_remote_cancel(&two, second));
+    GIVES(WAITING, pashkure_remote_commit(&one, first));
+    GIVES(OK, pashkure_remote_abort(&two, second));
+    GIVES(OK, pashkure_remote_wait(&one, first));
+    GIVES(OK, pashkure_remote_commit(&one, first));
 }
 
 /* Several transactions of one connection: what one is granted while another one asks is not lost. */
 static void test_one_connection(void)
 {
     key first = begun(&one), second = begun(&one), third = begun(&one);
-    GIVES(OK, pashkure_lock(&one, &first, "a"));
-    GIVES(WAITS, pashkure_ask(&one, &second, "a"));
-    GIVES(WAITS, pashkure_ask(&one, &third, "a"));
-    GIVES(OK, pashkure_commit(&one, &first));
-    GIVES(OK, pashkure_wait(&one, &second));
-    GIVES(OK, pashkure_cancel(&one, &third));
-    GIVES(WAITS, pashkure_ask(&one, &third, "a"));
-    GIVES(OK, pashkure_abort(&one, &second));
-    GIVES(OK, pashkure_lock(&one, &third, "b"));
-    GIVES(OK, pashkure_wait(&one, &third));
-    GIVES(OK, pashkure_commit(&one, &third));
+    GIVES(OK, pashkure_remote_lock(&one, first, "a"));
+    GIVES(WAITS, pashkure_remote_ask(&one, second, "a"));
+    GIVES(WAITS, pashkure_remote_ask(&one, third, "a"));
+    GIVES(OK, pashkure_remote_commit(&one, first));
+    GIVES(OK, pashkure_remote_wait(&one, second));
+    GIVES(OK, pashkure_remote_cancel(&one, third));
+    GIVES(WAITS, pashkure_remote_ask(&one, third, "a"));
+    GIVES(OK, pashkure_remote_abort(&one, second));
+    GIVES(OK, pashkure_remote_lock(&one, third, "b"));
+    GIVES(OK, pashkure_remote_wait(&one, third));
+    GIVES(OK, pashkure_remote_commit(&one, third));
 }
 
 /* Its time is up, at once, behind another one that waits: its wait is taken back. */
 static void test_timed_out_behind(void)
 {
     key owner = begun(&one), last = begun(&two), waiter = begun(&two);
-    GIVES(OK, pashkure_lock(&one, &owner, "x"));
-    GIVES(OK, pashkure_lock(&two, &last, "z"));
-    GIVES(WAITS, pashkure_ask(&one, &owner, "z"));
-    GIVES(TIMED_OUT, pashkure_lock_for(&two, &waiter, "x", 0));
+    GIVES(OK, pashkure_remote_lock(&one, owner, "x"));
+    GIVES(OK, pashkure_remote_lock(&two, last, "z"));
+    GIVES(WAITS, pashkure_remote_ask(&one, owner, "z"));
+    GIVES(TIMED_OUT, pashkure_remote_lock_for(&two, waiter, "x", 0));
     until_waiting(1);
-    GIVES(OK, pashkure_commit(&two, &waiter));
-    GIVES(OK, pashkure_commit(&two, &last));
-    GIVES(OK, pashkure_wait(&one, &owner));
-    GIVES(OK, pashkure_commit(&one, &owner));
+    GIVES(OK, pashkure_remote_commit(&two, waiter));
+    GIVES(OK, pashkure_remote_commit(&two, last));
+    GIVES(OK, pashkure_remote_wait(&one, owner));
+    GIVES(OK, pashkure_remote_commit(&one, owner));
 }
 
 /* Behind a victim neither a wait nor a transaction ends. Its abort is done when its wait ends. */
 static void test_aborted_later(void)
 {
     key owner = begun(&one), victim = begun(&two), waiter = begun(&two);
-    pashkure_status status;
-    GIVES(OK, pashkure_lock(&one, &owner, "x"));
-    GIVES(OK, pashkure_lock(&two, &victim, "z"));
-    GIVES(WAITS, pashkure_ask(&two, &waiter, "x"));
-    GIVES(WAITS, pashkure_ask(&one, &owner, "z"));
-    GIVES(DEADLOCK, pashkure_ask(&two, &victim, "x"));
-    GIVES(CARRIED, pashkure_cancel(&two, &waiter));
-    GIVES(LATER, pashkure_abort(&two, &waiter));
-    GIVES(OK, pashkure_status_of(&two, &waiter, &status));
-    CHECK(status.mode == PASHKURE_IS_WAITING && status.is_aborting);
-    GIVES(OK, pashkure_abort(&two, &victim));
-    GIVES(OK, pashkure_wait(&one, &owner));
-    GIVES(OK, pashkure_commit(&one, &owner));
-    GIVES(NO_TRANSACTION, pashkure_wait(&two, &waiter));
+    pashkure_remote_status status;
+    GIVES(OK, pashkure_remote_lock(&one, owner, "x"));
+    GIVES(OK, pashkure_remote_lock(&two, victim, "z"));
+    GIVES(WAITS, pashkure_remote_ask(&two, waiter, "x"));
+    GIVES(WAITS, pashkure_remote_ask(&one, owner, "z"));
+    GIVES(DEADLOCK, pashkure_remote_ask(&two, victim, "x"));
+    GIVES(CARRIED, pashkure_remote_cancel(&two, waiter));
+    GIVES(LATER, pashkure_remote_abort(&two, waiter));
+    GIVES(OK, pashkure_remote_status_of(&two, waiter, &status));
+    CHECK(status.mode == PASHKURE_REMOTE_IS_WAITING && status.is_aborting);
+    GIVES(OK, pashkure_remote_abort(&two, victim));
+    GIVES(OK, pashkure_remote_wait(&one, owner));
+    GIVES(OK, pashkure_remote_commit(&one, owner));
+    GIVES(NO_TRANSACTION, pashkure_remote_wait(&two, waiter));
 }
 
 /* Who hangs up, or is killed, gives back what it owned. */
 static void test_hang_up(void)
 {
-    pashkure_connection third;
+    pashkure_remote_connection third = PASHKURE_REMOTE_CLOSED;
     key transaction;
     struct asker asker;
     pid_t child;
-    GIVES(OK, pashkure_open(&third, path));
+    GIVES(OK, pashkure_remote_open(&third, path));
     transaction = begun(&third);
-    GIVES(OK, pashkure_lock(&third, &transaction, "a"));
+    GIVES(OK, pashkure_remote_lock(&third, transaction, "a"));
     start(&asker, "a", 0);
     until_waiting(1);
-    pashkure_close(&third);
+    pashkure_remote_close(&third);
     GIVES(OK, joined(&asker));
     child = fork();
     if (child == 0) {
-        if (pashkure_open(&third, path) != PASHKURE_OK || pashkure_begin(&third, &transaction) != PASHKURE_OK)
+        if (pashkure_remote_open(&third, path) != PASHKURE_REMOTE_OK || pashkure_remote_begin(&third, &transaction) != PASHKURE_REMOTE_OK)
             _exit(1);
-        pashkure_lock(&third, &transaction, "a");
+        pashkure_remote_lock(&third, transaction, "a");
         pause();
         _exit(1);
     }
     until_waiting(1);
-    GIVES(OK, pashkure_unlock(&asker.connection, &asker.transaction, "a"));
+    GIVES(OK, pashkure_remote_unlock(&asker.connection, asker.transaction, "a"));
     until_waiting(0);
-    GIVES(TIMED_OUT, pashkure_lock_for(&asker.connection, &asker.transaction, "a", 20));
+    GIVES(TIMED_OUT, pashkure_remote_lock_for(&asker.connection, asker.transaction, "a", 20));
     CHECK(kill(child, SIGKILL) == 0 && waitpid(child, NULL, 0) == child);
-    GIVES(OK, pashkure_lock(&asker.connection, &asker.transaction, "a"));
-    GIVES(OK, pashkure_commit(&asker.connection, &asker.transaction));
-    pashkure_close(&asker.connection);
+    GIVES(OK, pashkure_remote_lock(&asker.connection, asker.transaction, "a"));
+    GIVES(OK, pashkure_remote_commit(&asker.connection, asker.transaction));
+    pashkure_remote_close(&asker.connection);
 }
 
 /* Counts names, which come in the order of their bytes. */
 struct names {
     int count;
-    char last[PASHKURE_NAME_BYTES + 1];
+    char last[PASHKURE_REMOTE_NAME_BYTES + 1];
     bool is_ordered;
 };
 
@@ -246,43 +253,139 @@ static void test_limits(void)
 {
     key transactions[64], more;
     struct names names = {0, "", true};
-    char name[PASHKURE_NAME_BYTES + 1];
+    pashkure_remote_connection operator;
+    char name[PASHKURE_REMOTE_NAME_BYTES + 1];
     int place;
     for (place = 0; place < 64; place++)
         transactions[place] = begun(&one);
-    GIVES(TRANSACTIONS_FULL, pashkure_begin(&one, &more));
+    GIVES(TRANSACTIONS_FULL, pashkure_remote_begin(&one, &more));
     for (place = 0; place < 2048; place++) {
         snprintf(name, sizeof name, "%048d/%015d", place, place * 7 % 2048);
-        GIVES(OK, pashkure_lock(&one, &transactions[place / 1024], name));
+        GIVES(OK, pashkure_remote_lock(&one, transactions[0], name));
     }
-    GIVES(NAMES_FULL, pashkure_lock(&one, &transactions[1], "b"));
-    GIVES(NAMES_FULL, pashkure_try_lock(&one, &transactions[1], "b"));
-    GIVES(OK, pashkure_holds(&one, &transactions[0], take_name, &names));
-    CHECK(names.count == 1024 && names.is_ordered);
+    GIVES(NAMES_FULL, pashkure_remote_lock(&one, transactions[1], "b"));
+    GIVES(NAMES_FULL, pashkure_remote_try_lock(&one, transactions[1], "b"));
+    GIVES(TOO_MANY, pashkure_remote_holds(&one, transactions[0], take_name, &names));
+    open_operator(&operator);
+    GIVES(OK, pashkure_remote_holds(&operator, (key){transactions[0].slot, transactions[0].generation, operator.opening}, take_name, &names));
+    pashkure_remote_close(&operator);
+    CHECK(names.count == 2048 && names.is_ordered);
     for (place = 0; place < 64; place++)
-        GIVES(OK, pashkure_commit(&one, &transactions[place]));
+        GIVES(OK, pashkure_remote_commit(&one, transactions[place]));
     more = begun(&one);
     memset(name, 'n', sizeof name);
-    for (place = 65; place <= PASHKURE_NAME_BYTES; place++) {
+    for (place = 65; place <= PASHKURE_REMOTE_NAME_BYTES; place++) {
         name[place] = '\0';
-        GIVES(NAME_TOO_LONG, pashkure_lock(&one, &more, name));
+        GIVES(NAME_TOO_LONG, pashkure_remote_lock(&one, more, name));
         name[place] = 'n';
     }
     name[64] = '\0';
-    GIVES(OK, pashkure_lock(&one, &more, name));
-    GIVES(OK, pashkure_abort(&one, &more));
+    GIVES(OK, pashkure_remote_lock(&one, more, name));
+    GIVES(OK, pashkure_remote_abort(&one, more));
 }
 
-/* Waits for a lock for ever, and is told when the service ends, which whoever reads its line ends. */
+/* Several names at once: what is owned by another one is waited for, then the rest is asked for. */
+static void test_several(void)
+{
+    static const char *const names[] = {"a", "b", "a", "c"}, *const back[] = {"c", "a"};
+    key first, second, owner;
+    pashkure_remote_fence early, late;
+    char texts[2][PASHKURE_REMOTE_FENCE_BYTES];
+    int waits = 0;
+    size_t place;
+    GIVES(OK, pashkure_remote_begin_with(&one, &first, names, 2, PASHKURE_REMOTE_FOREVER, &place));
+    GIVES(OK, pashkure_remote_fence_of(&one, first, "a", &early));
+    GIVES(OK, pashkure_remote_begin_with(&two, &second, names + 3, 1, PASHKURE_REMOTE_FOREVER, &place));
+    GIVES(TIMED_OUT, pashkure_remote_lock_all(&two, second, names, 2, 1, &place));
+    CHECK(place == 0);
+    GIVES(OK, pashkure_remote_lock_all(&one, first, names, 3, 0, &place));
+    GIVES(WAITS, pashkure_remote_ask(&two, second, "b"));
+    GIVES(DEADLOCK, pashkure_remote_lock_all(&one, first, names, 4, PASHKURE_REMOTE_FOREVER, &place));
+    CHECK(place == 3);
+    GIVES(OK, pashkure_remote_cycle(&one, first, count_wait, &waits));
+    CHECK(waits == 2);
+    GIVES(NOT_DEADLOCKED, pashkure_remote_cycle(&two, second, count_wait, &waits));
+    GIVES(OK, pashkure_remote_abort(&one, first));
+    GIVES(OK, pashkure_remote_wait(&two, second));
+    GIVES(OK, pashkure_remote_lock_all(&two, second, back, 2, 0, &place));
+    GIVES(OK, pashkure_remote_fence_of(&two, second, "a", &late));
+    GIVES(NOT_OWNER, pashkure_remote_fence_of(&two, second, "d", &early));
+    pashkure_remote_fence_text(early, texts[0]);
+    pashkure_remote_fence_text(late, texts[1]);
+    CHECK(late.epoch > 0 && strcmp(texts[0], texts[1]) < 0);
+    GIVES(OK, pashkure_remote_owner(&one, "c", &owner));
+    CHECK(same(owner, second));
+}
+
+static void find_victim(void *context, const pashkure_remote_wait_for *wait)
+{
+    key *victim = context;
+    if (victim->opening == 0)
+        *victim = wait->waiter;
+}
+
+static void count_live(void *context, const pashkure_remote_live *live)
+{
+    *(int *)context += live->connection > 0 && live->status.mode != PASHKURE_REMOTE_IS_ACTIVE;
+}
+
+/* The operator is told of a deadlock, and ends it for a client that does not. */
+static void test_operator(void)
+{
+    pashkure_remote_connection operator;
+    pashkure_remote_counts counts;
+    key first = begun(&one), second = begun(&two), victim = {0, 0, 0};
+    int live = 0;
+    open_operator(&operator);
+    pashkure_remote_on_deadlock(&operator, find_victim, &victim);
+    GIVES(TIMED_OUT, pashkure_remote_listen(&operator, 1));
+    GIVES(OK, pashkure_remote_lock(&one, first, "a"));
+    GIVES(OK, pashkure_remote_lock(&two, second, "b"));
+    GIVES(WAITS, pashkure_remote_ask(&one, first, "b"));
+    GIVES(DEADLOCK, pashkure_remote_lock(&two, second, "a"));
+    GIVES(OK, pashkure_remote_listen(&operator, PASHKURE_REMOTE_FOREVER));
+    CHECK(same(victim, second));
+    GIVES(OK, pashkure_remote_list(&operator, count_live, &live));
+    CHECK(live == 2);
+    GIVES(OK, pashkure_remote_abort(&operator, victim));
+    GIVES(OK, pashkure_remote_wait(&one, first));
+    GIVES(NO_TRANSACTION, pashkure_remote_abort(&two, second));
+    GIVES(OK, pashkure_remote_counts_of(&operator, &counts));
+    CHECK(counts.begun == 2 && counts.aborted == 1 && counts.deadlocks == 1 && counts.waits == 1 && counts.labels_left > counts.events);
+    GIVES(OPERATOR, pashkure_remote_begin(&operator, &victim));
+    GIVES(OPERATOR, pashkure_remote_list(&one, count_live, &live));
+    GIVES(OPERATOR, pashkure_remote_graph(&one, count_wait, &live));
+    GIVES(OPERATOR, pashkure_remote_counts_of(&one, &counts));
+    pashkure_remote_close(&operator);
+}
+
+/* Waits for a lock for ever, and is told when the service ends, which whoever reads its line ends. Whoever writes one has started it anew. */
 static void test_killed(void)
 {
-    key first = begun(&one), second = begun(&one);
-    GIVES(OK, pashkure_lock(&one, &first, "w"));
-    GIVES(WAITS, pashkure_ask(&one, &second, "w"));
+    key first = begun(&one), second = begun(&one), again;
+    GIVES(OK, pashkure_remote_lock(&one, first, "w"));
+    GIVES(WAITS, pashkure_remote_ask(&one, second, "w"));
     puts("waits");
     fflush(stdout);
-    GIVES(CLOSED, pashkure_wait(&one, &second));
-    GIVES(CLOSED, pashkure_lock(&one, &first, "w"));
+    GIVES(LOST, pashkure_remote_wait(&one, second));
+    GIVES(LOST, pashkure_remote_lock(&one, first, "w"));
+    while (getchar() != '\n' && !feof(stdin))
+        continue;
+    GIVES(OK, pashkure_remote_open(&one, path));
+    GIVES(IN_USE, pashkure_remote_open(&one, path));
+    again = begun(&one);
+    CHECK(again.slot == first.slot && again.generation == first.generation && again.opening == 2);
+    GIVES(NO_TRANSACTION, pashkure_remote_abort(&one, first));
+    GIVES(OK, pashkure_remote_lock(&one, again, "w"));
+}
+
+/* The service was started for two clients. */
+static void test_full(void)
+{
+    pashkure_remote_connection third = PASHKURE_REMOTE_CLOSED;
+    key transaction;
+    GIVES(CONNECTIONS_FULL, pashkure_remote_open(&third, path));
+    GIVES(CONNECTIONS_FULL, pashkure_remote_begin(&third, &transaction));
 }
 
 /* A program that this one starts does not have the connection. */
@@ -295,26 +398,28 @@ static void test_started_program(void)
 
 static void test_paths(void)
 {
-    pashkure_connection none;
-    char path[200];
-    memset(path, 'p', sizeof path);
-    path[sizeof path - 1] = '\0';
-    GIVES(BAD_PATH, pashkure_open(&none, ""));
-    GIVES(BAD_PATH, pashkure_open(&none, path));
-    GIVES(NO_SERVICE, pashkure_open(&none, "/nowhere/at/all"));
-    pashkure_close(&none);
+    pashkure_remote_connection none = PASHKURE_REMOTE_CLOSED;
+    char long_path[200];
+    memset(long_path, 'p', sizeof long_path);
+    long_path[sizeof long_path - 1] = '\0';
+    GIVES(CANNOT_CONNECT, pashkure_remote_open(&none, ""));
+    GIVES(CANNOT_CONNECT, pashkure_remote_open(&none, long_path));
+    CHECK(errno == ENAMETOOLONG);
+    GIVES(CANNOT_CONNECT, pashkure_remote_open(&none, "/nowhere/at/all"));
+    CHECK(errno == ENOENT);
+    GIVES(NOT_OPEN, pashkure_remote_totals(&none, &(pashkure_remote_counts){0}));
 }
 
 int main(int count, char *words[])
 {
     static const struct test tests[] = {TEST(alone), TEST(two), TEST(deadlock), TEST(one_connection), TEST(timed_out_behind),
-        TEST(aborted_later), TEST(hang_up), TEST(limits), TEST(killed), TEST(started_program), TEST(paths)};
+        TEST(aborted_later), TEST(hang_up), TEST(limits), TEST(several), TEST(operator), TEST(killed), TEST(full), TEST(started_program), TEST(paths)};
     int status;
     path = count > 2 ? words[2] : "";
-    GIVES(OK, pashkure_open(&one, path));
-    GIVES(OK, pashkure_open(&two, path));
+    GIVES(OK, pashkure_remote_open(&one, path));
+    GIVES(OK, pashkure_remote_open(&two, path));
     status = tested(tests, sizeof tests / sizeof *tests, count > 1 ? words[1] : "");
-    pashkure_close(&one);
-    pashkure_close(&two);
+    pashkure_remote_close(&one);
+    pashkure_remote_close(&two);
     return status;
 }

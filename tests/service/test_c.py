@@ -3,6 +3,7 @@ from __future__ import annotations
 
 import os
 import re
+import shutil
 import subprocess
 import tempfile
 from typing import Any
@@ -15,7 +16,7 @@ CLIENT = os.path.join(CLIENTS, "c")
 FLAGS = ["-std=c11", "-Wall", "-Wextra", "-Wpedantic", "-Werror", "-O1", "-g", "-pthread", f"-I{CLIENT}"]
 SANITIZED = ["-fsanitize=address,undefined", "-fno-sanitize-recover=all"]
 LIMITS = ["--transactions", "64", "--names", "2048", "--name-bytes", "64"]
-FAULTS = "recv:EINTR%20 recv:short%30 send:EINTR%25 send:short%40 poll:EINTR%30 read:EINTR%10 write:EINTR%10"
+FAULTS = "connect:EINTR%30 recv:EINTR%20 recv:short%30 send:EINTR%25 send:short%40 poll:EINTR%30 read:EINTR%10 write:EINTR%10"
 """What a client has to live with: signals, and calls that do less than they were asked for."""
 SEEDS = [1, 2, 3, SEED]
 
@@ -33,7 +34,7 @@ class CCase(FaultCase):
         cls.addClassCleanup(cls.scratch.cleanup)
         for name, source in ("replies", f"{HERE}/replies.c"), ("service", f"{HERE}/service.c"), ("bank", f"{CLIENT}/bank.c"):
             for kind, flags in ("", []), (".sanitized", SANITIZED):
-                subprocess.run(["cc", *FLAGS, *flags, "-o", cls.program(name + kind), source, f"{CLIENT}/pashkure.c"], check=True)
+                subprocess.run(["cc", *FLAGS, *flags, "-o", cls.program(name + kind), source, f"{CLIENT}/pashkure_remote.c"], check=True)
 
     @classmethod
     def program(cls, name: str) -> str:
@@ -57,6 +58,12 @@ class Replies(CCase):
         for seed in SEEDS:
             with self.subTest(seed=seed):
                 self.passes(self.faulty(FAULTS, self.program("replies"), name, seed=seed))
+
+    @each(["words", "several", "many_names", "reads", "lists"])
+    def test_memory(self, name: str) -> None:
+        """No call takes memory."""
+        told, counts = self.counted("", self.program("replies"), name)
+        self.assertEqual((self.passes(told).status, counts.requests), (0, 0))
 
     def test_long_time(self) -> None:
         """A time of more than 2 to the 31 milliseconds is not told to poll as a short one."""
@@ -83,32 +90,37 @@ class Replies(CCase):
 class Service(CCase):
     """A service that was just started."""
 
-    def started(self, **how: Any) -> Server:
+    def started(self, *words: str, path: str = "", **how: Any) -> Server:
         """A server, with an operator's socket beside that of the clients."""
-        path = self.path("socket")
-        return self.server(*LIMITS, "--admin", f"{path}.admin", path=path, **how)
+        path = path or self.path("socket")
+        return self.server(*LIMITS, *words, "--admin", f"{path}.admin", path=path, **how)
 
     def path_of_server(self) -> str:
         return self.started().path
 
-    @each([name for name in tests("service") if name != "killed"])
+    @each([name for name in tests("service") if name not in ("killed", "full")])
     def test_sanitized(self, name: str) -> None:
         self.passes(run(self.program("service.sanitized"), name, self.path_of_server()))
 
-    @each([name for name in tests("service") if name not in ("killed", "limits", "hang_up")])
+    @each([name for name in tests("service") if name not in ("killed", "full", "limits", "hang_up")])
     def test_with_faults(self, name: str) -> None:
         for seed in SEEDS:
             with self.subTest(seed=seed):
                 self.passes(self.faulty(FAULTS, self.program("service"), name, self.path_of_server(), seed=seed))
 
+    def test_full(self) -> None:
+        self.passes(run(self.program("service.sanitized"), "full", self.started("--connections", "2").path))
+
     def test_killed(self) -> None:
-        """The service is killed: who waits for a lock is told that the connection is closed."""
+        """The service is killed: who waits for a lock is told so. After it was started anew it gives the same keys again; those of before are refused."""
         server = self.started()
-        with subprocess.Popen([self.program("service.sanitized"), "killed", server.path], stdout=subprocess.PIPE, stderr=subprocess.PIPE) as client:
-            assert client.stdout and client.stderr
+        pipes = {"stdin": subprocess.PIPE, "stdout": subprocess.PIPE, "stderr": subprocess.PIPE}
+        with subprocess.Popen([self.program("service.sanitized"), "killed", server.path], **pipes) as client:
             self.assertEqual(client.stdout.readline(), b"waits\n")
             server.process.kill()
-            self.assertEqual((client.wait(LIMIT), client.stderr.read()), (0, b""))
+            server.process.wait()
+            self.started(path=server.path)
+            self.assertEqual((client.communicate(b"\n", LIMIT)[1], client.returncode), (b"", 0))
 
     @each(["bank", "bank.sanitized", "bank with faults"])
     def test_bank(self, name: str) -> None:
@@ -123,7 +135,7 @@ class Service(CCase):
     def test_bank_by_threads_of_a_sanitizer(self) -> None:
         """Two threads at two connections share nothing that they change at once."""
         path = self.program("bank.threads")
-        told = run("cc", *FLAGS, "-fsanitize=thread", "-o", path, f"{CLIENT}/bank.c", f"{CLIENT}/pashkure.c")
+        told = run("cc", *FLAGS, "-fsanitize=thread", "-o", path, f"{CLIENT}/bank.c", f"{CLIENT}/pashkure_remote.c")
         if told.status or run(path).status != 2:
             self.skipTest("this C compiler has no thread sanitizer that runs here (Debian's package libtsan)")
         self.passes(run(path, self.path_of_server()))
@@ -134,3 +146,19 @@ class Service(CCase):
         server = self.started(env=variables(rules, only="pashkure-serve"))
         for name in "alone", "two", "deadlock", "one_connection":
             self.passes(run(self.program("service"), name, server.path, env=environment()))
+
+
+class Sources(CCase):
+    def test_compilers(self) -> None:
+        """No compiler warns, and the header is one of C++ too."""
+        header = self.file("header.cc", '#include "pashkure_remote.h"\npashkure_remote_connection connection = PASHKURE_REMOTE_CLOSED;\n')
+        for compiler, standard, source in [(compiler, "c11", f"{CLIENT}/pashkure_remote.c") for compiler in ("gcc", "clang")] + [
+            (compiler, "c++98", header) for compiler in ("g++", "clang++")]:  # fmt: skip
+            if shutil.which(compiler):
+                self.passes(run(compiler, f"-std={standard}", *FLAGS[1:], "-c", "-o", os.devnull, source))
+
+    def test_page(self) -> None:
+        """What the page shows of C is C."""
+        with open(f"{CLIENT}/README.md", encoding="utf-8") as file:
+            for code in re.findall(r"^```c\n(.*?)^```$", file.read(), re.M | re.S):
+                self.passes(run("cc", *FLAGS, "-c", "-o", os.devnull, self.file("page.c", code)))
