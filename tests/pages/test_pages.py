@@ -12,7 +12,7 @@ import sys
 
 from lib.world import LIMIT, PROGRAM, TOP, Case, each, run
 
-PASTED = ["README.md", "docs/SERVICE.md", "clients/python/README.md"]
+PASTED = ["README.md", "docs/SERVICE.md", "clients/python/README.md", "clients/c/README.md"]
 BLOCK = re.compile(r"^<!-- tested by tests/pages -->\n```sh\n(.*?)^```$.*?^```\n(.*?)^```$", re.M | re.S)
 COMMANDS = sorted(page for page in ["README.md", *(f"docs/{name}" for name in os.listdir(f"{TOP}/docs") if name.endswith(".md"))]
                   if re.search(r"^```(text|sh)?\n\$ ", pathlib.Path(TOP, page).read_text(encoding="utf-8"), re.M))  # fmt: skip
@@ -55,6 +55,8 @@ class Pasted(Case):
             self.skipTest("this Python has no ensurepip (Debian's package python3-venv)")
         if " cc " in f" {commands}" and run("sh", "-c", "command -v cc").status:
             self.skipTest("no C compiler cc is on the PATH")
+        if "pkg-config" in commands and run("sh", "-c", "command -v make && command -v pkg-config").status:
+            self.skipTest("make or pkg-config is not on the PATH (Debian's packages make and pkg-config)")
         commands = commands.replace("/tmp/", f"{self.folder}/").replace("./mmdetect serve", f"{shlex.join(self.needs_server())} --program {PROGRAM}")
         told = self.pasted(commands.replace("./mmdetect", PROGRAM))
         self.assertEqual(deadlocks_left_out(told), deadlocks_left_out(wanted))

@@ -162,3 +162,17 @@ class Sources(CCase):
         with open(f"{CLIENT}/README.md", encoding="utf-8") as file:
             for code in re.findall(r"^```c\n(.*?)^```$", file.read(), re.M | re.S):
                 self.passes(run("cc", *FLAGS, "-c", "-o", os.devnull, self.file("page.c", code)))
+
+    def test_install(self) -> None:
+        """A program is compiled with what pkg-config says of a library that was installed below a folder."""
+        if not shutil.which("make") or not shutil.which("pkg-config"):
+            self.skipTest("make or pkg-config is not on the PATH (Debian's packages make and pkg-config)")
+        top, bank = self.path("root"), self.path("bank")
+        self.passes(run("make", "-s", "-C", CLIENT, "install", f"OUT={self.path('out')}", f"DESTDIR={top}", "PREFIX=/opt/pashkure"))
+        files = sorted(os.path.relpath(os.path.join(folder, name), f"{top}/opt/pashkure") for folder, _, names in os.walk(top) for name in names)
+        self.assertEqual(files, ["include/pashkure_remote.h", "lib/libpashkure_remote.a", "lib/pkgconfig/pashkure_remote.pc"])
+        env = {**os.environ, "PKG_CONFIG_PATH": f"{top}/opt/pashkure/lib/pkgconfig", "PKG_CONFIG_SYSROOT_DIR": top}
+        flags = self.passes(run("pkg-config", "--cflags", "--libs", "pashkure_remote", env=env)).out.decode().split()
+        shutil.copy(f"{CLIENT}/bank.c", f"{self.folder}/bank.c")  # beside no header
+        self.passes(run("cc", "-std=c11", "-pthread", "-o", bank, f"{self.folder}/bank.c", *flags))
+        self.assertEqual(run(bank).status, 2)
