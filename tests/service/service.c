@@ -24,11 +24,6 @@ static key begun(pashkure_remote_connection *connection)
     return transaction;
 }
 
-static void rest(long milliseconds)
-{
-    nanosleep(&(struct timespec){milliseconds / 1000, milliseconds % 1000 * 1000000}, NULL);
-}
-
 static void count_wait(void *context, const pashkure_remote_wait_for *wait)
 {
     (void)wait;
@@ -52,7 +47,7 @@ static void until_waiting(int wanted)
     open_operator(&operator);
     while (waiting != wanted && failed == 0) {
         waiting = 0;
-        rest(2);
+        nanosleep(&(struct timespec){0, 2000000}, NULL);
         GIVES(OK, pashkure_remote_graph(&operator, count_wait, &waiting));
     }
     pashkure_remote_close(&operator);
