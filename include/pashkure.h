@@ -156,8 +156,8 @@ pashkure_result pashkure_commit(pashkure *locks, pashkure_key key) PASHKURE_CHEC
  * NO_TRANSACTION. */
 pashkure_result pashkure_abort(pashkure *locks, pashkure_key key) PASHKURE_CHECKED;
 
-/* Takes the wait of the transaction back (a time-out, a killed query): OK, it goes on with what it owns; or CARRIED, it waits on for now.
- * NO_TRANSACTION, MUST_ABORT, NOT_WAITING (it was given the name before). */
+/* Takes the wait of the transaction back (a time-out, a killed query): OK, it goes on with what it owns; or CARRIED, it waits on for now. If its
+ * abort was LATER, OK says that it has ended. NO_TRANSACTION, MUST_ABORT, NOT_WAITING (it was given the name before). */
 pashkure_result pashkure_cancel(pashkure *locks, pashkure_key key) PASHKURE_CHECKED;
 
 /* Whose waits the last unlock, commit, abort or cancel ended, in order, by index from 0: false where there are no more. One that is told of

@@ -329,6 +329,30 @@ TEST(behind_a_victim)
     pashkure_close(&locks);
 }
 
+/* An abort that was LATER comes due by a cancel too, once no victim is ahead any more. */
+TEST(cancelled_wait_of_who_aborts)
+{
+    pashkure locks = opened(8, 8);
+    pashkure_key a = begun(&locks), b = begun(&locks), c = begun(&locks), d = begun(&locks);
+    pashkure_seen seen;
+    GIVES(locks_name(&locks, a, "x"), PASHKURE_OK);
+    GIVES(locks_name(&locks, b, "y"), PASHKURE_OK);
+    GIVES(locks_name(&locks, c, "z"), PASHKURE_OK);
+    GIVES(locks_name(&locks, d, "z"), PASHKURE_WAITS);
+    GIVES(locks_name(&locks, c, "x"), PASHKURE_WAITS);
+    GIVES(locks_name(&locks, a, "y"), PASHKURE_WAITS);
+    GIVES(locks_name(&locks, b, "x"), PASHKURE_DEADLOCK);
+    GIVES(pashkure_cancel(&locks, c), PASHKURE_CARRIED);
+    GIVES(pashkure_abort(&locks, c), PASHKURE_LATER);
+    GIVES(pashkure_abort(&locks, b), PASHKURE_OK);
+    GIVES(pashkure_look(&locks, c.slot, &seen), PASHKURE_WAITS);
+    CHECK(seen.is_aborting == 1);
+    GIVES(pashkure_cancel(&locks, c), PASHKURE_OK);
+    GIVES(pashkure_look(&locks, c.slot, &seen), PASHKURE_FREE);
+    GIVES(pashkure_look(&locks, d.slot, &seen), PASHKURE_OK);
+    pashkure_close(&locks);
+}
+
 TEST(names)
 {
     pashkure locks = opened(2, 2);
@@ -427,7 +451,7 @@ TEST(messages)
 static const struct { const char *name; void (*run)(void); } TESTS[] = {
 #define ROW(name) {#name, name}
     ROW(version), ROW(closed_manager), ROW(refused_open), ROW(transactions), ROW(requests), ROW(order_of_waiters), ROW(deadlock_by_names), ROW(cancelled_wait),
-    ROW(behind_a_victim), ROW(names), ROW(moved_and_opened_again), ROW(memory), ROW(bytes_of_an_open), ROW(messages),
+    ROW(behind_a_victim), ROW(cancelled_wait_of_who_aborts), ROW(names), ROW(moved_and_opened_again), ROW(memory), ROW(bytes_of_an_open), ROW(messages),
 };
 
 int main(int count, char **words)
