@@ -205,6 +205,14 @@ class Linked(LibraryCase):
         source = self.file("static.c", '#include "pashkure.h"\nint main(void) { return pashkure_version() != PASHKURE_VERSION; }\n')
         self.ends(run(self.built(source, "-static")))
 
+    @each(["g++", "clang++"])
+    def test_cpp_program(self, compiler: str) -> None:
+        wants(compiler)
+        source = self.file("program.cc", '#include "pashkure.h"\nint main() { pashkure locks = PASHKURE_CLOSED; pashkure_close(&locks); return 0; }\n')
+        to = self.path("program")
+        subprocess.run([compiler, "-std=c++98", *FLAGS, f"-I{self.top}/include", "-o", to, source, f"{self.top}/lib/libpashkure.a"], check=True)
+        self.ends(run(to))
+
     def test_pkg_config(self) -> None:
         wants("pkg-config")
         env = {**os.environ, "PKG_CONFIG_PATH": f"{self.top}/lib/pkgconfig"}
