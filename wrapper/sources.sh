@@ -1,4 +1,4 @@
-# Sourced by mmdetect, wrapper/prove, wrapper/library and run_tests: what the program and the C library are made from, and whether those that
+# Sourced by mmdetect, wrapper/prove, wrapper/library, wrapper/serve and run_tests: what the program and the C library are made from, and whether those that
 # stand are of that. The variable top is the folder that has crates.txt.
 
 program=$top/crates/mm_detect/out/mm_detect
