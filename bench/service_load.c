@@ -1,7 +1,8 @@
 /* service_load WHAT PATH CLIENTS SECONDS KIND NAMES: clients of a service at a Unix socket, a thread and a connection each, for so many seconds.
  * service_load echo-server PATH: a server of one thread that sends back what it gets.
  *
- * WHAT is service (mmdetect serve), redis or echo. KIND is requests, which locks and unlocks a name of the client's own; ordered, transactions
+ * WHAT is service (mmdetect serve), redis or echo; service-joined and redis-joined send the end of a transaction together with the begin of the
+ * next one. KIND is requests, which locks and unlocks a name of the client's own; ordered, transactions
  * of four names out of NAMES in rising order; or any, the same in any order. It prints how many requests, or transactions that committed, and
  * how many deadlocks or tries in vain, there were a second. */
 #define _GNU_SOURCE
@@ -21,12 +22,14 @@
 
 struct client {
     const char *path;
-    bool is_redis, is_any;
+    bool is_redis, is_any, is_joined;
     unsigned names;
     int socket, number;
     char input[65536];
     size_t start, end;
     uint64_t chance, done, vain;
+    char kept[256]; /* the end of a transaction, which is sent with what comes next */
+    int kept_length;
 };
 
 static double seconds_for;
@@ -53,7 +56,7 @@ static unsigned drawn(struct client *client, unsigned below)
     return (unsigned)((client->chance >> 33) % below);
 }
 
-static void send_text(struct client *client, const char *text, size_t length)
+static void send_all(struct client *client, const char *text, size_t length)
 {
     while (length > 0) {
         ssize_t count = send(client->socket, text, length, MSG_NOSIGNAL);
@@ -61,6 +64,21 @@ static void send_text(struct client *client, const char *text, size_t length)
         text += count;
         length -= (size_t)count;
     }
+}
+
+/* Sends the text, after what was kept. */
+static void send_text(struct client *client, const char *text, size_t length)
+{
+    char both[1024];
+    int kept = client->kept_length;
+    if (kept == 0) {
+        send_all(client, text, length);
+        return;
+    }
+    memcpy(both, client->kept, (size_t)kept);
+    memcpy(both + kept, text, length);
+    client->kept_length = 0;
+    send_all(client, both, (size_t)kept + length);
 }
 
 /* The next line, without its end. It stays until the next call. */
@@ -121,7 +139,10 @@ static bool transaction(struct client *client, const unsigned *names)
 {
     char text[256], key[32], *reply;
     int length = snprintf(text, sizeof text, "begin %u %u %u %u\n", names[0], names[1], names[2], names[3]), next = 0;
+    bool ends_another = client->kept_length > 0;
     send_text(client, text, (size_t)length);
+    if (ends_another)
+        must(strcmp(line_of(client), "committed") == 0, "commit");
     reply = line_of(client);
     must(sscanf(reply, "begun %31s", key) == 1, reply);
     reply += 6 + strlen(key);
@@ -148,6 +169,10 @@ static bool transaction(struct client *client, const unsigned *names)
         text[length++] = '\n';
         send_text(client, text, (size_t)length);
         reply = line_of(client);
+    }
+    if (client->is_joined) {
+        client->kept_length = snprintf(client->kept, sizeof client->kept, "commit %s\n", key);
+        return true;
     }
     send_text(client, text, (size_t)snprintf(text, sizeof text, "commit %s\n", key));
     must(strcmp(line_of(client), "committed") == 0, "commit");
@@ -185,7 +210,10 @@ static bool redis_transaction(struct client *client, const unsigned *names)
     length += with_keys(text + length, sizeof text - (size_t)length, names);
     length += snprintf(text + length, sizeof text - (size_t)length, "$1\r\nx\r\n");
     for (;;) {
+        bool ends_another = client->kept_length > 0;
         send_text(client, text, (size_t)length);
+        if (ends_another)
+            line_of(client);
         if (line_of(client)[1] == '1')
             break;
         client->vain++;
@@ -193,6 +221,11 @@ static bool redis_transaction(struct client *client, const unsigned *names)
     }
     length = snprintf(text, sizeof text, "*5\r\n$3\r\nDEL\r\n");
     length += with_keys(text + length, sizeof text - (size_t)length, names);
+    if (client->is_joined) {
+        memcpy(client->kept, text, (size_t)length);
+        client->kept_length = length;
+        return true;
+    }
     send_text(client, text, (size_t)length);
     line_of(client);
     return true;
@@ -246,6 +279,10 @@ static void *run(void *given)
             sleep_some(client, 200);
         }
     }
+    if (client->kept_length > 0) {
+        send_text(client, "", 0);
+        line_of(client);
+    }
     return NULL;
 }
 
@@ -293,7 +330,8 @@ int main(int count, char **words)
     pthread_t *threads = calloc((size_t)clients, sizeof *threads);
     for (int i = 0; i < clients; i++) {
         all[i] = (struct client){.path = words[2], .number = i, .names = (unsigned)atoi(words[6]), .chance = (uint64_t)i * 977 + 1};
-        all[i].is_redis = strcmp(what, "redis") == 0;
+        all[i].is_redis = strncmp(what, "redis", 5) == 0;
+        all[i].is_joined = strstr(what, "-joined") != NULL;
         all[i].is_any = strcmp(kind, "any") == 0;
         must(pthread_create(&threads[i], NULL, run, &all[i]) == 0, "thread");
     }

@@ -65,6 +65,17 @@ def until(condition: Callable[[], Any], what: str) -> Any:
     raise AssertionError(f"it never came about that {what}")
 
 
+def stop(process: int) -> None:
+    """Stops a process, and waits until it stands still."""
+    os.kill(process, signal.SIGSTOP)
+    until(lambda: state(process) == "T", f"process {process} stands still")
+
+
+def state(process: int) -> str:
+    with open(f"/proc/{process}/stat", encoding="ascii") as file:
+        return file.read().rpartition(")")[2].split()[0]
+
+
 def each(rows: Iterable[Any]) -> Callable[[Any], Any]:
     """Makes of a function one test for each row. Its name ends with the row's number and with the row, or its first part if that is text."""
 

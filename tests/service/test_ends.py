@@ -10,7 +10,7 @@ import subprocess
 import threading
 import time
 
-from lib.world import LIMIT, PROGRAM, Server, Wire, answers, each, environment, run, until
+from lib.world import LIMIT, PROGRAM, Server, Wire, answers, each, environment, run, stop, until
 from service.test_server import ServerCase, begun
 
 
@@ -208,7 +208,7 @@ class Starts(ServerCase):
         """PATH.lock is held by the server alone: not by its program, which may outlive it; a link at its place is not followed."""
         server = self.server()
         pid = server.program_pid()
-        os.kill(pid, signal.SIGSTOP)  # so that it does not end with the server
+        stop(pid)  # so that it does not end with the server
         try:
             server.process.kill()
             server.process.wait()

@@ -11,7 +11,7 @@ import time
 from typing import Any
 
 from lib.faults import FaultCase, variables
-from lib.world import LIMIT, TOP, Server, Wire, each, environment, run, until
+from lib.world import LIMIT, TOP, Server, Wire, each, environment, run, stop, until
 from service.test_server import ServerCase, fills
 
 STUB = os.path.join(TOP, "tests", "lib", "stub.py")
@@ -111,7 +111,7 @@ class Lines(StubCase):
         for wire in wires:
             wire.ask(b"first")
         self.seen += len(wires)
-        os.kill(server.process.pid, signal.SIGSTOP)
+        stop(server.process.pid)
         for wire in wires:
             wire.send(b"".join(b"%d\n" % number for number in range(count)))
         os.kill(server.process.pid, signal.SIGCONT)
@@ -176,7 +176,7 @@ class Bounds(StubCase):
         for wire in wires:
             wire.ask(b"first")
         before, pid = server.memory(), server.program_pid()
-        os.kill(pid, signal.SIGSTOP)
+        stop(pid)
         for wire in wires:
             wire.send((line + b"\n") * count)
         for _ in range(50):  # the server has its turns
@@ -310,7 +310,7 @@ class Operators(StubCase):
         others, wire = [self.wire(self.admin_path) for _ in range(15)], self.wire(server)
         for other in others:
             self.asks(other, (b"a", b"heard 61"))
-        os.kill(server.program_pid(), signal.SIGSTOP)
+        stop(server.program_pid())
         self.admin.send(b"say 0 list 1|0 * 0.1 1 active\n" + b"b\n" * 20)
         others[0].send(b"c\n")
         self.admin.close()

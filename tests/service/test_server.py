@@ -9,7 +9,7 @@ import select
 import signal
 import socket
 
-from lib.world import IS_SLOW, LIMIT, SEED, Case, Server, Wire, each, slow, until
+from lib.world import IS_SLOW, LIMIT, SEED, Case, Server, Wire, each, slow, stop, until
 
 # Lines that are malformed because of a byte or a carriage return too many. Each would do harm if it were taken for another line.
 ODD = {
@@ -378,7 +378,7 @@ class Room(ServerCase):
         wires = [self.wire(server) for _ in range(6)]
         for wire in wires:
             self.asks(wire, (b"owner a", b"free"))
-        os.kill(server.process.pid, signal.SIGSTOP)
+        stop(server.process.pid)
         for wire in wires:
             wire.send(b"owner aaaaaaaaaaaaaaaaaaaa\n" * count)
         os.kill(server.process.pid, signal.SIGCONT)
