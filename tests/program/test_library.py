@@ -46,9 +46,10 @@ def wants(tool: str) -> None:
 class HeaderOnly(Case):
     @each(STANDARDS)
     def test_compiles(self, _: str, compiler: str, language: str, standard: str) -> None:
-        """The header alone, and pashkure_message, compile without a warning."""
+        """Each header alone, and what is written in C, compile without a warning."""
         wants(compiler)
-        for source in (self.file("alone.c", '#include "pashkure.h"\n'), f"{INCLUDE}/pashkure_text.c"):
+        alone = [self.file(f"{name}.c", f'#include "{name}.h"\n') for name in ("pashkure", "pashkure_threads")]
+        for source in (*alone, f"{INCLUDE}/pashkure_text.c", *([f"{INCLUDE}/pashkure_threads.c"] if language == "c" else [])):
             command = [compiler, "-x", language, f"-std={standard}", *FLAGS, f"-I{INCLUDE}", "-fsyntax-only", source]
             self.ends(run(*command))
 
@@ -88,6 +89,7 @@ class Agreement(LibraryCase):
         header = set(re.findall(r"\b(pashkure_\w+)\(", HEADER))
         exports = set(re.findall(r'#\[unsafe\(no_mangle\)\]\npub extern "C" fn (\w+)', SOURCES))
         self.assertEqual(header, exports | {"pashkure_message"})
+        header |= set(re.findall(r"\b(pashkure_locks_\w+)\(", text_of(INCLUDE, "pashkure_threads.h").partition("#endif")[2]))
         self.assertEqual(self.symbols("--extern-only", f"{self.top}/lib/libpashkure.a"), header)
         self.assertEqual(self.symbols("--dynamic", f"{self.top}/lib/libpashkure.so"), header)
 
@@ -184,7 +186,7 @@ class Linked(LibraryCase):
     def test_written(self) -> None:
         self.assertEqual(self.written.err.decode(), f"mmdetect: the C library is in {self.top}\n")
         files = {os.path.relpath(os.path.join(at, name), self.top) for at, _, names in os.walk(self.top) for name in names}
-        self.assertEqual(files, {"include/pashkure.h", "lib/libpashkure.a", "lib/libpashkure.so", "lib/libpashkure.so.0.1", "lib/pkgconfig/pashkure.pc"})
+        self.assertEqual(files, {"include/pashkure.h", "include/pashkure_threads.h", "lib/libpashkure.a", "lib/libpashkure.so", "lib/libpashkure.so.0.1", "lib/pkgconfig/pashkure.pc"})
 
     def test_shared(self) -> None:
         """The shared object has its name with the major and the minor number, and needs the C library alone."""
@@ -196,10 +198,12 @@ class Linked(LibraryCase):
         self.ends(run(self.built(source, archive=False)))
 
     def test_page(self) -> None:
-        """The program of EMBEDDING.md is built without a warning, and prints what the page says."""
+        """The programs of EMBEDDING.md are built without a warning, and print what the page says."""
         page = text_of(TOP, "docs", "EMBEDDING.md")
-        source, printed = re.findall(r"^```c\n(.*?)^```.*?^```text\n(.*?)^```", page, re.M | re.S)[0]
-        self.ends(run(self.built(self.file("page.c", source))), 0, printed)
+        programs = re.findall(r"^```c\n(.*?)^```.*?^```text\n(.*?)^```", page, re.M | re.S)
+        self.assertEqual(len(programs), 2)
+        for source, printed in programs:
+            self.ends(run(self.built(self.file("page.c", source), "-pthread")), 0, printed)
 
     def test_static_program(self) -> None:
         source = self.file("static.c", '#include "pashkure.h"\nint main(void) { return pashkure_version() != PASHKURE_VERSION; }\n')

@@ -1,0 +1,86 @@
+/* pashkure_threads.h - the lock manager of pashkure.h for threads that sleep until they own a name.       C99, C++98 and later; POSIX threads.
+ *
+ * A `pashkure_locks` is a manager, one mutex, and a place to sleep for each transaction. A call takes the mutex, makes calls of pashkure.h, wakes
+ * those whose waits these ended, and gives the mutex back. No thread sleeps while it has the mutex. What pashkure.h says of its calls is proved;
+ * this layer is C, and tested. That a transaction owns a name is always the answer of a proved call.
+ *
+ *   THREADS. Any thread may make any call at any time, but for pashkure_locks_close, and for what stands at pashkure_locks_hold. A transaction is
+ *   its key and belongs to no thread: to hand over the key is to hand over the transaction. It makes one request at a time: until that has
+ *   returned, each other call for it is refused as WAITING, but pashkure_locks_interrupt. Rules 3 and 4 of pashkure.h hold here too. A thread is
+ *   not cancelled in a call. A signal ends no sleep.
+ *
+ *   MEMORY. pashkure_locks_open takes all of it: that of pashkure_open, and 80 bytes a transaction or so. No other call takes any.
+ *
+ *   DEADLOCKS. The request that closes a cycle of waits is told so at once, and no other one is a victim. After DEADLOCK undo the work, call
+ *   pashkure_locks_abort, pause for a random time about as long as a transaction takes, and begin anew. Transactions that all lock in one order,
+ *   such as that of the bytes of names, have no deadlocks. */
+#ifndef PASHKURE_THREADS_H
+#define PASHKURE_THREADS_H
+
+#include "pashkure.h"
+
+#ifdef __cplusplus
+extern "C" {
+#endif
+
+typedef struct pashkure_locks pashkure_locks;
+
+/* One of several names, and the answer to it. */
+typedef struct pashkure_request { const void *name; size_t length; pashkure_result result; } pashkure_request;
+
+#define PASHKURE_FOREVER INT64_MAX /* nanoseconds without an end. 0 and less is no time at all: a time that has run out never becomes a long one */
+
+/* Opens a manager: OK. BAD_.. as of pashkure_open, NO_MEMORY: then *locks is NULL. */
+pashkure_result pashkure_locks_open(pashkure_locks **locks, const pashkure_config *config) PASHKURE_CHECKED;
+
+/* Gives all memory back: OK. IN_USE while a transaction is live: then nothing has changed. No other call may run, or come later. To shut down,
+ * begin no more, interrupt all that are live (pashkure_look has their keys), join the threads, and close. NULL is OK. */
+pashkure_result pashkure_locks_close(pashkure_locks *locks);
+
+/* Begins a transaction: OK, and its key. COUNTS_FULL, TRANSACTIONS_FULL. */
+pashkure_result pashkure_locks_begin(pashkure_locks *locks, pashkure_key *key) PASHKURE_CHECKED;
+
+/* Locks a name, and sleeps until the transaction owns it, or the time is over: OK, HELD, DEADLOCK (at once). BUSY: no time was given, and another
+ * one owns it. TIMED_OUT, INTERRUPTED: it waits no longer, keeps what it owns, and may go on. Refusals as of pashkure_lock.
+ * It is never TIMED_OUT before the time is over by CLOCK_MONOTONIC. One that waits behind a victim sleeps on until that victim's
+ * pashkure_locks_abort, and then gets OK if that gave it the name. */
+pashkure_result pashkure_locks_lock(
+    pashkure_locks *locks, pashkure_key key, const void *name, size_t length, int64_t nanoseconds) PASHKURE_CHECKED;
+
+/* Locks names in the order given, all within the time: OK, it owns all of them. Else the answer to the first that it was not given; those before
+ * stay locked. Each request has its answer: OK or HELD, then that one, then NOT_ASKED. */
+pashkure_result pashkure_locks_lock_all(
+    pashkure_locks *locks, pashkure_key key, pashkure_request *requests, size_t count, int64_t nanoseconds) PASHKURE_CHECKED;
+
+/* Asks for a name as pashkure_locks_lock does, and answers WAITS in place of sleeping: for event loops, futures, and sleep of your own. After WAITS,
+ * and no other answer, `wake` is called once, with OK or INTERRUPTED, by the thread whose call ended the wait, without the mutex and before that
+ * call returns; it may run before pashkure_locks_ask returns. Until then the transaction waits. `wake` may make any call, also for this
+ * transaction, but best only passes the news on: to an eventfd, uv_async_send, a semaphore. To give up is pashkure_locks_interrupt. */
+typedef void pashkure_wake_call(void *context, pashkure_key key, pashkure_result result);
+pashkure_result pashkure_locks_ask(
+    pashkure_locks *locks, pashkure_key key, const void *name, size_t length, pashkure_wake_call *wake, void *context) PASHKURE_CHECKED;
+
+/* Interrupts a transaction, mostly another thread's (a killed query, a shut-down): OK. NO_TRANSACTION. Its wait ends as INTERRUPTED, behind a
+ * victim as late as a time-out. If it does not wait, or is given the name all the same, its next lock, lock_all or ask is INTERRUPTED, whatever it
+ * asks for. It is told once, and never lost but by the transaction's end. It takes no name away. In a deadlock it changes nothing. */
+pashkure_result pashkure_locks_interrupt(pashkure_locks *locks, pashkure_key key);
+
+/* Gives one name back, to the one that has waited longest: OK. Refusals as of pashkure_unlock. */
+pashkure_result pashkure_locks_unlock(pashkure_locks *locks, pashkure_key key, const void *name, size_t length) PASHKURE_CHECKED;
+
+/* Ends the transaction, and gives back all that it owns: OK. NO_TRANSACTION, MUST_ABORT, WAITING. */
+pashkure_result pashkure_locks_commit(pashkure_locks *locks, pashkure_key key) PASHKURE_CHECKED;
+
+/* The same, after a deadlock too: OK. Undo its work first: others own its names when this returns. NO_TRANSACTION; WAITING of one that waits:
+ * interrupt it, and its own thread undoes and aborts. */
+pashkure_result pashkure_locks_abort(pashkure_locks *locks, pashkure_key key);
+
+/* Takes the mutex, so that the reading calls of pashkure.h (look, name, owner, totals) see one moment: all locks, all waits, a whole deadlock.
+ * Until the same thread's pashkure_locks_let_go all other calls stand still, and this thread makes reading calls only. */
+const pashkure *pashkure_locks_hold(pashkure_locks *locks);
+void pashkure_locks_let_go(pashkure_locks *locks);
+
+#ifdef __cplusplus
+}
+#endif
+#endif

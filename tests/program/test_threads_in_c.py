@@ -1,0 +1,44 @@
+"""The C library for threads: each promise of pashkure_threads.h by a program in C, plain and under the compiler's sanitizers."""
+from __future__ import annotations
+
+import re
+import subprocess
+import unittest
+
+from lib.world import Run, each, run
+from program import test_library
+from program.test_library import FLAGS, HERE, INCLUDE, text_of
+
+SOURCE = f"{HERE}/threads.c"
+TESTS = re.findall(r"^TEST\((\w+)\)", text_of(SOURCE), re.M)
+WRAPPED = "-Wl," + ",".join(f"--wrap={name}" for name in re.findall(r"^WRAP\([^,]+, (\w+),", text_of(SOURCE), re.M))
+
+
+class Threads(test_library.LibraryCase):
+    @classmethod
+    def setUpClass(cls) -> None:
+        super().setUpClass()
+        cls.program = f"{cls.top}/plain"
+        cls.compiles(cls.program, SOURCE)
+
+    @classmethod
+    def compiles(cls, to: str, *words: str) -> None:
+        command = ["cc", "-std=c11", "-O1", "-g", "-pthread", *FLAGS, WRAPPED, f"-I{cls.top}/include", "-o", to, *words, f"{cls.top}/lib/libpashkure.a"]
+        subprocess.run(command, check=True)
+
+    def passes(self, told: Run) -> None:
+        self.assertEqual((told.status, told.err.decode(errors="replace")), (0, ""))
+
+    @each(TESTS)
+    def test_plain(self, name: str) -> None:
+        self.passes(run(self.program, name))
+
+    @each(["address,undefined", "thread"])
+    def test_sanitized(self, kind: str) -> None:
+        """All of them, and this layer too is compiled so."""
+        flags = [f"-fsanitize={kind}", "-fno-sanitize-recover=all"]
+        if run("cc", *flags, "-o", self.path("empty"), self.file("empty.c", "int main(void) { return 0; }\n")).status:
+            raise unittest.SkipTest(f"the compiler has no -fsanitize={kind}")
+        program = self.path("program")
+        self.compiles(program, *flags, SOURCE, f"{INCLUDE}/pashkure_threads.c")
+        self.passes(run(program))

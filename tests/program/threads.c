@@ -1,0 +1,511 @@
+/* The C library's layer for threads, a promise of its header a test: `threads NAME` runs one, `threads` all. It waits for states and never for a
+ * time; an alarm ends what hangs. Calls of the C library, and pashkure_cancel, come here first by -Wl,--wrap. */
+#define _POSIX_C_SOURCE 200809L
+#include "pashkure_threads.h"
+
+#include <errno.h>
+#include <pthread.h>
+#include <sched.h>
+#include <signal.h>
+#include <stdatomic.h>
+#include <stdio.h>
+#include <stdlib.h>
+#include <string.h>
+#include <time.h>
+#include <unistd.h>
+
+#define CHECK(condition) ((condition) ? (void)0 : fails(#condition, __LINE__))
+#define GIVES(call, wanted) gives(call, wanted, #call, __LINE__)
+#define TEST(name) static void name(void)
+enum { SHORT = 1000000 };
+static const int64_t LONG = INT64_MAX - 1; /* a time that does not end while a test runs */
+
+static pashkure_locks *locks;
+static pashkure_key a, b, c, d, e, *const KEYS[] = {&a, &b, &c, &d, &e}, KEPT[12];
+static bool is_counting;
+static unsigned long requests, frees, bytes, refused; /* while `is_counting`. `refused`: this request for memory is refused, counted from 1 */
+static atomic_int carried, missed;
+static atomic_bool is_late, is_signalled, has_time;
+static struct timespec untils[2]; /* of the last two sleeps with a time */
+
+/* A function in place of another one, which is __real_.. here. */
+#define WRAP(type, name, ...) type __real_##name(__VA_ARGS__); type __wrap_##name(__VA_ARGS__); type __wrap_##name(__VA_ARGS__)
+
+WRAP(void *, malloc, size_t size)
+{
+    bytes += is_counting ? size : 0;
+    return is_counting && ++requests == refused ? NULL : __real_malloc(size);
+}
+
+WRAP(void *, calloc, size_t count, size_t size)
+{
+    bytes += is_counting ? count * size : 0;
+    return is_counting && ++requests == refused ? NULL : __real_calloc(count, size);
+}
+
+WRAP(void, free, void *memory)
+{
+    frees += is_counting && memory != NULL;
+    __real_free(memory);
+}
+
+WRAP(pashkure_result, pashkure_cancel, pashkure *core, pashkure_key key)
+{
+    pashkure_result told = __real_pashkure_cancel(core, key);
+    carried += told == PASHKURE_CARRIED;
+    return told;
+}
+
+WRAP(int, pthread_mutex_trylock, pthread_mutex_t *mutex)
+{
+    int told = __real_pthread_mutex_trylock(mutex);
+    missed += told != 0;
+    return told;
+}
+
+/* A thread that is woken while `is_late` comes to the mutex only afterwards. */
+WRAP(int, pthread_cond_wait, pthread_cond_t *news, pthread_mutex_t *mutex)
+{
+    int told = __real_pthread_cond_wait(news, mutex);
+    while (is_late) (void)pthread_mutex_unlock(mutex), (void)sched_yield(), (void)pthread_mutex_lock(mutex);
+    return told;
+}
+
+/* While `has_time` no time is over: a thread is woken without a reason, as it may be. */
+WRAP(int, pthread_cond_timedwait, pthread_cond_t *news, pthread_mutex_t *mutex, const struct timespec *until)
+{
+    int told = __real_pthread_cond_timedwait(news, mutex, until);
+    untils[0] = untils[1];
+    untils[1] = *until;
+    return told == ETIMEDOUT && has_time ? 0 : told;
+}
+
+static void fails(const char *what, int line) { fprintf(stderr, "threads.c:%d: %s\n", line, what), _exit(1); }
+
+static void gives(pashkure_result told, pashkure_result wanted, const char *call, int line)
+{
+    if (told != wanted) fprintf(stderr, "threads.c:%d: %s: %d, and %d is wanted\n", line, call, told, wanted), _exit(1);
+}
+
+static pashkure_key begun(void)
+{
+    pashkure_key key;
+    GIVES(pashkure_locks_begin(locks, &key), PASHKURE_OK);
+    return key;
+}
+
+/* Opens a manager in which `live` transactions are begun, and the first one owns x, the second one y. */
+static void opened(uint32_t live, uint32_t names)
+{
+    const pashkure_key none = {0, 0};
+    pashkure_config config = PASHKURE_CONFIG;
+    config.transactions = live + 12;
+    config.names = names;
+    config.name_bytes = 8;
+    GIVES(pashkure_locks_open(&locks, &config), PASHKURE_OK);
+    for (uint32_t i = 0; i < 5; i++) *KEYS[i] = i < live ? begun() : none;
+    if (live > 0) GIVES(pashkure_locks_lock(locks, a, "x", 1, PASHKURE_FOREVER), PASHKURE_OK);
+    if (live > 1) GIVES(pashkure_locks_lock(locks, b, "y", 1, PASHKURE_FOREVER), PASHKURE_OK);
+}
+
+static pashkure_result lock(pashkure_key key, const char *name, int64_t time) { return pashkure_locks_lock(locks, key, name, strlen(name), time); }
+static void interrupted(pashkure_key key) { GIVES(pashkure_locks_interrupt(locks, key), PASHKURE_OK); }
+static void ends(pashkure_key key) { GIVES(pashkure_locks_commit(locks, key), PASHKURE_OK); }
+
+/* Ends those of `opened` that are live, and closes: none but these may be. */
+static void shut(void)
+{
+    for (size_t i = 0; i < 5; i++) (void)pashkure_locks_abort(locks, *KEYS[i]);
+    GIVES(pashkure_locks_close(locks), PASHKURE_OK);
+}
+
+static pashkure_result state(pashkure_key key)
+{
+    pashkure_seen seen;
+    pashkure_result is = pashkure_look(pashkure_locks_hold(locks), key.slot, &seen);
+    pashkure_locks_let_go(locks);
+    return is;
+}
+
+static pashkure_counts totals(void)
+{
+    pashkure_counts counts;
+    pashkure_totals(pashkure_locks_hold(locks), &counts);
+    pashkure_locks_let_go(locks);
+    return counts;
+}
+
+/* A thread that locks one name. */
+struct sleeper { pthread_t thread; pashkure_key key; const char *name; int64_t time; pashkure_result result; };
+
+static void *sleeps(void *argument)
+{
+    struct sleeper *my = argument;
+    return my->result = lock(my->key, my->name, my->time), NULL;
+}
+
+/* Starts it. When this returns, it sleeps: who holds the mutex sees that it waits. */
+static void starts(struct sleeper *sleeper, pashkure_key key, const char *name, int64_t time)
+{
+    *sleeper = (struct sleeper){.key = key, .name = name, .time = time};
+    CHECK(pthread_create(&sleeper->thread, NULL, sleeps, sleeper) == 0);
+    while (state(key) != PASHKURE_WAITS) sched_yield();
+}
+
+static pashkure_result result_of(struct sleeper *sleeper)
+{
+    CHECK(pthread_join(sleeper->thread, NULL) == 0);
+    return sleeper->result;
+}
+
+struct note { int calls; pashkure_result result; pthread_t thread; };
+
+static void notes(void *context, pashkure_key key, pashkure_result result)
+{
+    struct note *note = context;
+    CHECK(state(key) != PASHKURE_WAITS); /* the mutex is free */
+    note->calls++;
+    note->result = result;
+    note->thread = pthread_self();
+}
+
+static pashkure_result ask(pashkure_key key, const char *name, struct note *note)
+{
+    return pashkure_locks_ask(locks, key, name, strlen(name), notes, note);
+}
+
+static void handles(int number) { is_signalled = number != 0; }
+
+TEST(memory)
+{
+    pashkure_config config = PASHKURE_CONFIG;
+    pashkure core = PASHKURE_CLOSED;
+    unsigned long wanted, of_core;
+    is_counting = true;
+    GIVES(pashkure_open(&core, &config), PASHKURE_OK);
+    of_core = bytes;
+    pashkure_close(&core);
+    requests = frees = bytes = 0;
+    GIVES(pashkure_locks_open(&locks, &config), PASHKURE_OK);
+    CHECK(bytes - of_core < 90 * config.transactions);
+    wanted = requests;
+    for (int i = 0; i < 100; i++) {
+        a = begun(), b = begun();
+        GIVES(lock(a, "x", 0), PASHKURE_OK);
+        GIVES(lock(b, "x", SHORT), PASHKURE_TIMED_OUT);
+        ends(a);
+        ends(b);
+    }
+    CHECK(requests == wanted && frees == 0);
+    shut();
+    CHECK(requests == wanted && frees == wanted);
+    for (refused = 1; refused <= wanted; refused++) {
+        requests = frees = 0;
+        GIVES(pashkure_locks_open(&locks, &config), PASHKURE_NO_MEMORY);
+        CHECK(locks == NULL && requests == refused && frees == refused - 1);
+    }
+    is_counting = false;
+    locks = (pashkure_locks *)&config;
+    config.names = 0;
+    GIVES(pashkure_locks_open(&locks, &config), PASHKURE_BAD_NAMES);
+    CHECK(locks == NULL);
+    GIVES(pashkure_locks_close(NULL), PASHKURE_OK);
+}
+
+TEST(refusals)
+{
+    opened(2, 2);
+    GIVES(lock(b, "x", 0), PASHKURE_BUSY);
+    GIVES(lock(b, "x", INT64_MIN), PASHKURE_BUSY);
+    CHECK(totals().waits == 0);
+    GIVES(lock(b, "", 0), PASHKURE_NAME_EMPTY);
+    GIVES(lock(b, "123456789", LONG), PASHKURE_NAME_TOO_LONG);
+    GIVES(lock(b, "z", LONG), PASHKURE_NAMES_FULL);
+    GIVES(pashkure_locks_unlock(locks, b, "x", 1), PASHKURE_NOT_OWNER);
+    for (int i = 0; i < 12; i++) KEPT[i] = begun();
+    GIVES(pashkure_locks_begin(locks, &c), PASHKURE_TRANSACTIONS_FULL);
+    for (int i = 0; i < 12; i++) ends(KEPT[i]);
+    ends(b);
+    GIVES(pashkure_locks_close(locks), PASHKURE_IN_USE);
+    GIVES(lock(a, "x", 0), PASHKURE_HELD);
+    GIVES(pashkure_locks_abort(locks, a), PASHKURE_OK);
+    GIVES(pashkure_locks_commit(locks, a), PASHKURE_NO_TRANSACTION);
+    GIVES(lock(a, "x", 0), PASHKURE_NO_TRANSACTION);
+    GIVES(pashkure_locks_interrupt(locks, a), PASHKURE_NO_TRANSACTION);
+    shut();
+}
+
+TEST(order_of_sleepers)
+{
+    struct sleeper first, second, other;
+    opened(4, 4);
+    GIVES(lock(a, "z", 0), PASHKURE_OK);
+    starts(&first, d, "x", PASHKURE_FOREVER);
+    starts(&other, b, "z", LONG);
+    starts(&second, c, "x", LONG);
+    GIVES(pashkure_locks_unlock(locks, a, "x", 1), PASHKURE_OK);
+    GIVES(result_of(&first), PASHKURE_OK);
+    CHECK(state(c) == PASHKURE_WAITS && state(b) == PASHKURE_WAITS);
+    GIVES(pashkure_locks_abort(locks, d), PASHKURE_OK); /* by another thread than the one that locked */
+    GIVES(result_of(&second), PASHKURE_OK);
+    CHECK(state(b) == PASHKURE_WAITS);
+    ends(a);
+    GIVES(result_of(&other), PASHKURE_OK);
+    shut();
+}
+
+static long long between(struct timespec from, struct timespec to) { return (to.tv_sec - from.tv_sec) * 1000000000ll + to.tv_nsec - from.tv_nsec; }
+
+TEST(time_out)
+{
+    struct timespec from, to;
+    struct sleeper sleeper;
+    opened(3, 4);
+    clock_gettime(CLOCK_MONOTONIC, &from);
+    GIVES(lock(b, "x", SHORT), PASHKURE_TIMED_OUT);
+    clock_gettime(CLOCK_MONOTONIC, &to);
+    CHECK(between(from, untils[1]) >= SHORT && between(untils[1], to) >= 0);
+    CHECK(state(b) == PASHKURE_OK && totals().withdrawn == 1);
+    GIVES(lock(b, "y", 0), PASHKURE_HELD);
+    starts(&sleeper, c, "x", LONG);
+    ends(a);
+    GIVES(result_of(&sleeper), PASHKURE_OK); /* and not b, which waits no longer */
+    GIVES(lock(b, "z", 0), PASHKURE_OK);
+    shut();
+}
+
+/* The victim is b; a waits for it, and c and d wait behind a. */
+TEST(deadlock)
+{
+    struct sleeper given, timed, both;
+    opened(5, 8);
+    has_time = true;
+    starts(&timed, c, "x", SHORT);
+    starts(&both, d, "x", SHORT);
+    starts(&given, a, "y", PASHKURE_FOREVER);
+    GIVES(lock(b, "x", PASHKURE_FOREVER), PASHKURE_DEADLOCK);
+    interrupted(b);
+    GIVES(lock(b, "z", 0), PASHKURE_MUST_ABORT);
+    GIVES(pashkure_locks_commit(locks, b), PASHKURE_MUST_ABORT);
+    has_time = false;
+    while (carried < 2) sched_yield(); /* the times are over */
+    interrupted(d);
+    interrupted(a);
+    ends(e);
+    CHECK(carried == 4 && state(a) == PASHKURE_WAITS && state(c) == PASHKURE_WAITS && state(d) == PASHKURE_WAITS);
+    GIVES(pashkure_locks_abort(locks, b), PASHKURE_OK);
+    GIVES(result_of(&timed), PASHKURE_TIMED_OUT);
+    GIVES(result_of(&both), PASHKURE_INTERRUPTED); /* though its time was over before */
+    GIVES(result_of(&given), PASHKURE_OK);
+    GIVES(lock(a, "z", 0), PASHKURE_INTERRUPTED);
+    GIVES(lock(d, "z", 0), PASHKURE_OK);
+    GIVES(lock(c, "x", 0), PASHKURE_BUSY);
+    shut();
+}
+
+TEST(interrupt)
+{
+    struct sleeper sleeper;
+    opened(2, 4);
+    interrupted(a);
+    GIVES(lock(a, "x", PASHKURE_FOREVER), PASHKURE_INTERRUPTED);
+    GIVES(lock(a, "x", 0), PASHKURE_HELD); /* told once */
+    starts(&sleeper, b, "x", PASHKURE_FOREVER);
+    interrupted(b);
+    GIVES(result_of(&sleeper), PASHKURE_INTERRUPTED);
+    GIVES(lock(b, "y", 0), PASHKURE_HELD);
+    interrupted(b);
+    ends(b);
+    c = begun();
+    CHECK(c.slot == b.slot);
+    GIVES(pashkure_locks_interrupt(locks, b), PASHKURE_NO_TRANSACTION);
+    GIVES(lock(c, "y", 0), PASHKURE_OK); /* not told what was meant for b */
+    shut();
+}
+
+static void *locks_all(void *argument)
+{
+    GIVES(pashkure_locks_lock_all(locks, c, argument, 2, LONG), PASHKURE_OK);
+    return NULL;
+}
+
+/* The time is one for all: both waits end at the same one. */
+TEST(several_names)
+{
+    pashkure_request two[2] = {{"x", 1, PASHKURE_BUSY}, {"y", 1, PASHKURE_BUSY}};
+    pashkure_request three[3] = {{"w", 1, PASHKURE_BUSY}, {"x", 1, PASHKURE_BUSY}, {"z", 1, PASHKURE_BUSY}};
+    pthread_t thread;
+    opened(4, 8);
+    CHECK(pthread_create(&thread, NULL, locks_all, two) == 0);
+    while (state(c) != PASHKURE_WAITS) sched_yield();
+    ends(a);
+    while (totals().waits < 2) sched_yield();
+    ends(b);
+    CHECK(pthread_join(thread, NULL) == 0 && between(untils[0], untils[1]) == 0);
+    GIVES(pashkure_locks_lock_all(locks, d, three, 3, SHORT), PASHKURE_TIMED_OUT);
+    CHECK(three[0].result == PASHKURE_OK && three[1].result == PASHKURE_TIMED_OUT && three[2].result == PASHKURE_NOT_ASKED);
+    interrupted(d);
+    GIVES(pashkure_locks_lock_all(locks, d, three, 3, 0), PASHKURE_INTERRUPTED);
+    CHECK(three[0].result == PASHKURE_INTERRUPTED && three[1].result == PASHKURE_NOT_ASKED);
+    ends(c);
+    GIVES(pashkure_locks_lock_all(locks, d, three, 3, 0), PASHKURE_OK);
+    CHECK(three[0].result == PASHKURE_HELD && three[1].result == PASHKURE_OK && three[2].result == PASHKURE_OK);
+    shut();
+}
+
+static void ends_itself(void *context, pashkure_key key, pashkure_result result)
+{
+    notes(context, key, result);
+    if (key.slot != KEPT[9].slot) GIVES(pashkure_locks_commit(locks, KEPT[9]), PASHKURE_WAITING); /* it is not told yet */
+    ends(key);
+}
+
+TEST(wake_calls)
+{
+    struct note told[10] = {{0}}, other = {0};
+    opened(2, 16);
+    for (char name = '0'; name <= '9'; name++) GIVES(pashkure_locks_ask(locks, a, &name, 1, notes, &other), PASHKURE_OK);
+    GIVES(ask(a, "x", &other), PASHKURE_HELD);
+    GIVES(ask(b, "x", &other), PASHKURE_WAITS);
+    GIVES(ask(b, "z", &told[0]), PASHKURE_WAITING);
+    CHECK(other.calls == 0 && state(b) == PASHKURE_WAITS);
+    interrupted(b);
+    CHECK(other.calls == 1 && other.result == PASHKURE_INTERRUPTED);
+    for (int i = 0; i < 10; i++) {
+        const char name = (char)('0' + i);
+        KEPT[i] = begun();
+        GIVES(pashkure_locks_ask(locks, KEPT[i], &name, 1, ends_itself, &told[i]), PASHKURE_WAITS);
+    }
+    ends(a);
+    for (int i = 0; i < 10; i++) CHECK(told[i].calls == 1 && told[i].result == PASHKURE_OK && pthread_equal(told[i].thread, pthread_self()));
+    CHECK(other.calls == 1);
+    shut();
+}
+
+static void refuses_all(pashkure_key key)
+{
+    GIVES(lock(key, "z", 0), PASHKURE_WAITING);
+    GIVES(ask(key, "z", NULL), PASHKURE_WAITING);
+    GIVES(pashkure_locks_unlock(locks, key, "x", 1), PASHKURE_WAITING);
+    GIVES(pashkure_locks_commit(locks, key), PASHKURE_WAITING);
+    GIVES(pashkure_locks_abort(locks, key), PASHKURE_WAITING);
+}
+
+/* Of a thread that was given the name too, as long as it has not seen it. A signal is no news. */
+TEST(one_request_at_a_time)
+{
+    struct sleeper sleeper;
+    struct sigaction action = {.sa_handler = handles};
+    opened(2, 4);
+    CHECK(sigaction(SIGUSR1, &action, NULL) == 0);
+    is_late = true;
+    starts(&sleeper, b, "x", PASHKURE_FOREVER);
+    CHECK(pthread_kill(sleeper.thread, SIGUSR1) == 0);
+    while (!is_signalled) sched_yield();
+    refuses_all(b);
+    ends(a);
+    CHECK(state(b) == PASHKURE_OK);
+    refuses_all(b);
+    interrupted(b);
+    is_late = false;
+    GIVES(result_of(&sleeper), PASHKURE_OK);
+    GIVES(lock(b, "z", 0), PASHKURE_INTERRUPTED);
+    shut();
+}
+
+static void *begins(void *argument) { return *(pashkure_key *)argument = begun(), NULL; }
+
+TEST(hold)
+{
+    pashkure_counts counts;
+    pthread_t thread;
+    const pashkure *view;
+    opened(0, 1);
+    view = pashkure_locks_hold(locks);
+    missed = 0;
+    CHECK(pthread_create(&thread, NULL, begins, &a) == 0);
+    while (missed < 3) sched_yield();
+    pashkure_totals(view, &counts);
+    CHECK(counts.begun == 0);
+    pashkure_locks_let_go(locks);
+    CHECK(pthread_join(thread, NULL) == 0);
+    shut();
+}
+
+enum { THREADS = 8, NAMES = 8, ROUNDS = 1000 };
+static int in_hands[NAMES]; /* plain: a name in two hands is a race */
+static _Atomic(pashkure_key) now[THREADS];
+
+static void posts(void *context, pashkure_key key, pashkure_result result)
+{
+    CHECK(key.generation != 0);
+    *(atomic_int *)context = (int)result;
+}
+
+/* Locks the name in one of four ways. */
+static pashkure_result locks_somehow(pashkure_key key, const int *name, unsigned how)
+{
+    atomic_int mail = PASHKURE_WAITS;
+    pashkure_result told;
+    if (how < 3) return pashkure_locks_lock(locks, key, name, sizeof *name, how == 0 ? PASHKURE_FOREVER : how == 1 ? 100000 : 0);
+    told = pashkure_locks_ask(locks, key, name, sizeof *name, posts, &mail);
+    if (told != PASHKURE_WAITS) return told;
+    while (mail == PASHKURE_WAITS) sched_yield();
+    return (pashkure_result)mail;
+}
+
+static void *works(void *argument)
+{
+    _Atomic(pashkure_key) *place = argument;
+    unsigned random = (unsigned)(place - now) + 1;
+    for (int round = 0; round < ROUNDS; round++) {
+        pashkure_key key = begun();
+        int mine[3], count = 0;
+        pashkure_result told = PASHKURE_OK;
+        *place = key;
+        (void)pashkure_locks_interrupt(locks, now[rand_r(&random) % THREADS]);
+        for (int i = 0; i < 3 && PASHKURE_OWNS(told); i++) {
+            const int name = rand_r(&random) % NAMES;
+            told = locks_somehow(key, &name, (unsigned)rand_r(&random) % 4);
+            if (told == PASHKURE_OK) CHECK(in_hands[mine[count++] = name]++ == 0);
+            sched_yield();
+        }
+        CHECK(!PASHKURE_IS_REFUSAL(told));
+        if (count > 1 && told != PASHKURE_DEADLOCK) {
+            CHECK(--in_hands[mine[--count]] == 0);
+            GIVES(pashkure_locks_unlock(locks, key, &mine[count], sizeof *mine), PASHKURE_OK);
+        }
+        while (count > 0) CHECK(--in_hands[mine[--count]] == 0);
+        GIVES(PASHKURE_OWNS(told) ? pashkure_locks_commit(locks, key) : pashkure_locks_abort(locks, key), PASHKURE_OK);
+    }
+    return NULL;
+}
+
+TEST(crowd)
+{
+    pthread_t threads[THREADS];
+    opened(0, 64);
+    for (int i = 0; i < THREADS; i++) CHECK(pthread_create(&threads[i], NULL, works, (void *)&now[i]) == 0);
+    for (int i = 0; i < THREADS; i++) CHECK(pthread_join(threads[i], NULL) == 0);
+    CHECK(totals().begun == THREADS * ROUNDS && totals().deadlocks > 0 && totals().withdrawn > 0);
+    shut();
+}
+
+static const struct { const char *name; void (*run)(void); } TESTS[] = {
+#define ROW(name) {#name, name}
+    ROW(memory), ROW(refusals), ROW(order_of_sleepers), ROW(time_out), ROW(deadlock), ROW(interrupt), ROW(several_names),
+    ROW(wake_calls), ROW(one_request_at_a_time), ROW(hold), ROW(crowd),
+};
+
+int main(int count, char **words)
+{
+    size_t ran = 0;
+    alarm(300);
+    for (size_t i = 0; i < sizeof TESTS / sizeof *TESTS; i++) {
+        if (count > 1 && strcmp(words[1], TESTS[i].name) != 0) continue;
+        TESTS[i].run();
+        ran++;
+    }
+    CHECK(ran > 0);
+    return 0;
+}
