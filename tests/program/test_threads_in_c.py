@@ -5,12 +5,18 @@ import re
 import subprocess
 import unittest
 
-from lib.world import Run, each, run
+from lib.world import TOP, Run, each, run
 from program import test_library
 from program.test_library import FLAGS, HERE, INCLUDE, text_of
 
 SOURCE = f"{HERE}/threads.c"
 TESTS = re.findall(r"^TEST\((\w+)\)", text_of(SOURCE), re.M)
+ROW_STORE = b"""\
+rows 0 and 1 have 0 and 0, after 1 deadlock
+row 4: the name was not granted in time
+rows 2, 3 and 4 have 1, 0 and 1
+row 5: the request was interrupted
+"""
 WRAPPED = "-Wl," + ",".join(f"--wrap={name}" for name in re.findall(r"^WRAP\([^,]+, (\w+),", text_of(SOURCE), re.M))
 
 
@@ -42,3 +48,12 @@ class Threads(test_library.LibraryCase):
         program = self.path("program")
         self.compiles(program, *flags, SOURCE, f"{INCLUDE}/pashkure_threads.c")
         self.passes(run(program))
+
+    def test_example(self) -> None:
+        """The example finds its deadlock, and says who waited for whom; its time-out and its interrupt are told."""
+        program = self.path("row_store")
+        words = ["-std=c99", *FLAGS, "-pthread", f"-I{self.top}/include", "-o", program, f"{TOP}/examples/row_store.c", f"{self.top}/lib/libpashkure.a"]
+        subprocess.run(["cc", *words], check=True)
+        told = run(program)
+        self.assertEqual((told.status, told.out), (0, ROW_STORE))
+        self.assertEqual(sorted(told.err.splitlines()), [b"deadlock: back waits for rows/0 of there", b"deadlock: there waits for rows/1 of back"])

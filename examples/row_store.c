@@ -1,0 +1,239 @@
+/* Rows in memory, whose transactions lock them by pashkure_threads.h: an example to copy from.
+ *
+ * Two threads close a deadlock: one of them logs the cycle, rolls back, and tries again. Then a transaction waits too long and rolls back to a
+ * savepoint, and another one is killed while it waits.
+ *
+ *     ./mmdetect library DIR
+ *     cc -std=c99 row_store.c $(PKG_CONFIG_PATH=DIR/lib/pkgconfig pkg-config --cflags --libs pashkure) */
+#define _POSIX_C_SOURCE 200809L
+#include <pashkure_threads.h>
+#include <pthread.h>
+#include <stdio.h>
+#include <stdlib.h>
+#include <time.h>
+
+enum { ROWS = 8, CHANGES = 16, TRANSACTIONS = 64, ATTEMPTS = 100, MILLISECOND = 1000000 };
+
+static pashkure_locks *locks;
+static long rows[ROWS]; /* only the transaction that owns the name of a row reads or writes it */
+static const char *titles[TRANSACTIONS]; /* of the transactions, by slot, for the log: read and written while the locks are held */
+
+/* What a transaction did to a row. */
+struct change {
+    unsigned row;
+    bool is_locked_here; /* it did not own the row before */
+    long before;
+};
+
+struct transaction {
+    pashkure_key key;
+    size_t count;
+    struct change changes[CHANGES]; /* the latest is the last */
+};
+
+static void must(bool is_so, const char *text)
+{
+    if (!is_so) {
+        fprintf(stderr, "row_store: %s\n", text);
+        exit(1);
+    }
+}
+
+static void must_be_ok(pashkure_result result)
+{
+    must(result == PASHKURE_OK, pashkure_message(result));
+}
+
+static void begin(struct transaction *tx, const char *title)
+{
+    tx->count = 0;
+    must_be_ok(pashkure_locks_begin(locks, &tx->key));
+    pashkure_locks_hold(locks);
+    titles[tx->key.slot] = title;
+    pashkure_locks_let_go(locks);
+}
+
+/* The name of a row. Any bytes would do. */
+static size_t name_row(unsigned row, char name[16])
+{
+    return (size_t)snprintf(name, 16, "rows/%u", row);
+}
+
+/* Adds to a row, which it locks first: it waits for that at most so long. */
+static pashkure_result add(struct transaction *tx, unsigned row, long amount, int64_t nanoseconds)
+{
+    char name[16];
+    size_t length = name_row(row, name);
+    pashkure_result result;
+    must(tx->count < CHANGES, "a transaction has too many changes");
+    result = pashkure_locks_lock(locks, tx->key, name, length, nanoseconds);
+    if (!PASHKURE_OWNS(result)) return result;
+    tx->changes[tx->count++] = (struct change){row, result == PASHKURE_OK, rows[row]};
+    rows[row] += amount;
+    return PASHKURE_OK;
+}
+
+/* Undoes the latest change, and returns it. */
+static struct change undo(struct transaction *tx)
+{
+    struct change last = tx->changes[--tx->count];
+    rows[last.row] = last.before;
+    return last;
+}
+
+/* Undoes what came after a savepoint, which is a number of changes, and gives back the rows that were locked after it. */
+static void roll_back_to(struct transaction *tx, size_t savepoint)
+{
+    while (tx->count > savepoint) {
+        struct change last = undo(tx);
+        char name[16];
+        size_t length = name_row(last.row, name);
+        if (last.is_locked_here) must_be_ok(pashkure_locks_unlock(locks, tx->key, name, length));
+    }
+}
+
+/* Undoes all, and only then lets others have the rows. */
+static void roll_back(struct transaction *tx)
+{
+    while (tx->count > 0) undo(tx);
+    must_be_ok(pashkure_locks_abort(locks, tx->key));
+}
+
+/* ---- A deadlock ---- */
+
+/* Logs who waits for whom. The cycle stands until its victim aborts. */
+static void log_deadlock(pashkure_key victim)
+{
+    const pashkure *held = pashkure_locks_hold(locks);
+    uint32_t slot = victim.slot;
+    do {
+        pashkure_seen seen;
+        pashkure_key owner;
+        char name[16];
+        size_t length;
+        pashkure_result does = pashkure_look(held, slot, &seen);
+        if (does != PASHKURE_WAITS && does != PASHKURE_DEADLOCK) break;
+        if (pashkure_name(held, seen.number, name, sizeof name, &length, &owner) == PASHKURE_OK)
+            fprintf(stderr, "deadlock: %s waits for %.*s of %s\n", titles[slot], (int)length, name, titles[owner.slot]);
+        slot = seen.holder.slot;
+    } while (slot != victim.slot);
+    pashkure_locks_let_go(locks);
+}
+
+struct transfer {
+    const char *title;
+    unsigned from, to;
+    pthread_barrier_t *both; /* each has its first row, and asks for that of the other */
+    int deadlocks;
+};
+
+static pashkure_result move_ten(struct transfer *my, struct transaction *tx, bool meets)
+{
+    pashkure_result result = add(tx, my->from, -10, PASHKURE_FOREVER);
+    if (meets) pthread_barrier_wait(my->both);
+    if (result == PASHKURE_OK) result = add(tx, my->to, 10, PASHKURE_FOREVER);
+    return result == PASHKURE_OK ? pashkure_locks_commit(locks, tx->key) : result;
+}
+
+/* Pauses for a random time, up to a millisecond. */
+static void pause_some(unsigned *random)
+{
+    struct timespec pause = {0, 0};
+    *random = *random * 1103515245u + 12345u;
+    pause.tv_nsec = (long)((*random >> 16) % 1000u) * 1000;
+    nanosleep(&pause, NULL);
+}
+
+static void *transfers(void *given)
+{
+    struct transfer *my = given;
+    unsigned random = my->from;
+    for (int attempt = 0; attempt < ATTEMPTS; attempt++) {
+        struct transaction tx;
+        pashkure_result result;
+        begin(&tx, my->title);
+        result = move_ten(my, &tx, attempt == 0);
+        if (result == PASHKURE_OK) return NULL;
+        must(result == PASHKURE_DEADLOCK, pashkure_message(result));
+        my->deadlocks++;
+        log_deadlock(tx.key);
+        roll_back(&tx);
+        pause_some(&random);
+    }
+    must(false, "too many deadlocks");
+    return NULL;
+}
+
+static void deadlock(void)
+{
+    pthread_barrier_t both;
+    struct transfer there = {"there", 0, 1, &both, 0}, back = {"back", 1, 0, &both, 0};
+    pthread_t thread;
+    must(pthread_barrier_init(&both, NULL, 2) == 0, "no barrier");
+    must(pthread_create(&thread, NULL, transfers, &there) == 0, "no thread");
+    transfers(&back);
+    pthread_join(thread, NULL);
+    pthread_barrier_destroy(&both);
+    printf("rows 0 and 1 have %ld and %ld, after %d deadlock\n", rows[0], rows[1], there.deadlocks + back.deadlocks);
+}
+
+/* ---- A time-out, and a savepoint ---- */
+
+static void time_out(void)
+{
+    struct transaction owner, other;
+    size_t savepoint;
+    begin(&owner, "owner");
+    begin(&other, "other");
+    must_be_ok(add(&owner, 4, 1, PASHKURE_FOREVER));
+    must_be_ok(add(&other, 2, 1, PASHKURE_FOREVER));
+    savepoint = other.count;
+    must_be_ok(add(&other, 3, 1, PASHKURE_FOREVER));
+    printf("row 4: %s\n", pashkure_message(add(&other, 4, 1, 10 * MILLISECOND)));
+    roll_back_to(&other, savepoint); /* row 3 is as it was, and free; row 2 is still its own */
+    must_be_ok(pashkure_locks_commit(locks, other.key));
+    must_be_ok(pashkure_locks_commit(locks, owner.key));
+    printf("rows 2, 3 and 4 have %ld, %ld and %ld\n", rows[2], rows[3], rows[4]);
+}
+
+/* ---- A query that is killed ---- */
+
+struct query {
+    struct transaction tx;
+    pashkure_result result;
+};
+
+static void *runs(void *given)
+{
+    struct query *my = given;
+    my->result = add(&my->tx, 5, 1, PASHKURE_FOREVER);
+    roll_back(&my->tx);
+    return NULL;
+}
+
+static void kill_query(void)
+{
+    struct transaction owner;
+    struct query query;
+    pthread_t thread;
+    begin(&owner, "owner");
+    begin(&query.tx, "query");
+    must_be_ok(add(&owner, 5, 1, PASHKURE_FOREVER));
+    must(pthread_create(&thread, NULL, runs, &query) == 0, "no thread");
+    must_be_ok(pashkure_locks_interrupt(locks, query.tx.key)); /* whether it waits already, or is about to */
+    pthread_join(thread, NULL);
+    printf("row 5: %s\n", pashkure_message(query.result));
+    must_be_ok(pashkure_locks_commit(locks, owner.key));
+}
+
+int main(void)
+{
+    pashkure_config config = PASHKURE_CONFIG;
+    config.transactions = TRANSACTIONS;
+    must_be_ok(pashkure_locks_open(&locks, &config));
+    deadlock();
+    time_out();
+    kill_query();
+    must_be_ok(pashkure_locks_close(locks));
+    return 0;
+}
