@@ -49,11 +49,18 @@ class Threads(test_library.LibraryCase):
         self.compiles(program, *flags, SOURCE, f"{INCLUDE}/pashkure_threads.c")
         self.passes(run(program))
 
-    def test_example(self) -> None:
-        """The example finds its deadlock, and says who waited for whom; its time-out and its interrupt are told."""
-        program = self.path("row_store")
-        words = ["-std=c99", *FLAGS, "-pthread", f"-I{self.top}/include", "-o", program, f"{TOP}/examples/row_store.c", f"{self.top}/lib/libpashkure.a"]
+    def example(self, name: str) -> Run:
+        program = self.path(name)
+        words = ["-std=c99", *FLAGS, "-pthread", f"-I{self.top}/include", "-o", program, f"{TOP}/examples/{name}.c", f"{self.top}/lib/libpashkure.a"]
         subprocess.run(["cc", *words], check=True)
-        told = run(program)
+        return run(program)
+
+    def test_row_store(self) -> None:
+        """It finds its deadlock, and says who waited for whom; its time-out and its interrupt are told."""
+        told = self.example("row_store")
         self.assertEqual((told.status, told.out), (0, ROW_STORE))
         self.assertEqual(sorted(told.err.splitlines()), [b"deadlock: back waits for rows/0 of there", b"deadlock: there waits for rows/1 of back"])
+
+    def test_event_loop(self) -> None:
+        """All tasks come to their end, and no money is lost."""
+        self.assertEqual(self.example("event_loop"), (0, b"4500 transfers, and all accounts together have 0\n", b""))
