@@ -91,7 +91,7 @@ bool place_is_free(const struct place *place)
     return true;
 }
 
-/* Makes the file of the socket, at first with the rights of the user alone. */
+/* Makes the file of the socket. Nobody can connect before it has its rights and its group. */
 static bool makes_file(struct place *place, mode_t mode, gid_t group)
 {
     struct sockaddr_un address;
@@ -101,14 +101,15 @@ static bool makes_file(struct place *place, mode_t mode, gid_t group)
     mode_t before = umask(0177);
     int result = bind(place->socket, (struct sockaddr *)&address, sizeof address);
     umask(before);
-    if (result < 0 || listen(place->socket, BACKLOG) < 0 || lstat(place->path, &status) < 0) {
+    if (result < 0 || lstat(place->path, &status) < 0) {
         says("%s: %s", place->path, strerror(errno));
         return false;
     }
     place->is_made = true;
     place->device = status.st_dev;
     place->file = status.st_ino;
-    if ((group != (gid_t)-1 && lchown(place->path, (uid_t)-1, group) < 0) || (mode != 0600 && chmod(place->path, mode) < 0)) {
+    if ((group != (gid_t)-1 && lchown(place->path, (uid_t)-1, group) < 0) || (mode != 0600 && chmod(place->path, mode) < 0)
+        || listen(place->socket, BACKLOG) < 0) {
         says("%s: %s", place->path, strerror(errno));
         return false;
     }
