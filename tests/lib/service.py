@@ -16,6 +16,8 @@ LONGEST = 1048
 NUMBER = re.compile(rb"[0-9]{1,20}\Z")
 NAME = re.compile(rb"[!-~\x80-\xff]{1,1024}\Z")
 LIMITS = {"transactions": 65_536, "names": 65_536, "name_bytes": 64}
+GREATEST = {"transactions": 65_536, "names": 65_536, "name-bytes": 1_024, "each": 65_536, "epoch": 2**63 - 1}
+"""The greatest number that each option may have. The least is 1."""
 
 
 class Refused(Exception):
@@ -271,9 +273,10 @@ class Service:
 
 
 def given_by(data: bytes) -> dict[str, int]:
-    """The options that the first line of an input asks for: `# --names 7` and so on. To the service it is a comment."""
+    """The options that the first line of an input asks for: `# --names 7` and so on. To the service it is a comment. One out of range is none."""
     head = data.partition(b"\n")[0].decode("latin-1")
-    return {name: int(number) for name, number in re.findall(r"--([a-z-]+) (\d+)", head)} if head.startswith("# --") else {}
+    given = re.findall(r"--([a-z-]+) ([0-9]+)", head) if head.startswith("# --") else []
+    return {name: int(number) for name, number in given if 1 <= int(number) <= GREATEST.get(name, 0)}
 
 
 def limits_of(data: bytes) -> dict[str, int]:
