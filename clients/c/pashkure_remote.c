@@ -32,19 +32,27 @@ static result ask(connection *at, const struct verb *verb, transaction of, const
     return call(at, verb, &line, &holder);
 }
 
+/* Reads the next event: what it says, and of which transaction. Reads nothing if none comes in time. */
+static result next_news(connection *at, int64_t end, transaction *told)
+{
+    char word[WORD_BYTES];
+    if (!wait_for_line(at, end))
+        return PASHKURE_REMOTE_TIMED_OUT;
+    read_word(at, word, sizeof word);
+    if (strcmp(word, "*") != 0)
+        fail(at, PASHKURE_REMOTE_PROTOCOL);
+    return read_news(at, told);
+}
+
 /* Waits for news of a transaction that waits: OK, it was granted its name; ABORTED; or TIMED_OUT. */
 static result await(connection *at, transaction of, int64_t end)
 {
-    char word[WORD_BYTES];
     transaction told = NOBODY;
     result news = PASHKURE_REMOTE_OK;
     while (at->is_open && (told.opening == 0 || told.slot != of.slot || told.generation != of.generation)) {
-        if (!wait_for_line(at, end))
-            return PASHKURE_REMOTE_TIMED_OUT;
-        read_word(at, word, sizeof word);
-        if (strcmp(word, "*") != 0)
-            fail(at, PASHKURE_REMOTE_PROTOCOL);
-        news = read_news(at, &told);
+        news = next_news(at, end, &told);
+        if (news == PASHKURE_REMOTE_TIMED_OUT)
+            return news;
     }
     return done(at, news);
 }
@@ -399,14 +407,10 @@ result pashkure_remote_listen(connection *at, unsigned milliseconds)
     int64_t end = after(milliseconds);
     result news = PASHKURE_REMOTE_OK;
     while (at->is_open && news != PASHKURE_REMOTE_DEADLOCK) {
-        char word[WORD_BYTES];
         transaction told;
-        if (!wait_for_line(at, end))
-            return PASHKURE_REMOTE_TIMED_OUT;
-        read_word(at, word, sizeof word);
-        if (strcmp(word, "*") != 0)
-            fail(at, PASHKURE_REMOTE_PROTOCOL);
-        news = read_news(at, &told);
+        news = next_news(at, end, &told);
+        if (news == PASHKURE_REMOTE_TIMED_OUT)
+            return news;
     }
     return done(at, PASHKURE_REMOTE_OK);
 }
