@@ -193,8 +193,8 @@ impl From<LockError> for Failed {
     }
 }
 
-/// Runs work that comes to be in a deadlock at its first attempt. Returns what that gives, and how many attempts there were.
-fn run_with_a_deadlock(attempts: u32) -> (Result<u32, Failed>, u32) {
+/// Runs work that comes to be in a deadlock at its first attempt. Returns what that gives, how many attempts there were, and how many commits.
+fn run_with_a_deadlock(attempts: u32) -> (Result<u32, Failed>, u32, u64) {
     let locks = opened();
     let mut other = Some(owner(&locks, "y"));
     let mut count = 0;
@@ -212,13 +212,13 @@ fn run_with_a_deadlock(attempts: u32) -> (Result<u32, Failed>, u32) {
         })
     });
     assert_eq!(locks.view(live), 0);
-    (result, count)
+    (result, count, locks.view(|view| view.totals().committed))
 }
 
 #[test]
 fn run_tries_again_after_a_deadlock() {
-    assert_eq!(run_with_a_deadlock(2), (Ok(7), 2));
-    assert_eq!(run_with_a_deadlock(1), (Err(Failed::Lock(LockError::Deadlock)), 1));
+    assert_eq!(run_with_a_deadlock(2), (Ok(7), 2, 1));
+    assert_eq!(run_with_a_deadlock(1), (Err(Failed::Lock(LockError::Deadlock)), 1, 0));
 }
 
 #[test]

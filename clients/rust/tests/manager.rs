@@ -50,6 +50,7 @@ fn who_waits_behind_a_victim_ends_later() {
     assert_eq!(manager.lock(two, b"x"), Ok(Lock::Deadlock));
     assert_eq!(manager.view().cycle(two).iter().map(|wait| wait.key).collect::<Vec<_>>(), [two, one]);
     assert_eq!(manager.lock(three, b"x"), Ok(Lock::Waits));
+    assert_eq!(manager.view().cycle(three), []); // it is no victim
     assert!(manager.cancel(three).unwrap().is_none());
     assert!(manager.abort(three).unwrap().is_none());
     assert!(matches!(manager.view().status(three), Some(Status::Waiting { aborting: true, .. })));
@@ -77,6 +78,8 @@ fn wrong_use_is_an_error() {
     assert_eq!(manager.lock(two, b"x"), Ok(Lock::Deadlock));
     assert_eq!(manager.commit(two).unwrap_err(), Refusal::MustAbort);
     drop(manager.commit(three).unwrap());
+    assert_eq!(manager.begin().unwrap().slot, three.slot);
+    assert_eq!(manager.view().status(three), None);
     assert_eq!(manager.abort(three).unwrap_err(), Refusal::NoTransaction);
     assert_eq!(Refusal::NoTransaction as u32, 16);
     assert_eq!(LockManager::open(&Config::new(65_537, 1)).unwrap_err(), OpenError::Transactions);
