@@ -66,6 +66,7 @@ static void seat_dealloc(PyObject *self)
 static PyObject *seat_key(PyObject *self, void *unused) { return (void)unused, text_of(((Seat *)self)->key); }
 static PyObject *seat_slot(PyObject *self, void *unused) { return (void)unused, PyLong_FromUnsignedLong(((Seat *)self)->key.slot); }
 
+/* How its wait ended, once: the number of a result, or None. */
 static PyObject *seat_told(PyObject *self, PyObject *unused)
 {
     Seat *seat = (Seat *)self;
@@ -310,8 +311,8 @@ static PyObject *manager_totals(PyObject *self, PyObject *unused)
                          (unsigned long long)counts.deadlocks);
 }
 
-static PyMethodDef seat_methods[] = {{"told", seat_told, METH_NOARGS, "How its wait ended, once: the number of a result, or None."}, {0}};
-static PyGetSetDef seat_members[] = {{"key", seat_key, NULL, NULL, NULL}, {"slot", seat_slot, NULL, NULL, NULL}, {0}};
+static PyMethodDef seat_methods[] = {{"told", seat_told, METH_NOARGS, NULL}, {NULL, NULL, 0, NULL}};
+static PyGetSetDef seat_members[] = {{"key", seat_key, NULL, NULL, NULL}, {"slot", seat_slot, NULL, NULL, NULL}, {NULL, NULL, NULL, NULL, NULL}};
 
 static PyMethodDef manager_methods[] = {
     {"close", manager_close, METH_NOARGS, NULL},      {"forget", manager_forget, METH_NOARGS, NULL},
@@ -320,7 +321,7 @@ static PyMethodDef manager_methods[] = {
     {"commit", manager_commit, METH_VARARGS, NULL},   {"abort", manager_abort, METH_VARARGS, NULL},
     {"cancel", manager_cancel, METH_VARARGS, NULL},   {"status", manager_status, METH_VARARGS, NULL},
     {"holds", manager_holds, METH_VARARGS, NULL},     {"owner", manager_owner, METH_VARARGS, NULL},
-    {"totals", manager_totals, METH_NOARGS, NULL},    {0},
+    {"totals", manager_totals, METH_NOARGS, NULL},    {NULL, NULL, 0, NULL},
 };
 
 static PyTypeObject seat_type = {

@@ -28,7 +28,8 @@ R = TypeVar("R")
 class Locks(Opened):
     """Exclusive locks on names, for transactions, and for the tasks of one event loop.
 
-    `Locks.connect` makes one for a service, and `Locks.in_process` one without. In an `async with` statement it is closed at the end. Do not fork while it is open.
+    `Locks.connect` makes one for a service, and `Locks.in_process` one without. In an `async with` statement it is closed at the end. Do not
+    fork while it is open.
     """
 
     _backend: Any
