@@ -27,7 +27,7 @@ LONGEST_CYCLE = 16
 class Inside:
     """A session without its ways to sleep: at most one transaction, whose requests are answered as the service answers them."""
 
-    epoch, is_used = 0, False
+    epoch, is_slow = 0, False
 
     def __init__(self, owner: "InProcess", news: Callable[[], None]) -> None:
         self._manager, self._news = owner.manager, news
