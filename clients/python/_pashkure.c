@@ -11,7 +11,7 @@ typedef struct Seat {
     PyObject_HEAD
     PyObject *news;        /* is called when there is something to be told */
     pashkure_key key;
-    uint32_t over;         /* how its wait ended: PASHKURE_OK or PASHKURE_ABORTED; or NOTHING */
+    uint32_t over;         /* how its last wait ended: PASHKURE_OK or PASHKURE_ABORTED; or NOTHING */
     bool is_due;           /* news is to be called */
     struct Seat *next_due;
 } Seat;
@@ -66,14 +66,12 @@ static void seat_dealloc(PyObject *self)
 static PyObject *seat_key(PyObject *self, void *unused) { return (void)unused, text_of(((Seat *)self)->key); }
 static PyObject *seat_slot(PyObject *self, void *unused) { return (void)unused, PyLong_FromUnsignedLong(((Seat *)self)->key.slot); }
 
-/* How its wait ended, once: the number of a result, or None. */
+/* How its last wait ended: the number of a result, or None. */
 static PyObject *seat_told(PyObject *self, PyObject *unused)
 {
-    Seat *seat = (Seat *)self;
-    const uint32_t over = seat->over;
+    const uint32_t over = ((Seat *)self)->over;
     (void)unused;
     if (over == NOTHING) Py_RETURN_NONE;
-    seat->over = NOTHING;
     return PyLong_FromUnsignedLong(over);
 }
 
@@ -254,7 +252,7 @@ static PyObject *name_of(const Manager *manager, uint32_t number, pashkure_key *
     return PyBytes_FromStringAndSize(bytes, (Py_ssize_t)length);
 }
 
-/* What is in a slot: the result, the key, the name, its holder, whether it is aborted; of one that is free or active the result and the key. */
+/* What is in a slot: the result and the key; of one that waits or is a victim also the name and its holder. */
 static PyObject *manager_status(PyObject *self, PyObject *words)
 {
     Manager *manager = (Manager *)self;
@@ -268,7 +266,7 @@ static PyObject *manager_status(PyObject *self, PyObject *words)
     if (result != PASHKURE_WAITS && result != PASHKURE_DEADLOCK) return Py_BuildValue("iN", (int)result, text_of(seen.key));
     name = name_of(manager, seen.number, &owner);
     if (name == NULL) return PyErr_NoMemory();
-    return Py_BuildValue("iNNNO", (int)result, text_of(seen.key), name, text_of(seen.holder), seen.is_aborting ? Py_True : Py_False);
+    return Py_BuildValue("iNNN", (int)result, text_of(seen.key), name, text_of(seen.holder));
 }
 
 /* The names that the transaction owns. */

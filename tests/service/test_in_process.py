@@ -1,6 +1,8 @@
 """The Python client in process: the cases that it has in common with the service, and what differs."""
 from __future__ import annotations
 
+import asyncio
+import gc
 import os
 import pathlib
 import signal
@@ -11,12 +13,12 @@ import zipfile
 from typing import Any, List
 
 from lib.clients import Apart, Asyncio, raises, same, waits
-from lib.world import PACKAGE, each, environment, run
+from lib.world import PACKAGE, each, environment, run, until
 from program.test_library import LibraryCase
 from service.test_python import OPTIONS, Calls
 
 import build_backend
-from pashkure import Closed, Locks, LocksLost, Misuse, Status, Wait
+from pashkure import Aborted, Closed, Deadlock, Locks, LocksLost, Misuse, Status, Timeout, Wait, aio
 
 HEADERS = sysconfig.get_path("include")
 USE = "import pashkure; locks = pashkure.Locks.in_process(); print(locks.transaction('a').holds())"
@@ -30,7 +32,7 @@ class Looks:
 
     def graph(self) -> List[Wait]:
         told = [self.manager.status(slot) for slot in range(1024)]
-        return [Wait(key.decode(), name.decode(), holder.decode()) for _, key, name, holder, _ in (each for each in told if len(each) == 5)]
+        return [Wait(key.decode(), name.decode(), holder.decode()) for _, key, name, holder in (each for each in told if len(each) == 4)]
 
     def holds(self, key: str) -> List[str]:
         seats = [session._seat for session in self.backend._sessions if session._seat.key == key.encode()]
@@ -72,6 +74,59 @@ class Inside(Calls):
         """What is out of range is named."""
         for what, number in ("transactions", 0), ("names", 65_537), ("name_bytes", 1_025):
             same(str(raises(ValueError, self.opened, **{what: number})), f"{what} is out of range")  # type: ignore[attr-defined]
+
+    def test_unlock(self) -> None:
+        """A name that is unlocked is given to the one that waits for it, which wakes up."""
+        one, two = self.locks.transaction("a"), self.locks.transaction("b")
+        thread = Apart(two.lock, "a")
+        waits(two)
+        one.unlock("a")
+        same(thread.ends(), None)
+        same((one.holds(), two.holds()), ([], ["a", "b"]))
+        one.commit()
+        two.commit()
+
+    def test_abort_behind_a_victim(self) -> None:
+        """Whoever is aborted while it waits behind a victim keeps its names until that one is aborted."""
+        one, two = self.locks.transaction("1"), self.locks.transaction("2")
+        thread = Apart(one.lock, "2")
+        waits(one)
+        raises(Deadlock, two.lock, "1")
+        one.abort()
+        same(type(thread.ends()), Aborted)
+        same(self.locks.owner("1"), one.key)
+        two.abort()
+        same((self.locks.owner("1"), self.locks.owner("2")), (None, None))
+        three = self.locks.transaction("1", "2", "3")
+        same(three.holds(), ["1", "2", "3"])
+        three.commit()
+
+    def test_long_cycle(self) -> None:
+        """Of a long cycle its first sixteen waits are told."""
+        ring = [self.locks.transaction(f"{number}") for number in range(17)]
+        threads = [Apart(tx.lock, f"{number + 1}") for number, tx in enumerate(ring[:-1])]
+        for tx in ring[:-1]:
+            waits(tx)
+        cycle = raises(Deadlock, ring[16].lock, "0").cycle
+        keys = [tx.key for tx in (ring[16], *ring[:15])]
+        same(cycle, tuple(map(Wait, keys, map(str, range(16)), [*keys[1:], ".."])))
+        ring[16].abort()
+        for number in range(15, -1, -1):
+            same(threads[number].ends(), None)
+            ring[number].commit()
+
+    def test_released(self) -> None:
+        """Nothing is kept of a transaction that has ended."""
+        backend = self.operator.backend
+        for end in "commit", "abort":
+            one, two = self.locks.transaction("a"), self.locks.transaction("b")
+            thread = Apart(two.lock, "a")
+            waits(two)
+            getattr(one, end)()
+            thread.ends()
+            getattr(two, end)()
+            del one, two, thread
+        until(lambda: gc.collect() >= 0 and not len(backend._sessions), "nothing is kept")
 
     def test_fork(self) -> None:
         """A child finds the locks closed, and the parent's go on."""
@@ -132,6 +187,24 @@ class Threads(Inside, LibraryCase):
 
 class Tasks(Inside, LibraryCase):
     """The same with asyncio."""
+
+    def test_cancelled_when_granted(self) -> None:
+        """A request that is cancelled when it has just been granted owns its name, and the next one waits nevertheless."""
+
+        async def case() -> None:
+            async with aio.Locks.in_process() as locks, locks.transaction("a", "b") as one, locks.transaction() as two:
+                task = asyncio.ensure_future(two.lock("a"))
+                while (await two.status()).state != "waiting":
+                    await asyncio.sleep(0)
+                await one.unlock("a")
+                task.cancel()
+                with self.assertRaises(asyncio.CancelledError):
+                    await task
+                same(await two.holds(), ["a"])
+                with self.assertRaises(Timeout):
+                    await two.lock("b", timeout=0)
+
+        asyncio.run(case())
 
     def opened(self, **options: Any) -> Any:
         locks = Asyncio(**options)

@@ -15,7 +15,7 @@ from .service import each
 from .ways import BY_CLOSE, BY_FORK, BY_DROP, Why
 from .wire import Answer, Ask
 
-OK, HELD, WAITS, DEADLOCK, BUSY, LATER, CARRIED, FREE, ABORTED = range(9)
+OK, HELD, WAITS, DEADLOCK, BUSY, LATER, CARRIED, _, ABORTED = range(9)
 """Results of `pashkure.h`."""
 REFUSALS = dict(enumerate((b"no-transaction", b"must-abort", b"waiting", b"not-waiting", b"name-empty", b"name-too-long", b"not-owner",
                            b"transactions-full", b"names-full", b"labels-full", b"counts-full"), 16))  # fmt: skip
@@ -78,10 +78,10 @@ class Inside:
         except RuntimeError:
             pass  # the lock was released before
 
-    def _refused(self, result: int, *place: bytes) -> Answer:
+    def _refused(self, result: int) -> Answer:
         if result not in REFUSALS:  # another thread has closed the manager
             raise Closed(BY_CLOSE[1])
-        return (b"refused", *place, REFUSALS[result])
+        return (b"refused", REFUSALS[result])
 
     def _begin(self, names: Sequence[bytes]) -> Answer:
         result = self._manager.begin(self._seat)
@@ -95,7 +95,7 @@ class Inside:
             if result in (WAITS, DEADLOCK):
                 return (b"waits" if result == WAITS else b"deadlock", b"%d" % place, holder)
             if result > HELD:
-                return self._refused(result, b"%d" % place)
+                return self._refused(result)
         return (b"granted",)
 
     def _try(self, names: Sequence[bytes]) -> Answer:
@@ -121,13 +121,8 @@ class Inside:
         return (b"carried",) if result == CARRIED else self._refused(result) if result else (b"cancelled",)
 
     def _status(self, names: Sequence[bytes]) -> Answer:
-        result, key, *wait = self._manager.status(self._seat.slot)
-        if key != self._seat.key or result == FREE:
-            return self._refused(16)
-        if not wait:
-            return (b"active",)
-        name, holder, is_aborting = wait
-        return (b"waiting" if result == WAITS else b"deadlock", name, holder, *([b"aborting"] if is_aborting else []))
+        result, _, *wait = self._manager.status(self._seat.slot)
+        return (b"waiting" if result == WAITS else b"deadlock", *wait) if wait else (b"active",)
 
     def _holds(self, names: Sequence[bytes]) -> Answer:
         return (b"holds", *sorted(self._manager.holds(self._seat)))
