@@ -53,6 +53,9 @@ class Interrupts(TroubleCase):
         super().setUp()
         self.path_ = self.server().path
         self.locks, self.other = self.opened(Locks.connect, self.path_), self.opened(Locks.connect, self.path_)
+        self.has_hook()
+
+    def has_hook(self) -> None:
         self.holder, self.place = self.other.transaction("held"), "a moment"
         hook, sys.unraisablehook = sys.unraisablehook, lambda told: None  # exceptions may also come where Python ends an object
         self.addCleanup(setattr, sys, "unraisablehook", hook)

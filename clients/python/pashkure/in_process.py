@@ -63,6 +63,11 @@ class Inside:
             self._manager.abort(self._seat)
             self._tell()
 
+    def __del__(self) -> None:
+        """Ends the transaction, if an exception of a signal kept it from its end."""
+        if hasattr(self, "_seat"):
+            self._manager.abort(self._seat)
+
     def forget(self) -> None:
         """In the child of a fork."""
         self._why = BY_FORK
