@@ -21,8 +21,8 @@ from lib.world import PACKAGE, Case, each, environment, run
 
 import pashkure
 from pashkure import Aborted, Deadlock, Full, Interrupted, LockError, LocksLost, MustAbort, NotOwner, ProtocolError, Retry, Timeout, aio, flows, wire
-from pashkure.events import Watch
-from pashkure.transaction import Transaction
+from pashkure.calls import Watch
+from pashkure.locks import Transaction
 from pashkure.values import encoded, key_bytes
 from pashkure.wire import Ask, Call, Conversation, Party
 
