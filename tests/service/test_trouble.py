@@ -270,7 +270,8 @@ class Restarts(TroubleCase):
             same(tx.fence("a").epoch, 9)
         second.process.kill()
         second.process.wait()
-        self.assertIn("the service's epoch 6 is below 9", str(raises(CannotConnect, locks.transaction)))
+        error = Apart(locks.transaction).ends()
+        same((type(error), "the service's epoch 6 is below 9" in str(error)), (CannotConnect, True), str(error))
 
     def test_connecting(self) -> None:
         """What cannot be reached is told with its path and the reason, and is connected to as soon as it is there."""
@@ -324,6 +325,7 @@ class Forks(TroubleCase):
                 parent.wait()
                 until(lambda: wire.ask(b"owner a") == b"free", "the lock of the dead parent is free")
             finally:
+                parent.kill()
                 os.kill(int(child), signal.SIGKILL)
 
 

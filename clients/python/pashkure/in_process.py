@@ -11,8 +11,7 @@ from typing import Any, Callable, Dict, List, Optional, Sequence
 from . import backend
 from .errors import Closed, Misuse
 from .flows import WOKEN
-from .service import each
-from .ways import BY_CLOSE, BY_FORK, BY_DROP, Why
+from .ways import BY_CLOSE, BY_DROP, BY_FORK, FORGOTTEN, Why, each
 from .wire import Answer, Ask
 
 OK, HELD, WAITS, DEADLOCK, BUSY, LATER, CARRIED, _, ABORTED = range(9)
@@ -193,7 +192,7 @@ class InProcess:
         self.manager = self.extension.Manager(transactions, names, name_bytes, int.from_bytes(os.urandom(8), "little"))
         self._why: Optional[Why] = None
         self._sessions: "weakref.WeakSet[Inside]" = weakref.WeakSet()
-        _managers.add(self)
+        FORGOTTEN.add(self)
 
     def new(self, kind: Callable[["InProcess"], Any]) -> Any:
         """A session of this kind, for one transaction."""
@@ -233,12 +232,3 @@ def extension() -> Any:
         return importlib.import_module("_pashkure")
     except ModuleNotFoundError as error:
         raise ImportError("the C extension _pashkure is not there: `pip install` of the package builds it") from error
-
-
-def _forget_all() -> None:
-    for manager in each(_managers):
-        manager.forget()
-
-
-_managers: "weakref.WeakSet[InProcess]" = weakref.WeakSet()
-os.register_at_fork(after_in_child=_forget_all)

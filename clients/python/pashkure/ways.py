@@ -2,8 +2,9 @@
 from __future__ import annotations
 
 import os
+import weakref
 from time import monotonic
-from typing import Callable, Generator, Optional, Sequence, Tuple, Type, TypeVar, Union
+from typing import Any, Callable, Generator, Iterable, List, Optional, Sequence, Tuple, Type, TypeVar, Union
 
 from .errors import CannotConnect, Closed, Full, LocksLost, ProtocolError, ServiceRestarted
 from .values import seconds
@@ -18,6 +19,22 @@ BY_FORK: Why = (Closed, "it belongs to the parent process, before a fork")
 BY_DROP: Why = (LocksLost, "a call of this transaction was broken off, so its connection was closed, and its locks are gone")
 LOST: Why = (LocksLost, "the connection to the service was lost")
 RESTARTED = "the service was started anew, and all locks of before are gone"
+
+
+FORGOTTEN: "weakref.WeakSet[Any]" = weakref.WeakSet()
+"""The connections, whose copies the child of a fork closes, so that only the parent has them."""
+
+
+def each(items: Iterable[C]) -> List[C]:
+    """The items of a set to which other threads may add."""
+    while True:
+        try:
+            return list(items)
+        except RuntimeError:
+            pass  # it changed size
+
+
+os.register_at_fork(after_in_child=lambda: [connection.forget() for connection in each(FORGOTTEN)])
 
 
 class Ways:
