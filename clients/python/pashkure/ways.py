@@ -22,7 +22,7 @@ RESTARTED = "the service was started anew, and all locks of before are gone"
 
 
 FORGOTTEN: "weakref.WeakSet[Any]" = weakref.WeakSet()
-"""The connections, whose copies the child of a fork closes, so that only the parent has them."""
+"""What the child of a fork forgets, so that only the parent has it: the connections, whose copies it closes, and the managers in process."""
 
 
 def each(items: Iterable[C]) -> List[C]:
