@@ -2,11 +2,13 @@
 import base64
 import hashlib
 import pathlib
+import re
 import tarfile
 import zipfile
 
-NAME, VERSION = "pashkure", "0.1.0"
 HERE = pathlib.Path(__file__).resolve().parent
+NAME = "pashkure"
+VERSION = re.search('^__version__ = "(.*)"$', (HERE / NAME / "__init__.py").read_text(encoding="utf-8"), re.M)[1]
 INFO = f"{NAME}-{VERSION}.dist-info"
 METADATA = f"""\
 Metadata-Version: 2.1
