@@ -281,7 +281,7 @@ class Restarts(TroubleCase):
             error = raises(CannotConnect, locks.transaction)
             self.assertIn(path, str(error))
             self.assertIn("No such file", str(error))
-            patient = self.opened(form, path, connect_timeout=LIMIT)
+            patient = self.opened(form, path, connect_timeout=LIMIT, reply_timeout=float("inf"))
             thread = Apart(patient.totals)
             raises(CannotConnect, patient.transaction, timeout=0.02)
             server = self.server(path=path)
