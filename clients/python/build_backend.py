@@ -8,6 +8,7 @@ import base64
 import hashlib
 import os
 import pathlib
+import re
 import shutil
 import subprocess
 import sys
@@ -16,8 +17,9 @@ import tarfile
 import tempfile
 import zipfile
 
-NAME, VERSION = "pashkure", "0.1.0"
 HERE = pathlib.Path(__file__).resolve().parent
+NAME = "pashkure"
+VERSION = re.search('^__version__ = "(.*)"$', (HERE / NAME / "__init__.py").read_text(encoding="utf-8"), re.M)[1]
 INFO = f"{NAME}-{VERSION}.dist-info"
 EXTENSION = "_pashkure"
 METADATA = f"""\

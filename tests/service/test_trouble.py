@@ -126,20 +126,23 @@ class Interrupts(TroubleCase):
                 done += 1
             return done
 
+        def uses_while_armed() -> None:
+            armed[0] = True
+            signal.setitimer(signal.ITIMER_REAL, chance.uniform(0.00002, 0.002))
+            while armed[0]:
+                self.uses()
+
         before = signal.signal(signal.SIGALRM, handler)
         self.addCleanup(signal.signal, signal.SIGALRM, before)
         thread, stops = Apart(goes_on), 0
         with warnings.catch_warnings():
             warnings.simplefilter("ignore", ResourceWarning)
             while stops < 1000:
+                stops += 1
                 try:
-                    armed[0] = True
-                    signal.setitimer(signal.ITIMER_REAL, chance.uniform(0.00002, 0.002))
-                    while armed[0]:
-                        self.uses()
+                    uses_while_armed()
                 except Stop:
                     pass
-                stops += 1
         over.set()
         self.assertGreater(thread.ends(), 0)
         self.is_whole()
@@ -281,7 +284,7 @@ class Restarts(TroubleCase):
             error = raises(CannotConnect, locks.transaction)
             self.assertIn(path, str(error))
             self.assertIn("No such file", str(error))
-            patient = self.opened(form, path, connect_timeout=LIMIT)
+            patient = self.opened(form, path, connect_timeout=LIMIT, reply_timeout=float("inf"))
             thread = Apart(patient.totals)
             raises(CannotConnect, patient.transaction, timeout=0.02)
             server = self.server(path=path)

@@ -13,11 +13,10 @@ from typing import Callable, List, Optional, Sequence, Tuple, Union
 from . import backend
 from .errors import Closed, Full, LocksLost, ProtocolError, ServiceRestarted
 from .flows import WOKEN
-from .ways import BY_CLOSE, BY_DROP, BY_FORK, FORGOTTEN, LOST, RESTARTED, Path, Ways, Why, each
+from .ways import BY_CLOSE, BY_DROP, BY_FORK, FORGOTTEN, LONGEST, LOST, RESTARTED, Path, Ways, Why, each
 from .wire import Answer, Ask, Call, Conversation, Party
 
 SIZE = 16384
-LONGEST_POLL = 1e6  # seconds; poll takes no more milliseconds than 31 bits
 
 
 class Socket(socket.socket):
@@ -67,7 +66,7 @@ class Session(Party):
                 return WOKEN
             self.check()
             left = deadline - monotonic()
-            ready = self._poll.poll(None if left > LONGEST_POLL else max(0.0, math.ceil(left * 1000)))
+            ready = self._poll.poll(None if left > LONGEST else max(0.0, math.ceil(left * 1000)))
             if not ready and monotonic() >= deadline:
                 return None
             for descriptor, _ in ready:

@@ -18,6 +18,8 @@ BY_CLOSE: Why = (Closed, "it was closed")
 BY_FORK: Why = (Closed, "it belongs to the parent process, before a fork")
 BY_DROP: Why = (LocksLost, "a call of this transaction was broken off, so its connection was closed, and its locks are gone")
 LOST: Why = (LocksLost, "the connection to the service was lost")
+LONGEST = 1e6
+"""Seconds that the calls of the system take; more are as good as for ever."""
 RESTARTED = "the service was started anew, and all locks of before are gone"
 
 
@@ -45,7 +47,7 @@ class Ways:
             raise ValueError("the path of a socket is missing")
         self.paths = [os.fspath(path) for path in paths]
         self.connect_timeout = seconds(connect_timeout, "connect_timeout")
-        self.reply_timeout = seconds(reply_timeout, "reply_timeout")
+        self.reply_timeout = min(seconds(reply_timeout, "reply_timeout"), LONGEST)
         self.tell = tell
         self.epoch = 0  # the greatest that was seen
         self.is_closed = False
