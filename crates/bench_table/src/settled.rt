@@ -39,7 +39,7 @@ fn begin_settled(table: &mut SettledTable, begins: u32) -> Result<(), Refusal> {
 #[inline(always)]
 fn lock_settled(table: &mut SettledTable, locks: u32) -> Result<(), Refusal> {
     for resource in 0..locks {
-        table.lock(FIRST, resource)?;
+        table.acquire(FIRST, resource)?;
     }
     Ok(())
 }

@@ -39,7 +39,7 @@ fn transaction(process: u32) -> Key {
 fn own_each(table: &mut SettledTable, processes: u32) -> Result<(), Refusal> {
     for process in 0..processes {
         let key = table.begin()?;
-        table.lock(key, process)?;
+        table.acquire(key, process)?;
     }
     Ok(())
 }
@@ -47,7 +47,7 @@ fn own_each(table: &mut SettledTable, processes: u32) -> Result<(), Refusal> {
 /// The transaction at one place of a chain comes to wait for the one before it.
 fn wait(table: &mut SettledTable, first: u32, place: u32, chains: Chains) -> Result<(), Refusal> {
     let process = chains.process_at(first, place);
-    table.lock(
+    table.acquire(
         transaction(process),
         chains.process_at(first, place.wrapping_sub(1)),
     )?;
@@ -66,7 +66,7 @@ fn wait_behind(table: &mut SettledTable, first: u32, chains: Chains) -> Result<(
 fn rise(table: &mut SettledTable, first: u32, chains: Chains) -> Result<(), Refusal> {
     let key = transaction(chains.process_at(first, 0));
     for _ in 0..chains.waiting {
-        table.lock(key, chains.process_at(first, 1))?;
+        table.acquire(key, chains.process_at(first, 1))?;
         table.withdraw(key)?;
     }
     Ok(())

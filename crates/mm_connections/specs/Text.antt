@@ -2,7 +2,7 @@
 use Rattle.std.specs.Prelude.{◌≡◌, ℕ, Bool, true, false, List, [], ◌∷◌, ◌++◌, drop, Option, Some, None, Result, Ok, Err, codes, decimal, nat_eq, nat_le, if◌then◌else◌, slice_set}
 use Rattle.mm_arena.specs.declared.key.Key.{Key}
 use Rattle.mm_tagged_lists.specs.declared.spot.Spot.{Spot}
-use Rattle.mm_tagged_lists.specs.TaggedLists.{Listing, spot_at, list_at, freed}
+use Rattle.mm_tagged_lists.specs.TaggedLists.{spot_at, list_at, freed}
 use Rattle.mm_lines.specs.Words.{words_of}
 use Rattle.mm_settled.specs.declared.reply.Grant.{Grant}
 use Rattle.mm_manager.specs.LockState.{LockState, IsLawful}

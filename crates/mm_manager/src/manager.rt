@@ -8,7 +8,7 @@ ghost use Rattle.mm_names.specs.Names.{name_of};
 ghost use Rattle.mm_rules.specs.TableState.{owner_of};
 ghost use Rattle.mm_rules.specs.Event.{tenant_of};
 ghost use Rattle.mm_settled.specs.Calls.{OthersKeepVerdicts};
-ghost use Rattle.mm_manager.specs.LockState.{Owns, IsLawful};
+ghost use Rattle.mm_manager.specs.LockState.{HasOwnSlot, Owns, IsLawful};
 ghost use Rattle.mm_manager.specs.Permit.{counts_left, labels_left, may_ask, may_request};
 ghost use Rattle.mm_manager.specs.Opening.{opening_state, IsTransactionsOut, IsNamesOut, IsNameBytesOut};
 ghost use Rattle.mm_manager.specs.Calls.{Begins, LocksName, TriesName, Requests, Tries, UnlocksName, Commits, Aborts, Cancels};
@@ -93,16 +93,20 @@ impl LockManager {
         })
     }
 
-    /// Starts a transaction, and returns its key. Nothing else changes.
+    /// Starts a transaction, and returns its key. Nothing else changes. The `process` of the key is a slot: it is below the `transactions` of
+    /// the configuration, and no other live transaction has it.
     ///
     /// Refused as `CountsFull` where 4,611,686,018,426,339,328 events were counted or more, and as `TransactionsFull` where there are as
     /// many transactions as there can be, which is tested second. Constant time.
     #[inline(always)]
     pub fn begin(&mut self) -> Result<Key, Refusal>
         ensures begins { Begins self.old result self.new }
+        ensures slot { IfOk result (λ key. HasOwnSlot self.new key) }
         ensures totals { self.new.totals ≡ after_begin self.old.totals result }
     {
+        self.parts.named.table.is_at_rest();
         let answer = self.parts.begin();
+        self.parts.named.table.is_at_rest();
         self.totals.count_begin(&answer);
         answer
     }

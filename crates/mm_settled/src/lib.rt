@@ -4,14 +4,14 @@
 //! - `settled`: `SettledTable`, with one method for each call.
 //! - `reply`: what a request is told, what a grant is, and how a call ends a transaction.
 //! - `parts`: a table and the lists that its calls fill.
-//! - `lock`, `withdraw`, `ends`: the calls, over these.
+//! - `acquire`, `withdraw`, `ends`: the calls, over these.
 //! - `lists`: whom a call granted what, and how that is found.
 //! - `settle`: a settle that is not refused, and when one is needed.
 #![tactic(auto)]
 
+mod acquire;
 mod ends;
 mod lists;
-mod lock;
 mod parts;
 mod reply;
 mod settle;

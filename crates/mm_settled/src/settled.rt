@@ -9,8 +9,8 @@ ghost use Rattle.mm_rules.specs.Withdraw.{IsBehindVictim};
 ghost use Rattle.mm_settled.specs.Calls.{OpensSettled, Locks, IsDeadlock, Makes, MakesEnd, MakesWithdrawal, OthersKeepVerdicts};
 ghost use Rattle.mm_settled.specs.Grants.{Tells, EndsWaits};
 
+use crate::acquire::acquire;
 use crate::lists::{Lists, is_told};
-use crate::lock::lock;
 use crate::parts::Parts;
 use crate::{Config, EndKind, Grant, Key, Locked, Refusal, Released, Table};
 use std::alloc::Global;
@@ -98,14 +98,14 @@ impl SettledTable {
     /// follows, as `Table::settle` says: those that wait for the transaction, and those whose labels it raises.
     // In place: a granted lock does less than a call from here would cost.
     #[inline(always)]
-    pub fn lock(&mut self, key: Key, resource: u32) -> Result<Locked, Refusal>
+    pub fn acquire(&mut self, key: Key, resource: u32) -> Result<Locked, Refusal>
         ensures locks { Locks self.old.table key resource result self.new.table }
         ensures deadlock { OnOk result (IsTrue (IsDeadlock result) ↔ IsOnCycle self.new.table key.process) }
         ensures others { OthersKeepVerdicts self.old.table self.new.table key.process }
         ensures told { Tells self.old.table self.new }
     {
         self.parts.table.keeps_laws();
-        lock(
+        acquire(
             &mut self.parts.table,
             &mut self.parts.lists.granted,
             key,
@@ -113,7 +113,7 @@ impl SettledTable {
         )
     }
 
-    /// `lock` of a resource that nobody owns, by a key that may use it: so nothing is tested, and it is granted. Constant time.
+    /// `acquire` of a resource that nobody owns, by a key that may use it: so nothing is tested, and it is granted. Constant time.
     #[inline(always)]
     pub fn grant_free(&mut self, key: Key, resource: u32)
         requires passed { allowed (resource_tests self.old.table key resource) ≡ Ok tt }

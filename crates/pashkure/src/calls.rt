@@ -1,5 +1,6 @@
 //! The calls that change a manager. Of a closed handle each answers `NOT_OPEN`, and changes nothing.
 ghost use Rattle.std.specs.Prelude.{◌≡◌, ◌≢◌, ◌⊎◌};
+ghost use Rattle.mm_manager.specs.LockState.{HasOwnSlot};
 ghost use Rattle.mm_manager.specs.Opening.{opening_state};
 ghost use Rattle.pashkure.specs.Opening.{config_fault};
 ghost use Rattle.pashkure.specs.Calls.{IsOpen, TellsBegin, TellsLock, TellsTry, TellsUnlock, TellsCommit, TellsAbort, TellsCancel};
@@ -65,6 +66,7 @@ pub extern "C" fn pashkure_begin(handle: &mut Handle, key: &mut PlainKey) -> u32
     ensures closed { ¬ IsOpen handle.old → (result ≡ 32) × (handle.new ≡ handle.old) × (key.new ≡ key.old) }
     ensures open { handle.new.state ≡ handle.old.state }
     ensures begins { IsOpen handle.old → TellsBegin handle.old.locks key.old result key.new handle.new.locks }
+    ensures slot { IsOpen handle.old → result ≡ 0 → HasOwnSlot handle.new.locks (key_of key.new) }
 {
     if !handle.is_open() {
         return NOT_OPEN;

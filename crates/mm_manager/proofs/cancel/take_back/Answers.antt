@@ -4,7 +4,7 @@ use Rattle.mm_manager.specs.private.Room.{HasReserve}
 use Rattle.mm_manager.proofs.Lemmas.Limits.{withdraw_carried}
 use Rattle.mm_manager.proofs.Lemmas.May.{cancels}
 use Rattle.mm_manager.proofs.Lemmas.Room.{withdraw_room}
-use Rattle.mm_manager.proofs.aborts.take_back.Goals as goal
+use Rattle.mm_manager.proofs.cancel.take_back.Goals as goal
 
 pub returns-in-Ok-clause-left : goal.returns-in-Ok-clause-left
 returns-in-Ok-clause-left c =

@@ -4,7 +4,7 @@ use Rattle.mm_manager.proofs.Lemmas.Asked.{label_left}
 use Rattle.mm_manager.proofs.Lemmas.Limits.{lock_never}
 use Rattle.mm_manager.proofs.Lemmas.May.{asks}
 use Rattle.mm_manager.proofs.Lemmas.Owners.{not_mine}
-use Rattle.mm_manager.proofs.request.lock_number.Goals as goal
+use Rattle.mm_manager.proofs.lock.lock_number.Goals as goal
 
 pub unreachable-requires : goal.unreachable-requires
 unreachable-requires c =
@@ -13,6 +13,6 @@ unreachable-requires c =
     let r = c.args.number in
     let laws = c.is_at_rest.ensures.laws in
     let may = asks s k c.requires.may in
-    let locks : Locks s k r (Err c.in_default.field-0) c.lock.new.self.table = rw c.in_default.is at c.lock.ensures.locks in
+    let locks : Locks s k r (Err c.in_default.field-0) c.acquire.new.self.table = rw c.in_default.is at c.acquire.ensures.locks in
     lock_never s k laws c.requires.left may.live may.idle c.requires.counted r c.requires.in_range (not_mine s k r laws may.live c.requires.another)
-    (λ h owned. label_left s (c.requires.label h owned)) c.lock.new.self.table c.in_default.field-0 locks
+    (λ h owned. label_left s (c.requires.label h owned)) c.acquire.new.self.table c.in_default.field-0 locks

@@ -15,7 +15,7 @@ const FAR_BELOW_LIMIT: u64 = 1 << 61;
 /// Asks for the resource, and settles the table if the transaction waits. A refusal empties the list of grants. An accepted request leaves
 /// it as it is: the table has accepted an event since it was filled, so it means nothing.
 #[inline(always)]
-pub fn lock(
+pub fn acquire(
     table: &mut Table,
     granted: &mut Vec<Grant>,
     key: Key,

@@ -10,7 +10,7 @@ use Rattle.mm_settled.proofs.Lemmas.Lock.{waiter_rests, waiter_alone, waiter_loc
 use Rattle.mm_settled.proofs.Lemmas.Quiet.{GrantsNow, granted_quiet, quiet_rests, same_is_quiet}
 use Rattle.mm_settled.proofs.Lemmas.Refused.{acquire_refused}
 use Rattle.mm_settled.proofs.Lemmas.Rest.{room_left}
-use Rattle.mm_settled.proofs.lock.lock.Goals as goal
+use Rattle.mm_settled.proofs.acquire.acquire.Goals as goal
 
 -- ---- there is no room to count it with a settle
 

@@ -1,24 +1,44 @@
 //! A request for a name.
-ghost use Rattle.std.specs.Prelude.{◌≡◌, ◌≢◌, ◌<◌, ◌↔◌, true, false, None, Some, Ok, IfOk, IfErr, OnOk, OnErr, IsSome};
+ghost use Rattle.std.specs.Prelude.{◌≡◌, Some, None, Ok, true, IfOk, IfErr, OnOk, IsSome, ◌≢◌, ◌<◌, ◌↔◌, false};
+ghost use Rattle.mm_manager.specs.Permit.{may_ask, event_limit, may_wait};
+ghost use Rattle.mm_manager.specs.private.Handed.{AreCleared, AreParts};
+ghost use Rattle.mm_manager.specs.private.Room.{HasReserve};
 ghost use Rattle.std.specs.Bool.{OnTrue, OnFalse};
 ghost use Rattle.mm_arena.specs.declared.key.Key.{Key as KeyValue};
 ghost use Rattle.mm_names.specs.Names.{name_of};
 ghost use Rattle.mm_rules.specs.TableState.{owner_of};
-ghost use Rattle.mm_settled.specs.Calls.{Locks, OthersKeepVerdicts};
+ghost use Rattle.mm_settled.specs.Calls.{OthersKeepVerdicts, Locks};
 ghost use Rattle.mm_settled.specs.declared.reply.Locked.TheVariants as locked;
-ghost use Rattle.mm_manager.specs.Calls.{Tries};
-ghost use Rattle.mm_manager.specs.Permit.{event_limit, may_ask, may_name, may_wait};
-ghost use Rattle.mm_manager.specs.Refused.{TryRefused};
-ghost use Rattle.mm_manager.specs.private.Numbers.{AreNumbered, bare};
-ghost use Rattle.mm_manager.specs.private.Requests.{AnswersNamed, AnswersNew, Requested, may_ask_more, tried_by};
-ghost use Rattle.mm_manager.specs.private.Room.{HasReserve};
+ghost use Rattle.mm_manager.specs.private.Numbers.{AreNumbered};
+ghost use Rattle.mm_manager.specs.private.Requests.{Requested, AnswersNamed, AnswersNew, may_ask_more};
+ghost use Rattle.mm_rules.specs.Laws.{Laws};
 
 use crate::named::NamedTable;
 use crate::numbers::{entry_of, owner_of};
+use crate::parts::Parts;
 use crate::permit::{may_ask, may_count, may_wait, refused_first, why_refused};
-use crate::{Key, Lock, Refusal, TryLock};
+use crate::{Key, Lock, Refusal};
 use mm_names::Entry;
 use mm_settled::{Locked, SettledTable, Table};
+
+impl Parts {
+    /// Asks for a name. If `is_active`, the transaction is known to be active, and its key is not tested.
+    // In place, as all of a request is that is granted: what is told of it then stays in registers.
+    #[inline(always)]
+    pub fn lock(&mut self, key: Key, name: &[u8], is_active: bool) -> Result<Lock, Refusal>
+        requires parts { AreParts self.old }
+        requires known { OnTrue is_active (may_ask self.old.named.table.table key ≡ Ok tt) }
+        ensures requested { Requested self.old.named.table.table self.old.named.names key name.now result self.new.named.table.table self.new.named.names }
+        ensures others { OthersKeepVerdicts self.old.named.table.table self.new.named.table.table key.process }
+        ensures laws { Laws self.old.named.table.table × Laws self.new.named.table.table }
+        ensures cleared { AreCleared self.new }
+        ensures due { self.new.lists.due ≡ self.old.lists.due }
+    {
+        self.lists.clear();
+        self.named.table.is_at_rest();
+        self.named.request(key, name, is_active)
+    }
+}
 
 impl NamedTable {
     /// Asks the table for the number of a name, which the name has already, or gets. Nobody owns a number whose name is new, so the table
@@ -57,29 +77,6 @@ impl NamedTable {
         }
         self.names.forget(number);
         Err(why_refused(self.table.table(), key))
-    }
-
-    /// Asks the table for the number of a name that nobody owns. The transaction may ask.
-    pub fn try_request(&mut self, key: Key, name: &[u8]) -> Result<TryLock, Refusal>
-        requires numbered { AreNumbered self.old.table.table self.old.names }
-        requires may { may_ask self.old.table.table key ≡ Ok tt }
-        requires counted { self.old.table.table.totals.accepted < event_limit }
-        requires left { HasReserve self.old.table.table }
-        ensures tried { IfOk result (λ answer. Tries self.old.table.table self.old.names key name.now answer self.new.table.table self.new.names) }
-        ensures named { OnOk result (may_name self.old.names.name_bytes name.now ≡ Ok tt) }
-        ensures refused { IfErr result (λ refusal. TryRefused (bare self.old.table.table self.old.names) key name.now refusal) }
-        ensures table { OnErr result (self.new.table.table ≡ self.old.table.table) }
-        ensures names { OnErr result (self.new.names ≡ self.old.names) }
-        ensures others { OthersKeepVerdicts self.old.table.table self.new.table.table key.process }
-        ensures numbered { AreNumbered self.new.table.table self.new.names }
-    {
-        self.table.is_at_rest();
-        let entry = entry_of(&mut self.names, name)?;
-        if let Some(holder) = owner_of(self.table.table(), entry.number) {
-            return Ok(tried(holder, key));
-        }
-        lock_number(&mut self.table, key, entry.number);
-        Ok(TryLock::Granted)
     }
 }
 
@@ -162,19 +159,8 @@ fn is_owner(table: &Table, key: Key, owner: Key) -> Result<bool, Refusal>
     Ok(false)
 }
 
-/// What a try is told of a name that the holder owns.
-fn tried(holder: Key, key: Key) -> TryLock
-    ensures { result ≡ tried_by holder key }
-{
-    if holder == key {
-        TryLock::Held
-    } else {
-        TryLock::Busy { holder }
-    }
-}
-
 /// Asks the table for a number that another transaction owns, or nobody. There is room for that, so it is not refused.
-fn lock_number(table: &mut SettledTable, key: Key, number: u32) -> Locked
+pub fn lock_number(table: &mut SettledTable, key: Key, number: u32) -> Locked
     requires in_range { number < table.old.table.config.resources }
     requires may { may_ask table.old.table key ≡ Ok tt }
     requires counted { table.old.table.totals.accepted < event_limit }
@@ -185,7 +171,7 @@ fn lock_number(table: &mut SettledTable, key: Key, number: u32) -> Locked
     ensures others { OthersKeepVerdicts table.old.table table.new.table key.process }
 {
     table.is_at_rest();
-    let Ok(answer) = table.lock(key, number) else {
+    let Ok(answer) = table.acquire(key, number) else {
         unreachable!();
     };
     answer

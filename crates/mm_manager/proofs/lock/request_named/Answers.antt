@@ -12,7 +12,7 @@ use Rattle.mm_manager.specs.private.Requests.{may_ask_more, AnswersNamed}
 use Rattle.mm_manager.proofs.Lemmas.Answered.{asks_both}
 use Rattle.mm_manager.proofs.Lemmas.May.{counted}
 use Rattle.mm_manager.proofs.Lemmas.Requests.{queued_is}
-use Rattle.mm_manager.proofs.request.request_named.Goals as goal
+use Rattle.mm_manager.proofs.lock.request_named.Goals as goal
 
 -- ---- it is refused
 

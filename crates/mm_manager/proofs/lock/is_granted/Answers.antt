@@ -8,7 +8,7 @@ use Rattle.mm_manager.proofs.Lemmas.Numbers.{some_not_none}
 use Rattle.mm_manager.proofs.Lemmas.Owners.{not_mine}
 use Rattle.mm_manager.proofs.Lemmas.Unowned.{passed, not_passed}
 use Rattle.mm_rules.proofs.States.Lookups.{live_within}
-use Rattle.mm_manager.proofs.request.is_granted.Goals as goal
+use Rattle.mm_manager.proofs.lock.is_granted.Goals as goal
 
 pub returns-then-is_err-clause-refused : goal.returns-then-is_err-clause-refused
 returns-then-is_err-clause-refused c = (
