@@ -1,4 +1,4 @@
-"""The pages: what they say of the sources, the commands that they show, and those that a reader pastes."""
+"""The pages: what they say of the sources, the commands that they show, those that a reader pastes, and the crates that a reader copies."""
 from __future__ import annotations
 
 import importlib.util
@@ -6,6 +6,7 @@ import os
 import pathlib
 import re
 import shlex
+import shutil
 import signal
 import subprocess
 import sys
@@ -71,6 +72,36 @@ class Pasted(Case):
             except subprocess.TimeoutExpired:
                 os.killpg(shell.pid, signal.SIGKILL)
                 return shell.communicate()[0] + "and no end\n"
+
+
+class Copied(Case):
+    """examples/copy_crate, into a repository that has nothing."""
+
+    def copies(self, crate: str, status: int, out: str = "", err: str = "") -> None:
+        self.ends(run(f"{TOP}/examples/copy_crate", crate, self.folder), status, out, err)
+
+    def test_crate(self) -> None:
+        """A program that was copied finds all that it rests on, and runs. To copy the crate again changes nothing."""
+        if not shutil.which("rt"):
+            self.skipTest("the command rt of the Rattle toolchain is not on the PATH")
+        folder = pathlib.Path(self.folder)
+        self.assertEqual(run(f"{TOP}/examples/copy_crate", "example_embedded", self.folder)[::2], (0, b""))
+        told = run("rt", "try", cwd=f"{folder}/crates/example_embedded")
+        self.assertEqual((told.status, told.out), (0, pathlib.Path(TOP, "crates/example_embedded/stdout").read_bytes()))
+        lines = (folder / "crates.txt").read_text(encoding="ascii")
+        self.copies("mm_arena", 0, "copied: mm_lists mm_arena\n")
+        self.assertEqual((folder / "crates.txt").read_text(encoding="ascii"), lines)
+        self.assertEqual([path for name in ("out", "must-fail") for path in folder.glob(f"crates/*/{name}")], [])
+
+    def test_handles(self) -> None:
+        self.copies("mm_mutex", 0, "copied: mm_mutex\nHANDLES has to allow: Wait\n")
+
+    def test_refused(self) -> None:
+        self.copies("mm_nothing", 1, "", "copy_crate: crates.txt has no crate mm_nothing\n")
+        os.makedirs(f"{self.folder}/crates/mm_lists")
+        self.copies("mm_arena", 1, "", f"copy_crate: {self.folder}/crates/mm_lists is different from the crate here: move it away first\n")
+        self.assertEqual(os.listdir(f"{self.folder}/crates"), ["mm_lists"])
+        self.ends(run(f"{TOP}/examples/copy_crate"), 2, "", "copy_crate: usage: examples/copy_crate CRATE DIR\n")
 
 
 def deadlocks_left_out(text: str) -> str:

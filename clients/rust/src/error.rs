@@ -1,0 +1,113 @@
+//! Why calls fail.
+use crate::sys;
+use std::ffi::CStr;
+use std::fmt;
+
+/// What a result means, as `pashkure_message` has it.
+fn message(result: u32) -> &'static str {
+    // SAFETY: any number is allowed, and the text is never NULL and stays for ever.
+    let text = unsafe { CStr::from_ptr(sys::pashkure_message(result)) };
+    text.to_str().unwrap_or("")
+}
+
+/// An enum whose variants have the numbers of `pashkure.h`.
+macro_rules! results {
+    ($(#[$about:meta])* $name:ident { $($(#[$what:meta])* $variant:ident = $number:literal,)* }) => {
+        $(#[$about])*
+        #[derive(Clone, Copy, Debug, PartialEq, Eq, Hash)]
+        #[non_exhaustive]
+        #[repr(u32)]
+        pub enum $name { $($(#[$what])* $variant = $number,)* }
+
+        impl $name {
+            /// The variant of this number, which the library has answered.
+            pub(crate) fn of(result: u32) -> $name {
+                match result {
+                    $($number => $name::$variant,)*
+                    _ => unreachable!("libpashkure.a answered {}: {}", result, message(result)),
+                }
+            }
+        }
+
+        impl fmt::Display for $name {
+            fn fmt(&self, to: &mut fmt::Formatter<'_>) -> fmt::Result {
+                to.write_str(message(*self as u32))
+            }
+        }
+
+        impl std::error::Error for $name {}
+    };
+}
+
+results! {
+    /// Why a call of a [`LockManager`](crate::LockManager) is refused. A refused call changes nothing.
+    Refusal {
+        /// The key is of no live transaction: it has ended, or never was.
+        NoTransaction = 16,
+        /// The transaction was told [`Lock::Deadlock`](crate::Lock::Deadlock), and can only be aborted.
+        MustAbort = 17,
+        /// The transaction waits, and makes no request until it is woken.
+        Waiting = 18,
+        /// The transaction does not wait, so there is no wait to take back.
+        NotWaiting = 19,
+        /// The name has no bytes.
+        NameEmpty = 20,
+        /// The name has more bytes than [`Config::name_bytes`](crate::Config::name_bytes) allows.
+        NameTooLong = 21,
+        /// The transaction does not own the name.
+        NotOwner = 22,
+        /// As many transactions are live as there is room for. Each end makes room.
+        TransactionsFull = 23,
+        /// As many names are owned as there is room for, and this is a further one. Each end makes room.
+        NamesFull = 24,
+        /// After 8,796,093,022,207 events nobody may begin to wait. End all transactions, and open another manager.
+        LabelsFull = 25,
+        /// After 4,611,686,018,426,339,328 events only ends are taken. End all transactions, and open another manager.
+        CountsFull = 26,
+    }
+}
+
+results! {
+    /// Why a call of a [`Transaction`](crate::Transaction) or of [`Locks::begin`](crate::Locks::begin) fails. After each of these but `Deadlock`
+    /// and `MustAbort` the transaction may go on with what it owns.
+    LockError {
+        /// The request would have closed a cycle of waits. The transaction keeps what it owns until it is rolled back, which is all that is left.
+        Deadlock = 3,
+        /// The time is over, and the transaction waits no longer.
+        TimedOut = 9,
+        /// Another thread has called [`Locks::interrupt`](crate::Locks::interrupt), and the transaction waits no longer.
+        Interrupted = 10,
+        /// The transaction was told `Deadlock` before, and can only be rolled back.
+        MustAbort = 17,
+        /// The name has no bytes.
+        NameEmpty = 20,
+        /// The name has more bytes than [`Config::name_bytes`](crate::Config::name_bytes) allows.
+        NameTooLong = 21,
+        /// The transaction does not own the name.
+        NotOwner = 22,
+        /// As many transactions are live as there is room for. Each end makes room.
+        TransactionsFull = 23,
+        /// As many names are owned as there is room for, and this is a further one. Each end makes room.
+        NamesFull = 24,
+        /// After 8,796,093,022,207 events nobody may begin to wait. End all transactions, and open other locks.
+        LabelsFull = 25,
+        /// After 4,611,686,018,426,339,328 events only ends are taken. End all transactions, and open other locks.
+        CountsFull = 26,
+    }
+}
+
+results! {
+    /// Why there is no manager.
+    OpenError {
+        /// `libpashkure.a` is of another version than this crate.
+        Version = 34,
+        /// The number of transactions is not within 1 to 65,536.
+        Transactions = 35,
+        /// The number of names is not within 1 to 65,536.
+        Names = 36,
+        /// The number of bytes is not within 1 to 1,024.
+        NameBytes = 37,
+        /// There is not enough memory.
+        Memory = 39,
+    }
+}

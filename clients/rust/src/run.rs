@@ -1,0 +1,58 @@
+//! Work that is done again after a deadlock.
+use crate::values::random;
+use crate::{LockError, Locks, Transaction};
+use std::thread;
+use std::time::Duration;
+
+/// The bound of the first pause, in microseconds.
+const FIRST: u64 = 32;
+
+/// How often the bound of the pauses doubles.
+const DOUBLES: u32 = 10;
+
+impl Locks {
+    /// Begins a transaction, lends it to the work, commits it, and returns what the work returned.
+    ///
+    /// If the transaction is told `Deadlock`, it is rolled back, whatever the work made of that error; after a pause all is done again in a new
+    /// transaction, in all at most `attempts` times, and at least once. The length of a pause is random, below 32 microseconds at first, and
+    /// below twice the bound each next time, up to 33 milliseconds. If the work fails otherwise, the transaction is rolled back. The locks do
+    /// not know what the work wrote: it undoes that before it returns an error, or locks all names before it writes.
+    ///
+    /// ```
+    /// # use pashkure::{Config, LockError, Locks};
+    /// # let locks = Locks::open(&Config::new(16, 100))?;
+    /// let sum = locks.run(100, |transaction| {
+    ///     transaction.lock(b"accounts/1")?;
+    ///     transaction.lock(b"accounts/2")?;
+    ///     Ok::<_, LockError>(1000 + 1000)
+    /// })?;
+    /// # assert_eq!(sum, 2000);
+    /// # Ok::<_, Box<dyn std::error::Error>>(())
+    /// ```
+    ///
+    /// # Errors
+    /// Those of [`Locks::begin`] and [`Transaction::commit`], and those of the work: after the last attempt also its error after `Deadlock`.
+    pub fn run<T, E, F>(&self, attempts: u32, mut work: F) -> Result<T, E>
+    where
+        E: From<LockError>,
+        F: FnMut(&mut Transaction<&Locks>) -> Result<T, E>,
+    {
+        for attempt in 1.. {
+            let mut transaction = self.begin()?;
+            let result = work(&mut transaction);
+            if !transaction.is_victim() || attempt >= attempts {
+                let value = result?;
+                transaction.commit()?;
+                return Ok(value);
+            }
+            drop(transaction);
+            thread::sleep(pause(attempt));
+        }
+        unreachable!("the loop ends by its last attempt")
+    }
+}
+
+/// The pause after this attempt, counted from 1.
+fn pause(attempt: u32) -> Duration {
+    Duration::from_micros(random() % (FIRST << (attempt - 1).min(DOUBLES)))
+}

@@ -1,0 +1,164 @@
+//! What calls are given, and what they answer.
+use crate::sys;
+use std::collections::hash_map::RandomState;
+use std::fmt;
+use std::hash::{BuildHasher, Hasher};
+
+/// A number by chance, which nobody outside of the program knows.
+pub(crate) fn random() -> u64 {
+    RandomState::new().build_hasher().finish()
+}
+
+/// The numbers with which a manager is opened. It takes at most `(name_bytes + 71) * names + 102 * transactions + 1,200` bytes, and
+/// [`Locks`](crate::Locks) some 80 bytes more a transaction.
+#[derive(Clone, Debug)]
+pub struct Config {
+    pub(crate) transactions: u32,
+    pub(crate) names: u32,
+    pub(crate) name_bytes: u32,
+    seed: u64,
+}
+
+impl Config {
+    /// How many transactions can be live at a time, and how many names can be owned at a time: each 1 to 65,536. A name has up to 64 bytes,
+    /// and the seed is drawn by chance.
+    pub fn new(transactions: u32, names: u32) -> Config {
+        Config { transactions, names, name_bytes: 64, seed: random() }
+    }
+
+    /// Sets how many bytes a name may have: 1 to 1,024.
+    pub fn name_bytes(self, name_bytes: u32) -> Config {
+        Config { name_bytes, ..self }
+    }
+
+    /// Sets the seed of the hash of names. Whoever knows it can choose names that share a hash, and make calls slow.
+    pub fn seed(self, seed: u64) -> Config {
+        Config { seed, ..self }
+    }
+
+    pub(crate) fn plain(&self) -> sys::Config {
+        let Config { transactions, names, name_bytes, seed } = *self;
+        sys::Config { header: sys::VERSION, transactions, names, name_bytes, seed, reserved: 0 }
+    }
+}
+
+/// The key of a transaction. Of one manager no two transactions ever have the same key, so a key that is out of date does no harm: calls refuse
+/// it. It is shown as `0.1`.
+#[derive(Clone, Copy, Debug, Default, PartialEq, Eq, PartialOrd, Ord, Hash)]
+#[repr(C)]
+pub struct Key {
+    /// Below the number of transactions of [`Config::new`]. No two live transactions share it, so it is an index for what you keep of each.
+    pub slot: u32,
+    /// Tells the transactions of one slot apart.
+    pub generation: u32,
+}
+
+impl fmt::Display for Key {
+    fn fmt(&self, to: &mut fmt::Formatter<'_>) -> fmt::Result {
+        write!(to, "{}.{}", self.slot, self.generation)
+    }
+}
+
+/// Since when a transaction owns a name that it has asked for. To roll back to a savepoint, unlock each name that was `New` since.
+#[derive(Clone, Copy, Debug, PartialEq, Eq)]
+pub enum Owned {
+    /// It owns the name from now on.
+    New,
+    /// It owned the name before. One unlock gives it back.
+    Before,
+}
+
+impl Owned {
+    /// What this result means, if it is that of a name that is owned.
+    pub(crate) fn of(result: u32) -> Option<Owned> {
+        match result {
+            sys::OK => Some(Owned::New),
+            sys::HELD => Some(Owned::Before),
+            _ => None,
+        }
+    }
+}
+
+/// The answer to a request of a [`LockManager`](crate::LockManager).
+#[must_use = "a transaction that waits or is to be aborted does not own the name"]
+#[derive(Clone, Copy, Debug, PartialEq, Eq)]
+pub enum Lock {
+    /// The transaction owns the name.
+    Owned(Owned),
+    /// It waits, and is never a victim later. Some call's [`Woken`](crate::Woken) will name it.
+    Waits,
+    /// Its request closed a cycle of waits. It keeps what it owns: undo its work, and abort it.
+    Deadlock,
+}
+
+/// One whose wait has ended.
+#[derive(Clone, Copy, Debug, PartialEq, Eq)]
+pub struct Wake {
+    /// Whose wait.
+    pub key: Key,
+    /// The number of the name that it owns now; `None` if its abort came due, and it has ended.
+    pub number: Option<u32>,
+}
+
+/// What a live transaction does.
+#[derive(Clone, Copy, Debug, PartialEq, Eq)]
+pub enum Status {
+    /// It may make requests.
+    Active,
+    /// It waits.
+    Waiting {
+        /// The number of the name for which it waits.
+        number: u32,
+        /// Who owns that name.
+        holder: Key,
+        /// Whether it ends when its wait does, since it was aborted.
+        aborting: bool,
+    },
+    /// It was told of a deadlock, and is to be aborted.
+    Deadlock {
+        /// The number of the name that it asked for.
+        number: u32,
+        /// Who owns that name.
+        holder: Key,
+    },
+}
+
+/// A live transaction, as a [`View`](crate::View) sees it.
+#[derive(Clone, Copy, Debug, PartialEq, Eq)]
+pub struct Seen {
+    /// Its key.
+    pub key: Key,
+    /// What it does.
+    pub status: Status,
+}
+
+/// A wait of a deadlock.
+#[derive(Clone, Debug, PartialEq, Eq)]
+pub struct Wait {
+    /// Who waits.
+    pub key: Key,
+    /// The name for which it waits.
+    pub name: Vec<u8>,
+    /// Who owns that name.
+    pub holder: Key,
+}
+
+/// What was counted since the opening. Live now are `begun - committed - aborted` transactions.
+#[derive(Clone, Copy, Debug, Default, PartialEq, Eq)]
+#[non_exhaustive]
+pub struct Totals {
+    /// Transactions that began.
+    pub begun: u64,
+    /// Transactions that were committed.
+    pub committed: u64,
+    /// Transactions that were aborted.
+    pub aborted: u64,
+    /// Requests that closed a cycle of waits.
+    pub deadlocks: u64,
+    /// Requests that had to wait.
+    pub waits: u64,
+    /// Waits that were taken back.
+    pub withdrawn: u64,
+    /// Events, which `LabelsFull` and `CountsFull` limit.
+    pub events: u64,
+}

@@ -1,0 +1,97 @@
+//! One moment of a manager.
+use crate::{sys, Config, Key, Seen, Status, Totals, Wait};
+use std::os::raw::c_void;
+
+/// One moment of a manager, to read: of [`Locks::view`](crate::Locks::view) or [`LockManager::view`](crate::LockManager::view). It is neither
+/// `Send` nor `Sync`.
+#[derive(Debug)]
+pub struct View<'l> {
+    core: *const sys::Manager,
+    config: &'l Config,
+}
+
+impl<'l> View<'l> {
+    /// The manager is open, and nothing changes it while the view is there.
+    pub(crate) fn new(core: *const sys::Manager, config: &'l Config) -> View<'l> {
+        View { core, config }
+    }
+
+    /// Each live transaction, by its slot.
+    pub fn transactions(&self) -> impl Iterator<Item = Seen> + '_ {
+        (0..self.config.transactions).filter_map(move |slot| self.seen(slot))
+    }
+
+    /// Each name that is owned, by its number, with its owner.
+    pub fn locks(&self) -> impl Iterator<Item = (Vec<u8>, Key)> + '_ {
+        (0..self.config.names).filter_map(move |number| self.owned(number))
+    }
+
+    /// What the transaction does; `None` if it has ended.
+    pub fn status(&self, key: Key) -> Option<Status> {
+        self.seen(key.slot).filter(|seen| seen.key == key).map(|seen| seen.status)
+    }
+
+    /// Who owns the name; `None` if nobody does.
+    pub fn owner(&self, name: &[u8]) -> Option<Key> {
+        let mut owner = Key::default();
+        // SAFETY: as `new` says. So in the functions below.
+        let result = unsafe { sys::pashkure_owner(self.core, name.as_ptr().cast(), name.len(), &mut owner) };
+        (result == sys::OK).then_some(owner)
+    }
+
+    /// The name of this number; `None` if no name that is owned has it. A name keeps its number while it is owned.
+    pub fn name(&self, number: u32) -> Option<Vec<u8>> {
+        self.owned(number).map(|(name, _)| name)
+    }
+
+    /// Who waits for whom in the deadlock of this transaction: first itself, then each time the holder, until the holder is the transaction
+    /// again. Empty if it was not told of a deadlock, or has ended.
+    pub fn cycle(&self, key: Key) -> Vec<Wait> {
+        let mut waits = Vec::new();
+        let mut at = key;
+        if !matches!(self.status(key), Some(Status::Deadlock { .. })) {
+            return waits;
+        }
+        while let Some(Status::Waiting { number, holder, .. } | Status::Deadlock { number, holder }) = self.status(at) {
+            waits.push(Wait { key: at, name: self.name(number).unwrap_or_default(), holder });
+            at = holder;
+            if at == key {
+                break;
+            }
+        }
+        waits
+    }
+
+    /// What was counted.
+    pub fn totals(&self) -> Totals {
+        let mut counts = sys::Counts::default();
+        unsafe { sys::pashkure_totals(self.core, &mut counts) };
+        let sys::Counts { begun, committed, aborted, deadlocks, waits, withdrawn, events, .. } = counts;
+        Totals { begun, committed, aborted, deadlocks, waits, withdrawn, events }
+    }
+
+    /// Who is in the slot, and what it does.
+    fn seen(&self, slot: u32) -> Option<Seen> {
+        let mut seen = sys::Seen::default();
+        let result = unsafe { sys::pashkure_look(self.core, slot, &mut seen) };
+        let sys::Seen { key, holder, number, is_aborting } = seen;
+        let status = match result {
+            sys::OK => Status::Active,
+            sys::WAITS => Status::Waiting { number, holder, aborting: is_aborting != 0 },
+            sys::DEADLOCK => Status::Deadlock { number, holder },
+            _ => return None,
+        };
+        Some(Seen { key, status })
+    }
+
+    /// The name of this number, and its owner.
+    fn owned(&self, number: u32) -> Option<(Vec<u8>, Key)> {
+        let mut name = vec![0_u8; self.config.name_bytes as usize];
+        let (mut length, mut owner) = (0, Key::default());
+        let bytes = name.as_mut_ptr().cast::<c_void>();
+        // SAFETY: as above, and `name` has room for the longest name.
+        let result = unsafe { sys::pashkure_name(self.core, number, bytes, name.len(), &mut length, &mut owner) };
+        name.truncate(length);
+        (result == sys::OK).then_some((name, owner))
+    }
+}

@@ -1,0 +1,233 @@
+//! Threads that sleep. Each test waits for a state, never for a time.
+use pashkure::{Config, Key, LockError, Locks, OpenError, Owned, Seen, Status, Transaction, View, Wait};
+use std::sync::Arc;
+use std::thread;
+use std::time::Duration;
+
+const LONG: Duration = Duration::MAX;
+const SHORT: Duration = Duration::from_millis(1);
+
+/// Locks for eight transactions and 32 names of up to eight bytes.
+fn opened() -> Locks {
+    Locks::open(&Config::new(8, 32).name_bytes(8)).unwrap()
+}
+
+/// A transaction that owns this name.
+fn owner<'l>(locks: &'l Locks, name: &str) -> Transaction<&'l Locks> {
+    let mut transaction = locks.begin().unwrap();
+    assert_eq!(transaction.lock(name.as_bytes()), Ok(Owned::New));
+    transaction
+}
+
+fn live(view: &View<'_>) -> usize {
+    view.transactions().count()
+}
+
+/// Returns once the transaction waits.
+fn until_waits(locks: &Locks, key: Key) {
+    while !matches!(locks.view(|view| view.status(key)), Some(Status::Waiting { .. })) {
+        thread::yield_now();
+    }
+}
+
+#[test]
+fn a_drop_rolls_back() {
+    let locks = opened();
+    let (first, mut second) = (owner(&locks, "x"), locks.begin().unwrap());
+    let key = second.key();
+    thread::scope(|scope| {
+        scope.spawn(move || {
+            assert_eq!(second.lock(b"x"), Ok(Owned::New));
+            second.commit().unwrap();
+        });
+        until_waits(&locks, key);
+        drop(first);
+    });
+    assert_eq!(locks.view(|view| view.owner(b"x")), None);
+    assert_eq!(locks.view(live), 0);
+}
+
+#[test]
+fn a_deadlock_is_told_with_its_cycle() {
+    let locks = opened();
+    let (mut first, mut second) = (owner(&locks, "x"), owner(&locks, "y"));
+    let (one, two) = (first.key(), second.key());
+    assert_eq!(first.cycle(), []);
+    thread::scope(|scope| {
+        scope.spawn(move || assert_eq!(second.lock(b"x"), Ok(Owned::New)));
+        until_waits(&locks, two);
+        assert_eq!(first.lock(b"y"), Err(LockError::Deadlock));
+        let wait = |key, name: &str, holder| Wait { key, name: name.into(), holder };
+        assert_eq!(first.cycle(), [wait(one, "y", two), wait(two, "x", one)]);
+        assert_eq!(first.lock(b"z"), Err(LockError::MustAbort));
+        assert_eq!(first.commit(), Err(LockError::MustAbort)); // and it is rolled back
+    });
+    let totals = locks.view(|view| view.totals());
+    assert_eq!((totals.deadlocks, totals.aborted), (1, 2));
+}
+
+#[test]
+fn a_time_out_takes_nothing_away() {
+    let locks = opened();
+    let (first, mut second) = (owner(&locks, "x"), owner(&locks, "y"));
+    assert_eq!(second.lock_for(b"x", SHORT), Err(LockError::TimedOut));
+    assert_eq!(second.lock_for(b"x", Duration::ZERO), Err(LockError::TimedOut));
+    assert_eq!(second.lock_for(b"y", SHORT), Ok(Owned::Before));
+    drop(first);
+    assert_eq!(second.lock_for(b"x", LONG), Ok(Owned::New));
+    second.commit().unwrap();
+}
+
+#[test]
+fn an_interrupt_ends_a_wait_or_the_next_request() {
+    let locks = opened();
+    let (_first, mut second) = (owner(&locks, "x"), owner(&locks, "y"));
+    let key = second.key();
+    thread::scope(|scope| {
+        scope.spawn(move || {
+            assert_eq!(second.lock(b"x"), Err(LockError::Interrupted));
+            assert_eq!(second.lock(b"y"), Ok(Owned::Before)); // once, and it goes on
+            second.commit().unwrap();
+        });
+        until_waits(&locks, key);
+        assert!(locks.interrupt(key));
+    });
+    assert!(!locks.interrupt(key)); // it has ended
+    let mut third = locks.begin().unwrap();
+    assert!(locks.interrupt(third.key()));
+    assert_eq!(third.lock_all(&["z"]), Err(LockError::Interrupted));
+    assert_eq!(third.lock_all(&["z"]), Ok(()));
+}
+
+#[test]
+fn try_lock_never_waits() {
+    let locks = opened();
+    let (first, mut second) = (owner(&locks, "x"), locks.begin().unwrap());
+    assert_eq!(second.try_lock(b"x"), Ok(None));
+    drop(first);
+    assert_eq!(second.try_lock(b"x"), Ok(Some(Owned::New)));
+    assert_eq!(second.try_lock(b"x"), Ok(Some(Owned::Before)));
+    assert_eq!(second.unlock(b"x"), Ok(()));
+    assert_eq!(locks.view(|view| view.owner(b"x")), None);
+}
+
+#[test]
+fn several_names_are_locked_in_their_order() {
+    let locks = opened();
+    let mut transaction = locks.begin().unwrap();
+    let names: Vec<String> = (0..20).map(|number| format!("n{number}")).collect();
+    transaction.lock_all(&names).unwrap();
+    assert!(names.iter().all(|name| locks.view(|view| view.owner(name.as_bytes())) == Some(transaction.key())));
+    assert_eq!(transaction.lock_all(&["a", "", "b"]), Err(LockError::NameEmpty));
+    assert_eq!(locks.view(|view| view.owner(b"a")), Some(transaction.key()));
+    assert_eq!(locks.view(|view| view.owner(b"b")), None);
+    let many: Vec<&[u8]> = (0..18).map(|number| if number == 17 { &b"too long for it"[..] } else { b"a" }).collect();
+    assert_eq!(transaction.lock_all(&many), Err(LockError::NameTooLong));
+}
+
+#[test]
+fn wrong_use_is_an_error() {
+    let locks = Locks::open(&Config::new(1, 1).name_bytes(8)).unwrap();
+    let mut transaction = owner(&locks, "x");
+    assert_eq!(locks.begin().unwrap_err(), LockError::TransactionsFull);
+    assert_eq!(transaction.lock(b""), Err(LockError::NameEmpty));
+    assert_eq!(transaction.lock(b"123456789"), Err(LockError::NameTooLong));
+    assert_eq!(transaction.lock(b"y"), Err(LockError::NamesFull));
+    assert_eq!(transaction.unlock(b"y"), Err(LockError::NotOwner));
+    assert_eq!(transaction.lock(b"x"), Ok(Owned::Before)); // and none of these has changed anything
+    assert_eq!(LockError::NotOwner.to_string(), "the transaction does not own the name");
+    let refused = |config| Locks::open(&config).unwrap_err();
+    assert_eq!(refused(Config::new(0, 1)), OpenError::Transactions);
+    assert_eq!(refused(Config::new(1, 65_537)), OpenError::Names);
+    assert_eq!(refused(Config::new(1, 1).name_bytes(0)), OpenError::NameBytes);
+}
+
+#[test]
+fn a_view_is_one_moment() {
+    let locks = opened();
+    let (first, mut second) = (owner(&locks, "x"), owner(&locks, "y"));
+    let (one, two) = (first.key(), second.key());
+    thread::scope(|scope| {
+        scope.spawn(move || second.lock(b"x").unwrap());
+        until_waits(&locks, two);
+        locks.view(|view| {
+            let seen: Vec<Seen> = view.transactions().collect();
+            assert_eq!(seen[0], Seen { key: one, status: Status::Active });
+            assert_eq!((seen.len(), seen[1].key), (2, two));
+            assert!(matches!(seen[1].status, Status::Waiting { number, holder, aborting: false }
+                if holder == one && view.name(number) == Some(b"x".to_vec())));
+            let mut owned: Vec<_> = view.locks().collect();
+            owned.sort();
+            assert_eq!(owned, [(b"x".to_vec(), one), (b"y".to_vec(), two)]);
+            assert_eq!((view.totals().begun, view.totals().waits), (2, 1));
+        });
+        first.roll_back();
+    });
+    assert_eq!(locks.view(|view| view.status(one)), None);
+}
+
+#[test]
+fn a_session_takes_its_transaction_along() {
+    let locks = Arc::new(opened());
+    let mut transaction = locks.begin_owned().unwrap();
+    transaction.lock(b"x").unwrap();
+    let key = transaction.key();
+    drop(locks);
+    thread::spawn(move || {
+        assert_eq!(transaction.key(), key);
+        transaction.commit().unwrap(); // and the memory is given back
+    })
+    .join()
+    .unwrap();
+}
+
+#[derive(Debug, PartialEq)]
+enum Failed {
+    Lock(LockError),
+    Otherwise,
+}
+
+impl From<LockError> for Failed {
+    fn from(error: LockError) -> Failed {
+        Failed::Lock(error)
+    }
+}
+
+/// Runs work that comes to be in a deadlock at its first attempt. Returns what that gives, how many attempts there were, and how many commits.
+fn run_with_a_deadlock(attempts: u32) -> (Result<u32, Failed>, u32, u64) {
+    let locks = opened();
+    let mut other = Some(owner(&locks, "y"));
+    let mut count = 0;
+    let result = thread::scope(|scope| {
+        locks.run(attempts, |transaction| {
+            count += 1;
+            transaction.lock(b"x")?;
+            if let Some(mut other) = other.take() {
+                let key = other.key();
+                scope.spawn(move || other.lock(b"x").unwrap());
+                until_waits(&locks, key);
+            }
+            transaction.lock(b"y")?;
+            Ok(7)
+        })
+    });
+    assert_eq!(locks.view(live), 0);
+    (result, count, locks.view(|view| view.totals().committed))
+}
+
+#[test]
+fn run_tries_again_after_a_deadlock() {
+    assert_eq!(run_with_a_deadlock(2), (Ok(7), 2, 1));
+    assert_eq!(run_with_a_deadlock(1), (Err(Failed::Lock(LockError::Deadlock)), 1, 0));
+}
+
+#[test]
+fn run_rolls_back_after_an_error() {
+    let locks = opened();
+    let result = locks.run(9, |transaction| {
+        transaction.lock(b"x")?;
+        Err::<(), _>(Failed::Otherwise)
+    });
+    assert_eq!(result, Err(Failed::Otherwise));
+    assert_eq!(locks.view(|view| (view.owner(b"x"), view.totals().begun)), (None, 1));
+}

@@ -1,0 +1,87 @@
+//! A manager that answers at once.
+use pashkure::{Config, Key, Lock, LockManager, OpenError, Owned, Refusal, Status, Wake};
+
+fn opened() -> LockManager {
+    LockManager::open(&Config::new(3, 3).name_bytes(8).seed(1)).unwrap()
+}
+
+/// A transaction that owns this name.
+fn owner(manager: &mut LockManager, name: &str) -> Key {
+    let key = manager.begin().unwrap();
+    assert_eq!(manager.lock(key, name.as_bytes()), Ok(Lock::Owned(Owned::New)));
+    key
+}
+
+fn number_of(manager: &LockManager, name: &[u8]) -> Option<u32> {
+    (0..3).find(|&number| manager.view().name(number).as_deref() == Some(name))
+}
+
+#[test]
+fn an_end_names_those_that_it_wakes() {
+    let mut manager = opened();
+    let (one, two) = (owner(&mut manager, "x"), manager.begin().unwrap());
+    assert_eq!(manager.lock(two, b"x"), Ok(Lock::Waits));
+    let number = number_of(&manager, b"x");
+    assert!(number.is_some());
+    assert_eq!(manager.unlock(one, b"x").unwrap().collect::<Vec<_>>(), [Wake { key: two, number }]);
+    assert_eq!(manager.view().owner(b"x"), Some(two));
+    assert_eq!(manager.commit(one).unwrap().count(), 0);
+    assert_eq!(manager.try_lock(two, b"x"), Ok(Some(Owned::Before)));
+    assert_eq!(manager.lock(two, b"x"), Ok(Lock::Owned(Owned::Before)));
+}
+
+#[test]
+fn a_wait_is_taken_back() {
+    let mut manager = opened();
+    let (_one, two) = (owner(&mut manager, "x"), manager.begin().unwrap());
+    assert_eq!(manager.try_lock(two, b"x"), Ok(None));
+    assert_eq!(manager.lock(two, b"x"), Ok(Lock::Waits));
+    assert_eq!(manager.cancel(two).unwrap().unwrap().count(), 0);
+    assert_eq!(manager.view().status(two), Some(Status::Active));
+    assert_eq!(manager.cancel(two).unwrap_err(), Refusal::NotWaiting);
+}
+
+/// `three` waits for `one`, which waits for `two`, which was told of a deadlock.
+#[test]
+fn who_waits_behind_a_victim_ends_later() {
+    let mut manager = opened();
+    let (one, two, three) = (owner(&mut manager, "x"), owner(&mut manager, "y"), manager.begin().unwrap());
+    assert_eq!(manager.lock(one, b"y"), Ok(Lock::Waits));
+    assert_eq!(manager.lock(two, b"x"), Ok(Lock::Deadlock));
+    assert_eq!(manager.view().cycle(two).iter().map(|wait| wait.key).collect::<Vec<_>>(), [two, one]);
+    assert_eq!(manager.lock(three, b"x"), Ok(Lock::Waits));
+    assert_eq!(manager.view().cycle(three), []); // it is no victim
+    assert!(manager.cancel(three).unwrap().is_none());
+    assert!(manager.abort(three).unwrap().is_none());
+    assert!(matches!(manager.view().status(three), Some(Status::Waiting { aborting: true, .. })));
+    let number = number_of(&manager, b"y");
+    assert_eq!(manager.abort(two).unwrap().unwrap().collect::<Vec<_>>(), [Wake { key: one, number }]);
+    let last = manager.commit(one).unwrap().last(); // it was given x, and ended then
+    assert_eq!(last, Some(Wake { key: three, number: None }));
+    assert_eq!((manager.view().transactions().count(), manager.view().locks().count()), (0, 0));
+    let totals = manager.view().totals();
+    assert_eq!((totals.begun, totals.committed, totals.aborted, totals.deadlocks), (3, 1, 2, 1));
+}
+
+#[test]
+fn wrong_use_is_an_error() {
+    let mut manager = opened();
+    let (one, two) = (owner(&mut manager, "x"), owner(&mut manager, "y"));
+    let three = owner(&mut manager, "z");
+    assert_eq!(manager.begin(), Err(Refusal::TransactionsFull));
+    assert_eq!(manager.lock(one, b""), Err(Refusal::NameEmpty));
+    assert_eq!(manager.lock(one, b"123456789"), Err(Refusal::NameTooLong));
+    assert_eq!(manager.lock(one, b"w"), Err(Refusal::NamesFull));
+    assert_eq!(manager.unlock(one, b"y").unwrap_err(), Refusal::NotOwner);
+    assert_eq!(manager.lock(one, b"y"), Ok(Lock::Waits));
+    assert_eq!(manager.lock(one, b"z"), Err(Refusal::Waiting));
+    assert_eq!(manager.lock(two, b"x"), Ok(Lock::Deadlock));
+    assert_eq!(manager.commit(two).unwrap_err(), Refusal::MustAbort);
+    drop(manager.commit(three).unwrap());
+    assert_eq!(manager.begin().unwrap().slot, three.slot);
+    assert_eq!(manager.view().status(three), None);
+    assert_eq!(manager.abort(three).unwrap_err(), Refusal::NoTransaction);
+    assert_eq!(Refusal::NoTransaction as u32, 16);
+    assert_eq!(LockManager::open(&Config::new(65_537, 1)).unwrap_err(), OpenError::Transactions);
+    assert_eq!(three.to_string(), format!("{}.{}", three.slot, three.generation));
+}
