@@ -6,7 +6,7 @@ use mm_manager::{Key, Lock, LockManager, ManagerConfig};
 use mm_settled::{Config, Locked, SettledTable};
 use std::alloc::Global;
 
-/// A manager of so many names.
+/// A manager of this many names.
 fn open_manager(alloc: Global, names: u32, length: usize) -> Option<LockManager>
     requires { length ≤ 64 }
 {

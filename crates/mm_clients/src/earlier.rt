@@ -18,7 +18,7 @@ impl EarlierEnds {
         aborted: 0,
     };
 
-    /// Counts this end, where another transaction may follow it, and returns whether that is so.
+    /// Counts this end, if another transaction may follow it, and returns whether that is so.
     pub(crate) fn count(&mut self, end: End) -> bool
         requires few { self.old.finished + self.old.aborted < u32.MAX }
         ensures follows { result ≡ ends_well end }

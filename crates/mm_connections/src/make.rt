@@ -24,7 +24,7 @@ use std::io::Write;
 impl ServedManager {
     ghost use Rattle.mm_connections.specs.private.Served.{hub_of};
 
-    /// Makes a request of a connection, and tells those whom it concerns what it caused.
+    /// Makes a request of a connection, and writes what it caused to the connections that it concerns.
     pub(crate) fn make<W: Write>(
         &mut self,
         heard: Heard<'_, ClientRequest>,

@@ -24,7 +24,7 @@ use std::io::Write;
 /// How many names of a transaction are told to others than the operator.
 const MAX_HELD: usize = 1_024;
 
-/// A line of a list has at most so many bytes.
+/// A line of a list has at most this many bytes.
 const MAX_LIVE: usize = MAX_NAMED + 100;
 
 impl ServedManager {

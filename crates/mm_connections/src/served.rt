@@ -18,7 +18,7 @@ use mm_service::Numbers;
 use mm_service::reply::{MAX_NAMED, print_line};
 use std::io::Write;
 
-/// A line to a connection has at most so many bytes, with its newline.
+/// A line to a connection has at most this many bytes, with its newline.
 pub const MAX_ANSWER: usize = MAX_NAMED + 21;
 
 /// A lock manager, with the connections that began its transactions.

@@ -14,7 +14,7 @@ pub record LockState : Type 0 where
   pub table : TableState  -- its resources are the numbers of names
   pub names : NameTable
   pub due : List Bool  -- by process: whether its transaction is aborted as soon as its wait ends
-  pub granted : List Grant  -- whom the last call granted what, in order
+  pub granted : List Grant  -- the grants of the last call, in order
   pub aborted : List Key  -- whose abort came due in the last call, in order
   pub totals : Totals  -- what was counted since the opening
 

@@ -46,7 +46,7 @@ pub fn take_back(table: &mut SettledTable, key: Key) -> Cancel
     }
 }
 
-/// What a cancel answers whose abort had this answer.
+/// Returns what a cancel answers whose abort had this answer.
 fn of_abort(answer: Abort) -> Cancel
     ensures { result ≡ cancel_of answer }
 {

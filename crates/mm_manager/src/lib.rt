@@ -1,4 +1,4 @@
-//! A lock manager: exclusive locks on names, for transactions. A request is answered at once and for good.
+//! A lock manager: exclusive locks on names, for transactions. A request is answered at once and finally.
 //!
 //! - `config`, `refusal`, `reply`: the plain data of calls.
 //! - `permit`: what a call is refused for before the table is asked.

@@ -99,7 +99,7 @@ fn is_granted(table: &mut SettledTable, key: Key, number: u32, is_active: bool) 
     true
 }
 
-/// Whether a transaction may ask for something, and an event may be counted.
+/// Returns whether a transaction may ask for something, and an event may be counted.
 #[inline(always)]
 fn may_ask_now(table: &Table, key: Key, is_active: bool) -> Result<(), Refusal>
     requires { OnTrue is_active (may_ask table.now key ≡ Ok tt) }
@@ -132,7 +132,7 @@ fn request_named(table: &mut SettledTable, key: Key, number: u32) -> Result<Lock
     }
 }
 
-/// Whether the transaction owns a number. Refused where another one does, and there may be no label left for one more wait.
+/// Returns whether the transaction owns a number. Refused if another one does, and there may be no label left for one more wait.
 fn is_held(table: &Table, key: Key, number: u32) -> Result<bool, Refusal>
     ensures held { IfOk result (λ held. (held ≡ true) ↔ (owner_of table.now number ≡ Some key)) }
     ensures label { OnOk result ((h : KeyValue) → owner_of table.now number ≡ Some h → h ≢ key → may_wait table.now ≡ true) }
@@ -144,7 +144,7 @@ fn is_held(table: &Table, key: Key, number: u32) -> Result<bool, Refusal>
     }
 }
 
-/// Whether the owner is the transaction. Refused where it is not, and there may be no label left for one more wait.
+/// Returns whether the owner is the transaction. Refused if it is not, and there may be no label left for one more wait.
 fn is_owner(table: &Table, key: Key, owner: Key) -> Result<bool, Refusal>
     ensures held { IfOk result (λ held. (held ≡ true) ↔ (owner ≡ key)) }
     ensures label { OnOk result (owner ≢ key → may_wait table.now ≡ true) }

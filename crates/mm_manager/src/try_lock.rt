@@ -64,7 +64,7 @@ impl NamedTable {
     }
 }
 
-/// What a try is told of a name that the holder owns.
+/// Returns what a try is told of a name that the holder owns.
 fn tried(holder: Key, key: Key) -> TryLock
     ensures { result ≡ tried_by holder key }
 {

@@ -9,7 +9,7 @@ use crate::settle::{has_room, settle};
 use crate::{Grant, Key, Locked, Refusal, Table};
 use mm_table::Acquired;
 
-/// Where no count is this or more, many more events can be counted.
+/// If no count is this or more, many more events can be counted.
 const FAR_BELOW_LIMIT: u64 = 1 << 61;
 
 /// Asks for the resource, and settles the table if the transaction waits. A refusal empties the list of grants. An accepted request leaves
@@ -44,7 +44,7 @@ pub fn acquire(
     }
 }
 
-/// Whether somebody owns the resource, and a wait for it and the settle after it can no longer be counted. Far below the limit of the
+/// Returns whether somebody owns the resource, and a wait for it and the settle after it can no longer be counted. Far below the limit of the
 /// counts one test says that they can.
 #[inline]
 fn lacks_room(table: &Table, resource: u32) -> bool
@@ -65,7 +65,7 @@ fn lacks_room_near_limit(table: &Table, resource: u32) -> bool
     !has_room(table) && is_owned(table, resource)
 }
 
-/// Whether the resource has an owner.
+/// Returns whether the resource has an owner.
 fn is_owned(table: &Table, resource: u32) -> bool
     ensures { result ≡ is_owned table.now resource }
 {

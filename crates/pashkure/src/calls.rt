@@ -14,7 +14,7 @@ use crate::opening::{VERSION, fault};
 use crate::plain::{PlainConfig, PlainKey};
 use std::alloc::Global;
 
-/// The version of the library: 1,000,000 times the major number, and 1,000 times the minor one, and the patch.
+/// Returns the version of the library: 1,000,000 times the major number, and 1,000 times the minor one, and the patch.
 #[unsafe(no_mangle)]
 pub extern "C" fn pashkure_version() -> u32
     ensures { result ≡ 1000 }

@@ -69,7 +69,7 @@ impl Handle {
         self.state
     }
 
-    /// Whether there is a manager.
+    /// Returns whether there is a manager.
     pub fn is_open(&mut self) -> bool
         ensures open { (result ≡ true) ↔ (self.old.state ≡ open_word) }
         ensures same { self.new ≡ self.old }
@@ -77,7 +77,7 @@ impl Handle {
         self.word() == OPEN
     }
 
-    /// The manager.
+    /// Returns the manager.
     pub fn manager(&mut self) -> &mut LockManager
         requires { self.old.state ≡ open_word }
         ensures* writes_back { sem 𝓛 (LendsManager self.entry result) }
@@ -89,7 +89,7 @@ impl Handle {
 
 unsafe impl Send for Handle {}
 
-/// A handle of a new manager.
+/// Returns a handle of a new manager.
 pub fn open(alloc: Global, config: ManagerConfig) -> Result<Handle, OpenError>
     ensures open { IfOk result (λ handle. handle.state ≡ open_word) }
     ensures locks { IfOk result (λ handle. handle.locks ≡ opening_state config) }
