@@ -318,8 +318,16 @@ class Operators(StubCase):
             self.assertEqual(self.wire(self.admin_path).all(), FULL)
         os.kill(server.program_pid(), signal.SIGCONT)
         self.assertEqual(others[0].lines(1), [b"heard 63"])
-        self.asks(self.wire(self.admin_path), (b"d", b"heard 64"))
+        self.asks(until(self.admitted, "an operator has a place"), (b"d", b"heard 64"))
         self.asks(wire, (b"e", b"heard 65"))
+
+    def admitted(self) -> Wire | None:
+        """Returns a new operator's connection, if there is a place for it."""
+        other = self.wire(self.admin_path)
+        try:
+            return other if other.ask(b"clients").startswith(b"clients ") else None
+        except OSError:
+            return None
 
     def test_half_an_end(self) -> None:
         self.stubbed()
