@@ -318,16 +318,15 @@ class Operators(StubCase):
             self.assertEqual(self.wire(self.admin_path).all(), FULL)
         os.kill(server.program_pid(), signal.SIGCONT)
         self.assertEqual(others[0].lines(1), [b"heard 63"])
-        self.asks(until(self.admitted, "an operator has a place"), (b"d", b"heard 64"))
+        until(lambda: self.asked_anew(b"d") == b"heard 64", "an operator has a place")
         self.asks(wire, (b"e", b"heard 65"))
 
-    def admitted(self) -> Wire | None:
-        """Returns a new operator's connection, if there is a place for it."""
-        other = self.wire(self.admin_path)
+    def asked_anew(self, request: bytes) -> bytes:
+        """Returns the first line that a new operator's connection gets."""
         try:
-            return other if other.ask(b"clients").startswith(b"clients ") else None
-        except OSError:
-            return None
+            return self.wire(self.admin_path).ask(request)
+        except OSError as error:
+            return str(error).encode()
 
     def test_half_an_end(self) -> None:
         self.stubbed()
