@@ -13,16 +13,16 @@ const BLOCK: usize = 16;
 /// the product by `^`, as wyhash and foldhash do. Whoever chooses names and knows neither the seed nor how long calls take has no way
 /// known to choose names of one hash; that there is none is not proved. Whoever knows the seed can choose them.
 #[derive(Clone, Copy)]
-pub(crate) struct NameHash {
+pub struct NameHash {
     first: u64,
     second: u64,
 }
 
 impl NameHash {
-    ghost use Rattle.mm_names.specs.private.Hash.{hash_by, hash_of, last_step};
+    ghost use Rattle.mm_names.specs.Hash.{hash_by, hash_of, last_step};
 
     /// The hash by the numbers that SipHash-1-3 makes of this seed.
-    pub(crate) fn new(seed: u64) -> NameHash
+    pub fn new(seed: u64) -> NameHash
         ensures { result ≡ hash_by seed }
     {
         let mut hasher = DefaultHasher::new();
@@ -38,7 +38,7 @@ impl NameHash {
     /// The hash of a name, in `O(length)`.
     // In place: most names are short, and cost little more than a call.
     #[inline(always)]
-    pub(crate) fn of(&self, name: &[u8]) -> u64
+    pub fn of(&self, name: &[u8]) -> u64
         ensures { result ≡ hash_of self.now name.now }
     {
         let state = self.first ^ name.len() as u64;
