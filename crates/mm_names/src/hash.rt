@@ -13,16 +13,16 @@ const BLOCK: usize = 16;
 /// the product by `^`, as wyhash and foldhash do. For somebody who knows neither the seed nor how long calls take, no way is
 /// known to choose names of one hash. This is not proved. With the seed names of one hash can be chosen.
 #[derive(Clone, Copy)]
-pub(crate) struct NameHash {
+pub struct NameHash {
     first: u64,
     second: u64,
 }
 
 impl NameHash {
-    ghost use Rattle.mm_names.specs.private.Hash.{hash_by, hash_of, last_step};
+    ghost use Rattle.mm_names.specs.Hash.{hash_by, hash_of, last_step};
 
     /// Returns the hash by the numbers that SipHash-1-3 makes of this seed.
-    pub(crate) fn new(seed: u64) -> NameHash
+    pub fn new(seed: u64) -> NameHash
         ensures { result ≡ hash_by seed }
     {
         let mut hasher = DefaultHasher::new();
@@ -38,7 +38,7 @@ impl NameHash {
     /// Returns the hash of a name, in `O(length)`.
     // In place: most names are short, and cost little more than a call.
     #[inline(always)]
-    pub(crate) fn of(&self, name: &[u8]) -> u64
+    pub fn of(&self, name: &[u8]) -> u64
         ensures { result ≡ hash_of self.now name.now }
     {
         let state = self.first ^ name.len() as u64;

@@ -19,7 +19,7 @@ pub(crate) struct Spots {
 }
 
 impl Spots {
-    ghost use Rattle.mm_names.specs.private.Hash.{hash_by};
+    ghost use Rattle.mm_names.specs.Hash.{hash_by};
     ghost use Rattle.mm_names.specs.private.Spots.{spot_of};
 
     /// Spots for this many names, by the hash of this seed.
