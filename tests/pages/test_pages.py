@@ -13,8 +13,9 @@ import sys
 
 from lib.world import LIMIT, PROGRAM, TOP, Case, each, run
 
-PASTED = ["README.md", "docs/SERVICE.md", "clients/python/README.md", "clients/c/README.md"]
 BLOCK = re.compile(r"^<!-- tested by tests/pages -->\n```sh\n(.*?)^```$.*?^```\n(.*?)^```$", re.M | re.S)
+PASTED = [(f"{page} {number}", *block) for page in ("README.md", "docs/SERVICE.md", "clients/python/README.md", "clients/c/README.md")
+          for number, block in enumerate(BLOCK.findall(pathlib.Path(TOP, page).read_text(encoding="utf-8")), 1)]  # fmt: skip
 COMMANDS = sorted(page for page in ["README.md", *(f"docs/{name}" for name in os.listdir(f"{TOP}/docs") if name.endswith(".md"))]
                   if re.search(r"^```(text|sh)?\n\$ ", pathlib.Path(TOP, page).read_text(encoding="utf-8"), re.M))  # fmt: skip
 NEEDS = {"docs/THREADS.md": "crates/example_bank/out/example_bank"}
@@ -45,21 +46,21 @@ class Pages(Case):
 
 
 class Pasted(Case):
-    """The first commands of the pages about the lock service, which stand below the line '<!-- tested by tests/pages -->', pasted into a shell
-    as a reader would. They print what is in the next block. The program stands for ./mmdetect, and a new folder for /tmp."""
+    """The commands of pages below the line '<!-- tested by tests/pages -->', pasted into a shell as a reader would. They print what is in the
+    next block. The program stands for ./mmdetect, but for the C library, and a new folder for /tmp."""
 
     @each(PASTED)
-    def test_page(self, page: str) -> None:
-        with open(os.path.join(TOP, page), encoding="utf-8") as file:
-            commands, wanted = BLOCK.findall(file.read())[0]
+    def test_page(self, _: str, commands: str, wanted: str) -> None:
         if "venv" in commands and importlib.util.find_spec("ensurepip") is None:
             self.skipTest("this Python has no ensurepip (Debian's package python3-venv)")
         if " cc " in f" {commands}" and run("sh", "-c", "command -v cc").status:
             self.skipTest("no C compiler cc is on the PATH")
         if "pkg-config" in commands and run("sh", "-c", "command -v make && command -v pkg-config").status:
             self.skipTest("make or pkg-config is not on the PATH (Debian's packages make and pkg-config)")
-        commands = commands.replace("/tmp/", f"{self.folder}/").replace("./mmdetect serve", f"{shlex.join(self.needs_server())} --program {PROGRAM}")
-        told = self.pasted(commands.replace("./mmdetect", PROGRAM))
+        commands = commands.replace("/tmp/", f"{self.folder}/")
+        if "./mmdetect serve" in commands:
+            commands = commands.replace("./mmdetect serve", f"{shlex.join(self.needs_server())} --program {PROGRAM}")
+        told = self.pasted(commands if "./mmdetect library" in commands else commands.replace("./mmdetect", PROGRAM))
         self.assertEqual(deadlocks_left_out(told), deadlocks_left_out(wanted))
 
     def pasted(self, commands: str) -> str:
