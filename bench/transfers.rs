@@ -1,5 +1,5 @@
 //! What `crates/bench_locks` does, in plain Rust: a lock table behind a `std::sync::Mutex`, whose waiters park.
-//! `transfers THREADS NAMES MILLISECONDS` makes transactions of four locks each in so many threads. It prints how many nanoseconds that took,
+//! `transfers THREADS NAMES MILLISECONDS` makes transactions of four locks each in this many threads. It prints how many nanoseconds that took,
 //! how many transactions were committed, and how often one was aborted after a deadlock. Names are kept in a `HashMap` while they are locked,
 //! and a wait is refused where a walk from owner to owner comes back to the one that is to wait.
 

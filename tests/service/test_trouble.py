@@ -122,7 +122,7 @@ class Replies(ScriptedCase):
             same((self.asked().count("begin") - begun, len(pauses)), (attempts, attempts - 1))
             asyncio.run(main(attempts))
             same(self.asked().count("begin") - begun, 2 * attempts)
-        # Each is drawn up to a length that doubles, to a tenth of a second at most: so many come to two seconds, and by chance never to a third.
+        # Each is drawn up to a length that doubles, to a tenth of a second at most: this many come to two seconds, and by chance never to a third.
         self.assertTrue(0.7 < sum(pauses) and max(pauses) <= 0.1, pauses)
 
     @each(["graph 3\n* 0.1 a 1.1\n* 0.2 b 1.1\nEND", "graph 3END", "graEND", "END"])
