@@ -13,9 +13,19 @@ import sys
 
 from lib.world import LIMIT, PROGRAM, TOP, Case, each, run
 
+
+def text_of(name: str) -> str:
+    return pathlib.Path(TOP, name).read_text(encoding="utf-8")
+
+
+def anchor(title: str) -> str:
+    """The name of a heading in a link."""
+    return re.sub(r"[^\w -]", "", title.lower()).replace(" ", "-")
+
+
 BLOCK = re.compile(r"^<!-- tested by tests/pages -->\n```sh\n(.*?)^```$.*?^```\n(.*?)^```$", re.M | re.S)
 PASTED = [(f"{page} {number}", *block) for page in ("README.md", "docs/SERVICE.md", "clients/python/README.md", "clients/c/README.md")
-          for number, block in enumerate(BLOCK.findall(pathlib.Path(TOP, page).read_text(encoding="utf-8")), 1)]  # fmt: skip
+          for number, block in enumerate(BLOCK.findall(text_of(page)), 1)]  # fmt: skip
 COMMANDS = sorted(page for page in ["README.md", *(f"docs/{name}" for name in os.listdir(f"{TOP}/docs") if name.endswith(".md"))]
                   if re.search(r"^```(text|sh)?\n\$ ", pathlib.Path(TOP, page).read_text(encoding="utf-8"), re.M))  # fmt: skip
 NEEDS = {"docs/THREADS.md": "crates/example_bank/out/example_bank"}
@@ -39,6 +49,20 @@ class Pages(Case):
         if page in NEEDS and not os.path.exists(os.path.join(TOP, NEEDS[page])):
             self.skipTest(f"no program {NEEDS[page]}")
         self.passes("docs/commands", "--program", PROGRAM, page)
+
+    def test_questions(self) -> None:
+        """Each question of a new reader has a page and a heading that answers it."""
+        lines = [line for line in text_of("tests/pages/questions").splitlines() if line and not line.startswith("#")]
+        self.assertEqual(len(lines), 40)
+        for line in lines:
+            page, _, heading = line.split("\t")[1].partition("#")
+            self.assertIn(heading, [anchor(title) for title in re.findall(r"^#+ (.*)$", text_of(page), re.M)], line)
+
+    def test_old_sentences(self) -> None:
+        """Sentences that readers could not follow are in no page, comment or message any more."""
+        for sentence in text_of("tests/pages/old_sentences.txt").splitlines():
+            told = run("git", "grep", "-lF", "-e", sentence, "--", ":!tests/pages/old_sentences.txt", cwd=TOP)
+            self.assertEqual((told.status, told.out), (1, b""), sentence)
 
     def test_tour(self) -> None:
         """The tour has what the program explains."""

@@ -132,8 +132,8 @@ fn ends_of<S: Divisible + Send + Drop, R: Threads + Wait + Sync, G: Gate + Send 
     checked_ends(workload, ends, earlier)
 }
 
-/// The ends, and these earlier ones, which are none if each client makes one transaction. A proof knows of what a thread returns its type
-/// alone, so it needs this look; it never refuses.
+/// Returns the ends and these earlier ones. Never fails: the value that a thread returns carries only its type, so the proof needs this check
+/// that there are no earlier ends if each client makes one transaction.
 fn checked_ends(
     workload: &Workload,
     ends: Vec<End>,
