@@ -12,6 +12,7 @@ C = ["cc", "-O2", "-Wall"]
 BERKELEY = ["-ldb-5.3", "-lpthread"]
 CXX = ["c++", "-std=c++20", "-O2", "-Wall"]
 ROCKS = ["-lrocksdb", "-lpthread"]
+TOP = os.path.dirname(HERE)
 
 
 def in_out(name):
@@ -47,3 +48,20 @@ def by_others(source):
     if not done:
         print(f"{name} cannot be built, and is passed over: {' '.join(command)}", file=sys.stderr)
     return done
+
+
+def over_library(source, *archives):
+    """Builds a program in C over the C library, or in Rust by the crate of clients/rust. Answers as by_others. The library has to be proved."""
+    name, library, crate = os.path.splitext(source)[0], in_out("library"), in_out("libpashkure.rlib")
+    os.makedirs(OUT, exist_ok=True)
+    commands = [[os.path.join(TOP, "mmdetect"), "library", library]]
+    if source.endswith(".rs"):
+        flags = ["--crate-type", "rlib", "--crate-name", "pashkure", "-L", f"native={library}/lib", "-l", "static=pashkure"]
+        commands.append(["rustc", "--edition", "2021", "-O", *flags, "-o", crate, os.path.join(TOP, "clients", "rust", "src", "lib.rs")])
+        commands.append([*RUSTC, "-o", in_out(name), source, "--extern", f"pashkure={crate}"])
+    else:
+        commands.append([*C, f"-I{library}/include", "-o", in_out(name), source, *archives, f"{library}/lib/libpashkure.a", "-lpthread"])
+    failed = next((command for command in commands if subprocess.run(command, cwd=HERE, stderr=subprocess.DEVNULL, check=False).returncode != 0), None)
+    if failed:
+        print(f"{name} cannot be built, and is passed over: {' '.join(failed)}", file=sys.stderr)
+    return failed is None

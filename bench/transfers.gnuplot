@@ -22,6 +22,7 @@ do for [n = 1:3] {
   plot "transfers.tsv" using "threads":(column("names") == names(n) ? column("with") : NaN) lc rgb "#8e44ad" lw 2 pt 11 ps 0.8 title "begin\\_with", \
     "" using "threads":(column("names") == names(n) ? column("all") : NaN) lc rgb "#1f6fb2" lw 2 pt 9 ps 0.8 title "lock\\_all", \
     "" using "threads":(column("names") == names(n) ? column("one") : NaN) lc rgb "#1f6fb2" dt 2 lw 2 pt 8 ps 0.8 title "lock, one by one", \
+    "" using "threads":(column("names") == names(n) ? column("c") : NaN) lc rgb "#d68910" lw 2 pt 6 ps 0.8 title "from C", \
     "" using "threads":(column("names") == names(n) ? column("plain") : NaN) lc rgb "#c0392b" lw 2 pt 7 ps 0.6 title "plain Rust", \
     "" using "threads":(column("names") == names(n) ? column("berkeley") : NaN) lc rgb "#555555" lw 2 pt 5 ps 0.6 title "Berkeley DB 5.3", \
     "" using "threads":(column("names") == names(n) ? column("rocks") : NaN) lc rgb "#2e8b57" lw 2 pt 13 ps 0.8 title "RocksDB 7.8"

@@ -12,7 +12,7 @@
 #include <time.h>
 
 #define NOBODY UINT32_MAX
-enum { TRIES = 100 };
+enum { FIRST_YIELDS = 2, TURNS = 8 };
 
 /* What is kept of each transaction, by its slot. */
 struct seat {
@@ -35,14 +35,20 @@ struct pashkure_locks {
     struct seat seats[];
 };
 
-/* Takes the mutex. It is held for less than a microsecond mostly, so a thread yields its processor some times before it sleeps for it. */
-static void enter(pashkure_locks *locks)
+/* Waits for the mutex, and takes it. To ask for it again at once would slow down the thread that has it, and that is done in a microsecond mostly.
+ * So this thread yields its processor twice as often before each further try, while that one makes several calls in a row; then it sleeps. */
+static void contend(pashkure_locks *locks)
 {
-    for (int tries = 0; tries < TRIES; tries++) {
+    for (int turn = 0; turn < TURNS; turn++) {
+        for (int yields = FIRST_YIELDS << turn; yields > 0; yields--) sched_yield();
         if (pthread_mutex_trylock(&locks->mutex) == 0) return;
-        sched_yield();
     }
     pthread_mutex_lock(&locks->mutex);
+}
+
+static void enter(pashkure_locks *locks)
+{
+    if (pthread_mutex_trylock(&locks->mutex) != 0) contend(locks);
 }
 
 /* Gives the mutex back, and makes the wake calls that are due. Nobody else writes what is read of such a seat: its transaction is still asking. */

@@ -2,12 +2,16 @@
 from __future__ import annotations
 
 import asyncio
+import logging
 import threading
 from typing import Any, Awaitable, Callable
 
 from lib.world import LIMIT, until
 
 from pashkure import aio
+
+
+logging.getLogger("pashkure").addHandler(logging.NullHandler())  # so that a warning is no line on standard error
 
 
 def same(told: Any, wanted: Any, what: str = "") -> None:
@@ -53,15 +57,11 @@ class Apart(threading.Thread):
 class Asyncio:
     """The asyncio client, called as the one for threads: its coroutines run in a loop of their own."""
 
-    def __init__(self, *words: Any, **options: Any) -> None:
+    def __init__(self, *paths: Any, **options: Any) -> None:
         self._loop = asyncio.new_event_loop()
         self._thread = threading.Thread(target=self._loop.run_forever, daemon=True)
         self._thread.start()
-
-        async def opened() -> aio.Locks:
-            return await aio.Locks(*words, **options).__aenter__()
-
-        self._locks = self.result(opened())
+        self._locks = aio.Locks.connect(*paths, **options)
 
     def result(self, call: Awaitable[Any]) -> Any:
         """What comes of a call, once it has an end."""
@@ -71,14 +71,18 @@ class Asyncio:
 
         return asyncio.run_coroutine_threadsafe(waits(), self._loop).result(LIMIT)
 
-    def transaction(self) -> "AsyncioTransaction":
-        return AsyncioTransaction(self, self.result(self._locks.transaction()))
+    def transaction(self, *names: Any, **options: Any) -> "AsyncioTransaction":
+        return AsyncioTransaction(self, self.result(self._locks.transaction(*names, **options)))
 
-    def run(self, work: Callable[..., Any], *args: Any, **options: Any) -> Any:
+    def run(self, work: Callable[..., Any], *args: Any) -> Any:
         async def works(tx: aio.Transaction, *args: Any) -> Any:
             return await self._loop.run_in_executor(None, lambda: work(AsyncioTransaction(self, tx), *args))
 
-        return self.result(self._locks.run(works, *args, **options))
+        return self.result(self._locks.run(works, *args))
+
+    def retrying(self, retry: Any) -> "Asyncio":
+        self._locks = self._locks.retrying(retry)
+        return self
 
     def __getattr__(self, name: str) -> Callable[..., Any]:
         return lambda *args, **options: self.result(getattr(self._locks, name)(*args, **options))
@@ -96,6 +100,9 @@ class AsyncioTransaction:
     def __init__(self, locks: Asyncio, tx: aio.Transaction) -> None:
         self._locks, self._tx, self.key = locks, tx, tx.key
 
+    def interrupt(self) -> None:
+        self._locks._loop.call_soon_threadsafe(self._tx.interrupt)
+
     def __getattr__(self, name: str) -> Callable[..., Any]:
         return lambda *args, **options: self._locks.result(getattr(self._tx, name)(*args, **options))
 
@@ -106,9 +113,9 @@ class AsyncioTransaction:
         self._locks.result(self._tx.__aexit__(*error))
 
 
-def waits(locks: Any, tx: Any) -> None:
+def waits(tx: Any) -> None:
     """Returns when the transaction waits."""
-    until(lambda: locks.status(tx.key).state == "waiting", "the transaction waits")
+    until(lambda: tx._tx._state.waits if isinstance(tx, AsyncioTransaction) else tx._state.waits, "the transaction waits")
 
 
 NO_BYTES = [*range(0x21), 0x7F]
@@ -117,5 +124,3 @@ NO_NAMES = ["", b"", "a b", "\ud800", *(f"a{chr(byte)}b" for byte in NO_BYTES), 
 NO_TEXTS = [None, 3, 10**20, True, 1.5, [97, 98], (97,), object(), threading.Thread]
 NO_KEYS = ["", "0", "0.", ".1", "0.1.1", "-0.1", "+0.1", "0.1 ", " 0.1", "0.1\n", "0.1\ntry 0.1 x", "0.1\r", "0,1", "ü", "0.1ü", "a.b", "٠.١",
            "².1", "4294967296.1", "0.4294967296", "1" * 21 + ".1", "0." + "0" * 21, "1_0.1", "\ud800"]  # fmt: skip
-BAD_GRAPHS = ["graph x", "graph -1", "graph ", "graph 1 2", "graph 1_0", "graph 01", "graph 1\\n* 0.1 a", "graph 1\\n* 0.1 a b c",
-              "graph 2\\n* 0.1 a 1.1\\ngranted"]  # fmt: skip

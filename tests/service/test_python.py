@@ -1,60 +1,36 @@
-"""The Python client: each call and each exception, over pipes and over a socket, with threads and with asyncio; signals and forks; and services that
-are none."""
+"""The Python client over a socket: each call and each exception, with threads and with asyncio; what the operator sees; events and the log; and a
+service for tests."""
 from __future__ import annotations
 
+import logging
 import os
-import signal
-import subprocess
-import sys
+import shlex
 import threading
 import time
 from typing import Any, List
 
-from lib.clients import BAD_GRAPHS, Apart, Asyncio, raises, same, waits
-from lib.world import PROGRAM, Case, each, environment, until
+from lib.clients import Apart, Asyncio, raises, same, waits
+from lib.world import PROGRAM, Case, until
 
-from pashkure import (
-    Aborted,
-    Closed,
-    Deadlock,
-    Full,
-    LockError,
-    Locks,
-    Malformed,
-    MustAbort,
-    NameTooLong,
-    NotOwner,
-    NoTransaction,
-    Status,
-    Timeout,
-    Totals,
-    Wait,
-    Waiting,
-)
+from pashkure import (Aborted, Closed, Counts, Deadlock, Event, Full, Interrupted, LockError, Locks, MustAbort, NameTooLong, NotOwner, NoTransaction,
+                      Operator, Retry, Status, Timeout, Totals, Wait, Waiting, testing)  # fmt: skip
 
 OPTIONS = {"test_names": {"name_bytes": 20}, "test_full": {"transactions": 4, "names": 4}}
 
 
 class Calls:
-    """The cases that pipes and a socket, threads and asyncio have in common."""
+    """The cases that threads and asyncio have in common."""
 
     locks: Any
-    is_socket = False
 
     def setUp(self) -> None:
         super().setUp()  # type: ignore[misc]
-        self.locks = self.opened(**OPTIONS.get(self._testMethodName, {}))  # type: ignore[attr-defined]
-
-    def socket(self, options: dict[str, int]) -> str:
-        """The socket of a server with these limits."""
-        return self.server(*(word for name, value in options.items() for word in ("--" + name.replace("_", "-"), str(value)))).path  # type: ignore[attr-defined]
-
-    def same_graph(self, *wanted: Wait) -> None:
-        """Over a socket only the operator may ask for it."""
-        if self.is_socket:
-            raises(Malformed, self.locks.graph)
-        else:
-            same(self.locks.graph(), list(wanted))
+        words = [word for name, value in OPTIONS.get(self._testMethodName, {}).items() for word in ("--" + name.replace("_", "-"), str(value))]  # type: ignore[attr-defined]
+        self.admin = self.path("admin")  # type: ignore[attr-defined]
+        self.socket = self.server("--admin", self.admin, *words).path  # type: ignore[attr-defined]
+        self.operator = Operator(self.admin)
+        self.addCleanup(self.operator.close)  # type: ignore[attr-defined]
+        self.locks = self.opened()  # type: ignore[attr-defined]
 
     def test_calls(self) -> None:
         """Locks are granted, held, busy, unlocked, and read"""
@@ -65,7 +41,7 @@ class Calls:
             tx.lock("a")
             same(tx.try_lock("b"), True)
             same(tx.holds(), ["a", "b"])
-            same(tx.status(), Status("active", None, None, False))
+            same(tx.status(), Status("active"))
             same(locks.owner("a"), tx.key)
             with locks.transaction() as other:
                 same(other.try_lock("a"), False)
@@ -73,13 +49,42 @@ class Calls:
                 tx.unlock("a")
                 same(other.try_lock("a"), True)
             raises(NotOwner, tx.unlock, "a")
-            same(locks.holds(tx.key), ["b"])
+            same(self.operator.holds(tx.key), ["b"])
+            tx.lock("z", "y", "x", *(f"n{number}" for number in range(500)))
+            same(len(tx.holds()), 504)
         same(locks.owner("b"), None)
         raises(NoTransaction, tx.lock, "a")
         raises(NoTransaction, tx.commit)
-        raises(NoTransaction, tx.abort)
+        tx.abort()
         same(locks.totals(), Totals(2, 2, 0, 0))
-        self.same_graph()
+        with locks.transaction("a", "b", timeout=5) as tx:
+            same(tx.holds(), ["a", "b"])
+            fence = tx.fence("a")
+        with locks.transaction("a") as tx:
+            same(tx.fence("a") > fence, True)
+            raises(NotOwner, tx.fence, "b")
+
+    def test_several_names(self) -> None:
+        """A transaction that cannot own all of its names is not left; a lock that cannot leaves what it owns."""
+        locks = self.locks
+        one = locks.transaction("a")
+        same(raises(Timeout, locks.transaction, "b", "a", "c", timeout=0.01).name, "a")
+        same((locks.owner("b"), locks.owner("c")), (None, None))
+        two = locks.transaction("d")
+        same(raises(Timeout, two.lock, "b", "a", "c", timeout=0.01).name, "a")
+        same(two.holds(), ["b", "d"])
+        thread = Apart(one.lock, "d")
+        waits(one)
+        same(raises(Deadlock, two.lock, "e", "a", "f").name, "a")
+        two.abort()
+        same(thread.ends(), None)
+        thread = Apart(locks.transaction, "b", "d", "c")
+        until(lambda: len(self.operator.graph()), "it waits")
+        one.commit()
+        three = thread.ends()
+        same(three.holds(), ["b", "c", "d"])
+        three.commit()
+        same(locks.totals(), Totals(4, 2, 2, 1))
 
     def test_deadlock(self) -> None:
         """A deadlock is told to the one who closes the cycle, and the others go on after its abort"""
@@ -88,12 +93,12 @@ class Calls:
         one.lock("1")
         two.lock("2")
         thread = Apart(one.lock, "2")
-        waits(locks, one)
-        self.same_graph(Wait(one.key, "2", two.key))
-        same(one.status(), Status("waiting", "2", two.key, False))
+        waits(one)
+        same(self.operator.graph(), [Wait(one.key, "2", two.key)])
+        same(one.status(), Status("waiting", "2", two.key))
         error = raises(Deadlock, two.lock, "1")
-        same((error.name, error.holder), ("1", one.key))
-        same(two.status(), Status("deadlock", "1", one.key, False))
+        same((error.name, error.holder, error.cycle), ("1", one.key, (Wait(two.key, "1", one.key), Wait(one.key, "2", two.key))))
+        same(two.status(), Status("deadlock", "1", one.key))
         for call in (two.lock, "3"), (two.try_lock, "3"), (two.unlock, "2"), (two.commit,):
             raises(MustAbort, *call)
         same(two.holds(), ["2"])
@@ -120,16 +125,14 @@ class Calls:
         raises(KeyError, fails)
         same(locks.totals(), Totals(2, 1, 1, 0))
         with locks.transaction() as tx:
-            tx.abort()
-        with locks.transaction() as tx:
             tx.commit()
-        same(locks.totals(), Totals(4, 2, 2, 0))
+        same(locks.totals(), Totals(3, 2, 1, 0))
 
         def swallows() -> None:
             with locks.transaction() as two:
                 two.lock("b")
                 thread.append(Apart(one.lock, "b"))
-                waits(locks, one)
+                waits(one)
                 try:
                     two.lock("a")
                 except Deadlock:
@@ -141,7 +144,7 @@ class Calls:
         raises(MustAbort, swallows)
         same(thread[0].ends(), None)
         one.commit()
-        same(locks.totals(), Totals(6, 3, 3, 1))
+        same(locks.totals(), Totals(5, 3, 2, 1))
 
     def test_timeouts(self) -> None:
         """A lock with a timeout gives up after it, not before, and the transaction goes on"""
@@ -152,11 +155,12 @@ class Calls:
         error = raises(Timeout, two.lock, "a", timeout=0.05)
         assert time.monotonic() - start >= 0.05, "it gave up too soon"
         assert isinstance(error, TimeoutError) and error.name == "a"
+        raises(Timeout, locks.transaction, "a", timeout=0)
         two.lock("b", timeout=0.05)
         raises(Timeout, two.lock, "a", timeout=0)
         same(two.status().state, "active")
         thread = Apart(two.lock, "a", timeout=1000)
-        waits(locks, two)
+        waits(two)
         one.commit()
         same(thread.ends(), None)
         same(two.holds(), ["a", "b"])
@@ -169,12 +173,65 @@ class Calls:
         one.lock("a")
         two.lock("b")
         thread = Apart(two.lock, "a")
-        waits(locks, two)
+        waits(two)
         two.abort()
-        one.commit()
         same(type(thread.ends()), Aborted)
-        same(locks.owner("b"), None)
-        same(locks.totals(), Totals(2, 1, 1, 0))
+        until(lambda: locks.owner("b") is None, "its name is free, though the one before it goes on")
+        two.abort()
+        raises(Aborted, two.lock, "c")
+        one.commit()
+        until(lambda: locks.totals() == Totals(2, 1, 1, 0), "it has ended")
+
+        def aborts_elsewhere() -> None:
+            with locks.transaction("a") as tx:
+                Apart(tx.abort).ends()
+
+        raises(Aborted, aborts_elsewhere)
+
+    def test_interrupt(self) -> None:
+        """A wait is interrupted by another thread, or the next one if it does not wait, once, and the transaction goes on."""
+        locks = self.locks
+        one, two = locks.transaction("a"), locks.transaction("b")
+        thread = Apart(two.lock, "a")
+        waits(two)
+        two.interrupt()
+        same(type(thread.ends()), Interrupted)
+        two.interrupt()
+        two.lock("c")
+        raises(Interrupted, two.lock, "a")
+        raises(Timeout, two.lock, "a", timeout=0.001)
+        same(two.holds(), ["b", "c"])
+        two.commit()
+        one.commit()
+
+    def test_operator(self) -> None:
+        """The operator sees and aborts each transaction, and is told of deadlocks; a client may ask for nothing of that."""
+        locks, operator = self.locks, self.operator
+        deadlocks = operator.deadlocks()
+        one, two = locks.transaction("1"), locks.transaction("2")
+        thread = Apart(one.lock, "2")
+        waits(one)
+        raises(Deadlock, two.lock, "1")
+        same(next(deadlocks), (Wait(two.key, "1", one.key), Wait(one.key, "2", two.key)))
+        live = operator.transactions()
+        same([(each.key, each.status.state) for each in live], [(one.key, "waiting"), (two.key, "deadlock")])
+        self.assertIn(live[0].client, [client.number for client in operator.clients()])  # type: ignore[attr-defined]
+        same({client.pid for client in operator.clients()}, {os.getpid()})
+        same(operator.status(two.key), Status("deadlock", "1", one.key))
+        same(operator.abort(two.key), True)
+        same(thread.ends(), None)
+        raises(Aborted, two.lock, "3")
+        raises(NoTransaction, two.lock, "3")
+        three = locks.transaction()
+        thread = Apart(three.lock, "1")
+        waits(three)
+        operator.abort(three.key)
+        same(type(thread.ends()), Aborted)
+        raises(NoTransaction, operator.status, "4294967295.4294967295")
+        one.commit()
+        counts = operator.counts()
+        same((type(counts), counts.deadlocks, counts.waits), (Counts, 1, 2))
+        deadlocks.close()
 
     def test_runs(self) -> None:
         """`run` tries again after a deadlock, at most so many times, and raises every other exception"""
@@ -201,10 +258,8 @@ class Calls:
             count.append(tx.key)
             raise error
 
-        raises(Deadlock, locks.run, fails, Deadlock("a", "0.1"), attempts=3)
-        same(len(count), 3)
-        raises(Full, locks.run, fails, Full("names"), attempts=3)
-        same(len(count), 4)
+        raises(Full, locks.run, fails, Full("names"))
+        same(len(count), 1)
         same(locks.owner("a"), None)
 
     def test_names(self) -> None:
@@ -230,8 +285,7 @@ class Calls:
                 raises(NameTooLong, call, "x" * 100_000)
             tx.lock("after")
             for zeros in f"00{tx.key}", tx.key.zfill(20), tx.key:
-                same(locks.status(zeros).state, "active")
-        raises(NoTransaction, locks.status, "4294967295.4294967295")
+                same(self.operator.status(zeros).state, "active")
 
     def test_full(self) -> None:
         """A full table refuses transactions and names as `Full`, and has room again after an end"""
@@ -241,7 +295,7 @@ class Calls:
         for number, tx in enumerate(txs):
             tx.lock(f"{number}")
         error = raises(Full, txs[0].lock, "more")
-        same((error.what, str(error)), ("names", "the service has no names left"))
+        same((error.what, error.is_lasting), ("names", False))
         raises(Full, txs[0].try_lock, "more")
         same(txs[0].try_lock("1"), False)
         txs[1].commit()
@@ -253,6 +307,7 @@ class Calls:
     def test_threads(self) -> None:
         """Sixteen threads change counters under their locks, and no change is lost"""
         locks = self.locks
+        locks = locks.retrying(Retry(1000, longest=0.05))
         counters = {f"counter/{number}": 0 for number in range(5)}
 
         def add(tx: Any, one: str, two: str) -> None:
@@ -266,7 +321,7 @@ class Calls:
             for turn in range(50):
                 one, two = (number + turn) % 5, (number + 2 * turn + 1 + turn % 3) % 5
                 if one != two:
-                    locks.run(add, f"counter/{one}", f"counter/{two}", attempts=1000)
+                    locks.run(add, f"counter/{one}", f"counter/{two}")
                     done.append(1)
 
         done: List[int] = []
@@ -278,7 +333,7 @@ class Calls:
         same(totals.committed, len(done))
         same(totals.begun, totals.committed + totals.aborted)
         same(totals.deadlocks, totals.aborted)
-        self.same_graph()
+        same(self.operator.graph(), [])
 
     def test_closing(self) -> None:
         """After `close` every call raises `Closed`, also one that waits"""
@@ -286,222 +341,97 @@ class Calls:
         one, two = locks.transaction(), locks.transaction()
         one.lock("a")
         thread = Apart(two.lock, "a")
-        waits(locks, two)
+        waits(two)
         locks.close()
         same(type(thread.ends()), Closed)
-        for call in (one.lock, "b"), (two.commit,), (two.abort,), (locks.transaction,), (locks.totals,), (locks.graph,):
+        for call in (one.lock, "b"), (two.commit,), (locks.transaction,), (locks.totals,):
             raises(Closed, *call)
+        two.abort()
+        one.abort()
         locks.close()
 
-
-class OfThreads(Calls):
-    """What only a thread has: signals, and forks."""
-
-    def test_interrupted(self) -> None:
-        """A signal's exception leaves a lock that waits, and nobody else is disturbed"""
-        locks = self.locks
-
-        class Interrupt(Exception):
-            pass
-
-        def interrupts(number: int, frame: object) -> None:
-            if not raised:
-                raised.append(number)
-                raise Interrupt
-
-        raised: List[int] = []
-        keys: List[str] = []
-
-        one = locks.transaction()
-        one.lock("a")
-        before = signal.signal(signal.SIGUSR1, interrupts)
-        main = threading.get_ident()
-
-        def kills() -> None:
-            until(lambda: keys and locks.status(keys[0]).state == "waiting", "somebody waits")
-            while not raised:  # one that comes just before a system call is noticed only when that call returns
-                signal.pthread_kill(main, signal.SIGUSR1)
-                time.sleep(0.05)
-
-        def waits_in_block() -> None:
-            with locks.transaction() as two:
-                keys.append(two.key)
-                two.lock("b")
-                two.lock("a")
-
-        thread = Apart(kills)
-        raises(Interrupt, waits_in_block)
-        signal.signal(signal.SIGUSR1, before)
-        same(thread.ends(), None)
+    def test_waiting(self) -> None:
+        """A second thread that calls a transaction which waits is told so."""
+        one, two = self.locks.transaction("a"), self.locks.transaction()
+        thread = Apart(two.lock, "a")
+        waits(two)
+        for call in (two.lock, "b"), (two.commit,), (two.holds,):
+            raises(Waiting, *call)
         one.commit()
-        same(locks.owner("b"), None)
-        same(locks.totals(), Totals(2, 1, 1, 0))
+        same(thread.ends(), None)
+        two.commit()
 
-    def test_forks(self) -> None:
-        """After a fork the child's calls raise `Closed`, and the parent's go on"""
-        locks = self.locks
-        with locks.transaction() as tx:
-            tx.lock("a")
-            pid = os.fork()
-            if pid == 0:
-                try:
-                    tx.unlock("a")
-                except Closed:
-                    os._exit(7)
-                finally:
-                    os._exit(8)
-            same(os.waitstatus_to_exitcode(os.waitpid(pid, 0)[1]), 7)
-            same(tx.holds(), ["a"])
+    def test_events(self) -> None:
+        """Each begin, lock, commit and abort is told, also one that fails; what the hook raises is logged, and so is a slow wait and a deadlock."""
+        told: List[Event] = []
+
+        def hook(event: Event) -> None:
+            told.append(event)
+            raise ValueError("of the hook")
+
+        locks = self.opened(on_event=hook, slow_wait=0.01)  # type: ignore[attr-defined]
+        with self.assertLogs("pashkure", logging.INFO) as logs:  # type: ignore[attr-defined]
+            one, two = locks.transaction("a"), locks.transaction()
+            two.lock("b")
+            thread = Apart(one.lock, "b")
+            until(lambda: any("has waited for 'b'" in line for line in logs.output), "the slow wait is logged")
+            raises(Deadlock, two.lock, "a")
+            two.abort()
+            thread.ends()
+            one.commit()
+        events = [(event.kind, event.key, event.names, type(event.error)) for event in told if event.kind != "connect"]
+        none = type(None)
+        same(sorted(events, key=str), sorted([("begin", one.key, ("a",), none), ("begin", two.key, (), none), ("lock", two.key, ("b",), none),
+             ("lock", one.key, ("b",), none), ("lock", two.key, ("a",), Deadlock), ("abort", two.key, (), none), ("commit", one.key, (), none)], key=str))  # fmt: skip
+        waited = [event for event in told if event.names == ("b",) and event.key == one.key][0]
+        same(waited.seconds >= waited.waited >= 0.01, True)
+        text = "\n".join(logs.output)
+        for part in "connected", "deadlock: the request for 'a'", "on_event raised an exception", f"WARNING:pashkure:{one.key} has waited for 'b' of {two.key}":
+            self.assertIn(part, text)  # type: ignore[attr-defined]
 
 
-class Pipes(OfThreads, Case):
-    def opened(self, **options: int) -> Locks:
-        locks = Locks(PROGRAM, **options)
+class Threads(Calls, Case):
+    def opened(self, **options: Any) -> Locks:
+        locks = Locks.connect(self.socket, **options)
         self.addCleanup(locks.close)
         return locks
 
+    def test_abort_in_the_block(self) -> None:
+        """A block whose own thread aborts its transaction ends without an exception."""
+        with self.locks.transaction("a") as tx:
+            tx.abort()
+        same(self.locks.totals(), Totals(1, 0, 1, 0))
 
-class Socket(OfThreads, Case):
-    is_socket = True
+    def test_dropped(self) -> None:
+        """A transaction that is dropped alive is aborted, with a warning."""
+        tx = self.locks.transaction("a")
+        with self.assertWarns(ResourceWarning):
+            del tx
+        until(lambda: self.locks.owner("a") is None, "the name is free")
 
-    def opened(self, **options: int) -> Locks:
-        locks = Locks(socket=self.socket(options))
-        self.addCleanup(locks.close)
-        return locks
 
-
-class AsyncioPipes(Calls, Case):
+class Tasks(Calls, Case):
     """The same with the asyncio client."""
 
-    def opened(self, **options: int) -> Any:
-        locks = Asyncio(PROGRAM, **options)
+    def opened(self, **options: Any) -> Any:
+        locks = Asyncio(self.socket, **options)
         self.addCleanup(locks.ends)
         return locks
 
 
-class AsyncioSocket(Calls, Case):
-    is_socket = True
-
-    def opened(self, **options: int) -> Any:
-        locks = Asyncio(socket=self.socket(options))
-        self.addCleanup(locks.ends)
-        return locks
-
-
-class NoService(Case):
-    """Programs that are no lock service."""
-
-    def test_not_understood(self) -> None:
-        """They raise `Malformed` or `Closed`, and nothing hangs."""
-        with Locks(self.script("while read line; do echo nonsense; done")) as locks:
-            for call in (locks.transaction,), (locks.totals,), (locks.graph,), (locks.owner, "a"), (locks.status, "0.1"), (locks.holds, "0.1"):
-                raises(Malformed, *call)
-        with Locks(self.script("read line; printf 'one\\ntwo\\n'; read line")) as locks:
-            error = Apart(locks.transaction).ends()
-            assert isinstance(error, (Malformed, Closed)), error
-            raises(Closed, locks.transaction)
-        with Locks(self.script("exit 3")) as locks:
-            raises(Closed, locks.transaction)
-
-    @each(BAD_GRAPHS)
-    def test_graph(self, reply: str) -> None:
-        """A reply to `graph` that no service writes ends the connection, and each call with it."""
-        program = self.script(f"read line; printf '{reply}\\n'; cat > /dev/null")
-        plain, tasks = Locks(program), Asyncio(program)
-        self.addCleanup(plain.close)
-        self.addCleanup(tasks.ends)
-        for locks in plain, tasks:
-            for error in [thread.ends() for thread in [Apart(locks.graph), Apart(locks.graph)]]:
-                same((type(error), str(error)), (Closed, "the service was not understood"))
-            raises(Closed, locks.totals)
-
-    def test_wrong_use(self) -> None:
-        """Locks with wrong options, without a program, or without a server raise at once."""
-        raises(ValueError, Locks, PROGRAM, socket="x")
-        raises(ValueError, Locks, socket="x", names=3)
-        raises(FileNotFoundError, Locks, self.path("no.program"))
-        raises(FileNotFoundError, Locks, socket=self.path("no.socket"))
-        with Locks(self.script(f'exec "{PROGRAM}" "$@" 2> /dev/null'), transactions=0) as locks:
-            raises(Closed, locks.transaction)
-
-
-class Ends(Case):
-    """What becomes of the program, and of calls, when one of both ends."""
-
-    def noted(self) -> tuple[str, str]:
-        """A program that notes its process in a file."""
-        pid_file = self.path("pid")
-        return self.script(f'echo $$ > "{pid_file}"\nexec "{PROGRAM}" "$@"'), pid_file
-
-    def process(self, pid_file: str) -> int:
-        with open(pid_file, encoding="ascii") as file:
-            return int(file.read())
-
-    def test_program_killed(self) -> None:
-        """Each thread is told `Closed`."""
-        program, pid_file = self.noted()
-        with Locks(program) as locks:
-            one, two = locks.transaction(), locks.transaction()
-            one.lock("a")
-            threads = [Apart(two.lock, "a"), *(Apart(locks.transaction().lock, "a") for _ in range(5))]
-            waits(locks, two)
-            os.kill(self.process(pid_file), signal.SIGKILL)
-            for thread in threads:
-                same(type(thread.ends()), Closed)
-            raises(Closed, one.commit)
-            raises(Closed, locks.totals)
-
-    def test_server_killed(self) -> None:
-        """Each call that waits and each further one raises `Closed`."""
-        server = self.server()
-        with Locks(socket=server.path) as locks:
-            one, two = locks.transaction(), locks.transaction()
-            one.lock("a")
-            thread = Apart(two.lock, "a")
-            waits(locks, two)
-            server.process.kill()
-            same(type(thread.ends()), Closed)
-            raises(Closed, locks.transaction)
-
-    def test_program_ends(self) -> None:
-        """A program that is closed has ended, and so has one whose Python process was killed."""
-        program, pid_file = self.noted()
-        locks = Locks(program)
-        locks.transaction().lock("a")
-        pid = self.process(pid_file)
-        locks.close()
-        same(os.path.exists(f"/proc/{pid}"), False)
-        text = f"from pashkure import Locks; locks = Locks({program!r}); locks.transaction(); print(flush=True); input()"
-        with subprocess.Popen([sys.executable, "-c", text], env=environment(), stdin=subprocess.PIPE, stdout=subprocess.PIPE) as client:
-            assert client.stdout is not None
-            client.stdout.readline()
-            pid = self.process(pid_file)
-            client.kill()
-        until(lambda: not os.path.exists(f"/proc/{pid}"), "the program ends")
-
-    def test_quiet(self) -> None:
-        """A program that is ended while replies of it are due has no write fault."""
-        statuses = self.path("statuses")
-        program = self.script(f'"{PROGRAM}" "$@" 2>> "{statuses}"\necho $? >> "{statuses}"')
-
-        def asks(locks: Locks) -> None:
-            while True:
-                locks.totals()
-
-        for _ in range(5):
-            with Locks(program) as locks:
-                threads = [Apart(asks, locks) for _ in range(4)]
-                locks.totals()
-            same({type(thread.ends()) for thread in threads}, {Closed})
-        with open(statuses, encoding="ascii") as file:
-            same(file.read(), "0\n" * 5)
-
-    def test_seed(self) -> None:
-        """The program is given a seed if the user gave one, and else draws its own."""
-        words = self.path("words")
-        program = self.script(f'echo "$*" > "{words}"\nexec "{PROGRAM}" "$@"')
-        for seed, wanted in (None, "locks\n"), (7, "locks --seed 7\n"):
-            with Locks(program, seed=seed) as locks:
-                locks.totals()
-            with open(words, encoding="ascii") as file:
-                same(file.read(), wanted)
+class Testing(Case):
+    def test_service(self) -> None:
+        """A service for tests: it answers, is stopped, and is started anew with a greater epoch."""
+        command = [*self.needs_server(), "--program", PROGRAM]
+        os.environ["PASHKURE_SERVE"] = shlex.join(command)
+        self.addCleanup(os.environ.pop, "PASHKURE_SERVE")
+        with testing.service("--names", "1") as served, Locks.connect(served.path) as locks, Operator(served.admin) as operator:
+            with locks.transaction("a") as tx:
+                raises(Full, tx.lock, "b")
+                epoch = tx.epoch
+            served.stop()
+            served.start()
+            with locks.transaction() as tx:
+                same((tx.epoch > epoch, operator.counts().begun), (True, 1))
+        same(os.path.exists(served.path), False)
+        raises(RuntimeError, testing.service, command=["false"])

@@ -2,50 +2,21 @@
 
     from pashkure import Locks
 
-    with Locks() as locks:
-        with locks.transaction() as tx:     # commits at the end, aborts at an exception
-            tx.lock("accounts/1")
-            tx.lock("accounts/2", timeout=2.0)
-        locks.run(transfer, "accounts/1", "accounts/2")   # again after Deadlock
+    locks = Locks.connect("/run/pashkure/locks")
+    with locks.transaction("accounts/1", "accounts/2", timeout=2.0):   # commits at the end, aborts at an exception
+        ...
+    locks.run(transfer, "accounts/1", "accounts/2")                    # again after Deadlock
 
-`pashkure.aio` has the same for asyncio. `mmdetect serve --socket PATH` serves many processes.
+`pashkure.aio` has the same for asyncio. `mmdetect serve --socket PATH` serves the locks.
 """
-from .errors import (
-    Aborted,
-    Closed,
-    Deadlock,
-    Full,
-    LockError,
-    Malformed,
-    MustAbort,
-    NameTooLong,
-    NotOwner,
-    NotWaiting,
-    NoTransaction,
-    Timeout,
-    Waiting,
-)
+from .errors import (Aborted, BadName, CannotConnect, Closed, Deadlock, Full, Interrupted, LockError, LocksLost, Misuse, MustAbort,
+                     NameTooLong, NotOwner, NoTransaction, ProtocolError, ServiceRestarted, Timeout, Waiting)  # fmt: skip
 from .locks import Locks
-from .replies import Status, Totals, Wait
+from .operator import Operator
 from .transaction import Transaction
+from .values import Client, Counts, Event, Fence, Live, Name, Retry, Status, Totals, Wait
 
-__all__ = [
-    "Aborted",
-    "Closed",
-    "Deadlock",
-    "Full",
-    "LockError",
-    "Locks",
-    "Malformed",
-    "MustAbort",
-    "NameTooLong",
-    "NoTransaction",
-    "NotOwner",
-    "NotWaiting",
-    "Status",
-    "Timeout",
-    "Totals",
-    "Transaction",
-    "Wait",
-    "Waiting",
-]
+__version__ = "0.1.0"
+__all__ = ["Aborted", "BadName", "CannotConnect", "Client", "Closed", "Counts", "Deadlock", "Event", "Fence", "Full", "Interrupted", "Live",
+           "LockError", "Locks", "LocksLost", "Misuse", "MustAbort", "Name", "NameTooLong", "NoTransaction", "NotOwner", "Operator", "ProtocolError",
+           "Retry", "ServiceRestarted", "Status", "Timeout", "Totals", "Transaction", "Wait", "Waiting"]  # fmt: skip

@@ -1,6 +1,4 @@
 """`python3 -m pashkure` and the script `pashkure` serve nothing: the server is `mmdetect serve`."""
-from __future__ import annotations
-
 import sys
 
 

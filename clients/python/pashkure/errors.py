@@ -1,31 +1,36 @@
-"""The exceptions of the package. Each is a `LockError`."""
+"""The exceptions of the package. Each is a `LockError`, and can be pickled."""
 from __future__ import annotations
 
-from typing import Dict, Tuple, Type
+from typing import TYPE_CHECKING, Sequence, Tuple
+
+if TYPE_CHECKING:
+    from .values import Wait
 
 
 class LockError(Exception):
-    """A request was refused, or could not be made. A refused request has changed nothing."""
+    """A call could not do what it was asked for."""
 
 
 class Deadlock(LockError):
-    """The request would have closed a cycle of waits.
+    """The request would have closed a cycle of waits, so it was not made.
 
-    The transaction keeps its locks until it is aborted, so that what it did under them can be undone first. Until then its other
-    requests raise `MustAbort`.
+    The transaction keeps its locks until it is aborted, so that what it did under them can be undone first. Until then its other calls
+    raise `MustAbort`. `name` is the name that it asked for, and `holder` the key of the transaction that owns it. `cycle` has the waits of
+    the cycle, this transaction's first, at most 16 of them.
     """
 
-    def __init__(self, name: str, holder: str) -> None:
-        super().__init__(name, holder)
-        self.name = name
-        self.holder = holder
+    def __init__(self, name: str, holder: str, cycle: Sequence["Wait"] = ()) -> None:
+        super().__init__(name, holder, tuple(cycle))
+        self.name, self.holder = name, holder
+        self.cycle: Tuple["Wait", ...] = tuple(cycle)
 
     def __str__(self) -> str:
-        return f"{self.name!r} belongs to {self.holder}, which waits for this transaction"
+        waits = ", ".join(f"{wait.key} waits for {wait.name!r}" for wait in self.cycle)
+        return f"the request for {self.name!r} of {self.holder} would close a cycle of waits" + (f": {waits}" if waits else "")
 
 
 class Timeout(LockError, TimeoutError):
-    """The name was not granted in time. The transaction waits no longer, and keeps what it owns."""
+    """The name was not granted in time. The transaction does not wait any more, and keeps what it owns."""
 
     def __init__(self, name: str) -> None:
         super().__init__(name)
@@ -36,61 +41,53 @@ class Timeout(LockError, TimeoutError):
 
 
 class Full(LockError):
-    """There is no room: `what` is "transactions", "names", "labels" or "counts"."""
+    """There is no room. `what` is "transactions", "names", "connections", "labels", "counts" or "reply" (for more than 1,024 names).
+
+    `is_lasting` says whether the service has to be started again before there is room.
+    """
 
     def __init__(self, what: str) -> None:
         super().__init__(what)
-        self.what = what
+        self.what, self.is_lasting = what, what in ("labels", "counts")
 
     def __str__(self) -> str:
-        return f"the service has no {self.what} left"
+        return f"the service has no room for more {self.what}" if self.what != "reply" else "these are more names than a reply has room for"
 
 
-class Closed(LockError, ConnectionError):
-    """The service is gone, or the connection to it was closed. All locks of its transactions are gone too."""
+# fmt: off
+class Interrupted(LockError): """`interrupt` was called. The transaction does not wait any more, and keeps what it owns."""
+class Aborted(LockError): """Somebody else aborted the transaction: another thread or task, or the operator. It owns nothing any more."""
 
+class Closed(LockError, ConnectionError): """There is no connection to a service: it was closed, or it was lost, or there was none."""
+class CannotConnect(Closed): """No service could be reached in time. The reason is the `__cause__`."""
+class ProtocolError(Closed): """The other side wrote what no lock service writes. The connection was closed."""
+class LocksLost(Closed): """The connection of a live transaction was lost, and its locks with it. Somebody else may own its names now. Whether a
+    `commit` that raises this was made is not known."""
+class ServiceRestarted(LocksLost): """The service was started anew. The locks of all transactions of before are gone."""
 
-class Aborted(LockError):
-    """The transaction was aborted by another thread or task while this one waited for a lock."""
+class Misuse(LockError): """The program that calls this package is wrong. Nothing has changed."""
+class NoTransaction(Misuse): """The transaction has ended."""
+class MustAbort(Misuse): """The transaction was told of a deadlock, and the call is none of `abort`, `status` and `holds`."""
+class Waiting(Misuse): """Another thread or task is inside a call of this transaction, such as a `lock` that waits."""
+class NotOwner(Misuse): """The transaction does not own the name."""
+class NameTooLong(Misuse): """The name has more bytes than the service takes."""
+class BadName(Misuse, ValueError): """It can be no name: it is empty, or has spaces or control characters."""
+# fmt: on
 
-
-class NoTransaction(LockError):
-    """The transaction has ended, or belongs to another connection."""
-
-
-class MustAbort(LockError):
-    """The transaction was told of a deadlock. The one request that it may make is `abort`."""
-
-
-class Waiting(LockError):
-    """The transaction waits for a lock, so it may make no other request but `abort`."""
-
-
-class NotWaiting(LockError):
-    """The transaction does not wait."""
-
-
-class NameTooLong(LockError):
-    """The name has more bytes than the service was started for."""
-
-
-class NotOwner(LockError):
-    """The transaction does not own the name that it unlocks."""
-
-
-class Malformed(LockError):
-    """The service did not understand a request, or this package did not understand its reply."""
-
-
-REFUSALS: Dict[bytes, Tuple[Type[LockError], str]] = {
-    b"no-transaction": (NoTransaction, "the transaction has ended, or belongs to another connection"),
-    b"must-abort": (MustAbort, "the transaction was told of a deadlock and is to be aborted"),
-    b"waiting": (Waiting, "the transaction waits for a lock"),
-    b"name-too-long": (NameTooLong, "the name has more bytes than the service was started for"),
-    b"not-owner": (NotOwner, "the transaction does not own the name"),
-    b"not-waiting": (NotWaiting, "the transaction does not wait"),
-    b"transactions-full": (Full, "transactions"),
-    b"names-full": (Full, "names"),
-    b"labels-full": (Full, "labels"),
-    b"counts-full": (Full, "counts"),
+_REFUSALS = {
+    b"must-abort": MustAbort("the transaction was told of a deadlock, and can only be aborted"),
+    b"waiting": Waiting("the transaction waits for a lock"),
+    b"name-too-long": NameTooLong("the name has more bytes than the service takes"),
+    b"not-owner": NotOwner("the transaction does not own the name"),
+    b"operator": Misuse("only the operator may ask for this, at the operator's socket"),
+    b"no-epoch": Misuse("the service was started without an epoch, so it has no fences"),
+    b"no-transaction": NoTransaction("no live transaction has this key"),
+    b"too-many": Full("reply"),
 }
+
+
+def refusal(word: bytes) -> LockError:
+    """The exception that a refusal stands for."""
+    what = word.decode("ascii", "replace")
+    known = _REFUSALS.get(word) or (Full(what[:-5]) if what.endswith("-full") else ProtocolError(f"the service replied: refused {what}"))
+    return type(known)(*known.args)

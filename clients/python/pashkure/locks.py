@@ -1,118 +1,139 @@
 """A lock service, for threads."""
 from __future__ import annotations
 
-import os
+import inspect
+import math
 import time
-from types import TracebackType
-from typing import Callable, List, Optional, Type, TypeVar, Union
+from time import monotonic
+from typing import TYPE_CHECKING, Callable, Optional, Sequence, TypeVar
 
-from . import replies
-from .channel import Channel
-from .errors import Deadlock
-from .names import Name, encoded, encoded_key
-from .pauses import after_deadlock
-from .program import Program, command
-from .replies import Status, Totals, Wait
-from .streams import Pipes, Stream, UnixSocket
+from . import flows
+from .backend import Backend, drive
+from .calls import Opened
+from .errors import Aborted, CannotConnect, Deadlock, LockError, LocksLost, MustAbort
+from .events import OnEvent, Watch
+from .flows import Flow
+from .service import Service
 from .transaction import Transaction
+from .values import Name, Retry, Totals, all_encoded, seconds
+from .ways import Path
 
+if TYPE_CHECKING:
+    from typing_extensions import Concatenate, ParamSpec
+
+    P = ParamSpec("P")
 R = TypeVar("R")
-Path = Union[str, "os.PathLike[str]"]
 
 
-def check_options(socket: Optional[Path], *options: object) -> None:
-    """Raises where options of the program are given for a server that runs already."""
-    if socket is not None and any(option is not None for option in options):
-        raise ValueError("a server that runs already takes no options: say socket= alone")
+class Locks(Opened):
+    """Exclusive locks on names, for transactions. All threads may use one object, and each process of a fork.
 
-
-class Locks:
-    """A lock service: exclusive locks on names, for transactions.
-
-    `Locks()` starts the program `mmdetect` beside this one, and only this process uses it:
-
-    - `program`: its path, or a list of the path and words; the variable PASHKURE_PROGRAM of the environment where this is missing;
-    - `transactions`, `names`: how many transactions can be live, and how many names owned, at once;
-    - `name_bytes`: how many bytes a name may have;
-    - `seed`: of the hash of names; the program draws one where this is missing.
-
-    `Locks(socket=PATH)` reaches a server that runs already (`mmdetect serve`), which many processes can share.
-
-    All threads may use one object at the same time. In a `with` statement it is closed at the end. After a fork the child opens its own.
+    `Locks.connect` makes one. In a `with` statement it is closed at the end.
     """
 
-    def __init__(
-        self,
-        program: Optional[Program] = None,
-        *,
-        socket: Optional[Path] = None,
-        transactions: Optional[int] = None,
-        names: Optional[int] = None,
-        name_bytes: Optional[int] = None,
-        seed: Optional[int] = None,
-    ) -> None:
-        check_options(socket, program, transactions, names, name_bytes, seed)
-        stream: Stream
-        if socket is None:
-            stream = Pipes(command(program, transactions, names, name_bytes, seed))
-        else:
-            stream = UnixSocket(os.fspath(socket))
-        self._channel = Channel(stream)
+    _backend: Backend
 
-    def transaction(self) -> Transaction:
-        """Begins a transaction. Raises `Full` where there are as many as there can be."""
-        reply = self._channel.ask(b"begin\n")
-        return Transaction(self._channel, replies.key_of_begin(reply))
+    @classmethod
+    def connect(cls, *paths: Path, connect_timeout: float = 5.0, reply_timeout: float = 10.0, retry: Retry = Retry(), on_event: OnEvent = None,
+                slow_wait: Optional[float] = None) -> "Locks":  # fmt: skip
+        """The locks of a service that many processes share (`mmdetect serve --socket PATH`). Connects at first use.
 
-    def run(self, work: Callable[..., R], *args: object, attempts: int = 10, **kwargs: object) -> R:
+        - `paths`: the ways to this one service, tried in turn from the one that answered last. Two services exclude nothing from each
+          other. A service whose epoch is below the greatest that was seen counts as not reachable.
+        - `connect_timeout`: seconds for which it is tried to connect. Then `CannotConnect` is raised.
+        - `reply_timeout`: seconds in which the service has to answer each request. Then the connection is closed, and `LocksLost` raised.
+        - `retry`: how often `run` tries, and its pauses.
+        - `on_event`: called after each begin, lock, commit and abort, in its thread, and when a connection is made or lost.
+        - `slow_wait`: seconds after which a wait is logged as a warning.
+        """
+        watch = Watch(on_event, slow_wait)
+        return cls(Service(paths, connect_timeout, reply_timeout, watch.connection), watch, retry)
+
+    def transaction(self, *names: Name, timeout: Optional[float] = None) -> Transaction:
+        """Begins a transaction, and locks the names in their order. At an exception, as `Deadlock` or `Timeout`, none is left."""
+        start, data = monotonic(), all_encoded(names)
+        deadline = start + seconds(timeout)
+        while True:
+            session, state = self._backend.session(deadline), self._watch.state()
+            error: Optional[BaseException] = None
+            try:
+                drive(session, flows.begin(state, data, deadline))
+                return Transaction(self._backend, session, state, self._watch)
+            except BaseException as told:
+                error = told
+                if isinstance(told, LocksLost) and not state.key:
+                    if session.is_used:
+                        continue
+                    raise CannotConnect(str(told)) from told
+                if isinstance(told, LockError):
+                    self._backend.give_back(session)
+                raise
+            finally:
+                if error is None or state.key:
+                    self._watch.call("begin", state, data, start, error)
+
+    def run(self, work: "Callable[Concatenate[Transaction, P], R]", *args: "P.args", **kwargs: "P.kwargs") -> R:
         """Runs `work(tx, *args, **kwargs)` in a transaction of its own, and returns what it returns.
 
-        After `Deadlock` the transaction is aborted, and the work is run again in a new one after a pause of a random length, in all at
-        most so many times. The last `Deadlock`, and each other exception, is raised. So the work locks first and changes things then, or
-        undoes what it changed.
+        After `Deadlock` the transaction is aborted, and the work is run again in a new one after a pause, as often as `retry` says. The last
+        `Deadlock`, and each other exception, is raised. So the work locks first and changes things then, or undoes what it changed.
+        It is not run again after `LocksLost`: it may have changed things while somebody else owned the names.
         """
-        for attempt in range(1, attempts):
+        if is_coroutine(work):
+            raise TypeError(f"{work!r} is a coroutine function: use pashkure.aio")
+        attempt = 0
+        while True:
+            start, attempt = monotonic(), attempt + 1
             try:
                 with self.transaction() as tx:
-                    return work(tx, *args, **kwargs)
-            except Deadlock:
-                time.sleep(after_deadlock(attempt))
-        with self.transaction() as tx:
-            return work(tx, *args, **kwargs)
+                    result = work(tx, *args, **kwargs)
+                    if inspect.iscoroutine(result):
+                        result.close()
+                        raise TypeError(f"{work!r} returned a coroutine: use pashkure.aio")
+                    return result
+            except BaseException as error:
+                if attempt >= self._retry.attempts or not is_deadlock(error):
+                    raise
+            time.sleep(self._retry.pause(attempt, monotonic() - start))
 
-    def owner(self, name: Name) -> Optional[str]:
-        """The key of the transaction that owns the name, if one does."""
-        data = encoded(name)
-        return replies.owner(self._channel.ask(b"owner %b\n" % data), data)
-
-    def status(self, key: str) -> Status:
-        """What the transaction with this key does, of whichever connection."""
-        return replies.status(self._channel.ask(b"status %b\n" % encoded_key(key)))
-
-    def holds(self, key: str) -> List[str]:
-        """The names that the transaction with this key owns, of whichever connection."""
-        return replies.holds(self._channel.ask(b"holds %b\n" % encoded_key(key)))
-
-    def graph(self) -> List[Wait]:
-        """Each transaction that waits, what for, and who owns that."""
-        call = self._channel.call(b"graph\n")
-        return replies.graph(self._channel.reply(call), call.lines)
-
-    def totals(self) -> Totals:
-        """How many transactions began, were committed and were aborted, and how many requests were told of a deadlock."""
-        return replies.totals(self._channel.ask(b"totals\n"))
+    # fmt: off
+    if TYPE_CHECKING:  # what `Opened` does
+        def owner(self, name: Name) -> Optional[str]: ...
+        def totals(self) -> Totals: ...
+    # fmt: on
 
     def close(self) -> None:
-        """Ends the connection, or the program that was started. Transactions that are live are aborted, and their threads get `Closed`."""
-        self._channel.close()
+        """Closes all connections, and waits for nothing. Live transactions are aborted, and their calls raise `Closed`."""
+        self._backend.close()
+
+    def _ask(self, flow: Callable[[], Flow[R]]) -> R:
+        """What a request without a transaction says."""
+        while True:
+            session = self._backend.session(math.inf)
+            try:
+                result = drive(session, flow())
+            except LocksLost as lost:
+                if session.is_used:
+                    continue
+                raise CannotConnect(str(lost)) from lost
+            self._backend.give_back(session)
+            return result
 
     def __enter__(self) -> "Locks":
         return self
 
-    def __exit__(
-        self,
-        kind: Optional[Type[BaseException]],
-        error: Optional[BaseException],
-        trace: Optional[TracebackType],
-    ) -> None:
+    def __exit__(self, *error: object) -> None:
         self.close()
+
+
+def is_coroutine(work: object) -> bool:
+    """Whether a call of it only makes a coroutine."""
+    work = getattr(work, "func", work)  # of a functools.partial
+    return inspect.iscoroutinefunction(work) or inspect.iscoroutinefunction(getattr(work, "__call__", None))
+
+
+def is_deadlock(error: BaseException) -> bool:
+    """Whether a deadlock is all that went wrong, also in a group of exceptions."""
+    parts: Sequence[BaseException] = getattr(error, "exceptions", ())
+    rest = [part for part in parts if not is_deadlock(part)]
+    return isinstance(error, Deadlock) or len(rest) < len(parts) and all(isinstance(part, (MustAbort, Aborted)) for part in rest)

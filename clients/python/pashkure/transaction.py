@@ -1,127 +1,131 @@
 """A transaction, for threads."""
 from __future__ import annotations
 
-import time
-from types import TracebackType
-from typing import List, Optional, Type
+import threading
+import warnings
+from time import monotonic
+from typing import TYPE_CHECKING, List, Optional, Sequence, TypeVar
 
-from . import replies
-from .channel import Channel, Waiter
-from .errors import Closed, LockError, NoTransaction
-from .names import Name, encoded
-from .pauses import before_cancel
-from .replies import Status
+from . import flows
+from .backend import Backend, Session, drive
+from .calls import Calls
+from .errors import Aborted, Closed, LockError, LocksLost, Waiting
+from .events import Watch
+from .flows import Flow, State
+from .values import Fence, Name, Status
+
+R = TypeVar("R")
 
 
-class Transaction:
+class Transaction(Calls):
     """A transaction, which owns the names that it locks until it ends.
 
-    `Locks.transaction` begins one. In a `with` statement it is committed at the end, and aborted where an exception leaves the block:
+    `Locks.transaction` begins one. In a `with` statement it is committed at the end, and aborted if an exception leaves the block:
 
         with locks.transaction() as tx:
-            tx.lock("accounts/1")
-            tx.lock("accounts/2", timeout=2.0)
+            tx.lock("accounts/1", "accounts/2", timeout=2.0)
 
-    A transaction serves one thread at a time. Another thread may call `abort`, `status` and `holds` meanwhile.
+    One thread at a time may call it; a second one raises `Waiting`. While one waits, other threads may call `abort`, `interrupt` and
+    `status`. If an exception of a signal breaks off a call, the transaction is aborted, and its next call raises `LocksLost`.
     """
 
-    def __init__(self, channel: Channel, key: bytes) -> None:
-        self._channel = channel
-        self._key = key
-        self._is_over = False
+    def __init__(self, backend: Backend, session: Session, state: State, watch: Watch) -> None:
+        super().__init__(state, watch)
+        self._backend, self._session = backend, session
+        self._right = [session]  # who takes it out may end the transaction
+        self._busy = threading.Lock()  # held within a call, and never waited for
+        self._thread = threading.get_ident()
 
-    @property
-    def key(self) -> str:
-        """The key of the transaction, which the service chose."""
-        return self._key.decode("ascii")
-
-    def lock(self, name: Name, timeout: Optional[float] = None) -> None:
-        """Returns when the transaction owns the name. Until then the calling thread sleeps, and no other one.
-
-        Raises `Deadlock` at once where the request would close a cycle of waits. A request that waits is never told of a deadlock later.
-
-        With a timeout, in seconds, this gives up as `Timeout` after that time, and the transaction goes on with what it owns. If a
-        transaction for which it waits, directly or over others, was told of a deadlock and has yet to be aborted, the request cannot be
-        taken back. Then this is tried again after short pauses, until that one is aborted or the name is granted.
-        """
-        data = encoded(name)
-        deadline = None if timeout is None else time.monotonic() + timeout
-        call = Waiter(self._key, True)
-        self._channel.send(b"lock %b %b\n" % (self._key, data), call)
-        if not self._channel.wait(call, deadline):
-            self._give_up(call)
-        replies.told_of_lock(self._channel.reply(call), data)
-
-    def try_lock(self, name: Name) -> bool:
-        """Whether the transaction owns the name now: it did, or nobody did. This never waits."""
-        data = encoded(name)
-        return replies.told_of_try(self._channel.ask(b"try %b %b\n" % (self._key, data)), data)
-
-    def unlock(self, name: Name) -> None:
-        """Gives one name back before the end. The next one who waits for it gets it."""
-        data = encoded(name)
-        reply = self._channel.ask(b"unlock %b %b\n" % (self._key, data))
-        if reply != b"unlocked":
-            replies.fail_of_name(reply, data)
-
-    def commit(self) -> None:
-        """Ends the transaction. All that it owns is given back."""
-        replies.expect(self._channel.ask(b"commit %b\n" % self._key), b"committed")
-        self._is_over = True
+    # fmt: off
+    if TYPE_CHECKING:  # what `Calls` does
+        def lock(self, *names: Name, timeout: Optional[float] = None) -> None: ...
+        def try_lock(self, name: Name) -> bool: ...
+        def unlock(self, name: Name) -> None: ...
+        def fence(self, name: Name) -> Fence: ...
+        def holds(self) -> List[str]: ...
+        def status(self) -> Status: ...
+        def commit(self, timeout: Optional[float] = None) -> None: ...
+    # fmt: on
 
     def abort(self) -> None:
-        """Ends the transaction, whatever it does. All that it owns is given back.
+        """Ends the transaction, whatever it does. All that it owns is given back. Nothing happens if it has ended.
 
-        Where it waits for a lock in another thread, that thread's `lock` raises `Aborted`; this may take as long as those before it.
+        Any thread may call it. If another thread waits in a call, that call raises `Aborted` at once.
         """
-        reply = self._channel.ask(b"abort %b\n" % self._key, self._key)
-        if reply != b"later":
-            replies.expect(reply, b"aborted")
-        self._is_over = True
+        if self._state.is_over:
+            return
+        is_free, start = self._busy.acquire(False), monotonic()
+        self._is_aborted = not is_free or threading.get_ident() != self._thread
+        try:
+            if is_free and len(self._right) > 0 and drive(self._session, flows.abort(self._state)):
+                self._give_back()
+        except Closed:
+            pass
+        finally:
+            self._state.is_over = True
+            self._drop()
+            if is_free:
+                self._busy.release()
+        self._watch.call("abort", self._state, (), start, None)
 
-    def status(self) -> Status:
-        """What the transaction does: it is active, or it waits for a name, or it was told of a deadlock."""
-        return replies.status(self._channel.ask(b"status %b\n" % self._key))
+    def _call(self, kind: str, flow: Flow[R], names: Sequence[bytes] = ()) -> R:
+        self._check()
+        if not self._busy.acquire(False):
+            raise Waiting("another thread is inside a call of this transaction")
+        start = monotonic()
+        error: Optional[BaseException] = None
+        try:
+            return drive(self._session, flow)
+        except BaseException as told:
+            error = told
+            if isinstance(told, Closed) or not isinstance(told, LockError):
+                self._drop()
+            if self._is_aborted and isinstance(told, LocksLost):
+                error = Aborted("another thread aborted the transaction")
+                raise error from None
+            raise
+        finally:
+            if self._state.is_over:
+                self._give_back()
+            self._busy.release()
+            self._watch.call(kind, self._state, names, start, error)
 
-    def holds(self) -> List[str]:
-        """The names that the transaction owns, in the order of their bytes."""
-        return replies.holds(self._channel.ask(b"holds %b\n" % self._key))
+    def _known(self, status: Status) -> Status:
+        return status
+
+    def _give_back(self) -> None:
+        """The transaction has ended: the next one may have its session, unless another thread has just dropped it."""
+        if self._take():
+            self._backend.give_back(self._session)
+
+    def _drop(self) -> None:
+        """Ends the transaction without waiting for anything."""
+        if self._take():
+            self._session.drop()
+
+    def _take(self) -> bool:
+        """Whether this call is the one that ends the transaction."""
+        try:
+            self._right.pop()
+        except IndexError:
+            return False
+        return True
 
     def __enter__(self) -> "Transaction":
+        self._thread = threading.get_ident()
         return self
 
-    def __exit__(
-        self,
-        kind: Optional[Type[BaseException]],
-        error: Optional[BaseException],
-        trace: Optional[TracebackType],
-    ) -> None:
-        if self._is_over:
-            return
-        if kind is not None:
-            self._roll_back()
-            return
-        try:
-            self.commit()
-        except LockError:
-            self._roll_back()
-            raise
-
-    def _roll_back(self) -> None:
-        """Aborts the transaction while another exception is on its way, which says more than one of the abort."""
-        try:
+    def __exit__(self, *error: object) -> None:
+        if error[0] is not None:
             self.abort()
-        except (Closed, NoTransaction):
-            pass
+        elif self._is_aborted or not self._state.is_over:
+            try:
+                self.commit()
+            except BaseException:
+                self.abort()
+                raise
 
-    def __repr__(self) -> str:
-        return f"<Transaction {self.key}>"
-
-    def _give_up(self, call: Waiter) -> None:
-        """Tries to take the request back until it is, or is granted."""
-        for pause in before_cancel():
-            reply = self._channel.ask(b"cancel %b\n" % self._key, self._key)
-            if reply != b"carried" or self._channel.wait(call, time.monotonic() + pause):
-                break
-        # The reply to the request came before the one to its cancel, unless the transaction is to be aborted and waits on.
-        self._channel.wait(call)
+    def __del__(self) -> None:
+        if getattr(self, "_right", None):
+            self._drop()
+            warnings.warn(f"{self!r} was dropped alive, and is aborted: use `with`, commit or abort", ResourceWarning, source=self)

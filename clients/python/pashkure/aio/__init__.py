@@ -1,14 +1,11 @@
-"""The lock service for asyncio: what `pashkure` has for threads.
+"""The locks of a service for asyncio: what `pashkure` has for threads, with the same exceptions and values.
 
     from pashkure.aio import Locks
 
-    async with Locks() as locks:
-        async with locks.transaction() as tx:     # commits at the end, aborts at an exception
-            await tx.lock("accounts/1")
-            await tx.lock("accounts/2", timeout=2.0)
-        await locks.run(transfer, "accounts/1", "accounts/2")   # again after Deadlock
-
-The exceptions are those of `pashkure`.
+    async with Locks.connect("/run/pashkure/locks") as locks:
+        async with locks.transaction("accounts/1", "accounts/2", timeout=2.0):   # commits at the end, aborts at an exception
+            ...
+        await locks.run(transfer, "accounts/1", "accounts/2")                    # again after Deadlock
 """
 from .locks import Locks
 from .transaction import Transaction

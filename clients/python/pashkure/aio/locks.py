@@ -2,138 +2,98 @@
 from __future__ import annotations
 
 import asyncio
-import os
-from types import TracebackType
-from typing import Any, Awaitable, Callable, Generator, List, Optional, Type, TypeVar
+import inspect
+import math
+from time import monotonic
+from typing import TYPE_CHECKING, Awaitable, Callable, Optional, TypeVar
 
-from .. import replies
-from ..errors import Deadlock
-from ..locks import Path, check_options
-from ..names import Name, encoded, encoded_key
-from ..pauses import after_deadlock
-from ..program import Program, command
-from ..replies import Status, Totals, Wait
-from .channel import Channel
+from ..calls import Opened
+from ..errors import CannotConnect, LocksLost
+from ..events import OnEvent, Watch
+from ..flows import Flow
+from ..locks import is_deadlock
+from ..values import Name, Retry, Totals, all_encoded, seconds
+from ..ways import Path
+from .service import Service, drive
 from .transaction import Transaction
 
+if TYPE_CHECKING:
+    from typing_extensions import Concatenate, ParamSpec
+
+    P = ParamSpec("P")
 R = TypeVar("R")
 
 
-class Begin:
-    """A transaction that is to begin: by `async with`, which ends it too, or by `await`."""
+class Locks(Opened):
+    """Exclusive locks on names, for transactions, and for the tasks of one event loop.
 
-    def __init__(self, channel: Channel) -> None:
-        self._channel = channel
-        self._transaction: Optional[Transaction] = None
-
-    async def _begin(self) -> Transaction:
-        return Transaction(self._channel, replies.key_of_begin(await self._channel.begin()))
-
-    def __await__(self) -> Generator[Any, None, Transaction]:
-        return self._begin().__await__()
-
-    async def __aenter__(self) -> Transaction:
-        self._transaction = await self._begin()
-        return self._transaction
-
-    async def __aexit__(
-        self,
-        kind: Optional[Type[BaseException]],
-        error: Optional[BaseException],
-        trace: Optional[TracebackType],
-    ) -> None:
-        if self._transaction is not None:
-            await self._transaction.__aexit__(kind, error, trace)
-
-
-class Locks:
-    """A lock service, as `pashkure.Locks`, with the same parameters and the same calls, which are awaited. Below stands what differs.
-
-    It is opened by `async with`, or by `await`, and used in one loop:
-
-        async with Locks(socket="/run/locks") as locks:
-            ..
-
-        locks = await Locks()
-        ..
-        await locks.close()
+    `Locks.connect` makes one. In an `async with` statement it is closed at the end. Do not fork while it is open.
     """
 
-    def __init__(
-        self,
-        program: Optional[Program] = None,
-        *,
-        socket: Optional[Path] = None,
-        transactions: Optional[int] = None,
-        names: Optional[int] = None,
-        name_bytes: Optional[int] = None,
-        seed: Optional[int] = None,
-    ) -> None:
-        check_options(socket, program, transactions, names, name_bytes, seed)
-        self._path = None if socket is None else os.fspath(socket)
-        self._words = command(program, transactions, names, name_bytes, seed)
-        self._channel = Channel()
+    _backend: Service
 
-    async def _open(self) -> "Locks":
-        if self._path is None:
-            await self._channel.start(self._words)
-        else:
-            await self._channel.connect(self._path)
-        return self
+    @classmethod
+    def connect(cls, *paths: Path, connect_timeout: float = 5.0, reply_timeout: float = 10.0, retry: Retry = Retry(), on_event: OnEvent = None,
+                slow_wait: Optional[float] = None, connections: int = 1) -> "Locks":  # fmt: skip
+        """The locks of a service that many processes share (`mmdetect serve --socket PATH`). Connects at first use.
 
-    def __await__(self) -> Generator[Any, None, "Locks"]:
-        return self._open().__await__()
+        - `paths`: the ways to this one service. Two services exclude nothing from each other.
+        - `connect_timeout`, `reply_timeout`: in how many seconds a service has to be found, and has to answer a request.
+        - `retry`: how often `run` tries. `on_event`: called after each begin, lock, commit and abort. `slow_wait`: seconds of a wait to be logged.
+        - `connections`: over how many connections the transactions go, in turn. The service takes a line of each connection in turn.
+        """
+        watch = Watch(on_event, slow_wait)
+        return cls(Service(paths, connect_timeout, reply_timeout, connections, watch.connection), watch, retry)
 
-    async def __aenter__(self) -> "Locks":
-        return await self._open()
+    def transaction(self, *names: Name, timeout: Optional[float] = None) -> Transaction:
+        """A transaction, which begins by `async with` or by `await`, and then locks the names in their order. At an exception of that, as
+        `Deadlock` or `Timeout`, and if the task is cancelled, none is left."""
+        return Transaction(self._backend, self._watch, all_encoded(names), seconds(timeout))
 
-    async def __aexit__(
-        self,
-        kind: Optional[Type[BaseException]],
-        error: Optional[BaseException],
-        trace: Optional[TracebackType],
-    ) -> None:
-        await self.close()
+    async def run(self, work: "Callable[Concatenate[Transaction, P], Awaitable[R]]", *args: "P.args", **kwargs: "P.kwargs") -> R:
+        """Awaits `work(tx, *args, **kwargs)` in a transaction of its own, and returns what it returns.
 
-    def transaction(self) -> Begin:
-        """As `pashkure.Locks.transaction`, for `async with`, or for `await`."""
-        return Begin(self._channel)
-
-    async def run(
-        self, work: Callable[..., Awaitable[R]], *args: object, attempts: int = 10, **kwargs: object
-    ) -> R:
-        """As `pashkure.Locks.run`, of work that is awaited."""
-        for attempt in range(1, attempts):
+        After `Deadlock`, also one in a group of exceptions, the transaction is aborted, and the work is run again in a new one after a pause,
+        as often as `retry` says. The last `Deadlock`, and each other exception, is raised. So the work locks first and changes things then,
+        or undoes what it changed. It is not run again after `LocksLost`: it may have changed things while somebody else owned the names.
+        """
+        attempt = 0
+        while True:
+            start, attempt = monotonic(), attempt + 1
             try:
                 async with self.transaction() as tx:
-                    return await work(tx, *args, **kwargs)
-            except Deadlock:
-                await asyncio.sleep(after_deadlock(attempt))
-        async with self.transaction() as tx:
-            return await work(tx, *args, **kwargs)
+                    result = work(tx, *args, **kwargs)
+                    if not inspect.isawaitable(result):
+                        raise TypeError(f"{work!r} returned nothing to await")
+                    value: R = await result
+                    return value
+            except BaseException as error:
+                if attempt >= self._retry.attempts or not is_deadlock(error):
+                    raise
+            await asyncio.sleep(self._retry.pause(attempt, monotonic() - start))
 
-    async def owner(self, name: Name) -> Optional[str]:
-        """As `pashkure.Locks.owner`."""
-        data = encoded(name)
-        return replies.owner(await self._channel.ask(b"owner %b\n" % data), data)
-
-    async def status(self, key: str) -> Status:
-        """As `pashkure.Locks.status`."""
-        return replies.status(await self._channel.ask(b"status %b\n" % encoded_key(key)))
-
-    async def holds(self, key: str) -> List[str]:
-        """As `pashkure.Locks.holds`."""
-        return replies.holds(await self._channel.ask(b"holds %b\n" % encoded_key(key)))
-
-    async def graph(self) -> List[Wait]:
-        """As `pashkure.Locks.graph`."""
-        call = await self._channel.call(b"graph\n")
-        return replies.graph(self._channel.reply(call), call.lines)
-
-    async def totals(self) -> Totals:
-        """As `pashkure.Locks.totals`."""
-        return replies.totals(await self._channel.ask(b"totals\n"))
+    # fmt: off
+    if TYPE_CHECKING:  # what `Opened` does
+        async def owner(self, name: Name) -> Optional[str]: ...
+        async def totals(self) -> Totals: ...
+    # fmt: on
 
     async def close(self) -> None:
-        """As `pashkure.Locks.close`. Tasks whose transactions are live get `Closed`."""
-        await self._channel.close()
+        """Closes all connections, and waits for nothing. Live transactions are aborted, and their calls raise `Closed`."""
+        self._backend.close()
+
+    async def _ask(self, flow: Callable[[], Flow[R]]) -> R:
+        """What a request without a transaction says."""
+        while True:
+            session = await self._backend.session(math.inf)
+            try:
+                return await drive(session, flow())
+            except LocksLost as lost:
+                if not session.is_used:
+                    raise CannotConnect(str(lost)) from lost
+
+    async def __aenter__(self) -> "Locks":
+        return self
+
+    async def __aexit__(self, *error: object) -> None:
+        await self.close()

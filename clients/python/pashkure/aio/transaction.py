@@ -1,110 +1,152 @@
 """A transaction, for tasks."""
 from __future__ import annotations
 
-from types import TracebackType
-from typing import List, Optional, Type
+import asyncio
+import warnings
+from time import monotonic
+from typing import TYPE_CHECKING, Any, Generator, List, Optional, Sequence, Tuple, TypeVar
 
-from .. import replies
-from ..errors import Closed, LockError, NoTransaction
-from ..names import Name, encoded
-from ..pauses import before_cancel
-from ..replies import Status
-from .channel import Awaited, Channel
+from .. import flows
+from ..calls import Calls
+from ..errors import CannotConnect, Closed, LockError, LocksLost, NoTransaction, Waiting
+from ..events import Watch
+from ..flows import Flow
+from ..values import Fence, Name, Status
+from .service import Service, Session, drive
+
+R = TypeVar("R")
 
 
-class Transaction:
-    """A transaction, as `pashkure.Transaction`, with the same calls, which are awaited. What is said there of threads holds of tasks here.
+class Transaction(Calls):
+    """A transaction, which owns the names that it locks until it ends.
 
-    It ends with its `async with` statement. Below stands what differs.
+    `Locks.transaction` makes one, which begins, once, by `async with` or by `await`. The `async with` statement commits it at the end, and
+    aborts it if an exception leaves the block:
+
+        async with locks.transaction() as tx:
+            await tx.lock("accounts/1", "accounts/2", timeout=2.0)
+
+    One task at a time may call it; a second one raises `Waiting`. While one waits, other tasks may call `abort`, `interrupt` and `status`.
+
+    A task may be cancelled in each call, as by `asyncio.timeout`. A cancelled begin leaves nothing. A cancelled `lock` is taken back, and the
+    transaction goes on; `holds` says whether the name was granted in that moment. A cancelled `commit` or `abort` was sent, and counts.
     """
 
-    def __init__(self, channel: Channel, key: bytes) -> None:
-        self._channel = channel
-        self._key = key
-        self._is_over = False
+    _session: Session
+    _task: "Optional[asyncio.Task[Any]]" = None  # within a call
+    _is_live = _has_begun = False
 
-    @property
-    def key(self) -> str:
-        """As `pashkure.Transaction.key`."""
-        return self._key.decode("ascii")
+    def __init__(self, service: Service, watch: Watch, names: Tuple[bytes, ...], timeout: float) -> None:
+        super().__init__(watch.state(), watch)
+        self._service, self._names, self._timeout = service, names, timeout
+        self._own: "Optional[asyncio.Task[Any]]" = None
 
-    async def lock(self, name: Name, timeout: Optional[float] = None) -> None:
-        """As `pashkure.Transaction.lock`. Until it returns, other tasks run.
-
-        Where the task is cancelled meanwhile, as by `asyncio.wait_for`, the transaction waits on, and can only be aborted. So use the
-        timeout of this call to go on with the transaction.
-        """
-        data = encoded(name)
-        call = Awaited(self._key, True)
-        self._channel.send(b"lock %b %b\n" % (self._key, data), call)
-        if not await self._channel.wait(call, timeout):
-            await self._give_up(call)
-        replies.told_of_lock(self._channel.reply(call), data)
-
-    async def try_lock(self, name: Name) -> bool:
-        """As `pashkure.Transaction.try_lock`. It waits for the reply, and for no other transaction."""
-        data = encoded(name)
-        return replies.told_of_try(await self._channel.ask(b"try %b %b\n" % (self._key, data)), data)
-
-    async def unlock(self, name: Name) -> None:
-        """As `pashkure.Transaction.unlock`."""
-        data = encoded(name)
-        reply = await self._channel.ask(b"unlock %b %b\n" % (self._key, data))
-        if reply != b"unlocked":
-            replies.fail_of_name(reply, data)
-
-    async def commit(self) -> None:
-        """As `pashkure.Transaction.commit`."""
-        replies.expect(await self._channel.ask(b"commit %b\n" % self._key), b"committed")
-        self._is_over = True
+    # fmt: off
+    if TYPE_CHECKING:  # what `Calls` does
+        async def lock(self, *names: Name, timeout: Optional[float] = None) -> None: ...
+        async def try_lock(self, name: Name) -> bool: ...
+        async def unlock(self, name: Name) -> None: ...
+        async def fence(self, name: Name) -> Fence: ...
+        async def holds(self) -> List[str]: ...
+        async def status(self) -> Status: ...
+        async def commit(self, timeout: Optional[float] = None) -> None: ...
+    # fmt: on
 
     async def abort(self) -> None:
-        """As `pashkure.Transaction.abort`."""
-        reply = await self._channel.ask(b"abort %b\n" % self._key, self._key)
-        if reply != b"later":
-            replies.expect(reply, b"aborted")
-        self._is_over = True
+        """Ends the transaction, whatever it does. All that it owns is given back. Nothing happens if it has ended.
 
-    async def status(self) -> Status:
-        """As `pashkure.Transaction.status`."""
-        return replies.status(await self._channel.ask(b"status %b\n" % self._key))
+        Any task may call it. If another task waits in a call, that call raises `Aborted` at once.
+        """
+        if self._state.is_over or not self._has_begun:
+            return
+        start = monotonic()
+        self._state.is_over, self._is_live = True, False
+        self._is_aborted = self._task is not None or asyncio.current_task() is not self._own
+        if self._task is not None:
+            self._session.break_off()
+        try:
+            await drive(self._session, flows.abort(self._state))
+        except Closed:
+            pass
+        finally:
+            self._watch.call("abort", self._state, (), start, None)
 
-    async def holds(self) -> List[str]:
-        """As `pashkure.Transaction.holds`."""
-        return replies.holds(await self._channel.ask(b"holds %b\n" % self._key))
+    async def _begin(self) -> "Transaction":
+        if self._has_begun:
+            raise RuntimeError("it has begun: call `transaction` for each transaction")
+        self._has_begun, self._own, start = True, asyncio.current_task(), monotonic()
+        deadline, error = start + self._timeout, None
+        while True:
+            self._session = await self._service.session(deadline)
+            try:
+                await drive(self._session, flows.begin(self._state, self._names, deadline))
+                self._is_live = True
+                return self
+            except BaseException as told:
+                error = told
+                self._session.drop()
+                if not isinstance(told, LocksLost) or self._state.key:
+                    self._state.is_over = True
+                    raise
+                if not self._session.is_used:
+                    raise CannotConnect(str(told)) from told
+            finally:
+                if self._is_live or self._state.key:
+                    self._watch.call("begin", self._state, self._names, start, None if self._is_live else error)
+
+    async def _call(self, kind: str, flow: Flow[R], names: Sequence[bytes] = ()) -> R:
+        self._check()
+        if not self._has_begun:
+            raise NoTransaction("the transaction has not begun: use `async with`, or `await`")
+        if self._task is not None:
+            raise Waiting("another task is inside a call of this transaction")
+        self._task, start = asyncio.current_task(), monotonic()
+        error: Optional[BaseException] = None
+        try:
+            return await drive(self._session, flow)
+        except BaseException as told:
+            error = told
+            self._clean_up(kind, told)
+            raise
+        finally:
+            self._task = None
+            self._is_live = self._is_live and not self._state.is_over
+            self._watch.call(kind, self._state, names, start, error)
+
+    async def _known(self, status: Status) -> Status:
+        return status
+
+    def _clean_up(self, kind: str, error: BaseException) -> None:
+        """After an exception: nothing waits on that nobody wants."""
+        if isinstance(error, Closed):
+            self._is_live = False
+            self._session.drop()
+        elif kind == "commit" and not isinstance(error, LockError):
+            self._state.is_over = True
+            self._session.drop()  # it was sent; if it is refused, the transaction is aborted
+        elif not isinstance(error, LockError):
+            self._state.is_unsettled = True
+            self._session.abandon()
+
+    def __await__(self) -> Generator[Any, None, "Transaction"]:
+        return self._begin().__await__()
 
     async def __aenter__(self) -> "Transaction":
-        return self
+        return await self._begin()
 
-    async def __aexit__(
-        self,
-        kind: Optional[Type[BaseException]],
-        error: Optional[BaseException],
-        trace: Optional[TracebackType],
-    ) -> None:
-        if self._is_over:
-            return
-        if kind is not None:
-            await self._roll_back()
-            return
-        try:
-            await self.commit()
-        except LockError:
-            await self._roll_back()
-            raise
-
-    async def _roll_back(self) -> None:
-        try:
+    async def __aexit__(self, *error: object) -> None:
+        if error[0] is not None:
             await self.abort()
-        except (Closed, NoTransaction):
-            pass
+        elif self._is_aborted or not self._state.is_over:
+            try:
+                await self.commit()
+            except BaseException:
+                await self.abort()
+                raise
 
-    def __repr__(self) -> str:
-        return f"<Transaction {self.key}>"
-
-    async def _give_up(self, call: Awaited) -> None:
-        for pause in before_cancel():
-            reply = await self._channel.ask(b"cancel %b\n" % self._key, self._key)
-            if reply != b"carried" or await self._channel.wait(call, pause):
-                break
-        await self._channel.wait(call, None)
+    def __del__(self) -> None:
+        if self._is_live:
+            loop = self._session.connection.loop
+            if not loop.is_closed():
+                loop.call_soon_threadsafe(self._session.drop)
+            warnings.warn(f"{self!r} was dropped alive, and is aborted: use `async with`, commit or abort", ResourceWarning, source=self)

@@ -1,0 +1,42 @@
+/* What crates/bench_locks does by `lock_all`, from C, over pashkure_threads.h. */
+#include "transfers_threads.h"
+
+#include <pashkure_threads.h>
+
+static pashkure_locks *locks;
+
+static void must(pashkure_result result) {
+    if (result != PASHKURE_OK) {
+        fprintf(stderr, "transfers_c: %s\n", pashkure_message(result));
+        exit(1);
+    }
+}
+
+static void open_locks(void) {
+    pashkure_config config = PASHKURE_CONFIG;
+    config.transactions = MAX_THREADS + 1;
+    config.names = 65536;
+    config.name_bytes = NAME_BYTES;
+    config.seed = 7;
+    must(pashkure_locks_open(&locks, &config));
+}
+
+static uint32_t open_session(void) { return 0; }
+static void close_session(uint32_t session) { (void)session; }
+
+static int transfer(uint32_t session, const uint32_t *chosen) {
+    pashkure_request requests[4];
+    pashkure_key key;
+    (void)session;
+    for (int place = 0; place < 4; place++)
+        requests[place] = (pashkure_request){names[chosen[place]], NAME_BYTES, PASHKURE_NOT_ASKED};
+    must(pashkure_locks_begin(locks, &key));
+    pashkure_result told = pashkure_locks_lock_all(locks, key, requests, 4, PASHKURE_FOREVER);
+    if (told == PASHKURE_DEADLOCK) {
+        must(pashkure_locks_abort(locks, key));
+        return 0;
+    }
+    must(told);
+    must(pashkure_locks_commit(locks, key));
+    return 1;
+}

@@ -1,0 +1,292 @@
+"""The service at a Unix socket, for tasks: one connection for the transactions of all tasks, or a few."""
+from __future__ import annotations
+
+import asyncio
+import math
+import os
+import socket
+import weakref
+from time import monotonic
+from typing import Callable, List, Optional, Sequence, TypeVar, Union, cast
+
+from ..errors import Aborted, CannotConnect, Closed, Full, LocksLost, ProtocolError, ServiceRestarted
+from ..flows import WOKEN, Flow
+from ..service import each
+from ..ways import BY_CLOSE, BY_FORK, LOST, RESTARTED, Path, Ways, Why
+from ..wire import Answer, Ask, Call, Conversation, Party
+
+R = TypeVar("R")
+ENDS = (b"commit", b"abort", b"cancel")
+
+
+class Connection(asyncio.Protocol):
+    """One connection, for any number of transactions."""
+
+    def __init__(self, service: "Service", own: socket.socket) -> None:
+        self.service, self.own, self.epoch = service, own, service.epoch
+        self.loop, self.talk = asyncio.get_running_loop(), Conversation()
+        self.why: Optional[Why] = None
+        self.can_write = asyncio.Event()
+        self.can_write.set()
+        self._transport: Optional[asyncio.Transport] = None
+        self._timer: Optional[asyncio.TimerHandle] = None
+
+    def connection_made(self, transport: asyncio.BaseTransport) -> None:
+        self._transport = cast(asyncio.Transport, transport)
+
+    def data_received(self, data: bytes) -> None:
+        try:
+            if self.why is None:
+                self.write(self.talk.feed(data))
+        except ProtocolError as error:
+            self.end((ProtocolError, str(error)))
+
+    def connection_lost(self, error: Optional[Exception]) -> None:
+        self.end(LOST)
+
+    def pause_writing(self) -> None:
+        self.can_write.clear()
+
+    def resume_writing(self) -> None:
+        self.can_write.set()
+
+    def send(self, call: Call) -> None:
+        """Sends a request, whose reply has to come in time."""
+        self.write(self.talk.send(call))
+        if self._timer is None:
+            self._timer = self.loop.call_later(self.service.reply_timeout, self._time_is_up)
+
+    def write(self, data: bytes) -> None:
+        if data and self.why is None and self._transport is not None:
+            self._transport.write(data)
+
+    def is_good(self) -> bool:
+        """Whether it can be used. One of a service of before is closed."""
+        if self.epoch < self.service.epoch:
+            self.end((ServiceRestarted, RESTARTED))
+        return self.why is None
+
+    def end(self, why: Why) -> None:
+        """Closes the connection. All that wait for it are told."""
+        if self.why is not None:
+            return
+        self.why = why
+        if self.loop.is_closed():
+            self.own.close()
+            return
+        if self._timer is not None:
+            self._timer.cancel()
+        if self._transport is not None:
+            self._transport.abort()
+        if self in self.service.connections and why is not BY_CLOSE:
+            self.service.tell(why[0](why[1]))
+        self.can_write.set()
+        self.talk.lost()
+
+    async def lost(self) -> Closed:
+        """What to raise, now that the connection is lost. Whether the service was started anew a new connection says, if there is one."""
+        why = self.why or LOST
+        if why is LOST:
+            await self.service.look(self)
+        return ServiceRestarted(RESTARTED) if why is LOST and self.epoch < self.service.epoch else why[0](why[1])
+
+    def _time_is_up(self) -> None:
+        """Ends the connection if the oldest request has waited for too long."""
+        self._timer = None
+        if self.talk.pending:
+            left = self.talk.pending[0].since + self.service.reply_timeout - monotonic()
+            if left > 0:
+                self._timer = self.loop.call_later(left, self._time_is_up)
+            else:
+                self.end((LocksLost, f"the service did not answer within {self.service.reply_timeout:g} s"))
+
+
+class Session(Party):
+    """One transaction of a connection. One task at a time may call `ask` and `wait`."""
+
+    def __init__(self, connection: Connection, is_used: bool) -> None:
+        super().__init__()
+        self.connection, self.is_used, self.epoch = connection, is_used, connection.epoch
+        self._last: Optional[Call] = None  # the last request
+        self._waiter: "Optional[asyncio.Future[None]]" = None  # that it, or a wait, is over
+        self._is_woken = False
+
+    async def ask(self, ask: Ask) -> Answer:
+        connection = self.connection
+        while not connection.can_write.is_set() and ask.word not in ENDS:
+            await connection.can_write.wait()
+        if not connection.is_good():
+            raise await connection.lost()
+        call = self._last = Call(ask, self, self.is_told)
+        connection.send(call)
+        while call.answer is None:
+            await self._woken(math.inf if ask.deadline is None else ask.deadline)
+            if call.answer is None and connection.why is not None:
+                raise await connection.lost()
+            if call.answer is None and ask.deadline is not None and monotonic() >= ask.deadline:
+                raise LocksLost(f"the service did not answer {ask.word.decode()} in time")
+        return call.answer
+
+    async def wait(self, deadline: float) -> Optional[Answer]:
+        while True:
+            if self.told:
+                return self.told.pop(0)
+            if self._is_woken:
+                self._is_woken = False
+                return WOKEN
+            if not self.connection.is_good():
+                raise await self.connection.lost()
+            if monotonic() >= deadline:
+                return None
+            await self._woken(deadline)
+
+    async def _woken(self, deadline: float) -> None:
+        """Returns when it is told something, and at the deadline."""
+        loop = self.connection.loop
+        waiter = self._waiter = loop.create_future()
+        timer = loop.call_later(max(0.0, deadline - monotonic()), self.is_told) if deadline < math.inf else None
+        try:
+            await waiter
+        finally:
+            if timer is not None:
+                timer.cancel()
+
+    def wake(self) -> None:
+        self._is_woken = True
+        self.is_told()
+
+    def is_told(self) -> None:
+        if self._waiter is not None and not self._waiter.done():
+            self._waiter.set_result(None)
+
+    def drop(self) -> None:
+        if self.connection.why is None:
+            self.connection.write(self.connection.talk.drop(self))
+
+    def abandon(self) -> None:
+        """A task was cancelled in a call: what its last request waits for is taken back."""
+        if self._last is not None and self.connection.why is None:
+            self.connection.write(self.connection.talk.abandon(self._last))
+
+    def break_off(self) -> None:
+        """The call of another task raises `Aborted`."""
+        if self._waiter is not None and not self._waiter.done():
+            self._waiter.set_exception(Aborted("another task aborted the transaction"))
+
+
+async def drive(session: Session, flow: Flow[R]) -> R:
+    """Runs a flow. What an exception leaves behind is the caller's to clean up."""
+    try:
+        step = next(flow)
+        while True:
+            step = flow.send(await session.ask(step) if isinstance(step, Ask) else await session.wait(step))
+    except StopIteration as end:
+        result: R = end.value
+        return result
+    except BaseException:
+        flow.close()
+        raise
+
+
+class Service(Ways):
+    """A service that many processes share, for the tasks of one loop."""
+
+    def __init__(self, paths: Sequence[Path], connect_timeout: float, reply_timeout: float, connections: int,
+                 tell: Callable[[Optional[Closed]], None]) -> None:  # fmt: skip
+        super().__init__(paths, connect_timeout, reply_timeout, tell)
+        if connections < 1:
+            raise ValueError(f"connections is at least 1, not {connections}")
+        self.connections: List[Optional[Connection]] = [None] * connections
+        self._tasks: "List[Optional[asyncio.Task[Connection]]]" = [None] * connections
+        self._turn = 0
+        self._loop: Optional[asyncio.AbstractEventLoop] = None
+
+    async def session(self, deadline: float) -> Session:
+        if self.is_closed:
+            raise Closed(BY_CLOSE[1])
+        self._loop = self._loop or asyncio.get_running_loop()
+        if self._loop is not asyncio.get_running_loop():
+            raise RuntimeError("these locks were opened in another event loop: each loop needs its own")
+        place = self._turn = (self._turn + 1) % len(self.connections)
+        connection = self.connections[place]
+        if connection is not None and connection.is_good():
+            return Session(connection, True)
+        return Session(await self._shared(place, deadline), False)
+
+    def close(self) -> None:
+        self.is_closed = True
+        for connection in self.connections:
+            if connection is not None:
+                connection.end(BY_CLOSE)
+
+    async def look(self, lost: Connection) -> None:
+        """Tries each way once, to learn whether the service was started anew."""
+        if lost in self.connections:
+            try:
+                await self._shared(self.connections.index(lost), math.inf, True)
+            except Closed:
+                pass
+
+    async def _shared(self, place: int, deadline: float, is_once: bool = False) -> Connection:
+        """A new connection. All tasks that want one at this time wait for the same."""
+        task = self._tasks[place]
+        if task is None or task.done():
+            task = self._tasks[place] = asyncio.ensure_future(self._connected(place, is_once))
+            task.add_done_callback(lambda task: task.cancelled() or task.exception())
+        await asyncio.wait([task], timeout=None if deadline == math.inf else max(0.0, deadline - monotonic()))
+        if not task.done():
+            raise CannotConnect(f"no service answered in time at {self}")
+        error = task.exception()
+        if error is not None:
+            raise type(error)(*error.args) from error.__cause__
+        return task.result()
+
+    async def _connected(self, place: int, is_once: bool) -> Connection:
+        connection = self.connections[place] = await self._found(monotonic() + self.connect_timeout, is_once)
+        self.tell(None)
+        return connection
+
+    async def _found(self, deadline: float, is_once: bool) -> Connection:
+        """A new connection."""
+        finding = self.find(deadline, Connection, is_once)
+        try:
+            step = next(finding)
+            while True:
+                if isinstance(step, float):
+                    await asyncio.sleep(step)
+                step = finding.send(None if isinstance(step, float) else await self._tried(step, deadline))
+        except StopIteration as end:
+            connection: Connection = end.value
+        if self.is_closed:
+            connection.end(BY_CLOSE)
+        return connection
+
+    async def _tried(self, path: Union[str, bytes], deadline: float) -> Union[Connection, Exception]:
+        """A connection by this way, or why there is none."""
+        own = socket.socket(socket.AF_UNIX)
+        connection = Connection(self, own)
+        try:
+            own.setblocking(False)
+            own.connect(path)
+            _connections.add(connection)
+            await connection.loop.create_connection(lambda: connection, sock=own)
+            hello = Ask(b"hello", (), min(monotonic() + self.reply_timeout, deadline))
+            connection.epoch = self.greet(await Session(connection, False).ask(hello))
+            return connection
+        except BaseException as error:
+            connection.end(LOST)
+            own.close()
+            if isinstance(error, (OSError, Full)):
+                return error
+            raise
+
+
+def _forget_all() -> None:
+    """In the child of a fork: closes its copies, so that only the parent has the connections."""
+    for connection in each(_connections):
+        connection.why = BY_FORK
+        connection.own.close()
+
+
+_connections: "weakref.WeakSet[Connection]" = weakref.WeakSet()
+os.register_at_fork(after_in_child=_forget_all)

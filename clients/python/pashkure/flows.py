@@ -1,0 +1,210 @@
+"""What each call does, step by step, for threads and for tasks alike. Nothing here reads, writes or sleeps.
+
+A flow is a generator. It yields an `Ask`, and is sent the answer; or it yields a time, and is sent how the wait of its transaction ended,
+`WOKEN`, or nothing at that time. It returns what the call returns, and raises what the call raises.
+"""
+from __future__ import annotations
+
+import math
+from time import monotonic
+from typing import Any, Callable, Generator, Iterator, List, Optional, Sequence, Tuple, TypeVar, Union
+
+from .errors import Aborted, Deadlock, Interrupted, LockError, NoTransaction, ProtocolError, Timeout, refusal
+from .values import Fence, Status, Totals, Wait, decoded
+from .wire import LONGEST, Answer, Ask, cut
+
+R = TypeVar("R")
+Flow = Generator[Union[Ask, float], Optional[Answer], R]
+WOKEN: Answer = (b"woken",)
+"""The wait was not ended: somebody called `wake`."""
+SHORTEST, LONGEST_PAUSE = 0.001, 0.1
+
+
+class State:
+    """What is known of a transaction."""
+
+    def __init__(self, slow_wait: float = math.inf, warn: Optional[Callable[[bytes, str, str, float], None]] = None) -> None:
+        self.key = b""
+        self.waits: Optional[Status] = None  # while it waits
+        self.waited = 0.0  # how long the last call waited
+        self.is_over = False
+        self.is_interrupted = False  # its wait, or its next one, is to be interrupted
+        self.is_unsettled = False  # a call was left, so it may wait for what nobody wants
+        self.slow_wait, self.warn = slow_wait, warn
+
+
+def begin(state: State, names: Sequence[bytes], deadline: float) -> Flow[None]:
+    """Begins a transaction that owns these names. Where it cannot own all, none is left."""
+    part = names[: cut(names, LONGEST - len(b"begin"))] if names else ()
+    words = yield from _asked(Ask(b"begin", tuple(part)))
+    if words[0] != b"begun":
+        raise refusal(words[-1])
+    state.key = words[1]
+    try:
+        if part:
+            owned = yield from _owned(state, part, words[2:], deadline)
+            yield from lock(state, names[owned:], deadline)
+    except LockError:
+        if not state.is_over:
+            yield Ask(b"abort")
+        raise
+
+
+def lock(state: State, names: Sequence[bytes], deadline: float) -> Flow[None]:
+    """Locks the names in their order. What is owned at an exception stays owned."""
+    state.waited = 0.0
+    while names:
+        part = names[: cut(names, LONGEST - len(b"lock ") - len(state.key))]
+        words = yield from _ask(state, Ask(b"lock", tuple(part)))
+        names = names[(yield from _owned(state, part, words, deadline)) :]
+
+
+def _owned(state: State, names: Sequence[bytes], words: Answer, deadline: float) -> Flow[int]:
+    """How many of the names that it asked for are owned, after its wait if need be. Raises what else the answer says."""
+    if not words or words[0] in (b"granted", b"held"):
+        return len(names)
+    place = int(words[1]) if len(words) == 3 else 0
+    if place >= len(names):
+        raise ProtocolError(f"the service told of name {place} of {len(names)}")
+    name, told = decoded(names[place]), words[-1].decode("ascii")
+    if words[0] == b"waits":
+        yield from _waited(state, name, told, deadline)
+        return place + 1
+    if words[0] == b"deadlock":
+        answer = yield from _asked(Ask(b"cycle"))
+        raise Deadlock(name, told, cycle_of(answer[1:]) if answer[0] == b"cycle" else ())
+    raise _refused(state, words)
+
+
+def _waited(state: State, name: str, holder: str, deadline: float) -> Flow[None]:
+    """Returns when the wait was granted."""
+    state.waits = Status("waiting", name, holder)
+    start = monotonic()
+    try:
+        told = yield from _told(state, name, holder, deadline)
+    finally:
+        state.waits = None
+        state.waited += monotonic() - start
+    if told[0] == b"aborted":
+        raise _aborted(state)
+
+
+def _told(state: State, name: str, holder: str, deadline: float) -> Flow[Answer]:
+    """How the wait ended. At the deadline, and if it is interrupted, the request is taken back, and this raises."""
+    start, pauses, is_tried = monotonic(), _pauses(), False
+    warns, until = start + state.slow_wait, deadline
+    while True:
+        told = None if state.is_interrupted and not is_tried else (yield min(until, warns))
+        if told is not None and told != WOKEN:
+            return told
+        now = monotonic()
+        if now >= warns and state.warn is not None:
+            state.warn(state.key, name, holder, now - start)
+            warns = math.inf
+        if now < until and not state.is_interrupted:
+            continue
+        words = yield from _asked(Ask(b"cancel"))
+        if words[0] == b"cancelled":
+            raise _why(state, name)
+        is_tried = True
+        # What is refused has ended before, which this side was told before this reply.
+        until = monotonic() + next(pauses) if words[0] == b"carried" else math.inf
+
+
+def _why(state: State, name: str) -> LockError:
+    """Why a request was taken back."""
+    if state.is_interrupted:
+        state.is_interrupted = False
+        return Interrupted(f"the wait for {name!r} was interrupted")
+    return Timeout(name)
+
+
+def _pauses() -> Iterator[float]:
+    """Seconds between the tries to take a request back, each longer than the one before, up to a bound."""
+    pause = SHORTEST
+    while True:
+        yield pause
+        pause = min(LONGEST_PAUSE, pause * 2)
+
+
+def settle(state: State) -> Flow[None]:
+    """After a call that was left: the replies to what it sent first, and what it waits for is taken back."""
+    pauses = _pauses()
+    while state.is_unsettled:
+        words = yield from _asked(Ask(b"cancel"))
+        if words[0] == b"carried":
+            yield monotonic() + next(pauses)
+        else:
+            state.is_unsettled = False
+
+
+def asked(state: State, ask: Ask, read: Callable[[Answer], R]) -> Flow[R]:
+    """What is read of the answer to a request that is not refused."""
+    return read((yield from _wanted(state, ask)))
+
+
+def commit(state: State, deadline: Optional[float]) -> Flow[None]:
+    yield from _wanted(state, Ask(b"commit", (), deadline))
+    state.is_over = True
+
+
+def abort(state: State) -> Flow[bool]:
+    """Ends the transaction, whatever it does. Whether it has ended now, and not only when its wait ends."""
+    words = yield from _asked(Ask(b"abort"))
+    state.is_over = True
+    return words[0] != b"later"
+
+
+def plain(ask: Ask, read: Callable[[Answer], R]) -> Flow[R]:
+    """The same, of a request without a transaction."""
+    words = yield from _asked(ask)
+    if words[0] == b"refused":
+        raise refusal(words[-1])
+    return read(words)
+
+
+def _asked(ask: Ask) -> Flow[Answer]:
+    """The answer to a request."""
+    words = yield ask
+    assert words is not None
+    return words
+
+
+def _ask(state: State, ask: Ask) -> Flow[Answer]:
+    """The answer to a request of a transaction that waits for nothing."""
+    if state.is_unsettled:
+        yield from settle(state)
+    return (yield from _asked(ask))
+
+
+def _wanted(state: State, ask: Ask) -> Flow[Answer]:
+    """The answer to a request that may be refused, and is not."""
+    words = yield from _ask(state, ask)
+    if words[0] == b"refused":
+        raise _refused(state, words)
+    return words
+
+
+def _refused(state: State, words: Answer) -> LockError:
+    """What a refusal says of a live transaction, which this side did not end."""
+    return _aborted(state) if words[-1] == b"no-transaction" else refusal(words[-1])
+
+
+def _aborted(state: State) -> LockError:
+    state.is_over = True
+    return Aborted("somebody else aborted the transaction, and all that it owned is given back")
+
+
+def status_of(words: Sequence[bytes]) -> Status:
+    """What a transaction does, by the words of a reply."""
+    if words[0] == b"active":
+        return Status("active")
+    state: Tuple[str, str] = (decoded(words[1]), words[2].decode("ascii"))
+    return Status("waiting" if words[0] == b"waiting" else "deadlock", *state, aborting=len(words) == 4)
+
+
+def cycle_of(words: Sequence[bytes]) -> Tuple[Wait, ...]:
+    """The waits of a cycle, by its keys and names in turn."""
+    keys, names = [word.decode("ascii") for word in words[::2]], [decoded(word) for word in words[1::2]]
+    holders = [*keys[1:], *([] if len(keys) > len(names) else keys[:1])]
+    return tuple(map(Wait, keys, names, holders))

@@ -1,0 +1,223 @@
+"""The protocol of the socket (docs/SERVICE.md), as bytes. Nothing here reads or writes."""
+from __future__ import annotations
+
+import re
+from collections import deque
+from time import monotonic
+from typing import Callable, Deque, Dict, List, NamedTuple, Optional, Sequence, Tuple
+
+from .errors import ProtocolError
+
+LONGEST = 1048
+"""Bytes of a line."""
+
+
+class Ask(NamedTuple):
+    """A request: its word, and its names or the key of another transaction. The key of its own transaction is added where it is sent."""
+
+    word: bytes
+    names: Tuple[bytes, ...] = ()
+    deadline: Optional[float] = None
+    """When its reply has to be there, if that is sooner than what the backend allows each request."""
+
+
+Answer = Tuple[bytes, ...]
+"""The words of a reply, or of how a wait ended; behind those of `graph`, `list` and `clients` the lines that follow."""
+
+_KEY, _NAME, _N = rb"[0-9]{1,10}\.[0-9]{1,10}", rb"[!-~\x80-\xff]+", rb"[0-9]{1,20}"
+_PAIRS = rb"(?: KEY NAME)+(?: \.\.)?"
+
+
+def _pattern(text: bytes) -> "re.Pattern[bytes]":
+    return re.compile(text.replace(b"PAIRS", _PAIRS).replace(b"KEY", _KEY).replace(b"NAME", _NAME).replace(b"#", _N))
+
+
+REPLIES = {
+    word: _pattern(text + rb"|refused(?: #)? [a-z]+(?:-[a-z]+)*")
+    for word, text in {
+        b"begin": rb"begun KEY(?: (?:waits|deadlock) # KEY| refused # [a-z-]+)?",
+        b"lock": rb"granted|held|(?:waits|deadlock)(?: #)? KEY",
+        b"try": rb"granted|held|busy KEY",
+        b"unlock": rb"unlocked",
+        b"commit": rb"committed",
+        b"abort": rb"aborted|later",
+        b"cancel": rb"cancelled|carried",
+        b"owner": rb"owner KEY|free",
+        b"status": rb"active|(?:waiting|deadlock) NAME KEY(?: aborting)?",
+        b"holds": rb"holds(?: NAME)*",
+        b"cycle": rb"cyclePAIRS",
+        b"fence": rb"fence # #",
+        b"totals": rb"totals(?: #){4}",
+        b"hello": rb"hello(?: #){5}",
+        b"counts": rb"counts(?: #){9}",
+        b"graph": rb"graph #",
+        b"list": rb"list #",
+        b"clients": rb"clients #",
+    }.items()
+}
+EVENT = _pattern(rb"\* (?:granted KEY NAME|aborted KEY|deadlockPAIRS)")
+LINES = {
+    b"graph": _pattern(rb"\* KEY NAME KEY"),
+    b"list": _pattern(rb"\* KEY (?:#|-) (?:active|(?:waiting|deadlock) NAME KEY(?: aborting)?)"),
+    b"clients": _pattern(rb"\* # # # #"),
+}
+"""The lines that follow a reply, for the requests whose replies have some."""
+
+
+class Party:
+    """Whose requests they are: at most one live transaction."""
+
+    key = b""
+    """Of the transaction, from its begin to its end."""
+
+    def __init__(self) -> None:
+        self.told: List[Answer] = []  # how its wait ended, until that is read; or each deadlock, to an operator
+
+    def is_told(self) -> None:
+        """Called when `told` has got something."""
+
+
+class Call:
+    """A request that was sent, and its answer once that is there."""
+
+    __slots__ = ("ask", "party", "answer", "is_abandoned", "since", "over")
+
+    def __init__(self, ask: Ask, party: Party, over: Optional[Callable[[], None]] = None) -> None:
+        self.ask, self.party = ask, party
+        self.answer: Optional[Answer] = None
+        self.is_abandoned = False
+        self.since = monotonic()
+        self.over = over  # called when it has an answer, or never gets one
+
+
+class Conversation:
+    """One connection: requests out, replies and events in, of any number of transactions."""
+
+    def __init__(self, operator: Optional[Party] = None) -> None:
+        self.pending: Deque[Call] = deque()
+        self._operator = operator  # whom deadlocks are told
+        self._live: Dict[bytes, Party] = {}
+        self._rest = b""
+        self._owed = b""
+        self._further: Optional[Call] = None  # whose reply has further lines
+        self._left = 0  # so many
+        self._words: List[bytes] = []  # of this reply, and the lines that came
+
+    def send(self, call: Call) -> bytes:
+        """The line of a request. Its reply is due from now on."""
+        ask, key = call.ask, call.party.key
+        if ask.word == b"lock":
+            call.party.told.clear()
+        self.pending.append(call)
+        words = (ask.word, key, *ask.names) if key and ask.word != b"owner" else (ask.word, *ask.names)
+        return b" ".join(words) + b"\n"
+
+    def feed(self, data: bytes) -> bytes:
+        """Takes what came, and tells calls and parties. Returns what has to be sent now: the aborts of transactions that nobody wants.
+
+        Raises `ProtocolError` at what no service writes. The connection is of no use then.
+        """
+        *lines, self._rest = (self._rest + data).split(b"\n")
+        for line in lines:
+            if self._further is not None:
+                self._take_further(self._further, line)
+            elif line.startswith(b"* "):
+                self._take_event(line)
+            else:
+                self._take_reply(line)
+        owed, self._owed = self._owed, b""
+        return owed
+
+    def abandon(self, call: Call) -> bytes:
+        """Nobody waits for the call any more. What takes it back: a lock is cancelled, and a transaction that begins is aborted, now or
+        as soon as its key is known."""
+        if call.ask.word == b"begin":
+            return self.drop(call.party)
+        return self.send(Call(Ask(b"cancel"), call.party)) if call.ask.word == b"lock" else b""
+
+    def drop(self, party: Party) -> bytes:
+        """What ends the transaction, whatever it does."""
+        for call in self.pending:
+            if call.party is party and call.ask.word == b"begin":
+                call.is_abandoned = True
+        return self.send(Call(Ask(b"abort"), party)) if party.key in self._live else b""
+
+    def lost(self) -> None:
+        """Tells all calls and parties that nothing comes any more."""
+        over = [*self.pending, *([self._further] if self._further is not None else [])]
+        self.pending.clear()
+        for call in over:
+            _end(call)
+        for party in self._live.values():
+            party.is_told()
+
+    def is_idle(self) -> bool:
+        """Whether no reply is due, and no transaction live."""
+        return not self.pending and not self._live
+
+    def _take_reply(self, line: bytes) -> None:
+        if not self.pending:
+            raise ProtocolError(f"a reply that nobody asked for: {_shown(line)}")
+        call = self.pending[0]
+        if not REPLIES[call.ask.word].fullmatch(line):
+            raise ProtocolError(f"the reply to {call.ask.word.decode()}: {_shown(line)}")
+        self.pending.popleft()
+        words = tuple(line.split(b" "))
+        if call.ask.word in LINES and words[0] == call.ask.word and int(words[1]):
+            self._further, self._left, self._words = call, int(words[1]), [*words]
+            return
+        call.answer = words
+        self._note(call, words)
+        _end(call)
+
+    def _note(self, call: Call, words: Answer) -> None:
+        """Which transactions are live."""
+        party = call.party
+        if words[0] == b"begun":
+            party.key = words[1]
+            self._live[party.key] = party
+            if call.is_abandoned:
+                self._owed += self.send(Call(Ask(b"abort"), party))
+        elif words[0] in (b"committed", b"aborted"):
+            self._live.pop(party.key, None)
+            party.key = b""
+
+    def _take_event(self, line: bytes) -> None:
+        if not EVENT.fullmatch(line):
+            raise ProtocolError(f"an event: {_shown(line)}")
+        words = tuple(line.split(b" "))[1:]
+        party = self._operator if words[0] == b"deadlock" else self._live.get(words[1])
+        if party is None:
+            raise ProtocolError(f"an event of another connection's transaction: {_shown(line)}")
+        if words[0] == b"aborted":
+            del self._live[words[1]]
+        party.told.append(words)
+        party.is_told()
+
+    def _take_further(self, call: Call, line: bytes) -> None:
+        if not LINES[call.ask.word].fullmatch(line):
+            raise ProtocolError(f"a line behind {call.ask.word.decode()}: {_shown(line)}")
+        self._words.append(line)
+        self._left -= 1
+        if not self._left:
+            self._further = None
+            call.answer = tuple(self._words)
+            _end(call)
+
+
+def _end(call: Call) -> None:
+    if call.over is not None:
+        call.over()
+
+
+def _shown(line: bytes) -> str:
+    return repr(line[:100].decode("ascii", "backslashreplace"))
+
+
+def cut(names: Sequence[bytes], room: int) -> int:
+    """How many of these names, at least one, go into so many bytes with a space before each."""
+    for count, name in enumerate(names):
+        room -= len(name) + 1
+        if room < 0:
+            return max(1, count)
+    return len(names)
