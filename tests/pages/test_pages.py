@@ -38,10 +38,10 @@ class Pages(Case):
         self.assertEqual((told.status, told.err), (0, b""), told.out)
         self.assertRegex(told.out.splitlines()[-1], rb"^[0-9]+ passed, 0 failed$")
 
-    @each(["docs/contracts", "docs/citations"])
-    def test_sources(self, command: str) -> None:
-        """The contracts in the pages are those of the sources, and what the pages name is there."""
-        self.passes(command)
+    @each([("docs/contracts",), ("docs/citations",), ("bench/tables", "--check")])
+    def test_sources(self, *command: str) -> None:
+        """The contracts in the pages are those of the sources, what the pages name is there, and tables have the numbers that were measured."""
+        self.passes(*command)
 
     @each(COMMANDS)
     def test_commands(self, page: str) -> None:
