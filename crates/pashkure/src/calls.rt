@@ -39,11 +39,11 @@ pub extern "C" fn pashkure_open(alloc: Global, handle: &mut Handle, config: &Pla
         return fault;
     }
     match open(alloc, config.manager_config()) {
-        Ok(opened) => {
+        Some(opened) => {
             *handle = opened;
             OK
         }
-        Err(_) => NO_MEMORY,
+        None => NO_MEMORY,
     }
 }
 
