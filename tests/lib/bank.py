@@ -160,14 +160,14 @@ def transfer(tx: Any, bank: BankFile, history: History, slot: int, chance: rando
 
 
 def main() -> None:
-    from pashkure import Locks, Timeout
+    from pashkure import Locks, Retry, Timeout
 
     path, file, slot, seed = sys.argv[1], sys.argv[2], int(sys.argv[3]), int(sys.argv[4])
     chance, bank, history = random.Random(seed), BankFile(file), History(file, slot)
-    with Locks(socket=path) as locks:
+    with Locks.connect(path, retry=Retry(1000, longest=0.1)) as locks:
         while not bank.is_over():
             try:
-                locks.run(transfer, bank, history, slot, chance, attempts=1000)
+                locks.run(transfer, bank, history, slot, chance)
                 bank.count(slot)
             except Timeout:
                 pass

@@ -11,15 +11,15 @@ import sys
 import tempfile
 import zipfile
 
-from lib.world import PACKAGE, PROGRAM, Case, run
+from lib.world import PACKAGE, PROGRAM, SERVER, Case, run
 
 CLIENT = pathlib.Path(PACKAGE)
 PIP = {"PIP_NO_INDEX": "1", "PIP_DISABLE_PIP_VERSION_CHECK": "1", "PIP_CONFIG_FILE": os.devnull, "PYTHONDONTWRITEBYTECODE": "1"}
 USE = f"""if True:
-    import importlib.metadata, pashkure, pashkure.aio
-    with pashkure.Locks({PROGRAM!r}) as locks, locks.transaction() as tx:
-        tx.lock("a")
-        print(tx.holds(), importlib.metadata.version("pashkure"), pashkure.__file__)
+    import importlib.metadata, pashkure, pashkure.aio, pashkure.testing
+    with pashkure.testing.service("--program", {PROGRAM!r}, command={SERVER!r}) as served, pashkure.Locks.connect(served.path) as locks:
+        with locks.transaction("a") as tx:
+            print(tx.holds(), importlib.metadata.version("pashkure"), pashkure.__file__)
 """
 
 
@@ -46,6 +46,7 @@ class Install(Case):
 
     def setUp(self) -> None:
         super().setUp()
+        self.needs_server()
         if not hasattr(type(self), "room"):
             self.skipTest("this Python has no venv or no ensurepip (Debian's package python3-venv)")
 

@@ -1,250 +1,531 @@
-"""The Python client in a wrong world: services that refuse what a good one seldom does, that end in the middle of a reply, or that do not end;
-and calls of the C library that fail, are short or are late, below the client and below the server."""
+"""The Python client in a wrong world: exceptions of signals at each line, services that are killed, started anew, stopped or none, forks, tasks that
+are cancelled, and calls of the C library that fail, are short or are late, below the client and below the server."""
 from __future__ import annotations
 
 import asyncio
-import json
+import gc
 import os
+import random
 import re
-import shlex
 import signal
+import socket
 import subprocess
 import sys
-import unittest.mock
-from typing import Any
+import threading
+import warnings
+from typing import Any, Callable, List
 
-from lib.clients import NO_KEYS, NO_NAMES, NO_TEXTS, Apart, Asyncio, raises, same, waits
+from lib.clients import Apart, Asyncio, raises, same, waits
 from lib.faults import FaultCase, variables
-from lib.world import LIMIT, PROGRAM, SEED, TOP, Case, each, environment, run, until
+from lib.world import LIMIT, PROGRAM, SEED, Case, Server, each, environment, run, stop, until
 
-from pashkure import Aborted, Closed, Deadlock, Full, Locks, LockError, Malformed, Timeout, aio
+import pashkure
+from pashkure import (Aborted, CannotConnect, Closed, Deadlock, Fence, Locks, LocksLost, NoTransaction, ProtocolError, Retry, ServiceRestarted, Timeout,
+                      Waiting, aio)  # fmt: skip
 
-BEGUN = {"begin": ["begun 0.1"], "abort": ["aborted"], "commit": ["committed"], "totals": ["totals 0 0 0 0"]}
-REFUSALS = [("transactions-full", "begin"), ("names-full", "lock"), ("labels-full", "lock"), ("counts-full", "lock"), ("counts-full", "begin")]
-
-
-class ScriptedCase(Case):
-    def scripted(self, **rules: list[str]) -> str:
-        """A program that answers by these rules, and notes the words of the requests in the file `log`."""
-        self.log = self.file("log", "")
-        words = [sys.executable, os.path.join(TOP, "tests/lib/scripted.py"), json.dumps({**BEGUN, **rules}), self.log]
-        return self.script(f"exec {shlex.join(words)}")
-
-    def asked(self) -> list[str]:
-        with open(self.log, encoding="ascii") as file:
-            return file.read().split()
+FORMS = [("threads", Locks.connect), ("tasks", Asyncio)]
 
 
-class Replies(ScriptedCase):
-    @each(REFUSALS)
-    def test_full(self, word: str, request: str) -> None:
-        """A refusal for want of room says what there is no room for."""
-        program = self.scripted(**{request: [f"refused {word}"]})
-        with Locks(program) as locks:
-            call = locks.transaction if request == "begin" else lambda: locks.transaction().lock("a")
-            same(raises(Full, call).what, word.split("-")[0])
+class Stop(BaseException):
+    """What a signal's handler raises."""
 
-        async def main() -> None:
-            async with aio.Locks(program) as locks:
+
+class TroubleCase(Case):
+    def opened(self, form: Callable[..., Any], *paths: str, **options: Any) -> Any:
+        locks = form(*paths, **options)
+        self.addCleanup(locks.ends if isinstance(locks, Asyncio) else locks.close)
+        return locks
+
+    def none_is_left(self, locks: Any) -> None:
+        """Returns when no transaction is live."""
+
+        def is_so() -> bool:
+            totals = locks.totals()
+            return bool(totals.begun == totals.committed + totals.aborted)
+
+        until(is_so, "no transaction is live")
+
+
+class Interrupts(TroubleCase):
+    """An exception of a signal, as of Ctrl-C or of a time limit, at any moment."""
+
+    def setUp(self) -> None:
+        super().setUp()
+        self.path_ = self.server().path
+        self.locks, self.other = self.opened(Locks.connect, self.path_), self.opened(Locks.connect, self.path_)
+        self.holder, self.place = self.other.transaction("held"), "a moment"
+        hook, sys.unraisablehook = sys.unraisablehook, lambda told: None  # exceptions may also come where Python ends an object
+        self.addCleanup(setattr, sys, "unraisablehook", hook)
+
+    def tearDown(self) -> None:
+        self.holder.abort()
+        super().tearDown()
+
+    def uses(self) -> None:
+        with self.locks.transaction() as tx:
+            tx.lock("a", "b")
+            try:
+                tx.lock("held", timeout=0)
+            except Timeout:
+                pass
+
+    def at_line(self, count: int) -> bool:
+        """Uses the locks, and raises at the line of the package that is the so-manieth. Whether it came so far."""
+        left, package = [count], os.path.dirname(pashkure.__file__)
+
+        def trace(frame: Any, event: str, argument: Any) -> Any:
+            if not frame.f_code.co_filename.startswith(package) or frame.f_code.co_name in ("__del__", "tell", "call"):
+                return None
+            if event == "line":
+                left[0] -= 1
+                if left[0] == 0:
+                    sys.settrace(None)
+                    self.place = f"{frame.f_code.co_filename}:{frame.f_lineno}"
+                    raise Stop
+            return trace
+
+        try:
+            sys.settrace(trace)
+            self.uses()
+        except Stop:
+            return True
+        finally:
+            sys.settrace(None)
+        return False
+
+    def is_whole(self) -> None:
+        """Fails unless other threads go on, and what was broken off has left nothing."""
+        until(lambda: self.other.totals().begun == sum(getattr(self.other.totals(), name) for name in ("committed", "aborted")) + 1, f"nothing is left of {self.place}")
+        same(Apart(self.locks.owner, "a").ends(), None)
+
+    def test_each_line(self) -> None:
+        count = 0
+        with warnings.catch_warnings():
+            warnings.simplefilter("ignore", ResourceWarning)  # one that is broken off outside of its block is dropped alive
+            while self.at_line(count := count + 1):
+                self.is_whole()
+        self.assertGreater(count, 200)
+
+    def test_timer(self) -> None:
+        """The same at moments of chance, beside another thread of the same locks."""
+        armed, over, chance = [False], threading.Event(), random.Random(SEED)
+
+        def handler(number: int, frame: Any) -> None:
+            if armed[0]:
+                armed[0] = False
+                raise Stop
+
+        def goes_on() -> int:
+            done = 0
+            while not over.is_set():
+                with self.locks.transaction("other") as tx:
+                    same(tx.holds(), ["other"])
+                done += 1
+            return done
+
+        before = signal.signal(signal.SIGALRM, handler)
+        self.addCleanup(signal.signal, signal.SIGALRM, before)
+        thread, stops = Apart(goes_on), 0
+        with warnings.catch_warnings():
+            warnings.simplefilter("ignore", ResourceWarning)
+            while stops < 1000:
                 try:
-                    await (await locks.transaction()).lock("a")
-                except Full as error:
-                    same(error.what, word.split("-")[0])
-                else:
-                    self.fail("it was not refused")
+                    armed[0] = True
+                    signal.setitimer(signal.ITIMER_REAL, chance.uniform(0.00002, 0.002))
+                    while armed[0]:
+                        self.uses()
+                except Stop:
+                    pass
+                stops += 1
+        over.set()
+        self.assertGreater(thread.ends(), 0)
+        self.is_whole()
 
-        asyncio.run(main())
+    def test_commit(self) -> None:
+        """A block whose commit is broken off gives its names back."""
+        tx = self.locks.transaction("a")
+        try:
+            with tx:
+                tx._call = lambda *args: exec("raise KeyboardInterrupt")  # type: ignore[method-assign]
+        except KeyboardInterrupt:
+            pass
+        same(self.other.owner("a"), None)
 
-    def test_no_names(self) -> None:
-        """What is no name and no key raises `ValueError`, and what is no text `TypeError`, before a byte is sent."""
-        for client in Locks, Asyncio:
-            locks: Any = client(self.scripted())
-            self.addCleanup(locks.close if client is Locks else locks.ends)
-            tx = locks.transaction()
-            for call in tx.lock, tx.try_lock, tx.unlock, locks.owner:
-                for name in NO_NAMES:
-                    raises(ValueError, call, name)
-                for no_text in NO_TEXTS:
-                    raises(TypeError, call, no_text)
-            for call in locks.status, locks.holds:
-                for key in NO_KEYS:
-                    raises(ValueError, call, key)
-                for no_text in [*NO_TEXTS, tx, b"0.1"]:
-                    raises(TypeError, call, no_text)
-            same(self.asked(), ["begin"])
+    def test_within_a_wait(self) -> None:
+        """A lock that a signal's exception leaves ends its transaction, whose next calls say so."""
+        tx, main = self.locks.transaction("a"), threading.get_ident()
 
-    def test_unknown_refusal(self) -> None:
-        with Locks(self.scripted(lock=["refused of-another-time"])) as locks:
-            raises(Malformed, locks.transaction().lock, "a")
+        def handler(number: int, frame: Any) -> None:
+            raise Stop
 
-    @each([("taken back at last", ["carried"] * 4 + ["cancelled"], Timeout), ("granted meanwhile", ["carried", "carried\n* granted 0.1 a"], None),
-           ("granted before", ["* granted 0.1 a\nrefused not-waiting"], None)])  # fmt: skip
-    def test_carried(self, name: str, cancels: list[str], error: Any) -> None:
-        """A wait that cannot be taken back is taken back later, after pauses, unless it is granted before."""
-        program = self.scripted(lock=["waits 9.1"], cancel=cancels)
-        with Locks(program) as locks:
-            tx = locks.transaction()
-            same(type(Apart(tx.lock, "a", timeout=0).ends()), error or type(None))
-            same(self.asked().count("cancel"), len(cancels))
+        before = signal.signal(signal.SIGUSR1, handler)
+        self.addCleanup(signal.signal, signal.SIGUSR1, before)
 
-        async def main() -> Any:
-            async with aio.Locks(program) as locks:
-                tx = await locks.transaction()
+        def kills() -> None:
+            waits(tx)
+            signal.pthread_kill(main, signal.SIGUSR1)
+
+        thread = Apart(kills)
+        try:
+            tx.lock("held")
+        except Stop:
+            pass
+        thread.ends()
+        until(lambda: self.other.owner("a") is None, "its name is free")
+        raises(LocksLost, tx.lock, "b")
+        raises(LocksLost, tx.commit)
+        tx.abort()
+
+
+class Restarts(TroubleCase):
+    def again(self, server: Server, *words: str) -> Server:
+        """The same service, killed and started anew."""
+        server.process.kill()
+        server.process.wait()
+        return self.server(*words, path=server.path)
+
+    @each(FORMS)
+    def test_restart(self, name: str, form: Any) -> None:
+        """A live transaction is told that its locks are lost, in each of its calls but an abort; the next one connects anew."""
+        server = self.server()
+        locks = self.opened(form, server.path)
+        txs = [locks.transaction(f"{number}") for number in range(4)]
+        thread = Apart(txs[0].lock, "1")
+        waits(txs[0])
+        server = self.again(server)
+        self.assertIn(type(thread.ends()), (LocksLost, ServiceRestarted))
+        for call in (txs[1].lock, "a"), (txs[1].lock, "a"), (txs[2].commit,):
+            raises(ServiceRestarted, *call)
+        txs[3].abort()
+        self.assertIn(type(Apart(txs[3].lock, "a").ends()), (NoTransaction, Aborted))
+
+        def works(tx: Any) -> int:
+            nonlocal server
+            runs.append(tx.key)
+            server = self.again(server)
+            return 1
+
+        runs: List[str] = []
+        raises(ServiceRestarted, locks.run, works)  # and it is not run again
+        same(len(runs), 1)
+        same(locks.run(lambda tx: tx.lock("a")), None)
+        for tx in txs:
+            tx.abort()
+        same(locks.totals().begun, 1)
+
+    def test_many(self) -> None:
+        """Threads and tasks work while the service is killed again and again: all go on, and by their fences no name has two owners."""
+        server = self.server()
+        plain, tasks = self.opened(Locks.connect, server.path, connect_timeout=LIMIT), self.opened(Asyncio, server.path, connect_timeout=LIMIT)
+        over, fences, lost = threading.Event(), [], []
+
+        def works(locks: Any, number: int) -> int:
+            done, chance = 0, random.Random(number)
+            while not over.is_set():
                 try:
-                    await asyncio.wait_for(tx.lock("a", timeout=0), LIMIT)
-                except LockError as told:
-                    return type(told)
-                return type(None)
+                    with locks.transaction(f"{chance.randrange(3)}") as tx:
+                        name = tx.holds()[0]
+                        fences.append((name, tx.fence(name), (locks is plain, number, done)))
+                    done += 1
+                except LocksLost:
+                    lost.append(number)
+            return done
 
-        same(asyncio.run(main()), error or type(None))
+        threads = [Apart(works, locks, number) for locks in (plain, tasks) for number in range(8)]
+        for _ in range(8):
+            count = len(fences)
+            until(lambda: len(fences) > count + 50, "they work")
+            server = self.again(server)
+        count = len(fences)
+        until(lambda: len(fences) > count + 50, "they work")
+        over.set()
+        for thread in threads:
+            same((type(thread.ends()), thread.ends() != 0), (int, True), repr(thread.ends()))
+        self.assertGreater(len(lost), 0)
+        self.assertLessEqual(len(lost), 16 * 8)
+        same(len({(name, fence) for name, fence, _ in fences}), len(fences))
+        self.none_is_left(plain)
 
-    def test_attempts(self) -> None:
-        """`run` makes as many attempts as it is told, and no more, and pauses between them."""
-        program, count = self.scripted(lock=["deadlock 9.1"]), 40
+    @each(FORMS)
+    def test_epochs(self, name: str, form: Any) -> None:
+        """Of several ways the one that answers is taken; a service of an epoch below the greatest that was seen is none."""
+        first, second = self.server("--epoch", "5"), self.server("--epoch", "9")
+        locks = self.opened(form, first.path, second.path, connect_timeout=2)
+        tx = locks.transaction("a")
+        same(tx.fence("a").epoch, 5)
+        other = locks.transaction()
+        first.process.kill()
+        first.process.wait()
+        raises(ServiceRestarted, tx.lock, "b")
+        tx.abort()
+        raises(ServiceRestarted, other.commit)
+        other.abort()
+        with locks.transaction("a") as tx:
+            same(tx.fence("a").epoch, 9)
+        self.server("--epoch", "6", path=first.path)
+        with locks.transaction("a") as tx:
+            same(tx.fence("a").epoch, 9)
+        second.process.kill()
+        second.process.wait()
+        self.assertIn("the service's epoch 6 is below 9", str(raises(CannotConnect, locks.transaction)))
 
-        async def main(attempts: int) -> None:
-            async def work(tx: aio.Transaction) -> None:
-                await tx.lock("a")
-
-            async with aio.Locks(program) as locks:
-                try:
-                    await locks.run(work, attempts=attempts)
-                except Deadlock:
-                    return
-                self.fail("it was granted")
-
-        pauses: list[float] = []
-        for attempts in 1, 3, count:
-            begun = self.asked().count("begin")
-            pauses.clear()
-            with Locks(program) as locks, unittest.mock.patch("time.sleep", pauses.append):
-                raises(Deadlock, locks.run, lambda tx: tx.lock("a"), attempts=attempts)
-            same((self.asked().count("begin") - begun, len(pauses)), (attempts, attempts - 1))
-            asyncio.run(main(attempts))
-            same(self.asked().count("begin") - begun, 2 * attempts)
-        # Each is drawn up to a length that doubles, to a tenth of a second at most: this many come to two seconds, and by chance never to a third.
-        self.assertTrue(0.7 < sum(pauses) and max(pauses) <= 0.1, pauses)
-
-    @each(["graph 3\n* 0.1 a 1.1\n* 0.2 b 1.1\nEND", "graph 3END", "graEND", "END"])
-    def test_end_within_a_reply(self, reply: str) -> None:
-        """A service that ends in the middle of a reply ends each call that waits."""
-        program = self.scripted(graph=[reply])
-        with Locks(program) as locks:
-            for thread in [Apart(locks.graph) for _ in range(3)]:
-                same(type(thread.ends()), Closed)
-            raises(Closed, locks.totals)
-
-        async def main() -> None:
-            async with aio.Locks(program) as locks:
-                told = await asyncio.wait_for(asyncio.gather(*(locks.graph() for _ in range(3)), return_exceptions=True), LIMIT)
-                same([type(error) for error in told], [Closed] * 3)
-
-        asyncio.run(main())
-
-    def test_reply_too_many(self) -> None:
-        """A reply that nobody asked for ends the connection, whoever waits."""
-        program = self.scripted(lock=["waits 9.1"], owner=["free\nfree"])
-        with Locks(program) as locks:
-            thread = Apart(locks.transaction().lock, "a")
-            until(lambda: "lock" in self.asked(), "a thread waits")
-            Apart(locks.owner, "a").ends()
-            same(type(thread.ends()), Closed)
-
-        async def main() -> None:
-            async with aio.Locks(program) as locks:
-                task = asyncio.ensure_future((await locks.transaction()).lock("a"))
-                await asyncio.sleep(0)
-                await asyncio.gather(locks.owner("a"), return_exceptions=True)
-                told = await asyncio.wait_for(asyncio.gather(task, return_exceptions=True), LIMIT)
-                same(type(told[0]), Closed)
-
-        asyncio.run(main())
+    def test_connecting(self) -> None:
+        """What cannot be reached is told with its path and the reason, and is connected to as soon as it is there."""
+        path = self.path("socket")
+        for name, form in FORMS:
+            locks = self.opened(form, path, connect_timeout=0.01)
+            error = raises(CannotConnect, locks.transaction)
+            self.assertIn(path, str(error))
+            self.assertIn("No such file", str(error))
+            patient = self.opened(form, path, connect_timeout=LIMIT)
+            thread = Apart(patient.totals)
+            raises(CannotConnect, patient.transaction, timeout=0.02)
+            server = self.server(path=path)
+            same(thread.ends().begun, 0)
+            server.close()
+        server = self.server("--connections", "1")
+        wire = self.wire(server)
+        same(wire.ask(b"totals"), b"totals 0 0 0 0")
+        for name, form in FORMS:
+            error = raises(CannotConnect, self.opened(form, server.path, connect_timeout=1).totals)
+            self.assertIn("no room for more connections", str(error))
 
 
-class Processes(Case):
-    def noted(self, text: str) -> tuple[str, str]:
-        """A program that notes its process in a file."""
-        pid_file = self.path("pid")
-        return self.script(f'echo $$ > "{pid_file}"\n{text}'), pid_file
-
-    def is_over(self, pid_file: str) -> bool:
-        with open(pid_file, encoding="ascii") as file:
-            return not os.path.exists(f"/proc/{int(file.read())}")
-
-    def test_program_that_does_not_end(self) -> None:
-        """A program that goes on after the end of its input is ended."""
-        program, pid_file = self.noted(f"trap '' TERM HUP\n\"{PROGRAM}\" \"$@\"\nexec sleep 1000")
-        locks = Locks(program)
-        locks.totals()
-        same(Apart(locks.close).ends(), None)
-        self.assertTrue(self.is_over(pid_file))
-
-    def test_program_of_asyncio(self) -> None:
-        """It has ended when the connection is closed, also if that takes its time."""
-        program, pid_file = self.noted(f'"{PROGRAM}" "$@"\nsleep 0.3')
-
-        async def main() -> None:
-            async with aio.Locks(program) as locks:
-                await locks.totals()
-
-        asyncio.run(main())
-        self.assertTrue(self.is_over(pid_file))
-
-    def test_forked_child(self) -> None:
-        """A child that was forked does not keep the connection of its parent: the locks of a parent that is killed are free."""
+class Forks(TroubleCase):
+    def test_child(self) -> None:
+        """A child that was forked connects anew, its parent's transaction is not its own, and that ends with the parent."""
         server = self.server()
         text = f"""if True:
             import os, time
-            from pashkure import Locks
-            locks = Locks(socket={server.path!r})
-            locks.transaction().lock("a")
+            from pashkure import Closed, Locks
+            locks = Locks.connect({server.path!r})
+            with locks.transaction("z"):
+                pass
+            tx = locks.transaction("a")
             child = os.fork()
             if child == 0:
-                while True:
-                    time.sleep(1000)
-            print(child, flush=True)
+                try:
+                    tx.lock("b")
+                except Closed:
+                    with locks.transaction("c") as own:
+                        print(os.getpid(), own.holds(), flush=True)
+                time.sleep(1000)
             time.sleep(1000)"""
         wire = self.wire(server)
-        with subprocess.Popen([sys.executable, "-c", text], env=environment(), stdout=subprocess.PIPE) as parent:
+        with subprocess.Popen([sys.executable, "-c", text], env=environment(), stdout=subprocess.PIPE, text=True) as parent:
             assert parent.stdout
-            child = int(parent.stdout.readline())
+            child, told = parent.stdout.readline().split(" ", 1)
             try:
-                same(wire.ask(b"owner a"), b"owner 0.1")
+                same((told, wire.ask(b"owner a").split(b" ")[0]), ("['c']\n", b"owner"))
                 parent.kill()
                 parent.wait()
                 until(lambda: wire.ask(b"owner a") == b"free", "the lock of the dead parent is free")
             finally:
-                os.kill(child, signal.SIGKILL)
+                os.kill(int(child), signal.SIGKILL)
 
-    def test_time_is_up_of_one_of_many(self) -> None:
-        """A thread whose time is up gives up, though another one of the same connection waits for ever, whichever of them reads for both."""
-        with Locks(PROGRAM) as locks:
-            one, two, three = locks.transaction(), locks.transaction(), locks.transaction()
-            one.lock("a")
-            threads = [Apart(two.lock, "a")]
-            waits(locks, two)
-            for _ in range(3):
-                same(type(Apart(three.lock, "a", timeout=0.01).ends()), Timeout)
-            two.abort()
-            same(type(threads[0].ends()), Aborted)
+
+class Hangs(TroubleCase):
+    @each(FORMS)
+    def test_stopped(self, name: str, form: Any) -> None:
+        """A service that hangs: each call has an end, and what it left is gone when the service goes on."""
+        server = self.server()
+        options = {"reply_timeout": 0.2, "connect_timeout": 0.2}
+        locks, watch = self.opened(form, server.path, **options), self.opened(Locks.connect, server.path)
+        holder = watch.transaction("held")
+        txs = [self.opened(form, server.path, **options).transaction(f"{number}") for number in range(4)]
+        waiter = Apart(txs[3].lock, "held", timeout=0.3)
+        waits(txs[3])
+        for call, wanted in ((txs[0].lock, "a"), LocksLost), ((txs[1].commit,), LocksLost), ((locks.transaction, "b"), CannotConnect), ((locks.totals,), CannotConnect):
+            stop(server.process.pid)
+            same(type(Apart(*call).ends()), wanted, str(call))
+            os.kill(server.process.pid, signal.SIGCONT)
+        stop(server.process.pid)
+        raises(LocksLost, txs[2].commit, timeout=0.05)
+        self.assertIn(type(waiter.ends()), (LocksLost, Timeout))
+        for tx in txs:
+            same(Apart(tx.abort).ends(), None)
+        same(Apart(locks.close).ends(), None)
+        os.kill(server.process.pid, signal.SIGCONT)
+        holder.commit()
+        self.none_is_left(watch)
+
+    @each(FORMS)
+    def test_close(self, name: str, form: Any) -> None:
+        """`close` ends calls that wait for a service which hangs, also those that wait to be sent."""
+        server = self.server("--name-bytes", "1024")
+        locks = self.opened(form, server.path)
+        txs = [locks.transaction() for _ in range(20)]
+        names = [f"{number}/" + "x" * 1000 for number in range(400)]
+        stop(server.process.pid)
+        threads = [Apart(tx.lock, *names) for tx in txs] + [Apart(locks.transaction) for _ in range(20)]
+        same(Apart(locks.close).ends(), None)
+        self.assertLessEqual({type(thread.ends()) for thread in threads}, {Closed, CannotConnect})
+        os.kill(server.process.pid, signal.SIGCONT)
+        self.none_is_left(self.opened(Locks.connect, server.path))
+
+    @each([("nonsense", b"nonsense\n", ProtocolError), ("another protocol", b"hello 2 1 1 1 1\n", ProtocolError), ("nothing", b"", CannotConnect)])
+    def test_no_service(self, name: str, says: bytes, wanted: Any) -> None:
+        """What is no lock service is told as such."""
+        path = self.path("socket")
+        with socket.socket(socket.AF_UNIX) as listener:
+            listener.bind(path)
+            listener.listen()
+
+            def serves() -> None:
+                while True:
+                    try:
+                        wire, _ = listener.accept()
+                    except OSError:
+                        return
+                    with wire:
+                        wire.sendall(says)
+                        while says and wire.recv(1000):
+                            pass
+
+            thread = Apart(serves)
+            for _, form in FORMS:
+                raises(wanted, self.opened(form, path, connect_timeout=0.01 if not says else LIMIT).totals)
+            listener.shutdown(socket.SHUT_RDWR)
+        thread.ends()
+
+
+class Tasks(TroubleCase):
+    """What only tasks have."""
+
+    def run_with(self, work: Callable[..., Any], **options: Any) -> Any:
+        async def main() -> Any:
+            async with aio.Locks.connect(self.server("--transactions", "300").path, **options) as locks:
+                return await work(locks)
+
+        return asyncio.run(main())
+
+    def test_cancelled_begins(self) -> None:
+        """A begin that is cancelled at each turn of the loop, or in a block, leaves no transaction."""
+
+        async def begins(locks: aio.Locks) -> None:
+            async with locks.transaction("a"):
+                await asyncio.Event().wait()
+
+        async def main(locks: aio.Locks) -> None:
+            for turns in range(60):
+                task = asyncio.ensure_future(begins(locks))
+                for _ in range(turns % 20):
+                    await asyncio.sleep(0)
+                task.cancel()
+                await asyncio.wait([task])
+                self.assertTrue(task.cancelled())
+            totals = await locks.totals()
+            while totals.begun != totals.aborted:
+                totals = await locks.totals()
+            self.assertGreater(totals.begun, 0)
+
+        for connections in 1, 3:
+            self.run_with(main, connections=connections)
+
+    def test_cancelled_lock(self) -> None:
+        """A lock that is given up waits no longer, dooms nobody, and its transaction goes on."""
+
+        async def main(locks: aio.Locks) -> None:
+            one, two = await locks.transaction("1"), await locks.transaction("2")
+            task = asyncio.ensure_future(one.lock("2"))
+            while not one._state.waits:
+                await asyncio.sleep(0)
+            task.cancel()
+            await asyncio.wait([task])
+            other = asyncio.ensure_future(two.lock("1"))  # no deadlock: nobody waits for `2`
+            while not two._state.waits:
+                await asyncio.sleep(0)
+            await one.lock("3")
+            same(await one.holds(), ["1", "3"])
+            await one.commit()
+            await other
+            await two.commit()
+            three = await locks.transaction("4")
+            commit = asyncio.ensure_future(three.commit())
+            await asyncio.sleep(0)
+            commit.cancel()
+            await asyncio.wait([commit])
+            same((await locks.owner("4"), (await locks.totals()).committed), (None, 3))
+
+        self.run_with(main)
+
+    def test_group(self) -> None:
+        """A transaction serves one task at a time."""
+
+        async def main(locks: aio.Locks) -> None:
+            async with locks.transaction("a") as tx:
+                told = await asyncio.gather(tx.lock("b"), tx.lock("c"), return_exceptions=True)
+                same([type(error) for error in told], [type(None), Waiting])
+            begin = locks.transaction()
+            async with begin:
+                for again in begin, locks.transaction():
+                    try:
+                        async with again:
+                            same(again is begin, False)
+                    except RuntimeError:
+                        same(again is begin, True)
+            same(await locks.totals(), pashkure.Totals(3, 3, 0, 0))
+            try:
+                await locks.transaction().lock("a")
+            except NoTransaction:
+                return
+            self.fail("it has not begun")
+
+        self.run_with(main)
+
+    def test_loops(self) -> None:
+        """Locks of one loop are of no use in another one; locks that are closed stay closed."""
+        locks = aio.Locks.connect(self.server().path)
+
+        async def first() -> None:
+            await locks.totals()  # noqa: F821
+
+        asyncio.run(first())
+        self.assertRaisesRegex(RuntimeError, "another event loop", asyncio.run, first())
+
+        async def closes() -> None:
+            await locks.close()
+            for again in range(2):
+                try:
+                    async with locks:
+                        await locks.totals()
+                except Closed:
+                    continue
+                self.fail("it is closed")
+
+        with warnings.catch_warnings():
+            warnings.simplefilter("ignore", ResourceWarning)  # the connection of the first loop was not closed in its time
+            asyncio.run(closes())
+            del locks
+            gc.collect()
+
+    def test_many_requests(self) -> None:
+        """More requests at once than a connection takes all come to their end."""
+
+        async def main(locks: aio.Locks) -> None:
+            txs = [await locks.transaction() for _ in range(200)]
+            await asyncio.gather(*(tx.lock(*(f"{number}/{place}" for place in range(100))) for number, tx in enumerate(txs)))
+            await asyncio.gather(*(tx.commit() for tx in txs))
+            same((await locks.totals()).committed, 200)
+
+        self.run_with(main)
 
 
 # A program that uses each call of the client, and says at its end what it saw. It is run with faults below it.
 USES = """if True:
     import sys, threading
-    from pashkure import Deadlock, Locks, Timeout
-    where = {"socket": sys.argv[2]} if sys.argv[1] == "socket" else {"program": sys.argv[2]}
+    from pashkure import Locks, Retry, Timeout
     told = []
-    with Locks(**where) as locks:
+    with Locks.connect(sys.argv[1], retry=Retry(1000, longest=0.05)) as locks:
         def work(tx, one, two):
             tx.lock(one)
             tx.lock(two)
             told.append((one, two))
-        threads = [threading.Thread(target=locks.run, args=(work, one, two), kwargs={"attempts": 1000}) for one, two in ["ab", "bc", "ca", "ba"] * 4]
+        threads = [threading.Thread(target=locks.run, args=(work, one, two)) for one, two in ["ab", "bc", "ca", "ba"] * 4]
         for thread in threads: thread.start()
         for thread in threads: thread.join()
         with locks.transaction() as tx:
-            for number in range(200): tx.lock("name/%d" % number + "x" * 40)
+            tx.lock(*("name/%d" % number + "x" * 40 for number in range(200)))
             assert len(tx.holds()) == 200
             other = locks.transaction()
             try:
@@ -252,21 +533,21 @@ USES = """if True:
             except Timeout:
                 told.append("timeout")
             other.abort()
-        assert sys.argv[1] == "socket" or locks.graph() == []  # over a socket only the operator may ask for it
         assert locks.totals().begun == locks.totals().committed + locks.totals().aborted
     print(len(told))
 """
 ASYNC_USES = """if True:
     import asyncio, sys
     from pashkure.aio import Locks
+    from pashkure import Retry
     async def main():
         told = []
-        async with Locks(**({"socket": sys.argv[2]} if sys.argv[1] == "socket" else {"program": sys.argv[2]})) as locks:
+        async with Locks.connect(sys.argv[1], retry=Retry(1000, longest=0.05)) as locks:
             async def work(tx, one, two):
                 await tx.lock(one)
                 await tx.lock(two)
                 told.append((one, two))
-            await asyncio.gather(*(locks.run(work, one, two, attempts=1000) for one, two in ["ab", "bc", "ca", "ba"] * 4))
+            await asyncio.gather(*(locks.run(work, one, two) for one, two in ["ab", "bc", "ca", "ba"] * 4))
             async with locks.transaction() as tx:
                 for number in range(200): await tx.lock("name/%d" % number + "x" * 40)
                 assert len(await tx.holds()) == 200
@@ -277,33 +558,28 @@ FAULTS = "read:short%30 write:short%30 recv:short%30 send:short%30 read:EINTR%10
 
 
 class Faults(FaultCase):
-    @each([(f"{name} over {where} of seed {seed}", text, where, seed) for seed in (1, 2, SEED) for where in ("pipes", "socket")
-           for name, text in (("threads", USES), ("asyncio", ASYNC_USES))])  # fmt: skip
-    def test_client(self, name: str, text: str, where: str, seed: int) -> None:
+    @each([(f"{name} of seed {seed}", text, seed) for seed in (1, SEED) for name, text in (("threads", USES), ("asyncio", ASYNC_USES))])
+    def test_client(self, name: str, text: str, seed: int) -> None:
         """Signals, and reads and writes that do less than they were asked for, make no difference to the client."""
-        place = self.server(*["--name-bytes", "64"]).path if where == "socket" else PROGRAM
-        told = run(sys.executable, "-c", text, where, place, env=environment(**variables(FAULTS, seed, only="python")))
+        log = self.path("log")
+        told = run(sys.executable, "-c", text, self.server("--name-bytes", "64").path, env=environment(**variables(FAULTS, seed, log, only="python")))
         self.assertEqual(told, (0, b"17\n" if text is USES else b"16\n", b""))
+        with open(log, encoding="ascii") as file:
+            faults = file.read()
+        for fault in "recv:short", "send:short", "recv:EINTR", "send:EINTR":
+            self.assertIn(fault, faults)
 
     @each([("one", 1), ("two", 2), ("a new seed", SEED)])
     def test_server(self, name: str, seed: int) -> None:
         """The same below the server."""
         log = self.path("log")
         server = self.server("--name-bytes", "64", env=variables(FAULTS + " read:late=1%5 accept:EINTR%30", seed, log, "pashkure-serve"))
-        told = run(sys.executable, "-c", USES, "socket", server.path, env=environment())
+        told = run(sys.executable, "-c", USES, server.path, env=environment())
         self.assertEqual(told, (0, b"17\n", b""))
         self.assertEqual((server.close(), server.stderr()), (0, ""))
         with open(log, encoding="ascii") as file:
             text = file.read()
         for fault in "read:short", "write:short", "recv:short", "send:short", "recv:EINTR", "send:EINTR", "epoll_wait:EINTR":
-            self.assertIn(fault, text)
-
-    def test_faults_are_made(self) -> None:
-        log = self.path("log")
-        run(sys.executable, "-c", USES, "pipes", PROGRAM, env=environment(**variables(FAULTS, log=log, only="python")))
-        with open(log, encoding="ascii") as file:
-            text = file.read()
-        for fault in "read:short", "write:short", "read:EINTR":
             self.assertIn(fault, text)
 
     def test_how_long_poll_waits(self) -> None:
@@ -312,24 +588,18 @@ class Faults(FaultCase):
         text = """if True:
             import sys
             from pashkure import Locks, Timeout
-            with Locks(sys.argv[1]) as locks:
-                one, two = locks.transaction(), locks.transaction()
-                one.lock("a")
+            with Locks.connect(sys.argv[1], reply_timeout=100, connect_timeout=100) as locks:
+                one, two = locks.transaction("a"), locks.transaction()
                 try:
                     two.lock("a", timeout=0.05)
                 except Timeout:
-                    pass"""
-        command = [sys.executable, "-c", text, PROGRAM]
-        with subprocess.Popen(command, env=environment(**variables("poll:told", log=log, only="python"))) as child:
-            until(lambda: os.path.exists(log) and os.path.getsize(log) > 0, "it waits")
-            with open(log, encoding="ascii") as file:
-                told = int(re.findall(r"^poll:told=(-?\d+)@", file.read(), re.M)[0])
-            if told > 51:
-                child.kill()
-            self.assertTrue(0 <= told <= 51, told)
-            self.assertEqual(child.wait(LIMIT), 0)
-
-    def test_clock_that_jumps(self) -> None:
-        """A clock that jumps ahead by an hour ends a lock with a time, and nothing else."""
-        told = run(sys.executable, "-c", USES, "pipes", PROGRAM, env=environment(**variables("clock:jump=3600>40", only="python")))
-        self.assertEqual(told, (0, b"17\n", b""))
+                    pass
+                one.abort()
+                two.abort()
+        """
+        told = run(sys.executable, "-c", text, self.server().path, env=environment(**variables("poll:told", log=log, only="python")))
+        self.assertEqual(told, (0, b"", b""))
+        with open(log, encoding="ascii") as file:
+            waited = [int(time) for time in re.findall(r"poll:told=(-?[0-9]+)@", file.read()) if 0 < int(time) < 50_000]
+        self.assertTrue(waited, "it never waited for a time")
+        self.assertLessEqual(max(waited), 51)

@@ -15,8 +15,8 @@ class Session(Protocol):
 
     epoch: int
     """The number of the service's start."""
-    is_used: bool
-    """Whether it was lent before. If it is lost at its first request, the next one may do."""
+    is_slow: bool
+    """Whether it dropped itself because an answer did not come in time. If it is lost otherwise at its first request, another one may do."""
 
     def ask(self, ask: Ask) -> Answer:
         """The answer to a request. It waits for no other transaction, and for no longer than the backend allows: then the session drops

@@ -62,15 +62,18 @@ class Locks(Opened):
             except BaseException as told:
                 error = told
                 if isinstance(told, LocksLost) and not state.key:
-                    if session.is_used:
+                    if not session.is_slow:
                         continue
                     raise CannotConnect(str(told)) from told
                 if isinstance(told, LockError):
                     self._backend.give_back(session)
+                else:
+                    session.drop()
                 raise
             finally:
                 if error is None or state.key:
                     self._watch.call("begin", state, data, start, error)
+                del error  # which has this frame
 
     def run(self, work: "Callable[Concatenate[Transaction, P], R]", *args: "P.args", **kwargs: "P.kwargs") -> R:
         """Runs `work(tx, *args, **kwargs)` in a transaction of its own, and returns what it returns.
@@ -113,7 +116,7 @@ class Locks(Opened):
             try:
                 result = drive(session, flow())
             except LocksLost as lost:
-                if session.is_used:
+                if not session.is_slow:
                     continue
                 raise CannotConnect(str(lost)) from lost
             self._backend.give_back(session)

@@ -24,13 +24,15 @@ T = TypeVar("T")
 class Socket(socket.socket):
     """A socket that nobody is told of if it is dropped."""
 
-    __del__ = socket.socket.close
+    def __del__(self) -> None:
+        if hasattr(self, "_io_refs"):  # an exception of a signal may have kept it from its begin
+            self.close()
 
 
 class Session(Party):
     """A connection with at most one transaction. One thread at a time may call `ask` and `wait`."""
 
-    is_used = False
+    is_slow = False
     _pipe: Tuple[int, ...] = ()  # by which a wait is woken
     _poll: Optional[select.poll] = None
 
@@ -56,6 +58,7 @@ class Session(Party):
         except Closed:
             raise
         except socket.timeout as error:
+            self.is_slow = True
             raise self._lost((LocksLost, f"the service did not answer within {limit:g} s")) from error
         except OSError as error:
             raise self._lost(LOST) from error
@@ -172,7 +175,8 @@ class Session(Party):
         return kind(text)
 
     def __del__(self) -> None:
-        self._socket.close()
+        if hasattr(self, "_socket"):
+            self._socket.close()
         pipe, self._pipe = self._pipe, ()
         for descriptor in pipe:
             os.close(descriptor)
@@ -194,7 +198,6 @@ class Service(Ways):
             except IndexError:
                 break  # another thread took it
             if session.epoch >= self.epoch and session.is_idle():
-                session.is_used = True
                 return session
             session.end(BY_DROP)
         return self.new(deadline)
@@ -249,7 +252,7 @@ class Service(Ways):
     def _tried(self, path: Union[str, bytes], deadline: float) -> Union[Session, Exception]:
         """A connection by this way, or why there is none."""
         connection = Socket(socket.AF_UNIX)
-        connection.settimeout(max(0.001, min(self.reply_timeout, deadline - monotonic())))
+        connection.settimeout(self.limit(deadline))
         try:
             connection.connect(path)
             session = Session(self, connection)
@@ -257,6 +260,7 @@ class Service(Ways):
             session.greet()
             return session
         except (OSError, Full) as error:
+            connection.close()
             return error
 
 

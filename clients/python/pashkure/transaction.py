@@ -89,6 +89,7 @@ class Transaction(Calls):
                 self._give_back()
             self._busy.release()
             self._watch.call(kind, self._state, names, start, error)
+            del error  # which has this frame
 
     def _known(self, status: Status) -> Status:
         return status

@@ -38,7 +38,7 @@ class Ways:
         """Yields a path, and is sent a connection or why there is none; or yields how long to pause, 10 ms to 1 s. Returns the connection."""
         pause = 0.01
         while not self.is_closed:
-            first, failed = self._way, None
+            first, failed, error = self._way, "", None
             for place in [*range(first, len(self.paths)), *range(first)]:
                 found = yield self.paths[place]
                 if isinstance(found, kind):
@@ -47,13 +47,17 @@ class Ways:
                 assert isinstance(found, Exception)
                 if isinstance(found, ProtocolError):
                     raise found
-                failed = failed or found
+                failed, error = f"{failed}{'; ' if failed else ''}no service at {os.fsdecode(self.paths[place])}: {found}", found
             left = deadline - monotonic()
             if left <= 0 or is_once:
-                raise CannotConnect(f"no service at {self}: {failed or 'no answer'}") from failed
+                raise CannotConnect(failed) from error
             yield min(pause, left)
             pause = min(1.0, 2 * pause)
         raise Closed(BY_CLOSE[1])
+
+    def limit(self, deadline: float) -> float:
+        """In how many seconds a service has to say who it is: a tenth at least, so that the last try is one."""
+        return max(0.1, min(self.reply_timeout, deadline - monotonic()))
 
     def greet(self, answer: Answer) -> int:
         """The epoch that a service says. Raises `OSError` if a greater one was seen, so that the service is of no use."""

@@ -89,7 +89,7 @@ class Locks(Opened):
             try:
                 return await drive(session, flow())
             except LocksLost as lost:
-                if not session.is_used:
+                if session.connection.is_slow:
                     raise CannotConnect(str(lost)) from lost
 
     async def __aenter__(self) -> "Locks":

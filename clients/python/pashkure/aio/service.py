@@ -7,11 +7,11 @@ import os
 import socket
 import weakref
 from time import monotonic
-from typing import Callable, List, Optional, Sequence, TypeVar, Union, cast
+from typing import Callable, List, Optional, Sequence, Tuple, TypeVar, Union, cast
 
 from ..errors import Aborted, CannotConnect, Closed, Full, LocksLost, ProtocolError, ServiceRestarted
 from ..flows import WOKEN, Flow
-from ..service import each
+from ..service import SIZE, each
 from ..ways import BY_CLOSE, BY_FORK, LOST, RESTARTED, Path, Ways, Why
 from ..wire import Answer, Ask, Call, Conversation, Party
 
@@ -26,10 +26,29 @@ class Connection(asyncio.Protocol):
         self.service, self.own, self.epoch = service, own, service.epoch
         self.loop, self.talk = asyncio.get_running_loop(), Conversation()
         self.why: Optional[Why] = None
+        self.is_slow = False
         self.can_write = asyncio.Event()
         self.can_write.set()
         self._transport: Optional[asyncio.Transport] = None
         self._timer: Optional[asyncio.TimerHandle] = None
+
+    async def opened(self, path: Union[str, bytes]) -> None:
+        """Connects, and asks the service who it is."""
+        self.own.setblocking(False)
+        self.own.connect(path)
+        _connections.add(self)
+        hello = Call(Ask(b"hello"), Party())
+        try:
+            await self.loop.sock_sendall(self.own, self.talk.send(hello))
+        except BrokenPipeError:
+            pass  # a service that has no room says so unasked
+        while hello.answer is None:
+            data = await self.loop.sock_recv(self.own, SIZE)
+            if not data:
+                raise ConnectionResetError("it closed the connection")
+            self.talk.feed(data)
+        self.epoch = self.service.greet(hello.answer)
+        await self.loop.create_connection(lambda: self, sock=self.own)
 
     def connection_made(self, transport: asyncio.BaseTransport) -> None:
         self._transport = cast(asyncio.Transport, transport)
@@ -98,15 +117,16 @@ class Connection(asyncio.Protocol):
             if left > 0:
                 self._timer = self.loop.call_later(left, self._time_is_up)
             else:
+                self.is_slow = True
                 self.end((LocksLost, f"the service did not answer within {self.service.reply_timeout:g} s"))
 
 
 class Session(Party):
     """One transaction of a connection. One task at a time may call `ask` and `wait`."""
 
-    def __init__(self, connection: Connection, is_used: bool) -> None:
+    def __init__(self, connection: Connection) -> None:
         super().__init__()
-        self.connection, self.is_used, self.epoch = connection, is_used, connection.epoch
+        self.connection, self.epoch = connection, connection.epoch
         self._last: Optional[Call] = None  # the last request
         self._waiter: "Optional[asyncio.Future[None]]" = None  # that it, or a wait, is over
         self._is_woken = False
@@ -197,7 +217,7 @@ class Service(Ways):
         if connections < 1:
             raise ValueError(f"connections is at least 1, not {connections}")
         self.connections: List[Optional[Connection]] = [None] * connections
-        self._tasks: "List[Optional[asyncio.Task[Connection]]]" = [None] * connections
+        self._tries: "List[Optional[Tuple[asyncio.Task[Connection], bool]]]" = [None] * connections
         self._turn = 0
         self._loop: Optional[asyncio.AbstractEventLoop] = None
 
@@ -210,8 +230,8 @@ class Service(Ways):
         place = self._turn = (self._turn + 1) % len(self.connections)
         connection = self.connections[place]
         if connection is not None and connection.is_good():
-            return Session(connection, True)
-        return Session(await self._shared(place, deadline), False)
+            return Session(connection)
+        return Session(await self._shared(place, deadline))
 
     def close(self) -> None:
         self.is_closed = True
@@ -229,17 +249,19 @@ class Service(Ways):
 
     async def _shared(self, place: int, deadline: float, is_once: bool = False) -> Connection:
         """A new connection. All tasks that want one at this time wait for the same."""
-        task = self._tasks[place]
-        if task is None or task.done():
-            task = self._tasks[place] = asyncio.ensure_future(self._connected(place, is_once))
-            task.add_done_callback(lambda task: task.cancelled() or task.exception())
-        await asyncio.wait([task], timeout=None if deadline == math.inf else max(0.0, deadline - monotonic()))
-        if not task.done():
-            raise CannotConnect(f"no service answered in time at {self}")
-        error = task.exception()
-        if error is not None:
-            raise type(error)(*error.args) from error.__cause__
-        return task.result()
+        while True:
+            tried = self._tries[place]
+            if tried is None or tried[0].done():
+                tried = self._tries[place] = asyncio.ensure_future(self._connected(place, is_once)), is_once
+                tried[0].add_done_callback(lambda task: task.cancelled() or task.exception())
+            await asyncio.wait([tried[0]], timeout=None if deadline == math.inf else max(0.0, deadline - monotonic()))
+            if not tried[0].done():
+                raise CannotConnect(f"no service answered in time at {self}")
+            error = tried[0].exception()
+            if error is None:
+                return tried[0].result()
+            if is_once or not tried[1]:
+                raise type(error)(*error.args) from error.__cause__
 
     async def _connected(self, place: int, is_once: bool) -> Connection:
         connection = self.connections[place] = await self._found(monotonic() + self.connect_timeout, is_once)
@@ -263,19 +285,15 @@ class Service(Ways):
 
     async def _tried(self, path: Union[str, bytes], deadline: float) -> Union[Connection, Exception]:
         """A connection by this way, or why there is none."""
-        own = socket.socket(socket.AF_UNIX)
-        connection = Connection(self, own)
+        connection = Connection(self, socket.socket(socket.AF_UNIX))
         try:
-            own.setblocking(False)
-            own.connect(path)
-            _connections.add(connection)
-            await connection.loop.create_connection(lambda: connection, sock=own)
-            hello = Ask(b"hello", (), min(monotonic() + self.reply_timeout, deadline))
-            connection.epoch = self.greet(await Session(connection, False).ask(hello))
+            await asyncio.wait_for(connection.opened(path), self.limit(deadline))
             return connection
         except BaseException as error:
             connection.end(LOST)
-            own.close()
+            connection.own.close()
+            if isinstance(error, asyncio.TimeoutError):
+                return OSError("no answer")
             if isinstance(error, (OSError, Full)):
                 return error
             raise

@@ -88,11 +88,12 @@ class Transaction(Calls):
                 if not isinstance(told, LocksLost) or self._state.key:
                     self._state.is_over = True
                     raise
-                if not self._session.is_used:
+                if self._session.connection.is_slow:
                     raise CannotConnect(str(told)) from told
             finally:
                 if self._is_live or self._state.key:
                     self._watch.call("begin", self._state, self._names, start, None if self._is_live else error)
+                error = None  # it has this frame
 
     async def _call(self, kind: str, flow: Flow[R], names: Sequence[bytes] = ()) -> R:
         self._check()
@@ -112,6 +113,7 @@ class Transaction(Calls):
             self._task = None
             self._is_live = self._is_live and not self._state.is_over
             self._watch.call(kind, self._state, names, start, error)
+            del error  # which has this frame
 
     async def _known(self, status: Status) -> Status:
         return status
