@@ -55,13 +55,13 @@ class Apart(threading.Thread):
 
 
 class Asyncio:
-    """The asyncio client, called as the one for threads: its coroutines run in a loop of their own."""
+    """The asyncio client, called as the one for threads: its coroutines run in a loop of their own. Without a path it is in process."""
 
     def __init__(self, *paths: Any, **options: Any) -> None:
         self._loop = asyncio.new_event_loop()
         self._thread = threading.Thread(target=self._loop.run_forever, daemon=True)
         self._thread.start()
-        self._locks = aio.Locks.connect(*paths, **options)
+        self._locks = aio.Locks.connect(*paths, **options) if paths else aio.Locks.in_process(**options)
 
     def result(self, call: Awaitable[Any]) -> Any:
         """What comes of a call, once it has an end."""

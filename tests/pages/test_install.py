@@ -14,7 +14,7 @@ import zipfile
 from lib.world import PACKAGE, PROGRAM, SERVER, Case, run
 
 CLIENT = pathlib.Path(PACKAGE)
-PIP = {"PIP_NO_INDEX": "1", "PIP_DISABLE_PIP_VERSION_CHECK": "1", "PIP_CONFIG_FILE": os.devnull, "PYTHONDONTWRITEBYTECODE": "1"}
+PIP = {"PASHKURE_LIB_DIR": "", "PKG_CONFIG_LIBDIR": os.devnull, "PIP_NO_INDEX": "1", "PIP_DISABLE_PIP_VERSION_CHECK": "1", "PIP_CONFIG_FILE": os.devnull, "PYTHONDONTWRITEBYTECODE": "1"}
 USE = f"""if True:
     import importlib.metadata, pashkure, pashkure.aio, pashkure.testing
     with pashkure.testing.service("--program", {PROGRAM!r}, command={SERVER!r}) as served, pashkure.Locks.connect(served.path) as locks:
@@ -91,7 +91,8 @@ class Install(Case):
         self.assertEqual(*(wheel.read_bytes() for wheel in wheels))
         with zipfile.ZipFile(wheels[0]) as wheel:
             files = {name: wheel.read(name) for name in wheel.namelist()}
-        self.assertEqual({name: data for name, data in files.items() if ".dist-info/" not in name}, sources())
+        self.assertIn(b"without its C extension", files["_pashkure.py"])
+        self.assertEqual({name: data for name, data in files.items() if ".dist-info/" not in name and name != "_pashkure.py"}, sources())
         digests = {name: base64.urlsafe_b64encode(hashlib.sha256(data).digest()).decode().rstrip("=") for name, data in files.items()}
         record = "pashkure-0.1.0.dist-info/RECORD"
         lines = [f"{name},sha256={digests[name]},{len(data)}" for name, data in files.items() if name != record]

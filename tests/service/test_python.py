@@ -22,6 +22,7 @@ class Calls:
     """The cases that threads and asyncio have in common."""
 
     locks: Any
+    connected = ("connected",)  # what is logged at the start
 
     def setUp(self) -> None:
         super().setUp()  # type: ignore[misc]
@@ -59,8 +60,12 @@ class Calls:
         same(locks.totals(), Totals(2, 2, 0, 0))
         with locks.transaction("a", "b", timeout=5) as tx:
             same(tx.holds(), ["a", "b"])
+
+    def test_fence(self) -> None:
+        """A later owner of a name is told of a greater fence."""
+        with self.locks.transaction("a") as tx:
             fence = tx.fence("a")
-        with locks.transaction("a") as tx:
+        with self.locks.transaction("a") as tx:
             same(tx.fence("a") > fence, True)
             raises(NotOwner, tx.fence, "b")
 
@@ -386,7 +391,7 @@ class Calls:
         waited = [event for event in told if event.names == ("b",) and event.key == one.key][0]
         same(waited.seconds >= waited.waited >= 0.01, True)
         text = "\n".join(logs.output)
-        for part in "connected", "deadlock: the request for 'a'", "on_event raised an exception", f"WARNING:pashkure:{one.key} has waited for 'b' of {two.key}":
+        for part in *self.connected, "deadlock: the request for 'a'", "on_event raised an exception", f"WARNING:pashkure:{one.key} has waited for 'b' of {two.key}":
             self.assertIn(part, text)  # type: ignore[attr-defined]
 
 

@@ -13,6 +13,7 @@ from .calls import Opened
 from .errors import Aborted, CannotConnect, Deadlock, LockError, LocksLost, MustAbort
 from .events import OnEvent, Watch
 from .flows import Flow
+from .in_process import InProcess
 from .service import Service
 from .transaction import Transaction
 from .values import Name, Retry, Totals, all_encoded, seconds
@@ -28,7 +29,7 @@ R = TypeVar("R")
 class Locks(Opened):
     """Exclusive locks on names, for transactions. All threads may use one object, and each process of a fork.
 
-    `Locks.connect` makes one. In a `with` statement it is closed at the end.
+    `Locks.connect` makes one for a service, and `Locks.in_process` one without. In a `with` statement it is closed at the end.
     """
 
     _backend: Backend
@@ -48,6 +49,19 @@ class Locks(Opened):
         """
         watch = Watch(on_event, slow_wait)
         return cls(Service(paths, connect_timeout, reply_timeout, watch.connection), watch, retry)
+
+    @classmethod
+    def in_process(cls, *, transactions: int = 1024, names: int = 4096, name_bytes: int = 64, retry: Retry = Retry(), on_event: OnEvent = None,
+                   slow_wait: Optional[float] = None) -> "Locks":  # fmt: skip
+        """The locks of this process alone, which a lock manager inside it keeps. The child of a fork finds them closed. There are no fences.
+
+        Raises `ImportError` if the C extension is not installed, and says why it is not.
+
+        - `transactions`: how many can be live at a time, 1 to 65,536.
+        - `names`: how many can be owned at a time, 1 to 65,536. `name_bytes`: how many bytes each may have, 1 to 1,024.
+        - `retry`, `on_event`, `slow_wait`: as for `connect`.
+        """
+        return cls(InProcess(transactions, names, name_bytes), Watch(on_event, slow_wait), retry)
 
     def transaction(self, *names: Name, timeout: Optional[float] = None) -> Transaction:
         """Begins a transaction, and locks the names in their order. At an exception, as `Deadlock` or `Timeout`, none is left."""

@@ -5,7 +5,7 @@ import asyncio
 import inspect
 import math
 from time import monotonic
-from typing import TYPE_CHECKING, Awaitable, Callable, Optional, TypeVar
+from typing import TYPE_CHECKING, Any, Awaitable, Callable, Optional, TypeVar
 
 from ..calls import Opened
 from ..errors import CannotConnect, LocksLost
@@ -14,6 +14,7 @@ from ..flows import Flow
 from ..locks import is_deadlock
 from ..values import Name, Retry, Totals, all_encoded, seconds
 from ..ways import Path
+from .in_process import InProcess
 from .service import Service, drive
 from .transaction import Transaction
 
@@ -27,10 +28,11 @@ R = TypeVar("R")
 class Locks(Opened):
     """Exclusive locks on names, for transactions, and for the tasks of one event loop.
 
-    `Locks.connect` makes one. In an `async with` statement it is closed at the end. Do not fork while it is open.
+    `Locks.connect` makes one for a service, and `Locks.in_process` one without. In an `async with` statement it is closed at the end. Do not
+    fork while it is open.
     """
 
-    _backend: Service
+    _backend: Any
 
     @classmethod
     def connect(cls, *paths: Path, connect_timeout: float = 5.0, reply_timeout: float = 10.0, retry: Retry = Retry(), on_event: OnEvent = None,
@@ -44,6 +46,12 @@ class Locks(Opened):
         """
         watch = Watch(on_event, slow_wait)
         return cls(Service(paths, connect_timeout, reply_timeout, connections, watch.connection), watch, retry)
+
+    @classmethod
+    def in_process(cls, *, transactions: int = 1024, names: int = 4096, name_bytes: int = 64, retry: Retry = Retry(), on_event: OnEvent = None,
+                   slow_wait: Optional[float] = None) -> "Locks":  # fmt: skip
+        """The locks of the tasks of one loop alone, which a lock manager inside this process keeps: as `pashkure.Locks.in_process`."""
+        return cls(InProcess(transactions, names, name_bytes), Watch(on_event, slow_wait), retry)
 
     def transaction(self, *names: Name, timeout: Optional[float] = None) -> Transaction:
         """A transaction, which begins by `async with` or by `await`, and then locks the names in their order. At an exception of that, as
@@ -89,7 +97,7 @@ class Locks(Opened):
             try:
                 return await drive(session, flow())
             except LocksLost as lost:
-                if session.connection.is_slow:
+                if session.is_slow:
                     raise CannotConnect(str(lost)) from lost
 
     async def __aenter__(self) -> "Locks":

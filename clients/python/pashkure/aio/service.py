@@ -7,13 +7,14 @@ import os
 import socket
 import weakref
 from time import monotonic
-from typing import Callable, List, Optional, Sequence, Tuple, TypeVar, Union, cast
+from typing import Any, Callable, List, Optional, Sequence, Tuple, TypeVar, Union, cast
 
-from ..errors import Aborted, CannotConnect, Closed, Full, LocksLost, ProtocolError, ServiceRestarted
+from ..errors import CannotConnect, Closed, Full, LocksLost, ProtocolError, ServiceRestarted
 from ..flows import WOKEN, Flow
 from ..service import SIZE, each
 from ..ways import BY_CLOSE, BY_FORK, LOST, RESTARTED, Path, Ways, Why
 from ..wire import Answer, Ask, Call, Conversation, Party
+from .waiter import Waiter
 
 R = TypeVar("R")
 ENDS = (b"commit", b"abort", b"cancel")
@@ -121,15 +122,20 @@ class Connection(asyncio.Protocol):
                 self.end((LocksLost, f"the service did not answer within {self.service.reply_timeout:g} s"))
 
 
-class Session(Party):
+class Session(Waiter, Party):
     """One transaction of a connection. One task at a time may call `ask` and `wait`."""
 
     def __init__(self, connection: Connection) -> None:
-        super().__init__()
+        super().__init__(connection.loop)
+        Party.__init__(self)
         self.connection, self.epoch = connection, connection.epoch
         self._last: Optional[Call] = None  # the last request
-        self._waiter: "Optional[asyncio.Future[None]]" = None  # that it, or a wait, is over
         self._is_woken = False
+
+    @property
+    def is_slow(self) -> bool:
+        """Whether the service did not answer in time."""
+        return self.connection.is_slow
 
     async def ask(self, ask: Ask) -> Answer:
         connection = self.connection
@@ -160,24 +166,9 @@ class Session(Party):
                 return None
             await self._woken(deadline)
 
-    async def _woken(self, deadline: float) -> None:
-        """Returns when it is told something, and at the deadline."""
-        loop = self.connection.loop
-        waiter = self._waiter = loop.create_future()
-        timer = loop.call_later(max(0.0, deadline - monotonic()), self.is_told) if deadline < math.inf else None
-        try:
-            await waiter
-        finally:
-            if timer is not None:
-                timer.cancel()
-
     def wake(self) -> None:
         self._is_woken = True
         self.is_told()
-
-    def is_told(self) -> None:
-        if self._waiter is not None and not self._waiter.done():
-            self._waiter.set_result(None)
 
     def drop(self) -> None:
         if self.connection.why is None:
@@ -188,13 +179,8 @@ class Session(Party):
         if self._last is not None and self.connection.why is None:
             self.connection.write(self.connection.talk.abandon(self._last))
 
-    def break_off(self) -> None:
-        """The call of another task raises `Aborted`."""
-        if self._waiter is not None and not self._waiter.done():
-            self._waiter.set_exception(Aborted("another task aborted the transaction"))
 
-
-async def drive(session: Session, flow: Flow[R]) -> R:
+async def drive(session: Any, flow: Flow[R]) -> R:
     """Runs a flow. What an exception leaves behind is the caller's to clean up."""
     try:
         step = next(flow)

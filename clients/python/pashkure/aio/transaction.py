@@ -12,7 +12,7 @@ from ..errors import CannotConnect, Closed, LockError, LocksLost, NoTransaction,
 from ..events import Watch
 from ..flows import Flow
 from ..values import Fence, Name, Status
-from .service import Service, Session, drive
+from .service import drive
 
 R = TypeVar("R")
 
@@ -32,11 +32,11 @@ class Transaction(Calls):
     transaction goes on; `holds` says whether the name was granted in that moment. A cancelled `commit` or `abort` was sent, and counts.
     """
 
-    _session: Session
+    _session: Any
     _task: "Optional[asyncio.Task[Any]]" = None  # within a call
     _is_live = _has_begun = False
 
-    def __init__(self, service: Service, watch: Watch, names: Tuple[bytes, ...], timeout: float) -> None:
+    def __init__(self, service: Any, watch: Watch, names: Tuple[bytes, ...], timeout: float) -> None:
         super().__init__(watch.state(), watch)
         self._service, self._names, self._timeout = service, names, timeout
         self._own: "Optional[asyncio.Task[Any]]" = None
@@ -88,7 +88,7 @@ class Transaction(Calls):
                 if not isinstance(told, LocksLost) or self._state.key:
                     self._state.is_over = True
                     raise
-                if self._session.connection.is_slow:
+                if self._session.is_slow:
                     raise CannotConnect(str(told)) from told
             finally:
                 if self._is_live or self._state.key:
@@ -148,7 +148,7 @@ class Transaction(Calls):
 
     def __del__(self) -> None:
         if self._is_live:
-            loop = self._session.connection.loop
+            loop = self._session.loop
             if not loop.is_closed():
                 loop.call_soon_threadsafe(self._session.drop)
             warnings.warn(f"{self!r} was dropped alive, and is aborted: use `async with`, commit or abort", ResourceWarning, source=self)

@@ -1,0 +1,239 @@
+"""A lock manager of this process alone, by the C extension `_pashkure`: what a transaction asks is answered at once."""
+from __future__ import annotations
+
+import importlib
+import os
+import threading
+import weakref
+from time import monotonic
+from typing import Any, Callable, Dict, List, Optional, Sequence
+
+from . import backend
+from .errors import Closed, Misuse
+from .flows import WOKEN
+from .service import each
+from .ways import BY_CLOSE, BY_FORK, BY_DROP, Why
+from .wire import Answer, Ask
+
+OK, HELD, WAITS, DEADLOCK, BUSY, LATER, CARRIED, _, ABORTED = range(9)
+"""Results of `pashkure.h`."""
+REFUSALS = dict(enumerate((b"no-transaction", b"must-abort", b"waiting", b"not-waiting", b"name-empty", b"name-too-long", b"not-owner",
+                           b"transactions-full", b"names-full", b"labels-full", b"counts-full"), 16))  # fmt: skip
+TOLD: Dict[int, Answer] = {OK: (b"granted",), ABORTED: (b"aborted",)}
+LONGEST_CYCLE = 16
+"""Waits of a cycle that a deadlock is told with."""
+
+
+class Inside:
+    """A session without its ways to sleep: at most one transaction, whose requests are answered as the service answers them."""
+
+    epoch, is_slow = 0, False
+
+    def __init__(self, owner: "InProcess", news: Callable[[], None]) -> None:
+        self._manager, self._news = owner.manager, news
+        self._seat = owner.extension.Seat(news)
+        self._why: Optional[Why] = None
+        self._is_woken = False
+
+    def answer(self, ask: Ask) -> Answer:
+        """The answer to a request, by the words of the protocol."""
+        self.check()
+        return _ANSWERS[ask.word](self, ask.names)
+
+    def told(self) -> Optional[Answer]:
+        """How the wait of its transaction ended, or that it was woken, if that has yet to be told."""
+        self.check()
+        over = self._seat.told()
+        if over is None and self._is_woken:
+            self._is_woken = False
+            return WOKEN
+        return None if over is None else TOLD[over]
+
+    def wake(self) -> None:
+        self._is_woken = True
+        self._tell()
+
+    def drop(self) -> None:
+        self.end(BY_DROP)
+
+    def end(self, why: Why) -> None:
+        """Ends the transaction, and says why."""
+        if self._why is None:
+            self._why = why
+            self._manager.abort(self._seat)
+            self._tell()
+
+    def forget(self) -> None:
+        """In the child of a fork."""
+        self._why = BY_FORK
+
+    def check(self) -> None:
+        """Raises if the session is of no use."""
+        if self._why is not None:
+            raise self._why[0](self._why[1])
+
+    def _tell(self) -> None:
+        try:
+            self._news()
+        except RuntimeError:
+            pass  # the lock was released before
+
+    def _refused(self, result: int) -> Answer:
+        if result not in REFUSALS:  # another thread has closed the manager
+            raise Closed(BY_CLOSE[1])
+        return (b"refused", REFUSALS[result])
+
+    def _begin(self, names: Sequence[bytes]) -> Answer:
+        result = self._manager.begin(self._seat)
+        if result:
+            return self._refused(result)
+        return (b"begun", self._seat.key, *(self._lock(names) if names else ()))
+
+    def _lock(self, names: Sequence[bytes]) -> Answer:
+        for place, name in enumerate(names):
+            result, holder = self._manager.lock(self._seat, name)
+            if result in (WAITS, DEADLOCK):
+                return (b"waits" if result == WAITS else b"deadlock", b"%d" % place, holder)
+            if result > HELD:
+                return self._refused(result)
+        return (b"granted",)
+
+    def _try(self, names: Sequence[bytes]) -> Answer:
+        result, holder = self._manager.try_lock(self._seat, *names)
+        if result == BUSY:
+            return (b"busy", holder)
+        return self._refused(result) if result > HELD else (b"granted",)
+
+    def _unlock(self, names: Sequence[bytes]) -> Answer:
+        result = self._manager.unlock(self._seat, *names)
+        return self._refused(result) if result else (b"unlocked",)
+
+    def _commit(self, names: Sequence[bytes]) -> Answer:
+        result = self._manager.commit(self._seat)
+        return self._refused(result) if result else (b"committed",)
+
+    def _abort(self, names: Sequence[bytes]) -> Answer:
+        result = self._manager.abort(self._seat)
+        return (b"later",) if result == LATER else self._refused(result) if result else (b"aborted",)
+
+    def _cancel(self, names: Sequence[bytes]) -> Answer:
+        result = self._manager.cancel(self._seat)
+        return (b"carried",) if result == CARRIED else self._refused(result) if result else (b"cancelled",)
+
+    def _status(self, names: Sequence[bytes]) -> Answer:
+        result, _, *wait = self._manager.status(self._seat.slot)
+        return (b"waiting" if result == WAITS else b"deadlock", *wait) if wait else (b"active",)
+
+    def _holds(self, names: Sequence[bytes]) -> Answer:
+        return (b"holds", *sorted(self._manager.holds(self._seat)))
+
+    def _cycle(self, names: Sequence[bytes]) -> Answer:
+        """The waits from the victim on, until it is the holder. They stay until it is aborted."""
+        words: List[bytes] = [b"cycle"]
+        slot = self._seat.slot
+        for _ in range(LONGEST_CYCLE):
+            result, key, *wait = self._manager.status(slot)
+            if not wait:
+                return (b"cycle",)  # another thread has aborted the victim
+            words += [key, wait[0]]
+            slot = int(wait[1].split(b".")[0])
+            if slot == self._seat.slot:
+                return tuple(words)
+        return (*words, b"..")
+
+    def _owner(self, names: Sequence[bytes]) -> Answer:
+        key = self._manager.owner(*names)
+        return (b"free",) if key is None else (b"owner", key)
+
+    def _totals(self, names: Sequence[bytes]) -> Answer:
+        return (b"totals", *(b"%d" % number for number in self._manager.totals()))
+
+    def _fence(self, names: Sequence[bytes]) -> Answer:
+        raise Misuse("in process there are no fences: whoever loses its locks there is this process, and has ended with them")
+
+
+_ANSWERS: Dict[bytes, Callable[[Inside, Sequence[bytes]], Answer]] = {
+    b"begin": Inside._begin, b"lock": Inside._lock, b"try": Inside._try, b"unlock": Inside._unlock, b"commit": Inside._commit,
+    b"abort": Inside._abort, b"cancel": Inside._cancel, b"status": Inside._status, b"holds": Inside._holds, b"cycle": Inside._cycle,
+    b"owner": Inside._owner, b"totals": Inside._totals, b"fence": Inside._fence,
+}  # fmt: skip
+
+
+class Session(Inside):
+    """For threads."""
+
+    def __init__(self, owner: "InProcess") -> None:
+        self._lock_of_news = threading.Lock()  # released when there is news
+        self._lock_of_news.acquire()
+        super().__init__(owner, self._lock_of_news.release)
+
+    ask = Inside.answer
+
+    def wait(self, deadline: float) -> Optional[Answer]:
+        while True:
+            told = self.told()
+            if told is not None:
+                return told
+            left = deadline - monotonic()
+            if left <= 0:
+                return None
+            self._lock_of_news.acquire(True, min(left, threading.TIMEOUT_MAX))
+
+
+class InProcess:
+    """The manager, and its sessions."""
+
+    def __init__(self, transactions: int, names: int, name_bytes: int) -> None:
+        self.extension = extension()
+        self.manager = self.extension.Manager(transactions, names, name_bytes, int.from_bytes(os.urandom(8), "little"))
+        self._why: Optional[Why] = None
+        self._sessions: "weakref.WeakSet[Inside]" = weakref.WeakSet()
+        _managers.add(self)
+
+    def new(self, kind: Callable[["InProcess"], Any]) -> Any:
+        """A session of this kind, for one transaction."""
+        if self._why is not None:
+            raise self._why[0](self._why[1])
+        session = kind(self)
+        self._sessions.add(session)
+        return session
+
+    def session(self, deadline: float) -> backend.Session:
+        session: Session = self.new(Session)
+        return session
+
+    def give_back(self, session: backend.Session) -> None:
+        """It is not used again."""
+
+    def close(self) -> None:
+        self._why = self._why or BY_CLOSE
+        for session in each(self._sessions):
+            session.end(BY_CLOSE)
+        self.manager.close()
+
+    def forget(self) -> None:
+        """In the child of a fork, which excludes nobody of the parent."""
+        self._why = BY_FORK
+        self.manager.forget()
+        for session in each(self._sessions):
+            session.forget()
+
+    def __str__(self) -> str:
+        return "in process"
+
+
+def extension() -> Any:
+    """The C extension. Raises `ImportError` that says why there is none."""
+    try:
+        return importlib.import_module("_pashkure")
+    except ModuleNotFoundError as error:
+        raise ImportError("the C extension _pashkure is not there: `pip install` of the package builds it") from error
+
+
+def _forget_all() -> None:
+    for manager in each(_managers):
+        manager.forget()
+
+
+_managers: "weakref.WeakSet[InProcess]" = weakref.WeakSet()
+os.register_at_fork(after_in_child=_forget_all)

@@ -1,0 +1,252 @@
+"""The Python client in process: the cases that it has in common with the service, and what differs."""
+from __future__ import annotations
+
+import asyncio
+import gc
+import os
+import pathlib
+import signal
+import sys
+import sysconfig
+import unittest.mock
+import zipfile
+from typing import Any, List
+
+from lib.clients import Apart, Asyncio, raises, same, waits
+from lib.world import PACKAGE, each, environment, run, until
+from program.test_library import LibraryCase
+from service.test_python import OPTIONS, Calls
+
+import build_backend
+from pashkure import Aborted, Closed, Deadlock, Locks, LocksLost, Misuse, Status, Timeout, Wait, aio
+
+HEADERS = sysconfig.get_path("include")
+USE = "import pashkure; locks = pashkure.Locks.in_process(); print(locks.transaction('a').holds())"
+
+
+class Looks:
+    """Reads a manager, as the operator of a service does."""
+
+    def __init__(self, backend: Any) -> None:
+        self.backend, self.manager = backend, backend.manager
+
+    def graph(self) -> List[Wait]:
+        told = [self.manager.status(slot) for slot in range(1024)]
+        return [Wait(key.decode(), name.decode(), holder.decode()) for _, key, name, holder in (each for each in told if len(each) == 4)]
+
+    def holds(self, key: str) -> List[str]:
+        seats = [session._seat for session in self.backend._sessions if session._seat.key == key.encode()]
+        return sorted(name.decode() for name in self.manager.holds(*seats))
+
+    def status(self, key: str) -> Status:
+        return Status("active") if self.manager.status(int(key.split(".")[0]))[0] == 0 else Status("waiting")
+
+
+class Inside(Calls):
+    """With the extension, built from its source."""
+
+    connected = ()
+
+    @classmethod
+    def setUpClass(cls) -> None:
+        super().setUpClass()  # type: ignore[misc]
+        if not os.path.exists(os.path.join(HEADERS, "Python.h")):
+            raise unittest.SkipTest(f"there is no Python.h in {HEADERS} (Debian's package python3-dev)")
+        with unittest.mock.patch.dict(os.environ, {"PASHKURE_LIB_DIR": f"{cls.top}/lib"}):  # type: ignore[attr-defined]
+            build_backend.extension(cls.top)  # type: ignore[attr-defined]
+        sys.path.insert(0, cls.top)  # type: ignore[attr-defined]
+        cls.addClassCleanup(sys.path.remove, cls.top)  # type: ignore[attr-defined]
+
+    def setUp(self) -> None:
+        super(Calls, self).setUp()  # type: ignore[misc]
+        self.locks = self.opened(**OPTIONS.get(self._testMethodName, {}))  # type: ignore[attr-defined]
+        self.operator: Any = Looks(getattr(self.locks, "_locks", self.locks)._backend)
+
+    test_operator = None  # type: ignore[assignment]
+
+    def test_fence(self) -> None:
+        """There is none."""
+        with self.locks.transaction("a") as tx:
+            raises(Misuse, tx.fence, "a")
+            tx.lock("b")
+
+    def test_ranges(self) -> None:
+        """What is out of range is named."""
+        for what, number in ("transactions", 0), ("names", 65_537), ("name_bytes", 1_025):
+            same(str(raises(ValueError, self.opened, **{what: number})), f"{what} is out of range")  # type: ignore[attr-defined]
+
+    def test_unlock(self) -> None:
+        """A name that is unlocked is given to the one that waits for it, which wakes up."""
+        one, two = self.locks.transaction("a"), self.locks.transaction("b")
+        thread = Apart(two.lock, "a")
+        waits(two)
+        one.unlock("a")
+        same(thread.ends(), None)
+        same((one.holds(), two.holds()), ([], ["a", "b"]))
+        one.commit()
+        two.commit()
+
+    def test_abort_behind_a_victim(self) -> None:
+        """Whoever is aborted while it waits behind a victim keeps its names until that one is aborted."""
+        one, two = self.locks.transaction("1"), self.locks.transaction("2")
+        thread = Apart(one.lock, "2")
+        waits(one)
+        raises(Deadlock, two.lock, "1")
+        one.abort()
+        same(type(thread.ends()), Aborted)
+        same(self.locks.owner("1"), one.key)
+        two.abort()
+        same((self.locks.owner("1"), self.locks.owner("2")), (None, None))
+        three = self.locks.transaction("1", "2", "3")
+        same(three.holds(), ["1", "2", "3"])
+        three.commit()
+
+    def test_long_cycle(self) -> None:
+        """Of a long cycle its first sixteen waits are told."""
+        ring = [self.locks.transaction(f"{number}") for number in range(17)]
+        threads = [Apart(tx.lock, f"{number + 1}") for number, tx in enumerate(ring[:-1])]
+        for tx in ring[:-1]:
+            waits(tx)
+        cycle = raises(Deadlock, ring[16].lock, "0").cycle
+        keys = [tx.key for tx in (ring[16], *ring[:15])]
+        same(cycle, tuple(map(Wait, keys, map(str, range(16)), [*keys[1:], ".."])))
+        ring[16].abort()
+        for number in range(15, -1, -1):
+            same(threads[number].ends(), None)
+            ring[number].commit()
+
+    def test_released(self) -> None:
+        """Nothing is kept of a transaction that has ended."""
+        backend = self.operator.backend
+        for end in "commit", "abort":
+            one, two = self.locks.transaction("a"), self.locks.transaction("b")
+            thread = Apart(two.lock, "a")
+            waits(two)
+            getattr(one, end)()
+            thread.ends()
+            getattr(two, end)()
+            del one, two, thread
+        until(lambda: gc.collect() >= 0 and not len(backend._sessions), "nothing is kept")
+
+    def test_fork(self) -> None:
+        """A child finds the locks closed, and the parent's go on."""
+        locks, tx = self.locks, self.locks.transaction("a")
+        child = os.fork()
+        if child == 0:
+            status = 1
+            try:
+                inner, moved = getattr(locks, "_locks", locks), getattr(tx, "_tx", tx)
+                raises(Closed, inner._backend.new, lambda owner: None)
+                raises(Closed, moved._session.check)
+                del inner, moved
+                status = 0
+            finally:
+                os._exit(status)
+        same(os.waitpid(child, 0)[1], 0)
+        same(locks.owner("a"), tx.key)
+        tx.commit()
+        same(locks.owner("a"), None)
+
+
+class Threads(Inside, LibraryCase):
+    def opened(self, **options: Any) -> Locks:
+        locks = Locks.in_process(**options)
+        self.addCleanup(locks.close)
+        return locks
+
+    def test_signal(self) -> None:
+        """An exception of a signal ends a wait, and the transaction."""
+
+        def alarms(number: int, frame: Any) -> None:
+            raise KeyboardInterrupt
+
+        before = signal.signal(signal.SIGUSR1, alarms)
+        self.addCleanup(signal.signal, signal.SIGUSR1, before)
+        one, two = self.locks.transaction("a"), self.locks.transaction("b")
+
+        def kills() -> None:
+            waits(two)
+            os.kill(os.getpid(), signal.SIGUSR1)
+
+        thread = Apart(kills)
+        with self.assertRaises(KeyboardInterrupt):
+            two.lock("a")
+        thread.ends()
+        same(self.locks.owner("b"), None)
+        raises(LocksLost, two.lock, "c")
+        one.commit()
+        same(self.locks.owner("a"), None)
+
+    def test_dropped(self) -> None:
+        """A transaction that is dropped alive is aborted, with a warning."""
+        tx = self.locks.transaction("a")
+        with self.assertWarns(ResourceWarning):
+            del tx
+        same(self.locks.owner("a"), None)
+
+
+class Tasks(Inside, LibraryCase):
+    """The same with asyncio."""
+
+    def test_cancelled_when_granted(self) -> None:
+        """A request that is cancelled when it has just been granted owns its name, and the next one waits nevertheless."""
+
+        async def case() -> None:
+            async with aio.Locks.in_process() as locks, locks.transaction("a", "b") as one, locks.transaction() as two:
+                task = asyncio.ensure_future(two.lock("a"))
+                while (await two.status()).state != "waiting":
+                    await asyncio.sleep(0)
+                await one.unlock("a")
+                task.cancel()
+                with self.assertRaises(asyncio.CancelledError):
+                    await task
+                same(await two.holds(), ["a"])
+                with self.assertRaises(Timeout):
+                    await two.lock("b", timeout=0)
+
+        asyncio.run(case())
+
+    def opened(self, **options: Any) -> Any:
+        locks = Asyncio(**options)
+        self.addCleanup(locks.ends)
+        return locks
+
+
+class Installed(LibraryCase):
+    """What the package is made of, with the library and without."""
+
+    def wheel(self, patch: str = "pass", **variables: str) -> str:
+        """The folder of a wheel that was made so."""
+        code = f"import sys, sysconfig; sys.path.insert(0, {PACKAGE!r}); import build_backend; {patch}; print(build_backend.build_wheel('.'))"
+        told = run(sys.executable, "-c", code, cwd=self.folder, env=environment(**{"PASHKURE_LIB_DIR": f"{self.top}/lib", **variables}))
+        self.assertEqual((told.status, told.err), (0, b""))
+        with zipfile.ZipFile(pathlib.Path(self.folder, told.out.decode().strip())) as wheel:
+            wheel.extractall(f"{self.folder}/installed")
+        return told.out.decode().strip()
+
+    def used(self) -> Any:
+        return run(sys.executable, "-c", USE, env=environment(PYTHONPATH=f"{self.folder}/installed"))
+
+    def test_with_all(self) -> None:
+        if not os.path.exists(os.path.join(HEADERS, "Python.h")):
+            self.skipTest(f"there is no Python.h in {HEADERS} (Debian's package python3-dev)")
+        self.assertRegex(self.wheel(), r"^pashkure-0\.1\.0-cp3\d+-cp3\d+-\w+\.whl$")
+        told = self.used()
+        self.assertEqual((told.status, told.out), (0, b"['a']\n"))
+
+    @each([
+        ("no compiler", {"CC": "no-compiler"}, "pass", "no C compiler no-compiler is on the PATH"),
+        ("no Python.h", {}, "sysconfig.get_path = lambda kind: '/none'", "there is no Python.h in /none"),
+        ("no archive", {"PASHKURE_LIB_DIR": "/none"}, "pass", "there is no libpashkure.a in /none"),
+        ("no folder named", {"PASHKURE_LIB_DIR": "", "PKG_CONFIG_LIBDIR": "/none"}, "pass", "PASHKURE_LIB_DIR is not set, and pkg-config knows no pashkure"),
+    ])  # fmt: skip
+    def test_without(self, what: str, variables: Any, patch: str, why: str) -> None:
+        """The package is installed all the same, and `in_process` says what was missing."""
+        self.assertEqual(self.wheel(patch, **variables), "pashkure-0.1.0-py3-none-any.whl")
+        told = self.used()
+        self.assertEqual(told.status, 1)
+        self.assertIn(f"ImportError: pashkure was installed without its C extension: {why}", told.err.decode())
+
+    def test_not_installed(self) -> None:
+        told = run(sys.executable, "-c", USE, env=environment())
+        self.assertIn(b"ImportError: the C extension _pashkure is not there", told.err)
