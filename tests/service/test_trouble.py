@@ -321,6 +321,7 @@ class Forks(TroubleCase):
                 parent.wait()
                 until(lambda: wire.ask(b"owner a") == b"free", "the lock of the dead parent is free")
             finally:
+                parent.kill()
                 os.kill(int(child), signal.SIGKILL)
 
 
