@@ -1,4 +1,4 @@
-/* What one run of Berkeley DB's deadlock detector costs where so many transactions wait in a chain: each of them in a thread, since
+/* What one run of Berkeley DB's deadlock detector costs where this many transactions wait in a chain: each of them in a thread, since
    lock_get returns when the lock is granted. For each length it prints the length, and nanoseconds of processor time: the least of the
    runs after the last few waits. Before each run there is a new wait, since the detector does nothing otherwise; the wait itself is not
    timed. */

@@ -1,4 +1,4 @@
-//! What blocks cost where so many transactions wait in a chain: by labels in the proved table, with a settle after each block, and by a
+//! What blocks cost where this many transactions wait in a chain: by labels in the proved table, with a settle after each block, and by a
 //! walk of the wait-for graph at each block. For each length it prints the length, how many blocks are timed, and four pairs of times in
 //! nanoseconds of processor time, without these blocks and with them: by labels and by a walk where blocks come at the tail of the chain,
 //! and by both where they come at its head.
@@ -21,7 +21,7 @@ unsafe extern "C" {
     safe fn mm_bench_blocks(room: u32, waiting: u32, is_at_head: bool) -> u64;
 }
 
-/// As many chains as there is room for, each of `room` processes. In each so many come to wait, one after another.
+/// As many chains as there is room for, each of `room` processes. In each this many come to wait, one after another.
 type Work = fn(room: u32, waiting: u32, is_at_head: bool) -> u64;
 
 fn labels(room: u32, waiting: u32, is_at_head: bool) -> u64 {
@@ -50,7 +50,7 @@ fn time(work: Work, room: u32, waiting: u32, is_at_head: bool) -> f64 {
     now() - start
 }
 
-/// The least times of many rounds that make chains of so many waits: but for the last `blocks` of each, and whole.
+/// The least times of many rounds that make chains of this many waits: but for the last `blocks` of each, and whole.
 fn least(work: Work, waiting: u32, blocks: u32, is_at_head: bool) -> [f64; 2] {
     let mut least = [f64::INFINITY; 2];
     let start = Instant::now();

@@ -1,5 +1,5 @@
 //! What `bench_shared board` of crates/bench_shared does, over the plain Rust table behind a `std::sync::Mutex` with a board of
-//! atomic words beside it: `board WORK PROCESSES COUNT` does this work so many times, and prints how many nanoseconds that took. An
+//! atomic words beside it: `board WORK PROCESSES COUNT` does this work this many times, and prints how many nanoseconds that took. An
 //! event stores the labels and holders that it changed, as the proved table does; `grants` has no board at all.
 
 #[allow(dead_code)] // no work makes all of its calls

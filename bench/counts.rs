@@ -1,4 +1,4 @@
-//! Runs one workload over one table, so many times, for `instructions` to count by callgrind what it takes.
+//! Runs one workload over one table, this many times, for `instructions` to count by callgrind what it takes.
 //!
 //! `counts TABLE WORKLOAD NUMBER ..`, where TABLE is `proved`, `plain` or, where there is one, `reference`. The workloads and their numbers
 //! are those of `run_on`. It prints how many events were accepted.

@@ -47,7 +47,7 @@ fn intern(map: &mut Map, name: &[u8], number: u32) -> u32 {
     number
 }
 
-/// So many names, each with its number. As in the proved table, there is room for all from the start.
+/// This many names, each with its number. As in the proved table, there is room for all from the start.
 fn filled(names: u32, length: usize) -> Map {
     let mut map = Map::with_capacity(names as usize);
     let mut bytes = [b'a'; 64];

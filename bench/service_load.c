@@ -1,4 +1,4 @@
-/* service_load WHAT PATH CLIENTS SECONDS KIND NAMES: clients of a service at a Unix socket, a thread and a connection each, for so many seconds.
+/* service_load WHAT PATH CLIENTS SECONDS KIND NAMES: clients of a service at a Unix socket, a thread and a connection each, for this many seconds.
  * service_load echo-server PATH: a server of one thread that sends back what it gets.
  *
  * WHAT is service (mmdetect serve), redis or echo; service-joined and redis-joined send the end of a transaction together with the begin of the

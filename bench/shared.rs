@@ -1,5 +1,5 @@
 //! What crates/bench_shared does, over the plain Rust table behind a `std::sync::Mutex`: `shared THREADS COUNT` makes COUNT
-//! transactions in each of so many threads, and prints how many nanoseconds that took and how many transactions were done.
+//! transactions in each of this many threads, and prints how many nanoseconds that took and how many transactions were done.
 
 #[allow(dead_code)] // no workload makes all of its calls
 mod plain;

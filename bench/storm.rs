@@ -1,5 +1,5 @@
 //! What `bench_shared storm` of crates/bench_shared does, over the plain Rust table behind a `std::sync::Mutex`:
-//! `storm CLIENTS COUNT` runs the storms of seeds 1 to COUNT with so many clients, one after another. It prints how many nanoseconds
+//! `storm CLIENTS COUNT` runs the storms of seeds 1 to COUNT with this many clients, one after another. It prints how many nanoseconds
 //! that took, how many clients finished and how many were aborted. The rules are those of docs/WORKLOADS.md.
 
 #[allow(dead_code)] // no workload makes all of its calls
@@ -68,7 +68,7 @@ impl Shared {
     }
 }
 
-/// A client, which has so many turns left.
+/// A client, which has this many turns left.
 struct Client<'a> {
     shared: &'a Shared,
     turns: u64,

@@ -1,4 +1,4 @@
-/* What `bench_locks last` of crates/bench_locks does, by Berkeley DB's lock manager: `time_outs_berkeley WAITING own|carried` lets so many
+/* What `bench_locks last` of crates/bench_locks does, by Berkeley DB's lock manager: `time_outs_berkeley WAITING own|carried` lets this many
    transactions wait in a chain, each in a thread, and the last one asks with a time of 20 ms. If `carried`, the front of the chain blocks while
    the last one waits, else before it. It prints how many nanoseconds after its time the last one came back. Berkeley DB looks for
    requests whose time is over when its detector runs, so a thread runs the detector for these alone, a millisecond apart. */
@@ -33,7 +33,7 @@ static int64_t now(void) {
     return time.tv_sec * 1000000000LL + time.tv_nsec;
 }
 
-/* The others wait after so many milliseconds. */
+/* The others wait after this many milliseconds. */
 static int settling(void) { return 10 + last / 2; }
 
 static int get(u_int32_t locker, int number, u_int32_t milliseconds) {

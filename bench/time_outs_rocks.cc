@@ -1,4 +1,4 @@
-// What `bench_locks last` of crates/bench_locks does, by RocksDB's TransactionDB: `time_outs_rocks WAITING own|carried` lets so many transactions
+// What `bench_locks last` of crates/bench_locks does, by RocksDB's TransactionDB: `time_outs_rocks WAITING own|carried` lets this many transactions
 // wait in a chain, each in a thread, and the last one asks with a time of 20 ms. If `carried`, the front of the chain blocks while the last one
 // waits, else before it. It prints how many nanoseconds after its time the last one came back. Each wait looks for a deadlock, along the whole
 // chain. The database is in memory and stays empty (transfers_rocks.cc). The program ends at once, and all others wait still: one unlock wakes all

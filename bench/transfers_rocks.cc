@@ -1,5 +1,5 @@
 // What crates/bench_locks does, by RocksDB's TransactionDB: `transfers_rocks THREADS NAMES MILLISECONDS` makes transactions of four locks each
-// in so many threads. It prints how many nanoseconds that took, how many transactions were committed, and how often one was aborted after a
+// in this many threads. It prints how many nanoseconds that took, how many transactions were committed, and how often one was aborted after a
 // deadlock. The database is in memory and stays empty: a transaction asks for its locks by GetForUpdate with no place for a value, which
 // reads nothing, and writes nothing. Each thread uses one transaction object again and again.
 #include <rocksdb/db.h>

@@ -10,7 +10,7 @@ use std::time::Instant;
 
 /// Processes of a table, and how many wait in each of its chains.
 const CHAINS: [(u32, u32); 4] = [(4_096, 16), (4_096, 256), (4_096, 4_095), (65_536, 65_535)];
-/// Of each chain an eighth takes its waits back, one after another; with a carried label so many at most.
+/// Of each chain an eighth takes its waits back, one after another; with a carried label this many at most.
 const MOST_CARRIED: u32 = 64;
 const MAX_ROUNDS: u32 = 2_000;
 const MIN_ROUNDS: u32 = 5;
@@ -26,7 +26,7 @@ type Form = (bool, bool);
 
 const FORMS: [Form; 3] = [(false, true), (true, true), (true, false)];
 
-/// How long it takes to make the chains and to shorten each by so many, in nanoseconds.
+/// How long it takes to make the chains and to shorten each by this many, in nanoseconds.
 fn time(processes: u32, waiting: u32, withdrawals: u32, (is_carried, is_rising): Form) -> f64 {
     let start = now();
     assert!(black_box(mm_bench_withdrawals(processes, waiting, black_box(withdrawals), is_carried, is_rising)) > 0, "a call was refused");

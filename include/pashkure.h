@@ -1,6 +1,6 @@
 /* pashkure.h - exclusive locks on names, for transactions, in your own process.             C99, C++98 and later.
  *
- * A manager answers each request at once, and for good: the transaction owns the name, or it waits, or its request closed a cycle of waits
+ * A manager answers each request at once and finally: the transaction owns the name, or it waits, or its request closed a cycle of waits
  * (a deadlock, which only the requester is ever told of). No call sleeps, calls back, starts a thread, or prints. What each call below does
  * is proved, but for pashkure_message: README.md says what the proofs rest on.
  *
@@ -41,7 +41,7 @@
 extern "C" {
 #endif
 
-/* ---- Results. The number of each is for good. From PASHKURE_REFUSED on, the call has changed nothing. ---- */
+/* ---- Results. The numbers do not change. From PASHKURE_REFUSED on, the call has changed nothing. ---- */
 typedef enum pashkure_result {
     PASHKURE_OK = 0,       /* done. Of a request: the transaction owns the name from now on */
     PASHKURE_HELD = 1,     /* the transaction owned the name before; it is still owned once */
@@ -94,7 +94,7 @@ typedef struct pashkure_key { uint32_t slot, generation; } pashkure_key;
 
 typedef struct pashkure_config {
     uint32_t header;       /* PASHKURE_VERSION, by PASHKURE_CONFIG: how the library knows what you were compiled with */
-    uint32_t transactions; /* how many can be live at a time: 1 to 65,536. Each slot serves 4,294,967,295, then begin is full for good */
+    uint32_t transactions; /* how many can be live at a time: 1 to 65,536. Each slot serves 4,294,967,295, then begin stays full */
     uint32_t names;        /* how many can be owned at a time: 1 to 65,536; a later version may take more */
     uint32_t name_bytes;   /* how many bytes a name may have: 1 to 1,024. Any bytes; a name of numbers is as good as text */
     uint64_t seed;         /* of the hash of names: any number that those who choose names do not know, as of getrandom */
@@ -128,7 +128,7 @@ uint32_t pashkure_version(void);
 /* OK, or IN_USE, BAD_.. (the first that applies, in the order of the members), NO_MEMORY. A refused one stays as it was. */
 pashkure_result pashkure_open(pashkure *locks, const pashkure_config *config) PASHKURE_CHECKED;
 
-/* Gives all memory back, whoever is live. The manager may be opened again. Nothing, if it is closed. */
+/* Gives all memory back, also if transactions are live. The manager may be opened again. Nothing, if it is closed. */
 void pashkure_close(pashkure *locks);
 
 /* ---- Transactions. Refusals of each: those listed, in this order; NOT_OPEN before all of them. ---- */
@@ -136,12 +136,12 @@ void pashkure_close(pashkure *locks);
 /* Begins one: OK, and its key. COUNTS_FULL, TRANSACTIONS_FULL. A refused call writes no key. Transactions belong to no thread. */
 pashkure_result pashkure_begin(pashkure *locks, pashkure_key *key) PASHKURE_CHECKED;
 
-/* Asks for a name: OK, HELD, WAITS, or DEADLOCK exactly where the wait would close a cycle of waits. Those that wait for one name are given it
+/* Asks for a name: OK, HELD, WAITS, or DEADLOCK exactly if the wait would close a cycle of waits. Those that wait for one name are given it
  * in the order in which they asked. After OK (and not HELD) note the name, if you have savepoints: to roll back to one is to unlock what was
  * noted since. NO_TRANSACTION, MUST_ABORT, WAITING, COUNTS_FULL, NAME_EMPTY, NAME_TOO_LONG, NAMES_FULL, LABELS_FULL. */
 pashkure_result pashkure_lock(pashkure *locks, pashkure_key key, const void *name, size_t length) PASHKURE_CHECKED;
 
-/* As pashkure_lock, but never waits: OK, HELD, or BUSY where another one owns the name. Never DEADLOCK. Refusals as there, no LABELS_FULL. */
+/* As pashkure_lock, but never waits: OK, HELD, or BUSY if another one owns the name. Never DEADLOCK. Refusals as there, no LABELS_FULL. */
 pashkure_result pashkure_try_lock(pashkure *locks, pashkure_key key, const void *name, size_t length) PASHKURE_CHECKED;
 
 /* ---- Ends. After each of these four read pashkure_woken, or somebody sleeps for ever. None is ever refused for want of room or counts. ---- */
@@ -160,7 +160,7 @@ pashkure_result pashkure_abort(pashkure *locks, pashkure_key key) PASHKURE_CHECK
  * abort was LATER, OK says that it has ended. NO_TRANSACTION, MUST_ABORT, NOT_WAITING (it was given the name before). */
 pashkure_result pashkure_cancel(pashkure *locks, pashkure_key key) PASHKURE_CHECKED;
 
-/* Whose waits the last unlock, commit, abort or cancel ended, in order, by index from 0: false where there are no more. One that is told of
+/* Whose waits the last unlock, commit, abort or cancel ended, in order, by index from 0: false if there are no more. One that is told of
  * twice was given its name and ended then: the later one counts. It stays until the next call that is no reading one.
  *     pashkure_wake woken;
  *     for (size_t i = 0; pashkure_woken(&locks, i, &woken); i++) wake(woken.key.slot, woken.result);                                      */
@@ -182,7 +182,7 @@ bool pashkure_woken(const pashkure *locks, size_t index, pashkure_wake *woken);
 pashkure_result pashkure_look(const pashkure *locks, uint32_t slot, pashkure_seen *seen);
 
 /* The name of a number, and its owner: OK, or FREE. A name has one number, below config.names, as long as it is owned. The length is written,
- * and the bytes where there is room. Over the numbers below config.names this gives all locks. */
+ * and the bytes if there is room. Over the numbers below config.names this gives all locks. */
 pashkure_result pashkure_name(const pashkure *locks, uint32_t number, void *bytes, size_t room, size_t *length, pashkure_key *owner);
 
 /* Who owns the name: OK, or FREE. */

@@ -5,7 +5,7 @@
 
 enum { LEAST = 64 };
 
-/* Makes room for so many more bytes: by a move to the front if that costs less than it frees, or else by more memory. */
+/* Makes room for this many more bytes: by a move to the front if that costs less than it frees, or else by more memory. */
 static bool makes_room(struct buffer *buffer, size_t count)
 {
     size_t length = buffer_length(buffer), room = buffer->room;

@@ -10,7 +10,7 @@
 #include <unistd.h>
 
 enum {
-    LONGEST = 4000, /* bytes of a line: a pipe takes so many at once */
+    LONGEST = 4000, /* bytes of a line: a pipe takes this many at once */
     PER_SECOND = 100,
 };
 

@@ -27,7 +27,7 @@ static const char usage[] =
     "  --epoch E           the epoch of fences; without it one that rises at each start\n"
     "  --epoch-file PATH   the file of the last epoch (the socket's path and .epoch if missing)\n"
     "  --heartbeat-fd N    a descriptor on which lines come; the server stops if none comes\n"
-    "  --heartbeat-ms N    for so many milliseconds\n"
+    "  --heartbeat-ms N    for this long\n"
     "  --quiet             no lines for start, end and deadlocks on standard error\n";
 
 struct text_option {

@@ -14,7 +14,7 @@ struct program {
     bool is_full; /* it takes no more for now, so the front waits until it does */
 };
 
-/* Starts the program for so many connections. Says why it cannot, and returns false. */
+/* Starts the program for this many connections. Says why it cannot, and returns false. */
 bool program_start(struct program *program, const struct options *options, uint64_t epoch, uint64_t connections);
 
 /* Gives it the lines that wait, as far as it takes them. Returns false if it takes none any more. */

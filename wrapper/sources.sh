@@ -47,7 +47,7 @@ sources_of() {
   )
 }
 
-# toolchain: what `rt version` prints, from the file that it prints where that is found
+# toolchain: what `rt version` prints, from the file that it prints if that is found
 toolchain() {
   local rt
   rt=$(readlink -f "$(command -v rt)")
@@ -65,7 +65,7 @@ keeps() {
   printf '%s %s\n%s\n' "$2" "$(digest_of "$made")" "$(toolchain)" > "$made.sources.new" && mv "$made.sources.new" "$made.sources"
 }
 
-# is_built CRATE: what stands of it is that of the sources, and of the toolchain where there is one
+# is_built CRATE: what stands of it is that of the sources, and of the toolchain if there is one
 is_built() {
   local made sources own made_by
   made=$(made_of "$1")

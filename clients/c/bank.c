@@ -1,4 +1,4 @@
-/* Two threads move money between two accounts, in opposite directions: one locks accounts/1 first, the other one accounts/2. Where each has
+/* Two threads move money between two accounts, in opposite directions: one locks accounts/1 first, the other one accounts/2. If each has
  * its first account and asks for its second one, the service tells one of them of a deadlock; that one aborts and tries again.
  *
  * cc -std=c11 -O2 -pthread -o bank bank.c pashkure_remote.c && ./bank SOCKET */
@@ -18,7 +18,7 @@ struct account {
     long balance; /* read and written only by who has locked the name */
 };
 
-/* What one thread does: so many transfers, of 1 each. */
+/* What one thread does: this many transfers, of 1 each. */
 struct worker {
     const char *path;
     struct account *from, *to;

@@ -56,7 +56,7 @@ static int64_t now(void)
     return (int64_t)time.tv_sec * 1000 + time.tv_nsec / 1000000;
 }
 
-/* When so many milliseconds have passed at the least. */
+/* When this many milliseconds have passed at the least. */
 static int64_t after(unsigned milliseconds)
 {
     return milliseconds == PASHKURE_REMOTE_FOREVER ? FOREVER : now() + milliseconds + 1;

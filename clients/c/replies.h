@@ -165,7 +165,7 @@ static bool read_state(connection *at, char *word, pashkure_remote_status *statu
     return true;
 }
 
-/* Reads what was counted: so many numbers, in the order of the members. */
+/* Reads what was counted: this many numbers, in the order of the members. */
 static result read_counts(connection *at, const char *verb, size_t count, pashkure_remote_counts *counts)
 {
     uint64_t *const members[] = {&counts->begun, &counts->committed, &counts->aborted, &counts->deadlocks, &counts->waits, &counts->withdrawn,

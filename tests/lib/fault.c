@@ -239,7 +239,7 @@ static int faulty(enum call call, int descriptor, long *value)
     return error;
 }
 
-/* The call, of so many bytes at most, unless it fails. */
+/* The call, of this many bytes at most, unless it fails. */
 #define OF_BYTES(call, descriptor, size, name, ...)                                                                                        \
     do {                                                                                                                                   \
         long bytes = (long)(size);                                                                                                         \

@@ -269,7 +269,7 @@ class Wire:
         self.socket.sendall(data)
 
     def lines(self, count: int) -> list[bytes]:
-        """So many lines. Fails if the connection ends before."""
+        """This many lines. Fails if the connection ends before."""
         parts, have = [self.rest], self.rest.count(b"\n")
         while have < count:
             data = self.socket.recv(65536)

@@ -13,8 +13,19 @@ import sys
 
 from lib.world import LIMIT, PROGRAM, TOP, Case, each, run
 
-PASTED = ["README.md", "docs/SERVICE.md", "clients/python/README.md", "clients/c/README.md"]
+
+def text_of(name: str) -> str:
+    return pathlib.Path(TOP, name).read_text(encoding="utf-8")
+
+
+def anchor(title: str) -> str:
+    """The name of a heading in a link."""
+    return re.sub(r"[^\w -]", "", title.lower()).replace(" ", "-")
+
+
 BLOCK = re.compile(r"^<!-- tested by tests/pages -->\n```sh\n(.*?)^```$.*?^```\n(.*?)^```$", re.M | re.S)
+PASTED = [(f"{page} {number}", *block) for page in ("README.md", "docs/SERVICE.md", "clients/python/README.md", "clients/c/README.md")
+          for number, block in enumerate(BLOCK.findall(text_of(page)), 1)]  # fmt: skip
 COMMANDS = sorted(page for page in ["README.md", *(f"docs/{name}" for name in os.listdir(f"{TOP}/docs") if name.endswith(".md"))]
                   if re.search(r"^```(text|sh)?\n\$ ", pathlib.Path(TOP, page).read_text(encoding="utf-8"), re.M))  # fmt: skip
 NEEDS = {"docs/THREADS.md": "crates/example_bank/out/example_bank"}
@@ -27,10 +38,10 @@ class Pages(Case):
         self.assertEqual((told.status, told.err), (0, b""), told.out)
         self.assertRegex(told.out.splitlines()[-1], rb"^[0-9]+ passed, 0 failed$")
 
-    @each(["docs/contracts", "docs/citations"])
-    def test_sources(self, command: str) -> None:
-        """The contracts in the pages are those of the sources, and what the pages name is there."""
-        self.passes(command)
+    @each([("docs/contracts",), ("docs/citations",), ("bench/tables", "--check")])
+    def test_sources(self, *command: str) -> None:
+        """The contracts in the pages are those of the sources, what the pages name is there, and tables have the numbers that were measured."""
+        self.passes(*command)
 
     @each(COMMANDS)
     def test_commands(self, page: str) -> None:
@@ -39,27 +50,43 @@ class Pages(Case):
             self.skipTest(f"no program {NEEDS[page]}")
         self.passes("docs/commands", "--program", PROGRAM, page)
 
+    def test_questions(self) -> None:
+        """Each question of a new reader has a page and a heading that answers it."""
+        lines = [line for line in text_of("tests/pages/questions").splitlines() if line and not line.startswith("#")]
+        self.assertEqual(len(lines), 40)
+        for line in lines:
+            page, _, heading = line.split("\t")[1].partition("#")
+            self.assertIn(heading, [anchor(title) for title in re.findall(r"^#+ (.*)$", text_of(page), re.M)], line)
+
+    def test_old_sentences(self) -> None:
+        """Sentences that readers could not follow are in no page, comment or message any more."""
+        for sentence in text_of("tests/pages/old_sentences.txt").splitlines():
+            told = run("git", "grep", "-lF", "-e", sentence, "--", ":!tests/pages/old_sentences.txt", cwd=TOP)
+            self.assertEqual((told.status, told.out), (1, b""), sentence)
+
     def test_tour(self) -> None:
         """The tour has what the program explains."""
         self.passes("docs/make_tour", "--check", "--program", PROGRAM)
 
 
 class Pasted(Case):
-    """The first commands of the pages about the lock service, which stand below the line '<!-- tested by tests/pages -->', pasted into a shell
-    as a reader would. They print what is in the next block. The program stands for ./mmdetect, and a new folder for /tmp."""
+    """The commands of pages below the line '<!-- tested by tests/pages -->', pasted into a shell as a reader would. They print what is in the
+    next block. The program stands for ./mmdetect, but for the C library, and a new folder for /tmp."""
 
     @each(PASTED)
-    def test_page(self, page: str) -> None:
-        with open(os.path.join(TOP, page), encoding="utf-8") as file:
-            commands, wanted = BLOCK.findall(file.read())[0]
+    def test_page(self, _: str, commands: str, wanted: str) -> None:
         if "venv" in commands and importlib.util.find_spec("ensurepip") is None:
             self.skipTest("this Python has no ensurepip (Debian's package python3-venv)")
         if " cc " in f" {commands}" and run("sh", "-c", "command -v cc").status:
             self.skipTest("no C compiler cc is on the PATH")
         if "pkg-config" in commands and run("sh", "-c", "command -v make && command -v pkg-config").status:
             self.skipTest("make or pkg-config is not on the PATH (Debian's packages make and pkg-config)")
-        commands = commands.replace("/tmp/", f"{self.folder}/").replace("./mmdetect serve", f"{shlex.join(self.needs_server())} --program {PROGRAM}")
-        told = self.pasted(commands.replace("./mmdetect", PROGRAM))
+        commands = commands.replace("/tmp/", f"{self.folder}/")
+        if "./mmdetect serve" in commands:
+            commands = commands.replace("./mmdetect serve", f"{shlex.join(self.needs_server())} --program {PROGRAM}")
+        if "./mmdetect library" not in commands:
+            commands = commands.replace("./mmdetect", PROGRAM)
+        told = self.pasted(re.sub("(mmdetect library .*)", r"\1 2> /dev/null", commands))
         self.assertEqual(deadlocks_left_out(told), deadlocks_left_out(wanted))
 
     def pasted(self, commands: str) -> str:

@@ -18,7 +18,7 @@ def rotated(word: int, bits: int) -> int:
 
 
 def rounds(v: List[int], count: int) -> None:
-    """So many rounds of SipHash on its four words."""
+    """This many rounds of SipHash on its four words."""
     for _ in range(count):
         v[0] = (v[0] + v[1]) & MASK
         v[1] = rotated(v[1], 13) ^ v[0]

@@ -198,10 +198,10 @@ class Linked(LibraryCase):
         self.ends(run(self.built(source, archive=False)))
 
     def test_page(self) -> None:
-        """The programs of EMBEDDING.md are built without a warning, and print what the page says."""
+        """The program of EMBEDDING.md is built without a warning, and prints what the page says."""
         page = text_of(TOP, "docs", "EMBEDDING.md")
         programs = re.findall(r"^```c\n(.*?)^```.*?^```text\n(.*?)^```", page, re.M | re.S)
-        self.assertEqual(len(programs), 2)
+        self.assertEqual(len(programs), 1)
         for source, printed in programs:
             self.ends(run(self.built(self.file("page.c", source), "-pthread")), 0, printed)
 

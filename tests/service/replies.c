@@ -94,7 +94,7 @@ static void *answer(void *argument)
     return NULL;
 }
 
-/* Gives what a lock says in so many milliseconds over a new connection, whose other end takes these turns and then ends. */
+/* Gives what a lock says in this many milliseconds over a new connection, whose other end takes these turns and then ends. */
 static pashkure_remote_result after_turns(const struct turn *turns, unsigned milliseconds)
 {
     pashkure_remote_result result;

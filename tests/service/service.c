@@ -39,7 +39,7 @@ static void open_operator(pashkure_remote_connection *operator)
     GIVES(OK, pashkure_remote_open(operator, admin));
 }
 
-/* Rests until so many transactions wait, however long that takes. */
+/* Rests until this many transactions wait, however long that takes. */
 static void until_waiting(int wanted)
 {
     pashkure_remote_connection operator;

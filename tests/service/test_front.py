@@ -318,8 +318,15 @@ class Operators(StubCase):
             self.assertEqual(self.wire(self.admin_path).all(), FULL)
         os.kill(server.program_pid(), signal.SIGCONT)
         self.assertEqual(others[0].lines(1), [b"heard 63"])
-        self.asks(self.wire(self.admin_path), (b"d", b"heard 64"))
+        until(lambda: self.asked_anew(b"d") == b"heard 64", "an operator has a place")
         self.asks(wire, (b"e", b"heard 65"))
+
+    def asked_anew(self, request: bytes) -> bytes:
+        """Returns the first line that a new operator's connection gets."""
+        try:
+            return self.wire(self.admin_path).ask(request)
+        except OSError as error:
+            return str(error).encode()
 
     def test_half_an_end(self) -> None:
         self.stubbed()

@@ -5,7 +5,7 @@ use std::ptr;
 /// A lock manager for one caller at a time, which answers each request at once: for an event loop, or for a sleep of your own. It is `Send` and
 /// not `Sync`; to share it put it into a mutex. Threads that are to sleep share [`Locks`](crate::Locks).
 ///
-/// Whoever is told [`Lock::Waits`] waits until a call's [`Woken`] names it, and the program wakes it as it likes.
+/// A transaction that gets [`Lock::Waits`] waits until a call's [`Woken`] names it, and the program wakes it as it likes.
 ///
 /// ```
 /// use pashkure::{Config, Lock, LockManager, Owned};

@@ -94,7 +94,7 @@ impl<L: Borrow<Locks>> Transaction<L> {
                 let name = name.as_ref();
                 *request = sys::Request { name: name.as_ptr().cast(), length: name.len(), result: sys::NOT_ASKED };
             }
-            // SAFETY: the locks are open, and so many requests are there, with their names.
+            // SAFETY: the locks are open, and this many requests are there, with their names.
             let told = unsafe { sys::pashkure_locks_lock_all(self.raw(), self.key, requests.as_mut_ptr(), names.len(), sys::FOREVER) };
             self.note(told);
             owned(told)?;
@@ -111,7 +111,7 @@ impl<L: Borrow<Locks>> Transaction<L> {
         done(unsafe { sys::pashkure_locks_unlock(self.raw(), self.key, name.as_ptr().cast(), name.len()) })
     }
 
-    /// After `Deadlock`: who waits for whom, from this transaction on until it is the holder. Else empty.
+    /// After `Deadlock`: the waits, from this transaction on until it is the holder. Else empty.
     pub fn cycle(&self) -> Vec<Wait> {
         self.locks.borrow().view(|view| view.cycle(self.key))
     }

@@ -31,7 +31,7 @@ impl Config {
         Config { name_bytes, ..self }
     }
 
-    /// Sets the seed of the hash of names. Whoever knows it can choose names that share a hash, and make calls slow.
+    /// Sets the seed of the hash of names. With it names that share a hash can be chosen, which makes calls slow.
     pub fn seed(self, seed: u64) -> Config {
         Config { seed, ..self }
     }

@@ -44,7 +44,7 @@ impl<'l> View<'l> {
         self.owned(number).map(|(name, _)| name)
     }
 
-    /// Who waits for whom in the deadlock of this transaction: first itself, then each time the holder, until the holder is the transaction
+    /// The waits in the deadlock of this transaction: first itself, then each time the holder, until the holder is the transaction
     /// again. Empty if it was not told of a deadlock, or has ended.
     pub fn cycle(&self, key: Key) -> Vec<Wait> {
         let mut waits = Vec::new();

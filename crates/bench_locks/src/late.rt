@@ -13,10 +13,10 @@ use std::time::{Clock, Duration, Instant};
 /// The time that a request is given, in milliseconds.
 const LIMIT: u64 = 20;
 
-/// So many milliseconds after a request with a time the front blocks, if it blocks after it.
+/// This many milliseconds after a request with a time the front blocks, if it blocks after it.
 const LATER: u64 = 5;
 
-/// So many milliseconds pass before the last one asks, if it alone has a time, and one more for every two of the others: they wait by then.
+/// This many milliseconds pass before the last one asks, if it alone has a time, and one more for every two of the others: they wait by then.
 const PAUSE: u64 = 10;
 
 /// How often a thread looks whether all have come back, a millisecond apart. So nobody keeps a name for much more than ten seconds.

@@ -1,4 +1,4 @@
-//! `bench_locks WAY THREADS NAMES MILLISECONDS`: so many threads make transactions for so long, at one `Locks`, on so many names. It prints
+//! `bench_locks WAY THREADS NAMES MILLISECONDS`: this many threads make transactions for so long, at one `Locks`, on this many names. It prints
 //! how many nanoseconds that took, how many transactions were committed, how often one was aborted after a deadlock, and how often a name was
 //! found with two owners at a time. The ways:
 //!
@@ -6,10 +6,10 @@
 //! - `crowd`: one to six locks, as by `one` or as by `all`, and each looks whether it is the only owner of its names.
 //! - `sleep`: one owns a name until the end, and all others wait for it.
 //!
-//! `bench_locks late LENGTH`: a chain of so many transactions, the front of which blocks anew while each other one waits for the one before it
+//! `bench_locks late LENGTH`: a chain of this many transactions, the front of which blocks anew while each other one waits for the one before it
 //! with a time of 20 milliseconds. It prints for each of these how many nanoseconds after its time it came back, one a line.
 //!
-//! `bench_locks last LENGTH own|carried`: a chain of so many transactions that wait, the last of which alone has that time. With `carried` the
+//! `bench_locks last LENGTH own|carried`: a chain of this many transactions that wait, the last of which alone has that time. With `carried` the
 //! front blocks while the last one waits, so that the last one carries its label; else it blocks before. It prints how many nanoseconds after its
 //! time the last one came back.
 //!
@@ -46,7 +46,7 @@ const MAX_THREADS: u32 = 64;
 
 const MAX_NAMES: u32 = 65_536;
 
-/// The number that a word of the command line is; 0 where it is none.
+/// The number that a word of the command line is; 0 if it is none.
 fn number(word: Option<String>) -> u32 {
     match word {
         Some(word) => word.as_str().parse::<u32>().unwrap_or(0),

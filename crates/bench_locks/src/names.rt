@@ -21,7 +21,7 @@ fn name_of(number: u32) -> Name {
     name
 }
 
-/// So many names.
+/// This many names.
 pub fn all_names(alloc: Global, count: u32) -> Result<Vec<Name>, AllocError> {
     let mut names = Vec::with_capacity(alloc, count as usize)?;
     for number in 0..count {
@@ -38,7 +38,7 @@ fn below(word: u32, bound: u32) -> u32
     (u64::from(word) * u64::from(bound) >> 32) as u32
 }
 
-/// So many numbers below a bound by chance, no two the same, in the first places. The bound is above `MOST`.
+/// This many numbers below a bound by chance, no two the same, in the first places. The bound is above `MOST`.
 pub fn chosen(random: &mut Lcg64Xsh32, bound: u32, count: usize) -> [u32; MOST]
     requires { 0 < bound }
 {

@@ -19,7 +19,7 @@ const NANOSECONDS: u64 = 1_000_000_000;
 /// The name for which all but one wait.
 const BED: &[u8] = b"bed";
 
-/// The nanoseconds since then; 0 where the clock cannot be read.
+/// The nanoseconds since then; 0 if the clock cannot be read.
 pub fn nanoseconds_since<R: Clock>(rt: &R, start: Option<Instant>) -> u64 {
     match start.and_then(|start| start.elapsed(rt).ok()) {
         Some(took) => took
@@ -101,7 +101,7 @@ fn part<R: Wait + Clock>(rt: &R, shared: &Shared<'_>, milliseconds: u32, number:
     }
 }
 
-/// So many threads and one more, which work for so long.
+/// This many threads and one more, which work for so long.
 pub fn timed<'a, R: Threads + Wait + Clock + Sync>(
     rt: &R,
     alloc: Global,

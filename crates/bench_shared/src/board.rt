@@ -60,7 +60,7 @@ fn peeks<C: Calls>(seat: &mut C, count: u32) -> u64 {
     sum
 }
 
-/// Looks for a hint among all processes, so many times. Returns how many were found.
+/// Looks for a hint among all processes, this many times. Returns how many were found.
 fn scans<C: Calls>(seat: &mut C, count: u32) -> u64 {
     let mut found = 0u64;
     for _ in 0..count {
@@ -71,7 +71,7 @@ fn scans<C: Calls>(seat: &mut C, count: u32) -> u64 {
     found
 }
 
-/// Does the work so many times, but for `PeeksBeside`, which takes two threads.
+/// Does the work this many times, but for `PeeksBeside`, which takes two threads.
 fn work_alone<C: Calls>(seat: &mut C, work: Work, count: u32) {
     match work {
         Work::Rounds(round) => rounds(seat, round, count),
@@ -105,7 +105,7 @@ fn blocks_until<C: Calls>(seat: &mut C, done: &AtomicBool) {
     }
 }
 
-/// How long so many peeks take, beside a thread that blocks until they are done.
+/// How long this many peeks take, beside a thread that blocks until they are done.
 fn time_beside<C: Calls + Send, R: Threads + Clock + Sync>(
     rt: &R,
     seat: &mut C,
@@ -126,7 +126,7 @@ fn time_beside<C: Calls + Send, R: Threads + Clock + Sync>(
     nanoseconds
 }
 
-/// Does the work so many times at the last of the seats. Returns how many nanoseconds it took; 0 where there is no seat.
+/// Does the work this many times at the last of the seats. Returns how many nanoseconds it took; 0 if there is no seat.
 pub fn time_of_work<C: Calls + Send + Drop, R: Threads + Clock + Sync>(
     rt: &R,
     seats: &mut Vec<C>,

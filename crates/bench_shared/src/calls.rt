@@ -3,7 +3,7 @@
 use mm_shared::{Key, Refusal, Released};
 use test_seats::Calls;
 
-/// How many wait where a resource is handed over.
+/// How many wait if a resource is handed over.
 const WAITERS: u32 = 16;
 
 /// One transaction that waits for nobody.
@@ -107,7 +107,7 @@ pub fn crowd<C: Calls>(seat: &mut C) -> Result<Key, Refusal> {
     Ok(owner)
 }
 
-/// Hands the resource over so many times.
+/// Hands the resource over this many times.
 #[inline(always)]
 pub fn hand_overs<C: Calls>(seat: &mut C, first: Key, count: u32) {
     let mut owner = first;
@@ -143,7 +143,7 @@ impl Round {
     }
 }
 
-/// Makes a round so many times.
+/// Makes a round this many times.
 #[inline(always)]
 pub fn rounds<C: Calls>(seat: &mut C, round: Round, count: u32) {
     for _ in 0..count {

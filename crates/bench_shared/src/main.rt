@@ -1,10 +1,10 @@
-//! `bench_shared THREADS COUNT`: so many threads make COUNT transactions each at one shared table, on separate resources. It prints how
+//! `bench_shared THREADS COUNT`: this many threads make COUNT transactions each at one shared table, on separate resources. It prints how
 //! many nanoseconds that took, and how many transactions were done.
 //!
-//! `bench_shared storm CLIENTS COUNT`: the storms of seeds 1 to COUNT with so many clients, one after another. It prints how many
+//! `bench_shared storm CLIENTS COUNT`: the storms of seeds 1 to COUNT with this many clients, one after another. It prints how many
 //! nanoseconds that took, and how many clients finished and how many were aborted.
 //!
-//! `bench_shared board WORK PROCESSES COUNT`: one thread does this work COUNT times on a table of so many processes. It prints how many
+//! `bench_shared board WORK PROCESSES COUNT`: one thread does this work COUNT times on a table of this many processes. It prints how many
 //! nanoseconds that took.
 //!
 //! - `clock`: how long something took.
@@ -36,12 +36,12 @@ use timed::{Task, timed};
 
 const MAX_THREADS: u32 = 64;
 
-/// The number that a word of the command line is; 0 where it is none.
+/// The number that a word of the command line is; 0 if it is none.
 fn number(word: &str) -> u32 {
     word.parse::<u32>().unwrap_or(0)
 }
 
-/// The number that the next word is; 0 where it is none, or there is no word.
+/// The number that the next word is; 0 if it is none, or there is no word.
 fn next_number(words: &mut Args) -> u32 {
     match words.next() {
         Some(word) => number(word.as_str()),
@@ -59,7 +59,7 @@ fn config(processes: u32) -> Config {
     }
 }
 
-/// The storms of seeds 1 to `count` with so many clients, 1 to 64, one after another.
+/// The storms of seeds 1 to `count` with this many clients, 1 to 64, one after another.
 fn print_storms<R: Print + Clock + Threads + Wait + Sync>(
     rt: &R,
     alloc: Global,
@@ -72,7 +72,7 @@ fn print_storms<R: Print + Clock + Threads + Wait + Sync>(
     println!(rt; "{} {} {}", done.nanoseconds, done.finished, done.aborted)
 }
 
-/// This work on a table, so many times: the transactions of threads, or a work of one thread.
+/// This work on a table, this many times: the transactions of threads, or a work of one thread.
 fn print_task<R: Print + Clock + Threads + Wait + Sync>(
     rt: &R,
     alloc: Global,
@@ -90,7 +90,7 @@ fn print_task<R: Print + Clock + Threads + Wait + Sync>(
     }
 }
 
-/// What the words of the command line ask for; nothing where it is not known.
+/// What the words of the command line ask for; nothing if it is not known.
 fn print_for<R: Print + Clock + Threads + Wait + Sync>(
     rt: &R,
     alloc: Global,

@@ -15,7 +15,7 @@ fn round<C: Calls>(seat: &mut C, first: u32) -> Result<(), Refusal> {
     seat.finish(key)
 }
 
-/// So many transactions, one after another. Returns how many were done.
+/// This many transactions, one after another. Returns how many were done.
 fn rounds<C: Calls>(seat: &mut C, first: u32, count: u32) -> u64 {
     let mut done = 0u64;
     for _ in 0..count {
@@ -26,7 +26,7 @@ fn rounds<C: Calls>(seat: &mut C, first: u32, count: u32) -> u64 {
     done
 }
 
-/// So many transactions at this seat, one after another. Returns how many were done.
+/// This many transactions at this seat, one after another. Returns how many were done.
 pub fn rounds_by<C: Calls + Drop>(seat: C, first: u32, count: u32) -> u64 {
     let mut seat = seat;
     rounds(&mut seat, first, count)

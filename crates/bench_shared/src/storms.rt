@@ -37,7 +37,7 @@ impl Storms {
     }
 }
 
-/// Runs a workload on a table that is opened for it. `None` where memory is refused.
+/// Runs a workload on a table that is opened for it. `None` if memory is refused.
 fn run_workload<R: Threads + Wait + Sync>(
     rt: &R,
     alloc: Global,
@@ -49,7 +49,7 @@ fn run_workload<R: Threads + Wait + Sync>(
     run_threads(rt, alloc, workload, gates).ok()
 }
 
-/// Runs a storm, and adds what came of it. `None` where memory is refused.
+/// Runs a storm, and adds what came of it. `None` if memory is refused.
 fn run_storm<R: Threads + Wait + Clock + Sync>(
     rt: &R,
     alloc: Global,
@@ -63,7 +63,7 @@ fn run_storm<R: Threads + Wait + Clock + Sync>(
     Some(())
 }
 
-/// Makes the storm of this seed, which takes no part of the time, and runs it. `None` where memory is refused.
+/// Makes the storm of this seed, which takes no part of the time, and runs it. `None` if memory is refused.
 fn run_seed<R: Threads + Wait + Clock + Sync>(
     rt: &R,
     alloc: Global,
@@ -79,7 +79,7 @@ fn run_seed<R: Threads + Wait + Clock + Sync>(
     ran
 }
 
-/// Runs the storms of seeds 1 to `count`, one after another, each with so many clients. `None` where memory is refused.
+/// Runs the storms of seeds 1 to `count`, one after another, each with this many clients. `None` if memory is refused.
 pub fn run_storms<R: Threads + Wait + Clock + Sync>(
     rt: &R,
     alloc: Global,

@@ -14,7 +14,7 @@ use test_seats::{Calls, Seat};
 /// What is done with a table.
 #[derive(Clone, Copy)]
 pub enum Task {
-    /// So many threads make transactions.
+    /// This many threads make transactions.
     Threads(u32),
     /// One thread does this work.
     Work(Work),
@@ -75,7 +75,7 @@ pub fn timed<
     taken
 }
 
-/// Seats for so many threads at the table.
+/// Seats for this many threads at the table.
 fn seats<'a, N: Name, A: Ledger, V: Ledger, B: Ledger, R: Wait>(
     rt: &'a R,
     alloc: Global,

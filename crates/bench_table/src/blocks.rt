@@ -4,7 +4,7 @@ use crate::{PROCESSES, open};
 use mm_table::{Key, Refusal, Table};
 use std::alloc::Global;
 
-/// A wait between a process and the next one, which is settled: the process waits where `is_at_head`, and else the next one.
+/// A wait between a process and the next one, which is settled: the process waits if `is_at_head`, and else the next one.
 fn block(table: &mut Table, process: u32, is_at_head: bool) -> Result<(), Refusal> {
     let next = process.wrapping_add(1);
     let (waiter, holder) = if is_at_head {
@@ -21,7 +21,7 @@ fn block(table: &mut Table, process: u32, is_at_head: bool) -> Result<(), Refusa
     Ok(())
 }
 
-/// From the process `first` on, so many come to wait.
+/// From the process `first` on, this many come to wait.
 fn extend(table: &mut Table, first: u32, waiting: u32, is_at_head: bool) -> Result<(), Refusal> {
     for place in 0..waiting {
         block(table, first.wrapping_add(place), is_at_head)?;
@@ -46,7 +46,7 @@ fn chains(table: &mut Table, room: u32, waiting: u32, is_at_head: bool) -> Resul
 }
 
 /// Makes as many chains of waits as there is room for, each of `room` processes, and settles each wait. In each chain `waiting` transactions
-/// begin to wait, one after another. Where `is_at_head`, each of them is the transaction that all earlier ones wait for; else each waits for
+/// begin to wait, one after another. If `is_at_head`, each of them is the transaction that all earlier ones wait for; else each waits for
 /// the one before it.
 #[unsafe(no_mangle)]
 pub extern "C" fn mm_bench_blocks(alloc: Global, room: u32, waiting: u32, is_at_head: bool) -> u64 {

@@ -1,6 +1,6 @@
 //! Workloads over a table, to be timed from outside.
 //!
-//! Each opens tables of its own, works on them in a loop, and answers how many events were accepted, or 0 where a call was
+//! Each opens tables of its own, works on them in a loop, and answers how many events were accepted, or 0 if a call was
 //! refused.
 #![tactic(auto)]
 

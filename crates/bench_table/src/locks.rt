@@ -6,7 +6,7 @@ use mm_manager::{Key, Lock, LockManager, ManagerConfig};
 use mm_settled::{Config, Locked, SettledTable};
 use std::alloc::Global;
 
-/// A manager of so many names.
+/// A manager of this many names.
 fn open_manager(alloc: Global, names: u32, length: usize) -> Option<LockManager>
     requires { length ≤ 64 }
 {
@@ -70,7 +70,7 @@ fn work_by_number(table: &mut SettledTable, names: u32, count: u64) -> u64 {
         return 0;
     };
     for number in 0..names / 2 {
-        let _granted = table.lock(owner, number.wrapping_mul(2));
+        let _granted = table.acquire(owner, number.wrapping_mul(2));
     }
     lock_numbers(table, key, names.wrapping_sub(1), count)
 }
@@ -81,7 +81,7 @@ fn lock_numbers(table: &mut SettledTable, key: Key, mask: u32, count: u64) -> u6
     for _ in 0..count {
         number = next_number(number);
         let resource = number & mask | 1;
-        if table.lock(key, resource) == Ok(Locked::Granted)
+        if table.acquire(key, resource) == Ok(Locked::Granted)
             && table.release(key, resource).is_ok()
         {
             granted = granted.wrapping_add(1);

@@ -22,7 +22,7 @@ pub fn write_name(bytes: &mut [u8; 64], number: u32) {
     bytes[56..].copy_from_slice(&u64::from(number).wrapping_mul(SPREAD).to_le_bytes());
 }
 
-/// Interns so many names, each under its number. `false` where one was refused.
+/// Interns this many names, each under its number. `false` if one was refused.
 fn fill(table: &mut Names, names: u32, length: usize) -> bool
     requires { length ≤ 64 }
 {
@@ -36,7 +36,7 @@ fn fill(table: &mut Names, names: u32, length: usize) -> bool
     true
 }
 
-/// `count` finds of names by chance, which are those of the table where `first` is 0.
+/// `count` finds of names by chance, which are those of the table if `first` is 0.
 fn find(table: &Names, mask: u32, length: usize, first: u32, count: u64) -> u64
     requires { length ≤ 64 }
 {
@@ -117,7 +117,7 @@ fn fill_and_work(table: &mut Names, work: Work, names: u32, length: usize, count
     u64::from(names).wrapping_add(expected)
 }
 
-/// Opens a table of so many names, and does so. 0 where it cannot be opened.
+/// Opens a table of this many names, and does so. 0 if it cannot be opened.
 fn work_on_names(alloc: Global, work: Work, names: u32, length: u32, count: u64) -> u64 {
     let length = (length as usize).min(MAX_BYTES);
     let config = NamesConfig {
@@ -133,7 +133,7 @@ fn work_on_names(alloc: Global, work: Work, names: u32, length: u32, count: u64)
     answer
 }
 
-/// A table of `names` names of `length` bytes, of which `count` are found by chance, or where `is_known` is false, others are not.
+/// A table of `names` names of `length` bytes, of which `count` are found by chance, or if `is_known` is false, others are not.
 /// `names` is a power of two. It answers how many names there are and how often one was as expected.
 #[unsafe(no_mangle)]
 pub extern "C" fn mm_bench_find_names(

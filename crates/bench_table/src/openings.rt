@@ -21,7 +21,7 @@ fn opening(alloc: Global, processes: u32) -> Result<u64, Refusal> {
     Ok(accepted)
 }
 
-/// So many tables of `processes` processes and as many resources, one after another. In each one transaction begins.
+/// This many tables of `processes` processes and as many resources, one after another. In each one transaction begins.
 #[unsafe(no_mangle)]
 pub extern "C" fn mm_bench_openings(alloc: Global, processes: u32, count: u64) -> u64 {
     openings(alloc, processes, count).unwrap_or(0)

@@ -13,7 +13,7 @@ fn pass_on(table: &mut Table, owner: Key) -> Result<Key, Refusal> {
     })
 }
 
-/// A table with room for one transaction that owns resource 0 and so many that wait for it.
+/// A table with room for one transaction that owns resource 0 and this many that wait for it.
 fn open_for(alloc: Global, waiters: u32) -> Result<Table, Refusal> {
     open(alloc, PROCESSES.max(waiters.saturating_add(1)), 1)
 }
@@ -42,7 +42,7 @@ fn fill_and_pass_around(table: &mut Table, waiters: u32, count: u64) -> Result<u
     pass_around(table, owner, count)
 }
 
-/// Passes resource 0 on so many times. Answers how many events were accepted.
+/// Passes resource 0 on this many times. Answers how many events were accepted.
 fn pass_around(table: &mut Table, first: Key, count: u64) -> Result<u64, Refusal> {
     let mut owner = first;
     for _ in 0..count {

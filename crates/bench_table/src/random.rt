@@ -36,7 +36,7 @@ fn own_all(table: &mut Table) -> Result<(), Refusal> {
     Ok(())
 }
 
-/// Releases a resource by chance and acquires it again, so many times. Answers how many events were accepted.
+/// Releases a resource by chance and acquires it again, this many times. Answers how many events were accepted.
 fn change_hands(table: &mut Table, count: u64) -> Result<u64, Refusal> {
     let mut number = 1;
     for _ in 0..count {
@@ -49,7 +49,7 @@ fn change_hands(table: &mut Table, count: u64) -> Result<u64, Refusal> {
     Ok(table.totals().accepted)
 }
 
-/// So many transactions as `PROCESSES` says own all resources. `count` times one of these, as by chance, is released and acquired again.
+/// This many transactions as `PROCESSES` says own all resources. `count` times one of these, as by chance, is released and acquired again.
 #[unsafe(no_mangle)]
 pub extern "C" fn mm_bench_random(alloc: Global, count: u64) -> u64 {
     random(alloc, count).unwrap_or(0)

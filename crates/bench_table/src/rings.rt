@@ -39,7 +39,7 @@ fn wait_in_row(table: &mut Table, size: u32, is_rising: bool) -> Result<(), Refu
     Ok(())
 }
 
-/// A row that is settled so many times and then, where `is_closed`, closed to a ring and settled again. Counts the verdict too.
+/// A row that is settled this many times and then, if `is_closed`, closed to a ring and settled again. Counts the verdict too.
 fn ring(
     alloc: Global,
     size: u32,
@@ -66,7 +66,7 @@ fn wait_and_settle(
     settle_ring(table, size, is_rising, settles, is_closed)
 }
 
-/// Settles a row so many times, closes it where `is_closed`, and settles it again.
+/// Settles a row this many times, closes it if `is_closed`, and settles it again.
 fn settle_ring(
     table: &mut Table,
     size: u32,
@@ -85,8 +85,8 @@ fn settle_ring(
     Ok(totals.accepted.wrapping_add(totals.verdicts))
 }
 
-/// `count` rows of `size` transactions, each in a table of its own, in which a process waits for the one after it where `is_rising`,
-/// and else for the one before it. Each is settled `settles` times and then, where `is_closed`, closed to a ring and settled again.
+/// `count` rows of `size` transactions, each in a table of its own, in which a process waits for the one after it if `is_rising`,
+/// and else for the one before it. Each is settled `settles` times and then, if `is_closed`, closed to a ring and settled again.
 #[unsafe(no_mangle)]
 pub extern "C" fn mm_bench_rings(
     alloc: Global,
@@ -104,7 +104,7 @@ pub extern "C" fn mm_bench_rings(
     accepted
 }
 
-/// A row whose waits come from its head on, so that each label is below its holder's, settled so many times, in a table of so many
+/// A row whose waits come from its head on, so that each label is below its holder's, settled this many times, in a table of this many
 /// processes and as many resources.
 fn chain(alloc: Global, processes: u32, size: u32, settles: u32) -> Result<u64, Refusal> {
     let mut table = open(alloc, processes, processes)?;
@@ -113,7 +113,7 @@ fn chain(alloc: Global, processes: u32, size: u32, settles: u32) -> Result<u64, 
     accepted
 }
 
-/// Makes a row whose waits come from its head on, and settles it so many times. Answers how many events were accepted.
+/// Makes a row whose waits come from its head on, and settles it this many times. Answers how many events were accepted.
 fn settle_chain(table: &mut Table, size: u32, settles: u32) -> Result<u64, Refusal> {
     own_each(table, size)?;
     for place in 1..size {
@@ -125,8 +125,8 @@ fn settle_chain(table: &mut Table, size: u32, settles: u32) -> Result<u64, Refus
     Ok(table.totals().accepted)
 }
 
-/// `count` rows of `size` transactions, each in a table of its own of so many processes and as many resources. The waits of a row come from
-/// its head on, and it is settled so many times.
+/// `count` rows of `size` transactions, each in a table of its own of this many processes and as many resources. The waits of a row come from
+/// its head on, and it is settled this many times.
 #[unsafe(no_mangle)]
 pub extern "C" fn mm_bench_chains(
     alloc: Global,

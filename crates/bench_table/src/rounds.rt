@@ -33,7 +33,7 @@ fn rounds(
     accepted
 }
 
-/// So many transactions hold and await the last resource, while others take turns. Answers how many events were accepted.
+/// This many transactions hold and await the last resource, while others take turns. Answers how many events were accepted.
 fn crowd_and_take_turns(
     table: &mut Table,
     others: u32,
@@ -45,7 +45,7 @@ fn crowd_and_take_turns(
     take_turns(table, mask, count)
 }
 
-/// So many transactions hold and await a resource.
+/// This many transactions hold and await a resource.
 fn crowd(table: &mut Table, others: u32, resource: u32) -> Result<(), Refusal> {
     for _ in 0..others {
         let key = table.begin()?;
@@ -54,7 +54,7 @@ fn crowd(table: &mut Table, others: u32, resource: u32) -> Result<(), Refusal> {
     Ok(())
 }
 
-/// So many transactions take sixteen resources each. Answers how many events were accepted.
+/// This many transactions take sixteen resources each. Answers how many events were accepted.
 fn take_turns(table: &mut Table, mask: u32, count: u64) -> Result<u64, Refusal> {
     let mut resource = 0;
     for _ in 0..count {
@@ -112,7 +112,7 @@ fn crosswise(alloc: Global, processes: u32, count: u64) -> Result<u64, Refusal> 
     accepted
 }
 
-/// So many deadlocks. Answers how many events were accepted.
+/// This many deadlocks. Answers how many events were accepted.
 fn deadlocks(table: &mut Table, count: u64) -> Result<u64, Refusal> {
     for _ in 0..count {
         wait_crosswise(table)?;
@@ -120,7 +120,7 @@ fn deadlocks(table: &mut Table, count: u64) -> Result<u64, Refusal> {
     Ok(table.totals().accepted)
 }
 
-/// `count` deadlocks of two transactions, from begin to finish, in a table of so many processes and as many resources.
+/// `count` deadlocks of two transactions, from begin to finish, in a table of this many processes and as many resources.
 #[unsafe(no_mangle)]
 pub extern "C" fn mm_bench_crosswise(alloc: Global, processes: u32, count: u64) -> u64 {
     crosswise(alloc, processes, count).unwrap_or(0)

@@ -26,7 +26,7 @@ fn open_settled(alloc: Global) -> Result<SettledTable, Refusal> {
     )
 }
 
-/// Begins so many transactions.
+/// Begins this many transactions.
 #[inline(always)]
 fn begin_settled(table: &mut SettledTable, begins: u32) -> Result<(), Refusal> {
     for _ in 0..begins {
@@ -39,7 +39,7 @@ fn begin_settled(table: &mut SettledTable, begins: u32) -> Result<(), Refusal> {
 #[inline(always)]
 fn lock_settled(table: &mut SettledTable, locks: u32) -> Result<(), Refusal> {
     for resource in 0..locks {
-        table.lock(FIRST, resource)?;
+        table.acquire(FIRST, resource)?;
     }
     Ok(())
 }
@@ -83,7 +83,7 @@ fn settled_owned(alloc: Global, begins: u32, locks: u32) -> Result<u64, Refusal>
     accepted
 }
 
-/// Begins so many transactions.
+/// Begins this many transactions.
 #[inline(always)]
 fn begin_plain(table: &mut Table, begins: u32) -> Result<(), Refusal> {
     for _ in 0..begins {

@@ -35,11 +35,11 @@ fn transaction(process: u32) -> Key {
     }
 }
 
-/// Begins so many transactions, each of which locks the resource of its own number.
+/// Begins this many transactions, each of which locks the resource of its own number.
 fn own_each(table: &mut SettledTable, processes: u32) -> Result<(), Refusal> {
     for process in 0..processes {
         let key = table.begin()?;
-        table.lock(key, process)?;
+        table.acquire(key, process)?;
     }
     Ok(())
 }
@@ -47,7 +47,7 @@ fn own_each(table: &mut SettledTable, processes: u32) -> Result<(), Refusal> {
 /// The transaction at one place of a chain comes to wait for the one before it.
 fn wait(table: &mut SettledTable, first: u32, place: u32, chains: Chains) -> Result<(), Refusal> {
     let process = chains.process_at(first, place);
-    table.lock(
+    table.acquire(
         transaction(process),
         chains.process_at(first, place.wrapping_sub(1)),
     )?;
@@ -66,7 +66,7 @@ fn wait_behind(table: &mut SettledTable, first: u32, chains: Chains) -> Result<(
 fn rise(table: &mut SettledTable, first: u32, chains: Chains) -> Result<(), Refusal> {
     let key = transaction(chains.process_at(first, 0));
     for _ in 0..chains.waiting {
-        table.lock(key, chains.process_at(first, 1))?;
+        table.acquire(key, chains.process_at(first, 1))?;
         table.withdraw(key)?;
     }
     Ok(())
@@ -119,7 +119,7 @@ fn shorten(alloc: Global, processes: u32, chains: Chains) -> Result<u64, Refusal
     accepted
 }
 
-/// In a table of so many processes, makes as many chains as there is room for, in each of which `waiting` transactions wait, each for the
+/// In a table of this many processes, makes as many chains as there is room for, in each of which `waiting` transactions wait, each for the
 /// one before it. Then the last `withdrawals` of each chain take their waits back, the last one first. If `is_carried`, all others carry the label
 /// of the front: so each of these withdrawals gives the front a new label, and raises all others. If `is_rising`, the processes of a chain are
 /// numbered from its front on, and one sweep of a settle passes a label along it; else from its end, and a sweep passes it by one process.

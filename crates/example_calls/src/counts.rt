@@ -1,7 +1,7 @@
 //! What becomes of a table whose counts come to their limit. Each function does nothing; its contract is the fact.
 ghost use Rattle.example_calls.specs.Counts.{LastEventIsCounted, LastVerdictIsCounted, RefusedAtLimit, RefusedOnlyAtLimit, SettlePassesLimit};
 
-/// Where 2 to the 62 events were accepted, or as many verdicts given, every event is refused, whatever its key and its resource, and
+/// If 2 to the 62 events were accepted, or as many verdicts given, every event is refused, whatever its key and its resource, and
 /// nothing changes.
 pub fn refused_at_limit()
     ensures { RefusedAtLimit }
@@ -22,7 +22,7 @@ pub fn last_verdict_is_counted()
     ensures { LastVerdictIsCounted }
 {}
 
-/// A settle is accepted as long as one verdict is left to count, also where it gives two. After it every event is refused.
+/// A settle is accepted as long as one verdict is left to count, also if it gives two. After it every event is refused.
 pub fn settle_passes_limit()
     ensures { SettlePassesLimit }
 {}

@@ -4,7 +4,7 @@
 //! - `settled`: asks for a lock, and handles each of the three answers.
 //! - `names`: gives names numbers for as long as somebody uses them.
 //! - `rest`: settles a table, and cites the law of what it is then.
-//! - `wake`: aborts a transaction, and lists whom to wake.
+//! - `wake`: aborts a transaction, and lists the processes to wake.
 //! - `watch`: opens a board, stores labels, and returns what two readers see.
 #![tactic(auto)]
 

@@ -41,7 +41,7 @@ impl NamesInUse {
         Ok(number)
     }
 
-    /// One fewer uses the name of this number. It has none any more, where nobody else does.
+    /// One fewer uses the name of this number. It has none any more, if nobody else does.
     pub fn let_go(&mut self, number: u32)
         requires { number < length self.old.names.names }
         ensures users { slice_index self.new.users.items number ≡ slice_index self.old.users.items number - 1 }

@@ -21,13 +21,13 @@ pub enum Next {
 ///
 /// Whatever comes of it, the transaction is on no cycle of waits afterwards, and no other one has a new verdict.
 ///
-/// Refused as `SettledTable::lock` is. Where the abort is refused, as `CountsExhausted` or `LabelsExhausted`, the transaction still waits
+/// Refused as `SettledTable::acquire` is. If the abort is refused, as `CountsExhausted` or `LabelsExhausted`, the transaction still waits
 /// under its verdict.
 pub fn lock_or_roll_back(table: &mut SettledTable, key: Key, resource: u32) -> Result<Next, Refusal>
     ensures free { OnOk result (¬ IsOnCycle table.new.table key.process) }
     ensures others { OthersKeepVerdicts table.old.table table.new.table key.process }
 {
-    match table.lock(key, resource)? {
+    match table.acquire(key, resource)? {
         Locked::Granted => Ok(Next::WorksOn),
         Locked::Waits { holder } => Ok(Next::Sleeps { holder }),
         Locked::Deadlock { .. } => roll_back(table, key),

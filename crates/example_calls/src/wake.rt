@@ -9,7 +9,7 @@ ghost use Rattle.example_calls.specs.Wake.{active_key, active_keys};
 use mm_table::{Key, Mode, Refusal, Table};
 
 /// Aborts a transaction under a verdict, and lists in `woken`, in place of what it held, the keys of those to wake, by rising process:
-/// of the processes that the abort changed, which stand then in `changed`, those that are live and do not wait. None where the call
+/// of the processes that the abort changed, which stand then in `changed`, those that are live and do not wait. None if the call
 /// is refused.
 ///
 /// The caller wakes each of them. Each live transaction that waited before the call and does not wait after it is among them.
@@ -53,7 +53,7 @@ fn list_active(table: &Table, processes: &[u32], keys: &mut Vec<Key>)
     }
 }
 
-/// The key of the transaction of this process, where it lives and waits for nothing.
+/// The key of the transaction of this process, if it lives and waits for nothing.
 fn active_key(table: &Table, process: u32) -> Option<Key>
     ensures { result ≡ active_key table.now process }
 {

@@ -17,13 +17,13 @@ pub struct Watched {
     pub shown: Label,
 }
 
-/// Opens a board of so many processes, stores two labels of one process, the first of which is not below the opening label and the
+/// Opens a board of this many processes, stores two labels of one process, the first of which is not below the opening label and the
 /// second not below the first, and returns what two readers see of that process.
 ///
 /// The reader to which the board was shown sees the second label. Of the other one it is known that what it sees is not below the
 /// opening label, with which it began, nor above the first label, since it is shown the board afterwards.
 ///
-/// `Err` only where a request for memory was refused.
+/// `Err` only if a request for memory was refused.
 pub fn watch_labels(
     alloc: Global,
     processes: u32,

@@ -1,4 +1,4 @@
-//! A request for an account, where whoever closes a cycle of waits is rolled back.
+//! A request for an account: a transaction whose request closes a cycle of waits is rolled back.
 ghost use Rattle.std.specs.Prelude.{◌≡◌, true, IfOk, OnOk};
 ghost use Rattle.mm_rules.specs.TableState.{has_verdict};
 ghost use Rattle.example_transfers.specs.Next.{Leaves, OwnsNothing};

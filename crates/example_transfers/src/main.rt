@@ -1,7 +1,7 @@
 //! Two transfers between two accounts, in opposite directions, that meet: each owns one account and asks for the other. The one that closes
 //! the cycle of waits is rolled back, the other one is granted its account and commits, and the first one tries again.
 //!
-//! - `lock`: a request for an account, where whoever closes a cycle of waits is rolled back.
+//! - `lock`: a request for an account: a transaction whose request closes a cycle of waits is rolled back.
 #![tactic(auto)]
 
 mod lock;
@@ -65,7 +65,7 @@ impl Keys {
     }
 }
 
-/// Says whom the last call granted what.
+/// Says the grants of the last call.
 fn tell(rt: &impl Print, locks: &LockManager) -> io::Result<()> {
     for grant in locks.granted() {
         let key = grant.key;

@@ -1,4 +1,4 @@
-//! Two threads that take the same two resources in opposite orders, by one shared table. Where they meet, a cycle of waits is closed, and
+//! Two threads that take the same two resources in opposite orders, by one shared table. If they meet, a cycle of waits is closed, and
 //! one of the two gets a verdict and is aborted; else both finish. It prints what is so either way.
 //!
 //! - `transaction`: what each thread does.

@@ -1,4 +1,4 @@
-//! A transaction that takes two resources, and is aborted where that closes a cycle of waits.
+//! A transaction that takes two resources, and is aborted if that closes a cycle of waits.
 ghost use Rattle.std.specs.Prelude.{◌≡◌, ◌+◌, IfOk, OnErr};
 ghost use Rattle.example_two_threads.specs.Ending.{aborts_of};
 
@@ -25,7 +25,7 @@ enum Asked {
     Convicted,
 }
 
-/// One round of waiting: takes over the holder's label, and looks whether its own label came round. `None` where it waits on.
+/// One round of waiting: takes over the holder's label, and looks whether its own label came round. `None` if it waits on.
 fn wait_once<N: Name, A: Ledger, V: Ledger, B: Ledger, R: Wait>(
     rt: &R,
     table: &SharedTable<N, A, V, B>,
@@ -116,7 +116,7 @@ fn attempt<N: Name, A: Ledger, V: Ledger, B: Ledger, R: Wait>(
     }
 }
 
-/// A transaction that takes two resources. Its pass counts one abort exactly where it ends as `Aborted`.
+/// A transaction that takes two resources. Its pass counts one abort exactly if it ends as `Aborted`.
 pub fn transaction<N: Name, A: Ledger, V: Ledger, B: Ledger, R: Wait>(
     rt: &R,
     table: &SharedTable<N, A, V, B>,

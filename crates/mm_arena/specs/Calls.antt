@@ -21,7 +21,7 @@ module _ {T : Type 0} where
   after_all s [] = s
   after_all s (call ∷ later) = after_all (after s call) later
 
--- a key that was removed is never live again, whatever calls came before and follow; where it had
+-- a key that was removed is never live again, whatever calls came before and follow; if it had
 -- the last generation, its process has no live key either
 abbrev pub RemovedIsNeverLive : (T : Type 0) → Type 0
 RemovedIsNeverLive T = (capacity limit : ℕ) (earlier later : List (Call T)) (key : Key)

@@ -1,4 +1,4 @@
--- What an `Arena` ends as, where a `&mut` to one of its values is returned.
+-- What an `Arena` ends as when a `&mut` to one of its values is returned.
 use Rattle.std.specs.Prelude.{Option}
 use Rattle.std.specs.Borrow.{Lends, LendsIf, Fml, RattleType, MutBor}
 use Rattle.mm_arena.specs.declared.key.Key.{Key}
@@ -10,6 +10,6 @@ module _ (T : RattleType) (s : MutBor (Slots T.Denot)) (key : Key) where
   abbrev pub lends_value : MutBor T.Denot → Fml
   lends_value r = Lends (the_row T) T s r (with_value s.now key)
 
-  -- the same where r is a reference, and at `None` the arena stays as it is
+  -- the same if r is a reference, and at `None` the arena stays as it is
   abbrev pub lends_get : Option (MutBor T.Denot) → Fml
   lends_get r = LendsIf (the_row T) T s r (with_value s.now key) s.now

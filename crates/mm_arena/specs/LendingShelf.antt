@@ -1,4 +1,4 @@
--- What a `Shelf` ends as, where a `&mut` to one of its values is returned.
+-- What a `Shelf` ends as when a `&mut` to one of its values is returned.
 use Rattle.std.specs.Prelude.{ℕ, Option, Some, slice_set}
 use Rattle.std.specs.Borrow.{Lends, LendsIf, Fml, RattleType, MutBor}
 use Rattle.mm_arena.specs.declared.key.Key.{Key}
@@ -10,7 +10,7 @@ module _ (T : RattleType) (s : MutBor (Entries T.Denot)) (key : Key) where
   abbrev pub lends_value : MutBor T.Denot → Fml
   lends_value r = Lends (the_row T) T s r (λ value. slice_set s.now key.process (Some (key, value)))
 
-  -- the same where r is a reference, and at `None` the shelf stays as it is
+  -- the same if r is a reference, and at `None` the shelf stays as it is
   abbrev pub lends_get : Option (MutBor T.Denot) → Fml
   lends_get r = LendsIf (the_row T) T s r (λ value. slice_set s.now key.process (Some (key, value))) s.now
 

@@ -20,7 +20,7 @@ module _ {T : Type 0} where
   abbrev pub HasValue : Entries T → ℕ → Type 0
   HasValue s process = IsSome (entry_at s process)
 
-  -- the value, where it was put with this very key
+  -- the value, if it was put with this very key
   abbrev pub value_under : Key → Option (Key × T) → Option T
   value_under key None = None
   value_under key (Some entry) = if key_eq entry.0 key then Some entry.1 else None
@@ -29,7 +29,7 @@ module _ {T : Type 0} where
   abbrev pub value_at : Entries T → Key → Option T
   value_at s key = value_under key (entry_at s key.process)
 
-  -- without the value under a key, where there is one
+  -- without the value under a key, if there is one
   abbrev pub taken : Entries T → Key → Entries T
   taken s key = if is_some (value_at s key) then slice_set s key.process None else s
 

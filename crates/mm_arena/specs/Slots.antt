@@ -4,7 +4,7 @@ use Rattle.std.specs.Option.{option_map}
 use Rattle.std.specs.List.{range_with_len}
 use Rattle.mm_arena.specs.declared.key.Key.{Key}
 
--- a process's slot: the generation of its key, and its value where it is live
+-- a process's slot: the generation of its key, and its value if it is live
 pub record Place (T : Type 0) : Type 0 where
   pub generation : ℕ
   pub value : Option T
@@ -29,11 +29,11 @@ module _ {T : Type 0} where
   abbrev pub place_at : Slots T → ℕ → Place T
   place_at s process = slice_index_or s.places process never_used
 
-  -- the slot's value, where its key has this generation
+  -- the slot's value, if its key has this generation
   abbrev pub value_under : ℕ → Place T → Option T
   value_under generation place = if place.generation == generation then place.value else None
 
-  -- the value under a key, where the key is live
+  -- the value under a key, if the key is live
   abbrev pub lookup : Slots T → Key → Option T
   lookup s key = value_under key.generation (place_at s key.process)
 
@@ -49,7 +49,7 @@ module _ {T : Type 0} where
   abbrev pub live_key : Slots T → ℕ → Option Key
   live_key s process = option_map (λ _. key_of s process) (place_at s process).value
 
-  -- the key that the next insert gives, where a slot is free
+  -- the key that the next insert gives, if a slot is free
   abbrev pub next_key : Slots T → Option Key
   next_key s = option_map (key_of s) (slice_get s.free 0)
 
@@ -81,7 +81,7 @@ module _ {T : Type 0} where
   abbrev pub retired : Slots T → Key → Slots T
   retired s key = record s { places = slice_set s.places key.process (record { generation = key.generation; value = None }) }
 
-  -- with a live key's slot freed, or retired where the key had the last generation
+  -- with a live key's slot freed, or retired if the key had the last generation
   abbrev pub vacated : Slots T → Key → Slots T
   vacated s key = if nat_lt key.generation s.limit then freed s key else retired s key
 

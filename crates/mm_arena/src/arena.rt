@@ -42,10 +42,10 @@ impl<T> Model for Arena<T> {
 impl<T> Arena<T> {
     ghost use Rattle.mm_arena.specs.Lending.{lends_get, lends_value};
 
-    /// An arena of `capacity` slots that were never used, in time proportional to `capacity`. It takes the memory for all of them, and no
+    /// Returns an arena of `capacity` slots that were never used, in time proportional to `capacity`. It takes the memory for all of them, and no
     /// later call takes any.
     ///
-    /// `Err` only where that memory is refused.
+    /// `Err` only if that memory is refused.
     pub fn new(alloc: Global, capacity: u32, generation_limit: u32) -> Result<Self, Memory>
         requires some_capacity { 1 ≤ capacity }
         requires capacity_in_range { capacity ≤ MAX_CAPACITY }
@@ -65,7 +65,7 @@ impl<T> Arena<T> {
         })
     }
 
-    /// Stores a value under the next key, in constant time. `Err` gives the value back exactly where no slot is free, and then nothing
+    /// Stores a value under the next key, in constant time. `Err` gives the value back exactly if no slot is free, and then nothing
     /// changes.
     pub fn insert(&mut self, value: T) -> Result<Key, T>
         ensures key { result ≡ ok_or (next_key self.old) value }
@@ -96,14 +96,14 @@ impl<T> Arena<T> {
         })
     }
 
-    /// The value under a live key, in constant time. `None` exactly where the key is not live.
+    /// Returns the value under a live key, in constant time. `None` exactly if the key is not live.
     pub fn get(&self, key: Key) -> Option<&T>
         ensures { option_copied result ≡ lookup self.now key }
     {
         self.slots.get(key.process as usize)?.value(key.generation)
     }
 
-    /// The value under a live key for writing, in constant time. `None` exactly where the key is not live.
+    /// Returns the value under a live key for writing, in constant time. `None` exactly if the key is not live.
     pub fn get_mut(&mut self, key: Key) -> Option<&mut T>
         ensures* writes_back { sem 𝓛 (lends_get T.row self.entry key result) }
         ensures value { option_copied_mut result ≡ lookup self.old key }
@@ -115,7 +115,7 @@ impl<T> Arena<T> {
         }
     }
 
-    /// The value under a key that is live for writing, in constant time, without a test of the key.
+    /// Returns the value under a key that is live for writing, in constant time, without a test of the key.
     #[inline]
     pub fn value_mut(&mut self, key: Key) -> &mut T
         requires { IsLive self.old key }
@@ -125,7 +125,7 @@ impl<T> Arena<T> {
         self.slots[key.process as usize].value_mut()
     }
 
-    /// Removes a live key and gives its value, in constant time. `None` exactly where the key is not live, and then nothing changes.
+    /// Removes a live key and gives its value, in constant time. `None` exactly if the key is not live, and then nothing changes.
     pub fn remove(&mut self, key: Key) -> Option<T>
         ensures value { result ≡ lookup self.old key }
         ensures slots { self.new ≡ removed self.old key }
@@ -156,14 +156,14 @@ impl<T> Arena<T> {
         slot.free(before)
     }
 
-    /// Whether a key is live, in constant time.
+    /// Returns whether a key is live, in constant time.
     pub fn contains(&self, key: Key) -> bool
         ensures { IsTrue result ↔ IsLive self.now key }
     {
         self.get(key).is_some()
     }
 
-    /// The live key of a process, in constant time. `None` exactly where it has none: the process is free, retired or not below the
+    /// Returns the live key of a process, in constant time. `None` exactly if it has none: the process is free, retired or not below the
     /// capacity.
     pub fn key_at(&self, process: u32) -> Option<Key>
         ensures { result ≡ live_key self.now process }
@@ -175,7 +175,7 @@ impl<T> Arena<T> {
         })
     }
 
-    /// How many keys are live, in constant time.
+    /// Returns how many keys are live, in constant time.
     pub fn live(&self) -> u32
         ensures count { result ≡ live_count self.now }
         ensures within { result ≤ length self.now.places }

@@ -34,7 +34,7 @@ impl<T> Model for Shelf<T> {
 }
 
 impl<T> Stored<T> {
-    /// The key that the value of this process was put with.
+    /// Returns the key that the value of this process was put with.
     fn key(&self, process: u32) -> Key
         ensures { result ≡ record { process = process; generation = self.now.generation } }
     {
@@ -50,10 +50,10 @@ impl<T> Shelf<T> {
     ghost use Rattle.mm_arena.specs.private.Stored.{entry_of};
     ghost use Rattle.mm_arena.specs.private.LendingStored.{lends_kept};
 
-    /// A shelf for the processes below `capacity`, none of which has a value, in `O(capacity)`. It takes the memory for all of them, and no
+    /// Returns a shelf for the processes below `capacity`, none of which has a value, in `O(capacity)`. It takes the memory for all of them, and no
     /// later call takes any.
     ///
-    /// `Err` only where that memory is refused.
+    /// `Err` only if that memory is refused.
     pub fn new(alloc: Global, capacity: u32) -> Result<Self, Memory>
         requires some_capacity { 1 ≤ capacity }
         requires capacity_in_range { capacity ≤ MAX_CAPACITY }
@@ -66,7 +66,7 @@ impl<T> Shelf<T> {
         Ok(Shelf { entries })
     }
 
-    // What is kept of a process. `None` where it has no value, or is not below the capacity.
+    // What is kept of a process. `None` if it has no value, or is not below the capacity.
     #[inline]
     fn kept(&self, process: u32) -> Option<&Stored<T>>
         ensures { entry_of process (option_copied result) ≡ entry_at self.now process }
@@ -129,7 +129,7 @@ impl<T> Shelf<T> {
         Some((before.key(key.process), before.value))
     }
 
-    /// The value under this very key, in constant time. `None` exactly where its process has no value, or one under another generation.
+    /// Returns the value under this very key, in constant time. `None` exactly if its process has no value, or one under another generation.
     #[inline]
     pub fn get(&self, key: Key) -> Option<&T>
         ensures { option_copied result ≡ value_at self.now key }
@@ -140,7 +140,7 @@ impl<T> Shelf<T> {
         }
     }
 
-    /// The value under this very key for writing, in constant time. `None` exactly where `get` gives `None`.
+    /// Returns the value under this very key for writing, in constant time. `None` exactly if `get` gives `None`.
     pub fn get_mut(&mut self, key: Key) -> Option<&mut T>
         ensures* writes_back { sem 𝓛 (lends_get T.row self.entry key result) }
         ensures value { option_copied_mut result ≡ value_at self.old key }
@@ -161,7 +161,7 @@ impl<T> Shelf<T> {
         &mut self.kept_mut(key.process).value
     }
 
-    /// Takes out the value under this very key, in constant time. `None` exactly where `get` gives `None`, and then nothing changes.
+    /// Takes out the value under this very key, in constant time. `None` exactly if `get` gives `None`, and then nothing changes.
     #[inline]
     pub fn take(&mut self, key: Key) -> Option<T>
         ensures value { result ≡ value_at self.old key }
@@ -174,7 +174,7 @@ impl<T> Shelf<T> {
         Some(stored.value)
     }
 
-    /// The key under which a process has a value, in constant time. `None` exactly where it has none, or is not below the capacity.
+    /// Returns the key under which a process has a value, in constant time. `None` exactly if it has none, or is not below the capacity.
     #[inline]
     pub fn key_at(&self, process: u32) -> Option<Key>
         ensures { result ≡ option_map (λ entry. entry.0) (entry_at self.now process) }
@@ -183,7 +183,7 @@ impl<T> Shelf<T> {
         Some(stored.key(process))
     }
 
-    /// The value of a process that has one, under whatever key, in constant time.
+    /// Returns the value of a process that has one, under whatever key, in constant time.
     #[inline]
     pub fn stored(&self, process: u32) -> &T
         requires { HasValue self.now process }
@@ -192,7 +192,7 @@ impl<T> Shelf<T> {
         &self.kept_at(process).value
     }
 
-    /// The generation of the key under which a process has a value, in constant time, where the caller knows that it has one.
+    /// Returns the generation of the key under which a process has a value, in constant time, if the caller knows that it has one.
     #[inline]
     pub fn stored_generation(&self, process: u32) -> u32
         requires { HasValue self.now process }
@@ -200,12 +200,12 @@ impl<T> Shelf<T> {
     {
         match &self.entries[process as usize] {
             Some(stored) => stored.generation,
-            // Unreachable. A number in place of a panic lets the compiler drop the read where the caller ignores the result.
+            // Unreachable. A number in place of a panic lets the compiler drop the read if the caller ignores the result.
             None => 0,
         }
     }
 
-    /// The value that a process has for writing, in constant time, where the caller knows that it has one. Its key stays.
+    /// Returns the value that a process has for writing, in constant time, if the caller knows that it has one. Its key stays.
     #[inline]
     pub fn stored_mut(&mut self, process: u32) -> &mut T
         requires { HasValue self.old process }
@@ -215,7 +215,7 @@ impl<T> Shelf<T> {
         &mut self.kept_mut(process).value
     }
 
-    /// Takes out the value that a process has, with the key that it is under, in constant time, where the caller knows that it has one.
+    /// Takes out the value that a process has, with the key that it is under, in constant time, if the caller knows that it has one.
     #[inline]
     pub fn take_stored(&mut self, process: u32) -> (Key, T)
         requires { HasValue self.old process }

@@ -25,7 +25,7 @@ pub(crate) enum State<T> {
 impl<T> State<T> {
     ghost use Rattle.mm_arena.specs.contracts.slot.State.{the_row};
 
-    /// The value of a live slot for writing.
+    /// Returns the value of a live slot for writing.
     fn value_mut(&mut self) -> &mut T
         requires { IsLive self.old }
         ensures* lends { sem 𝓛 (Lends (the_row T.row) T.row self.entry result State.Live) }
@@ -41,7 +41,7 @@ impl<T> State<T> {
 impl<T> Slot<T> {
     ghost use Rattle.mm_arena.specs.contracts.slot.Slot.{the_row};
 
-    /// A slot that was never used.
+    /// Returns a slot that was never used.
     pub(crate) fn new() -> Self
         ensures { result ≡ record { generation = 1; state = State.Free None } }
     {
@@ -51,7 +51,7 @@ impl<T> Slot<T> {
         }
     }
 
-    /// The value, where the slot is live under this generation.
+    /// Returns the value, if the slot is live under this generation.
     pub(crate) fn value(&self, generation: u32) -> Option<&T>
         ensures { option_copied result ≡ value_under generation (place_of self.now) }
     {
@@ -61,14 +61,14 @@ impl<T> Slot<T> {
         }
     }
 
-    /// Whether the slot is live.
+    /// Returns whether the slot is live.
     pub(crate) fn is_live(&self) -> bool
         ensures { result ≡ is_some (place_of self.now).value }
     {
         matches!(self.state, State::Live(_))
     }
 
-    /// The value of a live slot for writing.
+    /// Returns the value of a live slot for writing.
     pub(crate) fn value_mut(&mut self) -> &mut T
         requires { IsLive self.old.state }
         ensures* lends { sem 𝓛 (Lends (the_row T.row) T.row self.entry result (λ value. record self.old { state = State.Live value })) }

@@ -16,6 +16,6 @@ pub record IsNextMember (set : List Bool) (from n : ℕ) : Type 0 where
   pub member : has set n ≡ true
   pub first : (k : ℕ) → from ≤ k → k < n → has set k ≡ false
 
--- the members, by rising number
+-- the members, in ascending order
 abbrev pub members : List Bool → List ℕ
 members set = filter (has set) (range_with_len 0 (length set))

@@ -32,7 +32,7 @@ pub record IsPublished (words : List ℕ) (p : Published) : Type 0 where
   pub histories : (i : ℕ) → i < length p.histories → IsHistory i (history p i)
   pub met : WereStored p p.met
 
--- what a seat may know, where p was stored from the seat `publisher`: that seat alone knows p, and a reader labels that were stored at some time
+-- what a seat may know, if p was stored from the seat `publisher`: that seat alone knows p, and a reader labels that were stored at some time
 abbrev pub MayKnow : Published → ℕ → ℕ → View → Type 0
 MayKnow p publisher seat (Publishes q) = (seat ≡ publisher) × (q ≡ p)
 MayKnow p publisher seat (Reads seen) = WereStored p seen.labels

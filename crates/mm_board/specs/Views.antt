@@ -6,7 +6,7 @@ use Rattle.mm_label.specs.Label.{Label, label_le, opening_label}
 use Rattle.mm_board.specs.declared.views.Published.{Published}
 use Rattle.mm_board.specs.declared.views.Seen.{Seen}
 
--- the label in this place of a list; 0.0 where there is none
+-- the label in this place of a list; 0.0 if there is none
 abbrev pub label_at : List Label → ℕ → Label
 label_at labels i = slice_index_or labels i (opening_label 0)
 
@@ -63,7 +63,7 @@ opening_published processes = record {
   met = opening_labels processes;
 }
 
--- of a board with so many processes, this is one of them, and not process i
+-- of a board with this many processes, this is one of them, and not process i
 abbrev pub IsAnother : ℕ → ℕ → ℕ → Type 0
 IsAnother processes i other = (other < processes) × (other ≢ i)
 

@@ -15,7 +15,7 @@ use mm_label::Label;
 use std::alloc::{AllocError, Global};
 use std::marker::{Model, PhantomData};
 
-/// A board has at most so many processes.
+/// A board has at most this many processes.
 pub const MAX_PROCESSES: u32 = mm_limits::MAX_PROCESSES;
 
 /// The label words of all processes, and then their holder words. Each split and join loads the first, the label word of process 0.
@@ -41,7 +41,7 @@ impl<N: Name> Model for Board<N> {
 }
 
 impl<N: Name> Board<N> {
-    /// How many processes it has. Constant time.
+    /// Returns how many processes it has. Constant time.
     pub fn processes(&self) -> u32
         ensures { result ≡ self.now }
     {
@@ -74,10 +74,10 @@ impl Model for RawBoard {
 }
 
 impl RawBoard {
-    /// A board of so many processes, each of which has its opening label, (0, i) of process i, and no holder. `O(processes)`: it takes
+    /// Returns a board of this many processes, each of which has its opening label, (0, i) of process i, and no holder. `O(processes)`: it takes
     /// 16 bytes a process, and as many again until it returns. No later call takes memory.
     ///
-    /// `Err` only where a request for memory was refused.
+    /// `Err` only if a request for memory was refused.
     pub fn new(alloc: Global, processes: u32) -> Result<RawBoard, Memory>
         requires some_processes { 1 ≤ processes }
         requires processes_in_range { processes ≤ MAX_PROCESSES }
@@ -96,7 +96,7 @@ impl RawBoard {
         })
     }
 
-    /// The board under its name `N`, with its publisher and its first reader, which has seen the opening labels. Constant time.
+    /// Returns the board under its name `N`, with its publisher and its first reader, which has seen the opening labels. Constant time.
     pub fn open<N: Name>(self) -> (Board<N>, Publisher<N>, Reader<N>)
         requires { self ≡ N.board }
         ensures processes { result.0 ≡ processes_of self }
@@ -126,7 +126,7 @@ impl RawBoard {
     }
 }
 
-/// The words of a new board.
+/// Returns the words of a new board.
 fn opening_words(alloc: Global, processes: u32) -> Result<Vec<u64>, AllocError>
     requires { processes ≤ MAX_PROCESSES }
     ensures { IfOk result (λ words. AreOpening words.items processes) }

@@ -25,7 +25,7 @@ pub struct Hint {
     pub kind: HintKind,
 }
 
-/// Looks at the labels of a process and of its holder. `None` where the holder's is seen below its own.
+/// Looks at the labels of a process and of its holder. `None` if the holder's is seen below its own.
 fn hint_of<N: Name>(board: &Board<N>, reader: &mut Reader<N>, waiter: Waiter) -> Option<Hint>
     requires process { waiter.process < board.now }
     requires holder { IsAnother board.now waiter.process waiter.holder }
@@ -54,8 +54,8 @@ fn hint_of<N: Name>(board: &Board<N>, reader: &mut Reader<N>, waiter: Waiter) ->
 }
 
 impl<N: Name> Reader<N> {
-    /// Looks at the processes from this one on, by rising number, and returns the first that waits for another one whose label is seen
-    /// above its own or is the same. `None` where there is none. `O(processes looked at)`: one load for each, and two more where it has a
+    /// Looks at the processes from this one on, in ascending order, and returns the first that waits for another one whose label is seen
+    /// above its own or is the same. `None` if there is none. `O(processes looked at)`: one load for each, and two more if it has a
     /// holder.
     pub fn first_hint(&mut self, board: &Board<N>, from: u32) -> Option<Hint>
         ensures hint { IfSome result (λ hint. IsHint board.now from self.new.labels hint) }

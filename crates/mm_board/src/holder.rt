@@ -9,7 +9,7 @@ pub struct Waiter {
     pub holder: u32,
 }
 
-/// The word that keeps this holder.
+/// Returns the word that keeps this holder.
 #[inline]
 pub(crate) fn word_of(holder: Option<u32>) -> u64
     ensures { holder_of result ≡ holder }
@@ -20,7 +20,7 @@ pub(crate) fn word_of(holder: Option<u32>) -> u64
     }
 }
 
-/// The holder that this word keeps.
+/// Returns the holder that this word keeps.
 #[inline]
 pub(crate) fn of_word(word: u64) -> Option<u32>
     requires { word < 2 ^ 32 }

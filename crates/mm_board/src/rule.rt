@@ -5,7 +5,7 @@ use std::marker::Brand;
 
 /// Names one board. The board, its publisher and its readers carry the name in their types, so that none of them is used with another board.
 ///
-/// A function over `N: Name` is called with `Brand`, where its caller picks the board that `N` names. The trait has no functions.
+/// A function over `N: Name` is called with `Brand`, by which its caller picks the board that `N` names. The trait has no functions.
 pub trait Name {
     ghost use Rattle.atomic_table.specs.Seated.{TableId};
 

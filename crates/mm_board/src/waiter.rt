@@ -8,7 +8,7 @@ use crate::reader::Reader;
 use crate::rule::Name;
 
 impl<N: Name> Reader<N> {
-    /// Loads the holders of the processes from this one on, by rising number, and returns the first that has one. `None` where none had
+    /// Loads the holders of the processes from this one on, in ascending order, and returns the first that has one. `None` if none had
     /// one as its word was loaded. `O(processes looked at)`: one load for each.
     pub fn next_waiter(&mut self, board: &Board<N>, from: u32) -> Option<Waiter>
         ensures found { IfSome result (IsWaiter board.now from) }

@@ -62,7 +62,7 @@ impl Steps for Table {
     }
 }
 
-/// Looks at one process. `None` where it waits for nobody, or where the holder's public label is below its own. Constant time.
+/// Looks at one process. `None` if it waits for nobody, or if the holder's public label is below its own. Constant time.
 fn look(table: &Table, process: u32) -> Option<Hint>
     ensures process { IfSome result (λ hint. hint.process ≡ process) }
     ensures hint { IfSome result (IsHintOf table.now) }

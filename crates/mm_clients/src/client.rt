@@ -11,10 +11,10 @@ use mm_workload::{TransactionStream, WorkStep};
 use std::marker::Model;
 use std::thread;
 
-/// A worker that runs a transaction, and then perhaps others: it begins, makes its steps in order, and finishes, or is aborted where it gets
+/// A worker that runs a transaction, and then perhaps others: it begins, makes its steps in order, and finishes, or is aborted if it gets
 /// a verdict.
 ///
-/// Each asking at the gate, each try at `begin` and each round of waiting uses one of the turns, which each transaction has anew. Where it
+/// Each asking at the gate, each try at `begin` and each round of waiting uses one of the turns, which each transaction has anew. If it
 /// needs one and all are used, it ends `Spent` and calls the table no more: what it owns then stays owned. A contract sees it as its table.
 #[derive(Drop)]
 pub struct Client<S: Steps + Drop, G: Gate + Drop> {
@@ -38,7 +38,7 @@ impl<S: Steps + Drop, G: Gate + Drop> Model for Client<S, G> {
 }
 
 impl<S: Steps + Drop, G: Gate + Drop> Client<S, G> {
-    /// A client on this table, with these steps and so many turns. Constant time.
+    /// Returns a client on this table, with these steps and this many turns. Constant time.
     pub fn new(table: S, gate: G, steps: Vec<WorkStep>, turns: u64) -> Client<S, G>
         ensures { result ≡ table }
     {
@@ -63,7 +63,7 @@ impl<S: Steps + Drop, G: Gate + Drop> Client<S, G> {
         table
     }
 
-    /// Runs the transaction, and leaves the gate last. It makes one abort exactly where it ends `Aborted`, and else none.
+    /// Runs the transaction, and leaves the gate last. It makes one abort exactly if it ends `Aborted`, and else none.
     ///
     /// A call that is refused ends it as `Refused`, after one try at `finish`; but a `begin` that is refused as `Full` is tried again, and
     /// a `transmit` or `detect` that is refused as `NotWaiting` says that the resource is its own by now. `O(steps + turns)` calls.
@@ -76,8 +76,8 @@ impl<S: Steps + Drop, G: Gate + Drop> Client<S, G> {
         end
     }
 
-    /// Runs the transaction, and then each of these where the one before it finished or was aborted, and leaves the gate last. Each makes
-    /// its calls as `run` does, with all turns, and one abort exactly where it ends `Aborted`, and else none. Takes memory where the steps
+    /// Runs the transaction, and then each of these if the one before it finished or was aborted, and leaves the gate last. Each makes
+    /// its calls as `run` does, with all turns, and one abort exactly if it ends `Aborted`, and else none. Takes memory if the steps
     /// of the first one have no room for others; a transaction for which that is refused ends as `Refused` in place of its begin.
     pub fn run_all(&mut self, stream: &mut TransactionStream) -> ClientEnds
         ensures aborts { (S.shares self.new).aborts ≡ (S.shares self.old).aborts + result.earlier.aborted + aborts_of result.last }
@@ -109,7 +109,7 @@ impl<S: Steps + Drop, G: Gate + Drop> Client<S, G> {
         ClientEnds { earlier, last }
     }
 
-    /// The next one of these transactions, with so many turns.
+    /// Returns the next one of these transactions, with this many turns.
     fn next(&mut self, stream: &mut TransactionStream, turns: u64) -> End
         ensures aborts { (S.shares self.new).aborts ≡ (S.shares self.old).aborts + aborts_of result }
         ensures parts { (S.shares self.new).parts ≡ (S.shares self.old).parts }
@@ -210,7 +210,7 @@ impl<S: Steps + Drop, G: Gate + Drop> Client<S, G> {
         Err(End::Spent)
     }
 
-    /// One round of waiting. `None` where it waits on.
+    /// One round of waiting. `None` if it waits on.
     fn round(&mut self, key: Key) -> Result<Option<Next>, Refusal>
         ensures aborts { (S.shares self.new).aborts ≡ (S.shares self.old).aborts }
         ensures parts { (S.shares self.new).parts ≡ (S.shares self.old).parts }

@@ -4,7 +4,7 @@ ghost use Rattle.mm_clients.specs.End.{aborts_of, ends_well};
 
 use crate::end::End;
 
-/// How many transactions ended in each way, of those that came before the last one of their client. No other end lets a client go on.
+/// The ends of all transactions but the last one of each client. Only a finished or aborted transaction is followed by another.
 #[derive(Clone, Copy, Debug, PartialEq, Eq)]
 pub struct EarlierEnds {
     pub finished: u32,
@@ -18,7 +18,7 @@ impl EarlierEnds {
         aborted: 0,
     };
 
-    /// Counts this end, where another transaction may follow it, and returns whether that is so.
+    /// Counts this end, if another transaction may follow it, and returns whether that is so.
     pub(crate) fn count(&mut self, end: End) -> bool
         requires few { self.old.finished + self.old.aborted < u32.MAX }
         ensures follows { result ≡ ends_well end }

@@ -16,7 +16,7 @@ pub enum End {
 }
 
 impl End {
-    /// Whether the client was aborted.
+    /// Returns whether the client was aborted.
     pub fn is_aborted(self) -> bool
         ensures { result ≡ is_aborted self }
     {

@@ -7,12 +7,12 @@ pub trait Gate {
     /// Counts one arrival.
     fn arrive(&mut self);
 
-    /// Whether at least this many arrivals are counted.
+    /// Returns whether at least this many arrivals are counted.
     fn may_pass(&mut self, arrivals: u32) -> bool;
 
     /// Counts one client as ended.
     fn leave(&mut self);
 
-    /// Whether all clients have left.
+    /// Returns whether all clients have left.
     fn over(&mut self) -> bool;
 }

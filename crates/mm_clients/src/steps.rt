@@ -14,7 +14,7 @@ pub trait Steps {
     /// The three counts, and the parts.
     ghost shares: { Self → Shares };
 
-    /// Starts a transaction. Refused as `Full` where no process is free.
+    /// Starts a transaction. Refused as `Full` if no process is free.
     fn begin(&mut self) -> Result<Key, Refusal>
         ensures { CountsEvent Begin result (shares self.old) (shares self.new) };
 
@@ -34,7 +34,7 @@ pub trait Steps {
     fn transmit(&mut self, key: Key) -> Result<Transmitted, Refusal>
         ensures { CountsEvent (Transmit key) result (shares self.old) (shares self.new) };
 
-    /// Gives a waiting transaction a verdict where its two labels and its holder's public one are one label.
+    /// Gives a waiting transaction a verdict if its two labels and its holder's public one are one label.
     fn detect(&mut self, key: Key) -> Result<Detected, Refusal>
         ensures { CountsEvent (Detect key) result (shares self.old) (shares self.new) };
 
@@ -50,12 +50,12 @@ pub trait Steps {
     fn settle(&mut self) -> Result<Settled, Refusal>
         ensures { CountsEvent Settle result (shares self.old) (shares self.new) };
 
-    /// The live key of the process, if it has one. It is not counted.
+    /// Returns the live key of the process, if it has one. It is not counted.
     fn tenant(&mut self, process: u32) -> Option<Key>
         ensures { shares self.new ≡ shares self.old };
 
-    /// Looks at the processes from `from` on, by rising number, and returns the first that waits for another one whose public label is
-    /// seen above its own or is the same. `None` where there is none. It is not counted.
+    /// Looks at the processes from `from` on, in ascending order, and returns the first that waits for another one whose public label is
+    /// seen above its own or is the same. `None` if there is none. It is not counted.
     ///
     /// A hint promises nothing of the table, which others may change: the event that follows it makes its own test.
     /// `O(processes looked at)`.

@@ -6,7 +6,7 @@ ghost use Rattle.std.specs.Prelude.{◌≡◌, ◌+◌, min};
 pub struct Tally {
     /// `acquire` answered that the transaction waits.
     pub waits: u64,
-    /// `transmit` raised a label, and `settle` so many.
+    /// `transmit` raised a label, and `settle` this many.
     pub raises: u64,
 }
 

@@ -27,7 +27,7 @@ impl<S: Steps + Drop, G: Gate + Drop> Model for Transmitter<S, G> {
 }
 
 impl<S: Steps + Drop, G: Gate + Drop> Transmitter<S, G> {
-    /// A transmitter on this table, which has so many processes. Constant time.
+    /// Returns a transmitter on this table, which has this many processes. Constant time.
     pub fn new(table: S, gate: G, processes: u32, turns: u64) -> Transmitter<S, G>
         ensures { result ≡ table }
     {
@@ -55,7 +55,7 @@ impl<S: Steps + Drop, G: Gate + Drop> Transmitter<S, G> {
     /// Works until all clients have left, or the turns are used up. `O(turns)` calls.
     ///
     /// A turn looks from its place on, at first process 0. With a hint it makes the one event that the hint suggests, and its next place is
-    /// behind that process. Without one its next place is process 0, and it has made no other call of the table.
+    /// after that process. Without one its next place is process 0, and it has made no other call of the table.
     pub fn run(&mut self)
         ensures aborts { (S.shares self.new).aborts ≡ (S.shares self.old).aborts }
         ensures parts { (S.shares self.new).parts ≡ (S.shares self.old).parts }
@@ -73,7 +73,7 @@ impl<S: Steps + Drop, G: Gate + Drop> Transmitter<S, G> {
         }
     }
 
-    /// The process from which the next turn looks.
+    /// Returns the process from which the next turn looks.
     fn place_after(&self, hint: Option<Hint>) -> u32 {
         let Some(hint) = hint else {
             return 0;
@@ -82,7 +82,7 @@ impl<S: Steps + Drop, G: Gate + Drop> Transmitter<S, G> {
         if next < self.processes { next } else { 0 }
     }
 
-    /// Makes the event that a hint suggests, for the transaction that uses its process. `false` where it changed nothing: there is no hint,
+    /// Makes the event that a hint suggests, for the transaction that uses its process. `false` if it changed nothing: there is no hint,
     /// no transaction uses the process, or the labels are others by now.
     fn follow(&mut self, hint: Option<Hint>) -> bool
         ensures aborts { (S.shares self.new).aborts ≡ (S.shares self.old).aborts }

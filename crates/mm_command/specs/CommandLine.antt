@@ -32,7 +32,7 @@ number_rule name least most default = record (new_rule name) {
   defaults = default ∷ [];
 }
 
--- the same without a value where it is not given
+-- the same without a value if it is not given
 abbrev pub free_number_rule : Text → ℕ → ℕ → Rule
 free_number_rule name least most = record (new_rule name) {
   long = Some name;
@@ -150,7 +150,7 @@ request_by _ error = Wrong error
 abbrev pub request_at : Error → Request
 request_at error = request_by (kind_of error) error
 
--- what words with these faults ask for: what is to be done at an error by one of them, where memory was not refused
+-- what words with these faults ask for: what is to be done at an error by one of them, if memory was not refused
 abbrev pub IsByFault : Kinds → Request → Type 0
 IsByFault faults request = (request ≡ Memory) ⊎ ((error : Error) × IsAmong (kind_of error) faults × (request ≡ request_at error))
 
@@ -211,7 +211,7 @@ HasLimits rows = HasNumber (codes "transactions") 1 MAX_PROCESSES rows × HasNum
 abbrev pub HasWanted : Text → List Row → Type 0
 HasWanted name rows = (name ≡ codes "threads" → HasText (codes "FILE") rows) × (name ≡ codes "storm" → HasNumbers rows) × (name ≡ codes "locks" → HasLimits rows)
 
--- the request, where memory was not refused
+-- the request, if memory was not refused
 abbrev pub IsScript : Request → Type 0
 IsScript request = (request ≡ Script false) ⊎ (request ≡ Memory)
 

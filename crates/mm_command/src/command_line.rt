@@ -35,13 +35,13 @@ pub enum Request {
     Script {
         verbose: bool,
     },
-    /// The workload in this file is to be run, and a report on it written to a file, where one is named.
+    /// The workload in this file is to be run, and a report on it written to a file, if one is named.
     Threads {
         file: String,
         report: Option<String>,
         verbose: bool,
     },
-    /// A generated workload is to be run, and a report on it written to a file, where one is named.
+    /// A generated workload is to be run, and a report on it written to a file, if one is named.
     Storm {
         options: StormOptions,
         report: Option<String>,
@@ -59,7 +59,7 @@ pub enum Request {
     Memory,
 }
 
-/// What the program's command line asks for. Allocates.
+/// Returns what the program's command line asks for. Allocates.
 pub fn asked(rt: &HostRuntime) -> Request {
     asked_or_refused(rt).unwrap_or(Request::Memory)
 }
@@ -100,7 +100,7 @@ fn parsed<'a, S: AsStr>(alloc: Global, words: &'a [S]) -> Result<ArgMatches<'a>,
     command(alloc)?.try_get_matches_from(words)
 }
 
-/// The request that follows from clap's error.
+/// Returns the request that follows from clap's error.
 fn by_error(error: Error) -> Request
     ensures { result ≡ request_at error }
 {
@@ -112,7 +112,7 @@ fn by_error(error: Error) -> Request
     }
 }
 
-/// The request that follows from what clap found.
+/// Returns the request that follows from what clap found.
 fn by_matches(alloc: Global, matches: &ArgMatches<'_>) -> Request
     ensures script { IsScriptName (subcommand_name_of matches.now) → IsOff (verbose_in (subcommand_rows_of matches.now)) → IsScript result }
     ensures verbose { subcommand_name_of matches.now ≡ Some (codes "script") → IsOn (verbose_in (subcommand_rows_of matches.now)) → IsVerboseScript result }
@@ -124,7 +124,7 @@ fn by_matches(alloc: Global, matches: &ArgMatches<'_>) -> Request
     }
 }
 
-/// The request that follows from a subcommand and what clap found for it.
+/// Returns the request that follows from a subcommand and what clap found for it.
 fn by_subcommand(alloc: Global, name: &str, own: &ArgMatches<'_>) -> Request
     ensures script { name.now ≡ codes "script" → IsOff (one_of (codes "verbose") (rows_of (found_of own.now))) → IsScript result }
     ensures verbose { name.now ≡ codes "script" → IsOn (one_of (codes "verbose") (rows_of (found_of own.now))) → IsVerboseScript result }
@@ -163,7 +163,7 @@ fn threads(alloc: Global, own: &ArgMatches<'_>) -> Result<Request, AllocError>
     })
 }
 
-/// The file of this name, where one is given.
+/// Returns the file of this name, if one is given.
 fn file_of(alloc: Global, own: &ArgMatches<'_>, name: &str) -> Result<Option<String>, AllocError> {
     match own.get_str(name) {
         Some(file) => Ok(Some(String::from_str(alloc, file)?)),
@@ -199,7 +199,7 @@ fn storm(alloc: Global, own: &ArgMatches<'_>) -> Result<Request, AllocError>
     })
 }
 
-/// The shape of a storm, if all of its numbers are in their ranges.
+/// Returns the shape of a storm, if all of its numbers are in their ranges.
 fn shape(own: &ArgMatches<'_>) -> Option<StormShape>
     ensures { HasShape (rows_of (found_of own.now)) → IsSome result }
 {
@@ -220,7 +220,7 @@ fn shape(own: &ArgMatches<'_>) -> Option<StormShape>
     })
 }
 
-/// Whether a storm can have so many resources, so many words that give a transaction one, and so many transactions of each client.
+/// Returns whether a storm can have this many resources, this many words that give a transaction one, and this many transactions of each client.
 fn are_shape(resources: u32, acquires: u32, transactions: u32) -> bool
     ensures { IsTrue result ↔ AreShape resources acquires transactions }
 {
@@ -260,7 +260,7 @@ fn request_to_explain(alloc: Global, own: &ArgMatches<'_>) -> Result<Request, Al
     Ok(Request::Explain(options_of(own, file)))
 }
 
-/// Whether a lock service can have these limits.
+/// Returns whether a lock service can have these limits.
 fn are_limits(transactions: u32, names: u32, name_bytes: u32) -> bool
     ensures { IsTrue result ↔ AreLimits transactions names name_bytes }
 {
@@ -269,7 +269,7 @@ fn are_limits(transactions: u32, names: u32, name_bytes: u32) -> bool
         && (1..=MAX_NAME_BYTES).contains(&name_bytes)
 }
 
-/// An error, which shows the usage and no more of the help.
+/// Returns an error, which shows the usage and no more of the help.
 fn wrong(alloc: Global, text: &str) -> Result<Request, AllocError> {
     let mut command = command(alloc)?;
     let error = command.error(ErrorKind::InvalidValue, text);

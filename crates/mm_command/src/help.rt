@@ -27,11 +27,10 @@ pub const AT: &str = "Runs the script to line N, and shows that one";
 /// What `explain` prints, and the exit statuses. No line has more than 80 bytes.
 pub const EXPLAIN_AFTER: &str = "\
 Each line of the script is printed with its number and its reply, and below it
-stands what it changed: who waits for whose resource and under which labels,
-whose public label rose, to what and from whom, which cycle was closed, who was
-convicted and why, and who was handed what. 'mmdetect help script' has the
-calls. Colors are used where standard output is a terminal and NO_COLOR is not
-set.
+is what it changed: waits with their labels, public labels that rose, to what
+and from which holder, cycles that were closed, transactions that were convicted
+and why, and new owners. 'mmdetect help script' has the calls. Colors are used
+if standard output is a terminal and NO_COLOR is not set.
 
 In a graph a node is a transaction with its two labels, and an edge a wait with
 its resource. Victims and cycles are marked.
@@ -66,13 +65,13 @@ Calls of a script, one a line, and their replies:
                  longer live
   transmit K     raised B: the label that the transaction shows now; or still
   detect K       deadlock B: a verdict from now on, on this label; standing,
-                 where it has one; or clear
+                 if it has one; or clear
   abort K        aborted: a transaction with a verdict waits no longer, and
                  ends as by finish
   give_up K      withdrawn: the transaction waits no longer; it has no
                  verdict, and its two labels are equal
-  settle         settled N M: so many labels raised and so many verdicts
-                 given, until nothing is left to do
+  settle         settled N M: N labels raised and M verdicts given, until
+                 nothing is left to do
   state K        active V U, waiting r V U or convicted r V U: the private
                  and the public label
   owner r        owner K, or free
@@ -125,12 +124,12 @@ Exit statuses:
 /// The requests of a lock service with their replies, their refusals, and the exit statuses. No line has more than 80 bytes.
 pub const LOCKS_AFTER: &str = "\
 Requests are read from standard input, one a line, as long as there are any.
-Each has one reply on standard output; behind it stands a line for each wait
-that it ended.
+Each has one reply on standard output, and then a line for each wait that it
+ended.
 
 Requests and their replies:
   begin          begun K: a new transaction
-  lock K NAME    granted; held, where K owns it; waits H, where H owns it; or
+  lock K NAME    granted; held, if K owns it; waits H, if H owns it; or
                  deadlock H: the same, and K closed a cycle of waits
   try K NAME     granted, held, or busy H: it never waits
   unlock K NAME  unlocked: the longest waiter owns the name now
@@ -138,10 +137,10 @@ Requests and their replies:
   abort K        aborted: the same; or later: as soon as its wait ends
   cancel K       cancelled: K waits no longer; or carried: not now
   owner NAME     owner K, or free
-  status K       active, waiting NAME H or deadlock NAME H; 'aborting' behind
-                 it where the abort of K is due
+  status K       active, waiting NAME H or deadlock NAME H; 'aborting' after
+                 it if the abort of K is due
   holds K        holds NAME ..: the names that K owns
-  graph          graph N, and N lines '* K NAME H': who waits, and for whom
+  graph          graph N, and N lines '* K NAME H': the waits
   totals         totals BEGUN COMMITTED ABORTED DEADLOCKS
 
 Waits that a request ended:
@@ -180,7 +179,7 @@ counts, which are 'refused operator' to others. Further requests:
                   connection or -, and its status
   counts          counts BEGUN COMMITTED ABORTED DEADLOCKS WAITS WITHDRAWN
                   EVENTS LABELS-LEFT COUNTS-LEFT
-The operator is told '* deadlock K NAME K NAME ..' of each cycle that is closed.
+The operator gets '* deadlock K NAME K NAME ..' for each cycle that is closed.
 
 A refused request changes nothing and has the reply 'refused' with a word:
   no-transaction     no live transaction has this key

@@ -8,7 +8,7 @@ use Rattle.mm_tagged_lists.specs.TaggedLists.{Listing, spot_at, given, freed}
 abbrev pub connection_in : Option Spot → ℕ → Option ℕ
 connection_in spot generation = option_and_then (λ (o : Spot). if nat_eq o.tag generation then Some o.list else None) spot
 
--- the connection that began the transaction, where it has not hung up since
+-- the connection that began the transaction, if it has not hung up since
 abbrev pub connection_of : Listing → Key → Option ℕ
 connection_of begun k = connection_in (spot_at begun k.process) k.generation
 

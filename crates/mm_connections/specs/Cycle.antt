@@ -20,7 +20,7 @@ abbrev pub pairs_by : (Key → List ℕ) → LockState → Key → Key → Optio
 pairs_by rest m first k None = []
 pairs_by rest m first k (Some w) = pair_text m k w.number ++ (if key_eq w.holder first then [] else rest w.holder)
 
--- so many at most from k on, each the one for which the last one waits, until one waits for `first`
+-- this many at most from k on, each the one for which the last one waits, until one waits for `first`
 abbrev pub pairs_text : ℕ → LockState → Key → Key → List ℕ
 pairs_text zero m first k = codes " .."
 pairs_text (suc left) m first k = pairs_by (pairs_text left m first) m first k (wait_at m.table k.process)

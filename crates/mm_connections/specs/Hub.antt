@@ -1,4 +1,4 @@
--- What a contract sees of a service with connections, and to whom a line goes.
+-- What a contract sees of a service with connections, and to which connection a line goes.
 use Rattle.std.specs.Prelude.{ℕ, List, [], ◌++◌, Option, Some, None, codes, decimal}
 use Rattle.mm_tagged_lists.specs.TaggedLists.{Listing, ListsMatchSpots}
 use Rattle.mm_manager.specs.LockState.{LockState, IsLawful}

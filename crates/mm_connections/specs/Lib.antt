@@ -16,7 +16,7 @@ pub mod Status
 pub mod Names
 -- a cycle of waits
 pub mod Cycle
--- what a contract sees, and to whom a line goes
+-- what a contract sees, and to which connection a line goes
 pub mod Hub
 -- what is read
 pub mod Reads

@@ -1,10 +1,9 @@
 -- What is read of a service with connections.
-use Rattle.std.specs.Prelude.{◌≡◌, ◌⊎◌, ◌↔◌, ℕ, Bool, true, false, ◌||◌, List, [], ◌∷◌, ◌++◌, length, Option, Some, None, unwrap_or, Result, codes, decimal, nat_eq, nat_le, nat_lt, if◌then◌else◌}
+use Rattle.std.specs.Prelude.{◌≡◌, ◌⊎◌, ◌↔◌, ℕ, Bool, true, false, ◌||◌, List, [], ◌∷◌, ◌++◌, length, Option, Some, None, unwrap_or, codes, decimal, nat_eq, nat_le, nat_lt, if◌then◌else◌}
 use Rattle.std.specs.Option.{option_map_or}
 use Rattle.mm_arena.specs.declared.key.Key.{Key}
 use Rattle.mm_arena.specs.Key.{key_text}
 use Rattle.mm_arena.specs.Shelf.{key_eq}
-use Rattle.mm_tagged_lists.specs.TaggedLists.{Listing}
 use Rattle.mm_rules.specs.TableState.{is_live}
 use Rattle.mm_manager.specs.LockState.{LockState, Owns}
 use Rattle.mm_manager.specs.Permit.{counts_left, labels_left}

@@ -2,7 +2,7 @@
 use Rattle.std.specs.Prelude.{◌≡◌, ℕ, Bool, true, false, List, [], ◌∷◌, ◌++◌, drop, Option, Some, None, Result, Ok, Err, codes, decimal, nat_eq, nat_le, if◌then◌else◌, slice_set}
 use Rattle.mm_arena.specs.declared.key.Key.{Key}
 use Rattle.mm_tagged_lists.specs.declared.spot.Spot.{Spot}
-use Rattle.mm_tagged_lists.specs.TaggedLists.{Listing, spot_at, list_at, freed}
+use Rattle.mm_tagged_lists.specs.TaggedLists.{spot_at, list_at, freed}
 use Rattle.mm_lines.specs.Words.{words_of}
 use Rattle.mm_settled.specs.declared.reply.Grant.{Grant}
 use Rattle.mm_manager.specs.LockState.{LockState, IsLawful}
@@ -35,7 +35,7 @@ use Rattle.mm_connections.specs.declared.request.ClientRequest.TheVariants as as
 
 -- ---- what a request caused
 
--- whoever is to be told of a transaction of this connection; nobody if that is the one which hangs up
+-- the connection to which a line about a transaction of this connection goes; none if it is the one that hangs up
 abbrev pub receiver : Option ℕ → Option ℕ → Option ℕ
 receiver None owner = owner
 receiver (Some c) None = None
@@ -122,7 +122,7 @@ RepliesTo c (asked.LockAll k) line old reply effect new = AsksAll k (drop 2 (wor
 RepliesTo c (asked.Plain request) name old reply effect new = Asks request name old reply effect new
 RepliesTo c (asked.Read request) name old reply effect new = ReadReply c request name old reply × (effect ≡ effects.Nothing) × (new ≡ old)
 
--- a request is made: its reply goes to the connection, and then what it caused to those whom it concerns
+-- a request is made: its reply goes to the connection, and then what it caused to the connections that it concerns
 pub record Makes (c : ℕ) (request : ClientRequest) (name : List ℕ) (old : Hub) (out : List ℕ) (new : Hub) : Type 0 where
   pub reply : List ℕ
   pub effect : Effect

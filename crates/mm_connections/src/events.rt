@@ -11,7 +11,7 @@ ghost use Rattle.mm_connections.specs.Text.{deadlock_text, effect_for, events_te
 use crate::cycle::write_cycle;
 use crate::permission::OPERATOR;
 use crate::served::{MAX_ANSWER, ServedManager, print_to};
-use mm_lines::{Fault, OUTPUT_LEN, Output, make_room};
+use mm_lines::{Fault, OUTPUT_LEN, Output, make_room, print_text};
 use mm_manager::{Grant, Key};
 use mm_service::Effect;
 use mm_service::reply::{MAX_NAMED, name_at, print_aborted, print_granted};
@@ -109,7 +109,8 @@ impl ServedManager {
     {
         make_room(output, MAX_ANSWER, writer)?;
         print_to(output, OPERATOR);
-        write_cycle(&self.manager, b"* deadlock", key, output, writer)
+        print_text(output, b"* deadlock");
+        write_cycle(&self.manager, key, output, writer)
     }
 }
 

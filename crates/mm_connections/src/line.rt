@@ -56,7 +56,7 @@ fn said_line(connections: u32, line: &[u8]) -> NamedSaid<'_>
     }
 }
 
-/// What is said by the bytes before the first space and those after it.
+/// Returns what is said by the bytes before the first space and those after it.
 fn said_of_parts<'a>(connections: u32, head: &[u8], rest: &'a [u8]) -> NamedSaid<'a>
     ensures said { result.said ≡ (said_of_parts connections head.now rest.entry.now).said }
     ensures name { result.name.now ≡ (said_of_parts connections head.now rest.entry.now).name }
@@ -70,7 +70,7 @@ fn said_of_parts<'a>(connections: u32, head: &[u8], rest: &'a [u8]) -> NamedSaid
     }
 }
 
-/// What is said by a line that says who has hung up.
+/// Returns what is said by a line that says who has hung up.
 fn hung_up(connection: Option<u32>) -> Said
     ensures { result ≡ (hung_up_by connection).said }
 {
@@ -80,7 +80,7 @@ fn hung_up(connection: Option<u32>) -> Said
     }
 }
 
-/// What a connection asks for.
+/// Returns what a connection asks for.
 fn asked(connection: u32, rest: &[u8]) -> NamedSaid<'_>
     ensures said { result.said ≡ (asked_by (Some connection) rest.now).said }
     ensures name { result.name.now ≡ (asked_by (Some connection) rest.now).name }
@@ -122,7 +122,7 @@ fn asks_further(connection: u32, asked: Option<ClientAsked<'_>>) -> NamedSaid<'_
     }
 }
 
-/// The number of a connection that these bytes spell, without zeros in front.
+/// Returns the number of a connection that these bytes spell, without zeros in front.
 fn number_in(connections: u32, word: &[u8]) -> Option<u32>
     ensures { result ≡ number_in connections word.now }
 {
@@ -135,7 +135,7 @@ fn number_in(connections: u32, word: &[u8]) -> Option<u32>
     }
 }
 
-/// Whether no zero stands in front.
+/// Returns whether no zero stands in front.
 fn is_plain(word: &[u8]) -> bool
     ensures { result ≡ is_plain word.now }
 {

@@ -13,7 +13,7 @@ use crate::begun::Begun;
 use crate::counts::Counts;
 use crate::events::effect_for;
 use crate::names::{lock_names, print_begun_with, print_stop, stop_effect};
-use crate::request::ClientRequest;
+use crate::request::{ClientRequest, Heard};
 use crate::served::ServedManager;
 use mm_lines::{Fault, OUTPUT_LEN, Output, Words};
 use mm_manager::{Key, LockManager, Refusal, Status};
@@ -24,32 +24,30 @@ use std::io::Write;
 impl ServedManager {
     ghost use Rattle.mm_connections.specs.private.Served.{hub_of};
 
-    /// Makes a request of a connection, and tells those whom it concerns what it caused.
+    /// Makes a request of a connection, and writes what it caused to the connections that it concerns.
     pub(crate) fn make<W: Write>(
         &mut self,
-        connection: u32,
-        request: ClientRequest,
-        name: &[u8],
+        heard: Heard<'_, ClientRequest>,
         output: &mut Output,
         writer: &mut W,
     ) -> Result<(), Fault>
         requires room { array_vec_len output.old + MAX_NAMED ≤ OUTPUT_LEN }
-        requires connection { connection < length self.old.begun.lists }
+        requires connection { heard.connection < length self.old.begun.lists }
         requires slots { self.old.manager.table.config.processes ≤ length self.old.begun.spots }
-        requires short { IsShort request name.now }
-        ensures makes { (reply : List ℕ) × (effect : Effect) × (lost : List ℕ) × RepliesTo connection request name.now (hub_of self.old) reply effect (hub_of self.new) × IsLawfulHub (hub_of self.new)
-            × Writes (W.contents writer.old) (W.contents writer.new) (output.old.items ++ (reply ++ events_text (hub_of self.new) (effect_for connection effect))) lost × OnOk result (lost ≡ output.new.items) }
+        requires short { IsShort heard.request heard.name.now }
+        ensures makes { (reply : List ℕ) × (effect : Effect) × (lost : List ℕ) × RepliesTo heard.entry.connection heard.entry.request heard.entry.name.now (hub_of self.old) reply effect (hub_of self.new) × IsLawfulHub (hub_of self.new)
+            × Writes (W.contents writer.old) (W.contents writer.new) (output.old.items ++ (reply ++ events_text (hub_of self.new) (effect_for heard.entry.connection effect))) lost × OnOk result (lost ≡ output.new.items) }
         ensures fault { IsOkUnless result Fault.Write }
         ensures lists { length self.new.begun.lists ≡ length self.old.begun.lists }
         ensures spots { length self.new.begun.spots ≡ length self.old.begun.spots }
         ensures config { self.new.manager.table.config ≡ self.old.manager.table.config }
         ensures options { self.new.options ≡ self.old.options }
     {
-        let outcome = self.reply(connection, request, name, output, writer);
+        let outcome = self.reply(heard, output, writer);
         self.manager.keeps_laws();
         self.begun.keeps_laws();
         match outcome {
-            Ok(effect) => self.write_events(effect_for(connection, effect), output, writer),
+            Ok(effect) => self.write_events(effect_for(heard.connection, effect), output, writer),
             Err(fault) => Err(fault),
         }
     }
@@ -57,17 +55,15 @@ impl ServedManager {
     /// Makes a request of a connection, and writes its reply. Returns what else it came to: nothing, if its reply could not be written.
     fn reply<W: Write>(
         &mut self,
-        connection: u32,
-        request: ClientRequest,
-        name: &[u8],
+        heard: Heard<'_, ClientRequest>,
         output: &mut Output,
         writer: &mut W,
     ) -> Result<Effect, Fault>
         requires room { array_vec_len output.old + MAX_NAMED ≤ OUTPUT_LEN }
-        requires connection { connection < length self.old.begun.lists }
+        requires connection { heard.connection < length self.old.begun.lists }
         requires slots { self.old.manager.table.config.processes ≤ length self.old.begun.spots }
-        requires short { IsShort request name.now }
-        ensures replies { (reply : List ℕ) × (effect : Effect) × (lost : List ℕ) × RepliesTo connection request name.now (hub_of self.old) reply effect (hub_of self.new)
+        requires short { IsShort heard.request heard.name.now }
+        ensures replies { (reply : List ℕ) × (effect : Effect) × (lost : List ℕ) × RepliesTo heard.entry.connection heard.entry.request heard.entry.name.now (hub_of self.old) reply effect (hub_of self.new)
             × Writes (W.contents writer.old) (W.contents writer.new) (output.old.items ++ reply) lost × MatchResult result (λ it. (it ≡ effect) × (lost ≡ output.new.items)) (λ _. effect ≡ Effect.Nothing) }
         ensures fault { IsOkUnless result Fault.Write }
         ensures lists { length self.new.begun.lists ≡ length self.old.begun.lists }
@@ -75,12 +71,13 @@ impl ServedManager {
         ensures config { self.new.manager.table.config ≡ self.old.manager.table.config }
         ensures options { self.new.options ≡ self.old.options }
     {
-        match request {
-            ClientRequest::Begin => Ok(self.begin(connection, name, output)),
+        let name = heard.name;
+        match heard.request {
+            ClientRequest::Begin => Ok(self.begin(heard.connection, name, output)),
             ClientRequest::LockAll(key) => Ok(self.lock_all(key, name, output)),
             ClientRequest::Plain(request) => self.ask(Asked { request, name }, output, writer),
             ClientRequest::Read(request) => {
-                let outcome = self.read(connection, request, name, output, writer);
+                let outcome = self.read(heard.reading(request), output, writer);
                 outcome.and(Ok(Effect::Nothing))
             }
         }

@@ -34,7 +34,7 @@ pub fn permission_of(begun: &Begun, connection: u32, request: ClientRequest) -> 
     }
 }
 
-/// What becomes of a request that the lock service without connections has too.
+/// Returns what becomes of a request that the lock service without connections has too.
 fn plain_permission(begun: &Begun, connection: u32, request: Request) -> Permission
     ensures { result ≡ plain_permission begun.now connection request }
 {
@@ -47,7 +47,7 @@ fn plain_permission(begun: &Begun, connection: u32, request: Request) -> Permiss
     }
 }
 
-/// What becomes of a read.
+/// Returns what becomes of a read.
 fn read_permission(begun: &Begun, connection: u32, request: ReadRequest) -> Permission
     ensures { result ≡ read_permission begun.now connection request }
 {
@@ -65,7 +65,7 @@ fn read_permission(begun: &Begun, connection: u32, request: ReadRequest) -> Perm
     }
 }
 
-/// What becomes of a request of a transaction that has to be the connection's own.
+/// Returns what becomes of a request of a transaction that has to be the connection's own.
 fn of_own(begun: &Begun, connection: u32, key: Key) -> Permission
     ensures { result ≡ of_own begun.now connection key }
 {
@@ -75,7 +75,7 @@ fn of_own(begun: &Begun, connection: u32, key: Key) -> Permission
     }
 }
 
-/// What becomes of a request that the operator makes of any transaction.
+/// Returns what becomes of a request that the operator makes of any transaction.
 fn of_any(request: KeyRequest) -> Permission
     ensures { result ≡ of_any request }
 {

@@ -6,12 +6,12 @@ ghost use Rattle.mm_manager.specs.Reads.{live_of, waits_of};
 ghost use Rattle.mm_service.specs.Reply.{line_text};
 ghost use Rattle.mm_connections.specs.Cycle.{cycle_reply};
 ghost use Rattle.mm_connections.specs.Hub.{to};
-ghost use Rattle.mm_connections.specs.Reads.{FenceText, HeldText, ReadReply, connection_text, counts_text, edge_lines, fence_by, graph_text, hello_text, list_text, live_line, live_lines};
+ghost use Rattle.mm_connections.specs.Reads.{FenceText, ReadReply, connection_text, counts_text, edge_lines, fence_by, graph_text, held_text, hello_text, list_text, live_line, live_lines};
 ghost use Rattle.mm_connections.specs.Status.{status_of};
 
 use crate::cycle::write_cycle;
 use crate::permission::OPERATOR;
-use crate::request::ReadRequest;
+use crate::request::{Heard, ReadRequest};
 use crate::served::{MAX_ANSWER, ServedManager, print_to};
 use mm_lines::{Fault, OUTPUT_LEN, Output, make_room, print_key, print_number, print_text};
 use mm_manager::{Key, LockManager, Status};
@@ -24,7 +24,7 @@ use std::io::Write;
 /// How many names of a transaction are told to others than the operator.
 const MAX_HELD: usize = 1_024;
 
-/// A line of a list has at most so many bytes.
+/// A line of a list has at most this many bytes.
 const MAX_LIVE: usize = MAX_NAMED + 100;
 
 impl ServedManager {
@@ -33,25 +33,29 @@ impl ServedManager {
     /// Reads something for a connection.
     pub(crate) fn read<W: Write>(
         &mut self,
-        connection: u32,
-        request: ReadRequest,
-        name: &[u8],
+        heard: Heard<'_, ReadRequest>,
         output: &mut Output,
         writer: &mut W,
     ) -> Result<(), Fault>
         requires { array_vec_len output.old + MAX_NAMED ≤ OUTPUT_LEN }
-        ensures read { (text : List ℕ) × (lost : List ℕ) × ReadReply connection request name.now (hub_of self.old) text
+        ensures read { (text : List ℕ) × (lost : List ℕ) × ReadReply heard.entry.connection heard.entry.request heard.entry.name.now (hub_of self.old) text
             × Writes (W.contents writer.old) (W.contents writer.new) (output.old.items ++ text) lost × OnOk result (lost ≡ output.new.items) }
         ensures fault { IsOkUnless result Fault.Write }
         ensures hub { hub_of self.new ≡ hub_of self.old }
     {
-        match request {
+        let connection = heard.connection;
+        match heard.request {
+            ReadRequest::Holds(key) if self.manager.status(key).is_err() => {
+                print_line(output, b"refused no-transaction");
+                Ok(())
+            }
             ReadRequest::Holds(key) => {
-                self.write_held(connection == OPERATOR, key, output, writer)
+                list_held(&self.manager, &mut self.numbers, key);
+                self.write_held(connection == OPERATOR, output, writer)
             }
             ReadRequest::Cycle(key) => self.write_cycle_reply(key, output, writer),
             ReadRequest::Fence(key) => {
-                self.print_fence(key, name, output);
+                self.print_fence(key, heard.name, output);
                 Ok(())
             }
             ReadRequest::Hello => {
@@ -67,25 +71,18 @@ impl ServedManager {
         }
     }
 
-    /// Writes the names that a transaction owns, in the order of their bytes, if they are not too many.
+    /// Writes the names that were listed, if they are not too many.
     fn write_held<W: Write>(
-        &mut self,
+        &self,
         is_operator: bool,
-        key: Key,
         output: &mut Output,
         writer: &mut W,
     ) -> Result<(), Fault>
         requires { array_vec_len output.old + MAX_REPLY ≤ OUTPUT_LEN }
-        ensures written { (text : List ℕ) × (lost : List ℕ) × HeldText is_operator self.old.manager key text
-            × Writes (W.contents writer.old) (W.contents writer.new) (output.old.items ++ text) lost × OnOk result (lost ≡ output.new.items) }
+        ensures written { (lost : List ℕ) × Writes (W.contents writer.old) (W.contents writer.new) (output.old.items ++ line_text (held_text is_operator self.now.manager self.now.numbers.items.items)) lost
+            × OnOk result (lost ≡ output.new.items) }
         ensures fault { IsOkUnless result Fault.Write }
-        ensures hub { hub_of self.new ≡ hub_of self.old }
     {
-        if self.manager.status(key).is_err() {
-            print_line(output, b"refused no-transaction");
-            return Ok(());
-        }
-        list_held(&self.manager, &mut self.numbers, key);
         if is_operator || self.numbers.count() <= MAX_HELD {
             write_list(&self.manager, &self.numbers, output, writer)
         } else {
@@ -108,7 +105,8 @@ impl ServedManager {
     {
         match self.manager.status(key) {
             Ok(Status::Deadlock { .. }) => {
-                write_cycle(&self.manager, b"cycle", key, output, writer)
+                print_text(output, b"cycle");
+                write_cycle(&self.manager, key, output, writer)
             }
             Ok(Status::Active) => {
                 print_line(output, b"refused not-deadlocked");

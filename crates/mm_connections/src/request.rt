@@ -38,6 +38,27 @@ pub enum ReadRequest {
     Counts,
 }
 
+/// A request of a connection, and the bytes that it is about. `R` is a `ClientRequest` or a `ReadRequest`.
+#[derive(Clone, Copy)]
+pub struct Heard<'a, R> {
+    pub connection: u32,
+    pub request: R,
+    pub name: &'a [u8],
+}
+
+impl<'a> Heard<'a, ClientRequest> {
+    /// Returns the same of what is read.
+    pub fn reading(self, request: ReadRequest) -> Heard<'a, ReadRequest>
+        ensures { result ≡ record { connection = self.entry.connection; request = request; name = self.entry.name } }
+    {
+        Heard {
+            connection: self.connection,
+            request,
+            name: self.name,
+        }
+    }
+}
+
 /// What a connection asks for, and the bytes that it is about: one name, or the whole request if it is about several.
 #[derive(Clone, Copy)]
 pub struct ClientAsked<'a> {

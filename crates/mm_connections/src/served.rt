@@ -11,14 +11,14 @@ use crate::counts::Counts;
 use crate::line::{Said, said_of};
 use crate::options::ConnectionOptions;
 use crate::permission::{Permission, permission_of};
-use crate::request::ClientRequest;
+use crate::request::{ClientRequest, Heard};
 use mm_lines::{Fault, OUTPUT_LEN, Output, print_number, print_text};
 use mm_manager::LockManager;
 use mm_service::Numbers;
 use mm_service::reply::{MAX_NAMED, print_line};
 use std::io::Write;
 
-/// A line to a connection has at most so many bytes, with its newline.
+/// A line to a connection has at most this many bytes, with its newline.
 pub const MAX_ANSWER: usize = MAX_NAMED + 21;
 
 /// A lock manager, with the connections that began its transactions.
@@ -66,7 +66,12 @@ impl ServedManager {
                 outcome.and(Ok(false))
             }
             Said::Asks(connection, request) => {
-                let outcome = self.serve(connection, request, named.name, output, writer);
+                let heard = Heard {
+                    connection,
+                    request,
+                    name: named.name,
+                };
+                let outcome = self.serve(heard, output, writer);
                 outcome.and(Ok(false))
             }
         }
@@ -75,17 +80,15 @@ impl ServedManager {
     /// Makes a request of a connection, if it may ask for that.
     fn serve<W: Write>(
         &mut self,
-        connection: u32,
-        request: ClientRequest,
-        name: &[u8],
+        heard: Heard<'_, ClientRequest>,
         output: &mut Output,
         writer: &mut W,
     ) -> Result<(), Fault>
         requires room { array_vec_len output.old + MAX_ANSWER ≤ OUTPUT_LEN }
-        requires connection { connection < length self.old.begun.lists }
+        requires connection { heard.connection < length self.old.begun.lists }
         requires slots { self.old.manager.table.config.processes ≤ length self.old.begun.spots }
-        requires short { IsShort request name.now }
-        ensures serves { (text : List ℕ) × (lost : List ℕ) × IsLawfulHub (hub_of self.old) × Serves connection request name.now (hub_of self.old) text (hub_of self.new)
+        requires short { IsShort heard.request heard.name.now }
+        ensures serves { (text : List ℕ) × (lost : List ℕ) × IsLawfulHub (hub_of self.old) × Serves heard.entry.connection heard.entry.request heard.entry.name.now (hub_of self.old) text (hub_of self.new)
             × Writes (W.contents writer.old) (W.contents writer.new) (output.old.items ++ text) lost × OnOk result (lost ≡ output.new.items) }
         ensures fault { IsOkUnless result Fault.Write }
         ensures lists { length self.new.begun.lists ≡ length self.old.begun.lists }
@@ -95,9 +98,9 @@ impl ServedManager {
     {
         self.manager.keeps_laws();
         self.begun.keeps_laws();
-        print_to(output, connection);
-        match permission_of(&self.begun, connection, request) {
-            Permission::Make => self.make(connection, request, name, output, writer),
+        print_to(output, heard.connection);
+        match permission_of(&self.begun, heard.connection, heard.request) {
+            Permission::Make => self.make(heard, output, writer),
             Permission::NoTransaction => {
                 print_line(output, b"refused no-transaction");
                 Ok(())

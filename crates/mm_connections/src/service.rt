@@ -36,7 +36,7 @@ impl Model for ConnectionService {
 }
 
 impl ConnectionService {
-    /// A service of this configuration for the connections below `options.connections`: no transaction is live, and nobody owns a name.
+    /// Returns a service of this configuration for the connections below `options.connections`: no transaction is live, and nobody owns a name.
     /// Connection 0 is the operator's.
     ///
     /// Refused as `LockManager::open` is. This is the one call that takes memory: that of the manager, 256 KiB, 16 bytes for each transaction

@@ -19,11 +19,11 @@ pub record Shares : Type 0 where
 abbrev pub all_parts : ℕ
 all_parts = 1048576
 
--- so many parts, which have counted nothing yet; these labels were seen, and none was loaded
+-- this many parts, which have counted nothing yet; these labels were seen, and none was loaded
 abbrev pub empty_shares : ℕ → List Label → Shares
 empty_shares parts labels = record { parts = parts; accepted = 0; verdicts = 0; aborts = 0; seen = new_seen labels }
 
--- the pass after it gave so many parts away: what it has counted and seen stays with it
+-- the pass after it gave this many parts away: what it has counted and seen stays with it
 abbrev pub less_parts : Shares → ℕ → Shares
 less_parts s parts = record s { parts = s.parts - parts }
 

@@ -5,7 +5,7 @@ use Rattle.mm_lines.specs.declared.fault.Fault.{Fault}
 use Rattle.mm_detect.specs.declared.ending.Ending.{Ending}
 use Rattle.mm_detect.specs.declared.ending.Ending.TheVariants.{Ran, Helped, Wrong, Worked, Refused}
 
--- after a script of which so many lines are malformed, or which met a fault
+-- after a script of which this many lines are malformed, or which met a fault
 abbrev pub status_of : Result ℕ Fault → ℕ
 status_of (Ok zero) = 0
 status_of (Ok (suc others)) = 1

@@ -9,7 +9,7 @@ use std::io::{Eprint, Write};
 /// How a run of the program ended.
 #[derive(Clone, Copy)]
 pub enum Ending {
-    /// A script was run: so many lines were malformed, or a fault came.
+    /// A script was run: this many lines were malformed, or a fault came.
     Ran(Result<u64, ScriptFault>),
     /// Help was asked for; its text was printed, or a fault came.
     Helped(Result<(), ScriptFault>),
@@ -21,7 +21,7 @@ pub enum Ending {
     Refused(Result<(), ScriptFault>),
 }
 
-/// The status that the program exits with.
+/// Returns the status that the program exits with.
 pub fn status(ending: &Ending) -> u8
     ensures { result ≡ ending_status ending.now }
 {
@@ -37,7 +37,7 @@ pub fn status(ending: &Ending) -> u8
     }
 }
 
-/// The status after a script: 0 where no line was malformed, 1 where some was, and 3 after a fault.
+/// Returns the status after a script: 0 if no line was malformed, 1 if some was, and 3 after a fault.
 pub fn script_status(outcome: &Result<u64, ScriptFault>) -> u8
     ensures { result ≡ status_of outcome.now }
 {
@@ -48,7 +48,7 @@ pub fn script_status(outcome: &Result<u64, ScriptFault>) -> u8
     }
 }
 
-/// The fault that is printed on standard error, if any.
+/// Returns the fault that is printed on standard error, if any.
 pub fn fault(ending: &Ending) -> Option<ScriptFault>
     ensures { result ≡ fault_told ending.now }
 {
@@ -76,6 +76,6 @@ pub fn print_text(output: &mut impl Write, text: &impl Display) -> Result<(), Sc
 
 /// Tells on standard error why the words are no command line.
 pub fn tell_wrong<R: Eprint, T: Display>(rt: &R, text: &T) {
-    // Where standard error cannot be written either, the status alone reports it.
+    // If standard error cannot be written either, the status alone reports it.
     let _ = eprint!(rt; "{text}");
 }

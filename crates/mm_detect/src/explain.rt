@@ -10,7 +10,7 @@ use std::fs::File;
 use std::io::{Eprint, IsTerminal, Read, Write};
 use std::rt::Files;
 
-/// Explains the script of the file, or that of the reader where no file is named. Text has colors on a terminal, unless NO_COLOR is set.
+/// Explains the script of the file, or that of the reader if no file is named. Text has colors on a terminal, unless NO_COLOR is set.
 #[inline(never)]
 pub fn run_explain<R: Env + Eprint + Files + AllocGlobal, I: Read, W: Write + IsTerminal>(
     rt: &R,
@@ -33,7 +33,7 @@ pub fn run_explain<R: Env + Eprint + Files + AllocGlobal, I: Read, W: Write + Is
     }
 }
 
-/// Whether the environment does not ask for text without colors.
+/// Returns whether the environment does not ask for text without colors.
 fn may_have_colors(rt: &impl Env) -> bool {
     match rt.var("NO_COLOR", &mut [0; 1]) {
         Ok(len) => len == 0,
@@ -42,7 +42,7 @@ fn may_have_colors(rt: &impl Env) -> bool {
     }
 }
 
-/// Explains the script of the file. Where it cannot be read, that is told.
+/// Explains the script of the file. If it cannot be read, that is told.
 fn explain_file<R: Eprint + Files + AllocGlobal, W: Write>(
     rt: &R,
     file: &str,
@@ -58,14 +58,14 @@ fn explain_file<R: Eprint + Files + AllocGlobal, W: Write>(
             output,
         ),
         Err(error) => {
-            // Where standard error cannot be written either, the status alone reports it.
+            // If standard error cannot be written either, the status alone reports it.
             let _ = eprintln!(rt; "{file}: {error}");
             Ending::Ran(Err(ScriptFault::Read))
         }
     }
 }
 
-/// How the program ends after this, with what is to be told of it.
+/// Returns how the program ends after this, with what is to be told of it.
 fn ending_of<R: Eprint, W: Write>(
     rt: &R,
     outcome: Result<u64, ExplainFault>,

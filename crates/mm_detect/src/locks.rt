@@ -23,7 +23,7 @@ pub fn run_locks<R: Eprint + RandomSource + AllocGlobal, I: Read, W: Write>(
     ensures { EndsService result }
 {
     let Ok(seed) = seed_of(rt, options.seed) else {
-        // Where standard error cannot be written either, the status alone reports it.
+        // If standard error cannot be written either, the status alone reports it.
         let _ = eprintln!(rt; "no random seed; give one by --seed");
         return Ending::Wrong;
     };
@@ -57,7 +57,7 @@ pub fn run_locks<R: Eprint + RandomSource + AllocGlobal, I: Read, W: Write>(
     }
 }
 
-/// The seed that is given, or else random bytes of the system.
+/// Returns the seed that is given, or else random bytes of the system.
 fn seed_of(rt: &impl RandomSource, given: Option<u64>) -> io::Result<u64> {
     if let Some(seed) = given {
         return Ok(seed);

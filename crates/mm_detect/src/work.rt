@@ -127,14 +127,14 @@ pub fn answer_storm<R: Runtime + AllocGlobal + Threads + Wait + Sync, W: Write>(
     }
 }
 
-/// The status of a run; that of a write fault if it has none.
+/// Returns the status of a run; that of a write fault if it has none.
 fn status_after(outcome: Result<u8, ScriptFault>) -> u8
     ensures { MatchResult outcome (λ status. result ≡ status) (λ fault. result ≡ WRITE_FAULT) }
 {
     outcome.unwrap_or(WRITE_FAULT)
 }
 
-/// The status of a run whose lines were written; a fault if they were not.
+/// Returns the status of a run whose lines were written; a fault if they were not.
 fn unless_write_fault(status: u8) -> Result<u8, ScriptFault>
     ensures ok { IfOk result (λ same. same ≡ status) }
     ensures fault { IfErr result (λ fault. (fault ≡ ScriptFault.Write) × (status ≡ WRITE_FAULT)) }

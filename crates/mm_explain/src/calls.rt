@@ -7,7 +7,7 @@ use mm_script::{Call, Reply};
 use mm_table::{Acquired, Detected, Key, Label, Mode, Refusal, Settled, State, Table, Transmitted};
 
 impl Explanation {
-    /// Adds whose the resources are that a call handed over.
+    /// Adds the new owner of each resource that the call handed over.
     pub fn explain_hand_over(&mut self, table: &Table, call: Call) {
         match call {
             Call::Release { resource, .. } => explain_owner(&mut self.sheet, table, resource),
@@ -87,7 +87,7 @@ fn explain_owners(sheet: &mut Sheet, table: &Table, resources: &[u32]) {
     }
 }
 
-/// Adds why no label was transmitted, where none was.
+/// Adds why no label was transmitted, if none was.
 fn explain_transmit(sheet: &mut Sheet, table: &Table, key: Key, reply: &Reply) {
     if let Reply::Transmitted(Transmitted::Still) = reply {
         explain_still(sheet, table, key);
@@ -107,7 +107,7 @@ fn explain_still(sheet: &mut Sheet, table: &Table, key: Key) {
     }
 }
 
-/// Adds why no verdict was given, where none was.
+/// Adds why no verdict was given, if none was.
 fn explain_detect(sheet: &mut Sheet, table: &Table, key: Key, reply: &Reply) {
     match reply {
         Reply::Detected(Detected::Clear) => explain_clear(sheet, table, key),
@@ -136,7 +136,7 @@ fn explain_clear(sheet: &mut Sheet, table: &Table, key: Key) {
     }
 }
 
-/// What the table shows of a waiting transaction, its holder, and the public label of that.
+/// Returns what the table shows of a waiting transaction, its holder, and the public label of that.
 fn labels_of_wait(table: &Table, key: Key) -> Option<(State, Key, Label)> {
     let own = table.state(key).ok()?;
     let holder = edge_of(table, key.process)?.holder;
@@ -144,7 +144,7 @@ fn labels_of_wait(table: &Table, key: Key) -> Option<(State, Key, Label)> {
     Some((own, holder, shown.public))
 }
 
-/// Adds that a settle found nothing to do, where it found nothing.
+/// Adds that a settle found nothing to do, if it found nothing.
 fn explain_settle(sheet: &mut Sheet, reply: &Reply) {
     if let Reply::Settled(
         Settled {

@@ -1,4 +1,4 @@
-//! What a line changed: who waits for whom, which labels rose, and who was convicted.
+//! What a line changed: the waits, which labels rose, and who was convicted.
 
 use crate::explanation::Explanation;
 use crate::sheet::{Paint, Sheet, Value};
@@ -56,7 +56,7 @@ fn explain_begun(sheet: &mut Sheet, now: &Standing) {
     );
 }
 
-/// Adds for what the transaction waits now, where that is another wait than before.
+/// Adds for what the transaction waits now, if that is another wait than before.
 fn explain_wait(sheet: &mut Sheet, before: &Standing, now: &Standing) {
     if before.wait == now.wait {
         return;
@@ -99,7 +99,7 @@ fn explain_labels(sheet: &mut Sheet, before: &Standing, now: &Standing) {
     }
 }
 
-/// Adds from whom the transaction has its public label.
+/// Adds the holder from which the transaction has its public label.
 fn explain_raise(sheet: &mut Sheet, before: &Standing, now: &Standing) {
     sheet.begin(
         "{} raises its public label from {} to {}",

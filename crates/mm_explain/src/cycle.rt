@@ -35,7 +35,7 @@ fn explain_greatest(sheet: &mut Sheet, table: &Table, members: &[u32]) {
     }
 }
 
-/// The greatest private label of these processes, and whose it is.
+/// Returns the greatest private label of these processes, and whose it is.
 fn greatest_private(table: &Table, members: &[u32]) -> Option<(Key, Label)> {
     let mut greatest = None;
     for member in members {
@@ -44,14 +44,14 @@ fn greatest_private(table: &Table, members: &[u32]) -> Option<(Key, Label)> {
     greatest
 }
 
-/// The private label of this process, and the key of its transaction.
+/// Returns the private label of this process, and the key of its transaction.
 fn private_of(table: &Table, process: u32) -> Option<(Key, Label)> {
     let key = table.tenant(process)?;
     let state = table.state(key).ok()?;
     Some((key, state.private))
 }
 
-/// The one with the greater label.
+/// Returns the one with the greater label.
 fn greater(first: Option<(Key, Label)>, second: Option<(Key, Label)>) -> Option<(Key, Label)> {
     let (Some((_, one)), Some((_, other))) = (first, second) else {
         return first.or(second);

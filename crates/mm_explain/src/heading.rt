@@ -38,7 +38,7 @@ fn add_number(sheet: &mut Sheet, number: u64) {
     sheet.paint(Paint::Plain);
 }
 
-/// How many digits the number has, or 5 where it has more.
+/// Returns how many digits the number has, or 5 if it has more.
 fn digits_of(number: u64) -> usize
     ensures { result ≤ 5 }
 {
@@ -85,7 +85,7 @@ fn add_shown(sheet: &mut Sheet, shown: &[u8]) {
     }
 }
 
-/// Adds a reply beside the line, or below it where it does not fit there.
+/// Adds a reply beside the line, or below it if it does not fit there.
 fn add_reply(sheet: &mut Sheet, reply: &Reply) {
     let mut output = Output::new();
     print_reply(&mut output, reply);
@@ -105,7 +105,7 @@ fn add_reply(sheet: &mut Sheet, reply: &Reply) {
     sheet.paint(Paint::Plain);
 }
 
-/// How a reply is shown.
+/// Returns how a reply is shown.
 fn paint_of(reply: &Reply) -> Paint {
     match reply {
         Reply::Malformed | Reply::NoTable | Reply::TableStands | Reply::Refused(_) =>

@@ -70,7 +70,7 @@ impl Picture {
         self.draw_waits(sheet, alloc, table)
     }
 
-    /// Adds who waits for whom, and the resources that nobody waits for if all are wanted.
+    /// Adds the waits, and the resources that nobody waits for if all are wanted.
     fn draw_waits(self, sheet: &mut Sheet, alloc: Global, table: &Table) -> Result<(), AllocError> {
         let mut edges = Vec::with_capacity(alloc, table.config().processes as usize)?;
         edges_of(table, &mut edges);
@@ -128,7 +128,7 @@ fn draw_transaction(sheet: &mut Sheet, standing: &Standing, mark: Mark, format: 
     sheet.newline();
 }
 
-/// What is drawn of a transaction: its node, its key and its two labels.
+/// Returns what is drawn of a transaction: its node, its key and its two labels.
 fn text_of(mark: Mark, format: Format) -> &'static str {
     match (format, mark) {
         (Format::Mermaid, Mark::Plain) => "    {}[\"{}<br/>private {}<br/>public {}\"]",
@@ -148,7 +148,7 @@ fn text_of(mark: Mark, format: Format) -> &'static str {
     }
 }
 
-/// The name of a transaction's node.
+/// Returns the name of a transaction's node.
 fn node_of(key: Key, format: Format) -> Value {
     match format {
         Format::Mermaid => Value::Node(key),
@@ -184,7 +184,7 @@ fn draw_edge(sheet: &mut Sheet, edge: &Edge, format: Format) {
     sheet.newline();
 }
 
-/// Which resources somebody waits for, by their numbers.
+/// Returns which resources somebody waits for, by their numbers.
 fn waited_of(alloc: Global, table: &Table, edges: &[Edge]) -> Result<Vec<bool>, AllocError> {
     let mut waited = vec![in alloc; false; table.config().resources as usize]?;
     mark_waited(&mut waited, edges);

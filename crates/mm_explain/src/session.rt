@@ -51,7 +51,7 @@ impl Session {
         })
     }
 
-    /// Whether no more lines are wanted.
+    /// Returns whether no more lines are wanted.
     pub fn is_over(&self) -> bool {
         match self.options.at {
             Some(at) => self.lines >= at,
@@ -113,7 +113,7 @@ impl Session {
         }
     }
 
-    /// Whether the text of the last line is printed.
+    /// Returns whether the text of the last line is printed.
     fn is_wanted(&self) -> bool {
         !self.options.mermaid && !self.options.dot && (self.options.at.is_none() || self.is_over())
     }

@@ -31,7 +31,7 @@ pub enum Paint {
     Alarm,
 }
 
-/// Text that is not yet written. Where memory for it is refused, some of it is missing.
+/// Text that is not yet written. If memory for it is refused, some of it is missing.
 #[derive(Drop)]
 pub struct Sheet {
     pub bytes: Vec<u8>,
@@ -39,7 +39,7 @@ pub struct Sheet {
     pub is_short: bool,
     /// How many bytes of the last line are shown.
     pub column: usize,
-    /// How many columns a line has at most, where its parts are not longer.
+    /// How many columns a line has at most, if its parts are not longer.
     width: usize,
     /// Paint is shown.
     pub has_colors: bool,
@@ -130,7 +130,7 @@ impl Sheet {
         }
     }
 
-    /// Shows what follows so, where colours are shown.
+    /// Shows what follows so, if colours are shown.
     pub fn paint(&mut self, paint: Paint) {
         if self.has_colors {
             self.add_hidden(match paint {
@@ -194,7 +194,7 @@ impl Sheet {
         self.number(u64::from(key.generation));
     }
 
-    /// Begins the next line where so many columns do not fit on this one.
+    /// Begins the next line if this many columns do not fit on this one.
     fn make_room(&mut self, columns: usize) {
         if self.column.saturating_add(columns) > self.width {
             self.newline();
@@ -203,7 +203,7 @@ impl Sheet {
     }
 }
 
-/// How many columns of a line are kept for a value. A long number takes more.
+/// Returns how many columns of a line are kept for a value. A long number takes more.
 fn columns_of(value: &Value) -> usize {
     match value {
         Value::Number(_) | Value::Limit(_) => 5,

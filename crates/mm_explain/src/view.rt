@@ -16,13 +16,13 @@ pub struct Standing {
 }
 
 impl Standing {
-    /// Whether a verdict stands for the transaction.
+    /// Returns whether a verdict stands for the transaction.
     pub fn is_convicted(&self) -> bool {
         matches!(self.state.mode, Mode::Convicted(_))
     }
 }
 
-/// What a table shows of the transaction of this process, if it has one.
+/// Returns what a table shows of the transaction of this process, if it has one.
 pub fn standing_of(table: &Table, process: u32) -> Option<Standing> {
     let key = table.tenant(process)?;
     let state = table.state(key).ok()?;
@@ -45,7 +45,7 @@ pub struct View {
 }
 
 impl View {
-    /// A view before there is a table.
+    /// Returns a view before there is a table.
     pub fn of_no_table(alloc: Global) -> View {
         View {
             config: Config {
@@ -60,7 +60,7 @@ impl View {
         }
     }
 
-    /// Is a view of a table of this configuration from now on. It is a new one where it was of another.
+    /// Is a view of a table of this configuration from now on. It is a new one if it was of another.
     pub fn turn_to(&mut self, alloc: Global, config: Config) -> Result<(), AllocError> {
         if self.config != config {
             *self = View::open(alloc, config)?;
@@ -68,7 +68,7 @@ impl View {
         Ok(())
     }
 
-    /// A view of a table that was just opened.
+    /// Returns a view of a table that was just opened.
     fn open(alloc: Global, config: Config) -> Result<View, AllocError> {
         let owned = Vec::with_capacity(alloc, config.resources as usize)?;
         let members = Vec::with_capacity(alloc, config.processes as usize)?;
@@ -80,12 +80,12 @@ impl View {
         })
     }
 
-    /// How many processes have had a transaction.
+    /// Returns how many processes have had a transaction.
     pub fn used(&self) -> usize {
         self.standings.len()
     }
 
-    /// What the table showed of this process.
+    /// Returns what the table showed of this process.
     pub fn standing(&self, process: u32) -> Option<Standing> {
         *self.standings.get(process as usize)?
     }
@@ -109,7 +109,7 @@ impl View {
         }
     }
 
-    /// Whether the process is on a cycle of waits; where it is, `members` has that cycle. Not asked of a table of another configuration.
+    /// Returns whether the process is on a cycle of waits; if it is, `members` has that cycle. Not asked of a table of another configuration.
     pub fn has_cycle(&mut self, table: &Table, process: u32) -> bool
         ensures { self.old.config ≡ table.now.config → (IsTrue result ↔ IsOnCycle table.now process) }
     {

@@ -9,7 +9,7 @@ pub record IsEdge (s : TableState) (edge : Edge) : Type 0 where
   pub waits : Among (record { key = edge.waiter; resource = edge.resource }) s.waits
   pub held : owner_of s edge.resource ≡ Some edge.holder
 
--- the edge of process n, where it waits for r
+-- the edge of process n, if it waits for r
 abbrev pub edge_over : TableState → ℕ → ℕ → Option Edge
 edge_over s n r = option_map (λ h. record { waiter = key_of s n; resource = r; holder = h }) (owner_of s r)
 

@@ -6,7 +6,7 @@ ghost use Rattle.mm_rules.specs.Victims.{IsOnCycle};
 
 use mm_table::Table;
 
-/// Whether the transaction of this process is on a cycle of waits. Where it is, `members` has that cycle in place of what it held: the holder
+/// Returns whether the transaction of this process is on a cycle of waits. If it is, `members` has that cycle in place of what it held: the holder
 /// of the process, the holder of that one, and so on, up to the process itself, each once. `members` has room for each process, and no
 /// memory is taken.
 ///

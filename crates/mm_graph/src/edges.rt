@@ -13,7 +13,7 @@ pub struct Edge {
     pub holder: Key,
 }
 
-/// The wait of the transaction of this process. `None` where it has none.
+/// Returns the wait of the transaction of this process. `None` if it has none.
 ///
 /// Constant time.
 pub fn edge_of(table: &Table, process: u32) -> Option<Edge>

@@ -24,7 +24,7 @@ label_eq a b = nat_eq a.counter b.counter && nat_eq a.process b.process
 abbrev pub opening_label : ℕ → Label
 opening_label i = record { counter = 0; process = i }
 
--- the label that process n gets where its public label is own and it comes to wait for one that shows holder
+-- the label that process n gets if its public label is own and it comes to wait for one that shows holder
 abbrev pub fresh_label : Label → Label → ℕ → Label
 fresh_label own holder n = record { counter = max own.counter holder.counter + 1; process = n }
 

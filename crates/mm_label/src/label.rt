@@ -44,9 +44,9 @@ impl Model for Label {
 }
 
 impl Label {
-    /// The label of these two parts, in constant time.
+    /// Returns the label of these two parts, in constant time.
     ///
-    /// `None` exactly where the counter is `COUNTER_RANGE` or more, or the process `PROCESS_RANGE` or more.
+    /// `None` exactly if the counter is `COUNTER_RANGE` or more, or the process `PROCESS_RANGE` or more.
     pub fn new(counter: u64, process: u32) -> Option<Self>
         ensures label { SomeIff result ((counter < counter_range) × (process < process_range))
             (record { counter = counter; process = process }) }
@@ -60,7 +60,7 @@ impl Label {
         })
     }
 
-    /// The counter, in constant time.
+    /// Returns the counter, in constant time.
     pub fn counter(self) -> u64
         ensures value { result ≡ self.counter }
         ensures in_range { result < counter_range }
@@ -68,7 +68,7 @@ impl Label {
         self.word / u64::from(PROCESS_RANGE)
     }
 
-    /// The process, in constant time.
+    /// Returns the process, in constant time.
     pub fn process(self) -> u32
         ensures value { result ≡ self.process }
         ensures in_range { result < process_range }
@@ -76,7 +76,7 @@ impl Label {
         (self.word % u64::from(PROCESS_RANGE)) as u32
     }
 
-    /// The word that keeps this label, in constant time. `of_word` gives the label back.
+    /// Returns the word that keeps this label, in constant time. `of_word` gives the label back.
     pub fn word(self) -> u64
         ensures value { result ≡ word_of self }
         ensures given_back { label_of result ≡ self }
@@ -85,7 +85,7 @@ impl Label {
         self.word
     }
 
-    /// The label that this word keeps, in constant time. Each word keeps one, and `word` gives the word back.
+    /// Returns the label that this word keeps, in constant time. Each word keeps one, and `word` gives the word back.
     pub fn of_word(word: u64) -> Self
         ensures value { result ≡ label_of word }
         ensures given_back { word_of result ≡ word }
@@ -94,9 +94,9 @@ impl Label {
         Label { word }
     }
 
-    /// The label that this word keeps by the former packing, of 48 bits of counter and 16 of process, in constant time.
+    /// Returns the label that this word keeps by the former packing, of 48 bits of counter and 16 of process, in constant time.
     ///
-    /// `None` exactly where its counter is `COUNTER_RANGE` or more. A label is written as a word of today's packing alone.
+    /// `None` exactly if its counter is `COUNTER_RANGE` or more. A label is written as a word of today's packing alone.
     pub fn of_old_word(word: u64) -> Option<Self>
         ensures label { let label = label_of_old word
             in SomeIff result (label.counter < counter_range) label }
@@ -163,9 +163,9 @@ impl fmt::Display for Label {
     }
 }
 
-/// The label that `process` gets where its public label is `own` and it comes to wait for one that shows `holder`, in constant time.
+/// Returns the label that `process` gets if its public label is `own` and it comes to wait for one that shows `holder`, in constant time.
 ///
-/// Its counter is one above the greater of theirs. `None` exactly where that is above `limit`. `own` may carry another process's number.
+/// Its counter is one above the greater of theirs. `None` exactly if that is above `limit`. `own` may carry another process's number.
 pub fn fresh(own: Label, holder: Label, process: u32, limit: u64) -> Option<Label>
     requires limit_in_range { limit < counter_range }
     requires process_in_range { process < process_range }
@@ -179,7 +179,7 @@ pub fn fresh(own: Label, holder: Label, process: u32, limit: u64) -> Option<Labe
     Some(fresh_in_range(own, holder, process))
 }
 
-/// `fresh`, where the caller knows that the new counter is in range, and so without a test. Constant time.
+/// `fresh`, if the caller knows that the new counter is in range, and so without a test. Constant time.
 #[inline]
 pub fn fresh_in_range(own: Label, holder: Label, process: u32) -> Label
     requires process_in_range { process < process_range }

@@ -1,7 +1,7 @@
 //! The greatest numbers that more than one crate names. It has no code.
 #![tactic(auto)]
 
-/// How many processes a table can have: so many transactions at once.
+/// How many processes a table can have: this many transactions at once.
 pub const MAX_PROCESSES: u32 = 65_536;
 
 /// A count of a table that is this or more refuses each event.

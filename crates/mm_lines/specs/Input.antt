@@ -33,6 +33,6 @@ pub record Reads (before after : Option (List ℕ)) (old new : InputState) (some
   pub one_past : new.taken ≤ new.limits.input + 1
   pub end : MatchBool some (0 < length piece) ((piece ≡ []) × IsAtEnd after)
 
--- so many bytes at the front are removed
+-- this many bytes at the front are removed
 abbrev pub without_front : InputState → ℕ → InputState
 without_front input count = record input { held = drop count input.held }

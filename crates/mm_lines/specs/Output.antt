@@ -8,7 +8,7 @@ pub record Writes (before after : Option (List ℕ)) (bytes lost : List ℕ) : T
   pub appended : Appends before after written
   pub whole : bytes ≡ written ++ lost
 
--- the text, of at most so many bytes, is added at the end
+-- the text, of at most this many bytes, is added at the end
 pub record Prints (old text : List ℕ) (most : ℕ) (new : List ℕ) : Type 0 where
   pub added : new ≡ old ++ text
   pub short : length text ≤ most

@@ -1,4 +1,4 @@
--- What lines are answered, whoever answers a line.
+-- What lines are answered, for any answerer.
 use Rattle.std.specs.Prelude.{◌≡◌, ◌⊎◌, ℕ, ◌+◌, ◌≤◌, ◌<◌, Bool, true, false, List, [], ◌∷◌, ◌++◌, length, Result, Ok, Err}
 use Rattle.mm_lines.specs.declared.fault.Fault.{Fault}
 use Rattle.mm_lines.specs.declared.fault.Fault.TheVariants.{Read, Write, TooLong}
@@ -7,7 +7,7 @@ use Rattle.mm_lines.specs.Lines.{lines_of, whole_lines}
 -- `answers s line reply malformed t` says that from the state s a line is answered by these bytes, that `malformed` is 1 if it is malformed, and else 0, and that
 -- t is the state after it
 module _ {S : Type 0} (answers : S → List ℕ → List ℕ → ℕ → S → Type 0) where
-  -- the bytes that lines are answered, how many of them are malformed, and the state after them: all lines where `whole` holds, and else perhaps only some at
+  -- the bytes that lines are answered, how many of them are malformed, and the state after them: all lines if `whole` holds, and else perhaps only some at
   -- the front
   abbrev pub Text : Bool → S → List (List ℕ) → List ℕ → ℕ → S → Type 0
   Text whole s [] out malformed last = (out ≡ []) × (malformed ≡ 0) × (last ≡ s)
@@ -21,11 +21,11 @@ module _ {S : Type 0} (answers : S → List ℕ → List ℕ → ℕ → S → T
       × answers s line reply one next × Text false next lines rest more last
       × (out ≡ reply ++ rest) × (malformed ≡ one + more))
 
-  -- these are the replies to the lines, or where not `whole` to some at the front, and this is the state after those lines
+  -- these are the replies to the lines, or if not `whole` to some at the front, and this is the state after those lines
   abbrev pub AreReplies : Bool → S → List (List ℕ) → List ℕ → S → Type 0
   AreReplies whole s lines out last = (malformed : ℕ) × Text whole s lines out malformed last
 
-  -- a run from this state that may read so many bytes, and ended so, read these bytes, wrote those, and left that state
+  -- a run from this state that may read this many bytes, and ended so, read these bytes, wrote those, and left that state
   abbrev pub Ends : ℕ → S → Result ℕ Fault → List ℕ → List ℕ → S → Type 0
   Ends limit s (Ok malformed) read written last = (length read ≤ limit) × Text true s (lines_of read) written malformed last
   Ends limit s (Err Read) read written last = (length read ≤ limit) × AreReplies true s (whole_lines read) written last

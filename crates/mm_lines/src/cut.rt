@@ -6,7 +6,7 @@ ghost use Rattle.mm_lines.specs.Cut.{is, is_not};
 
 use memchr::memchr;
 
-/// What stands before the first such byte and what stands after it, if there is one.
+/// Returns what stands before the first such byte and what stands after it, if there is one.
 pub fn split_once(byte: u8, bytes: &[u8]) -> Option<(&[u8], &[u8])>
     ensures none { IfNone result (position_or_len (is byte) bytes.now ≡ length bytes.now) }
     ensures some { OnSome result (position_or_len (is byte) bytes.now < length bytes.now) }
@@ -17,7 +17,7 @@ pub fn split_once(byte: u8, bytes: &[u8]) -> Option<(&[u8], &[u8])>
     Some((before, rest.split_at(1).1))
 }
 
-/// The index of the first other byte, or the length where there is none.
+/// Returns the index of the first other byte, or the length if there is none.
 pub(crate) fn index_of_other(byte: u8, bytes: &[u8]) -> usize
     ensures index { result ≡ position_or_len (is_not byte) bytes.now }
     ensures in_range { result ≤ length bytes.now }
@@ -30,7 +30,7 @@ pub(crate) fn index_of_other(byte: u8, bytes: &[u8]) -> usize
     bytes.len()
 }
 
-/// The line without the one carriage return at its end, if it has one.
+/// Returns the line without the one carriage return at its end, if it has one.
 pub fn without_carriage_return(line: &[u8]) -> &[u8]
     ensures { result.now ≡ strip_carriage_return line.now }
 {

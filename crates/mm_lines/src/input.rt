@@ -9,15 +9,15 @@ use arrayvec::ArrayVec;
 use std::io::Read;
 use std::marker::Model;
 
-/// The most bytes that are held. A read returns at most so many.
+/// The most bytes that are held. A read returns at most this many.
 const INPUT_LEN: usize = 32768;
 
 /// How many bytes may be read.
 #[derive(Clone, Copy, Debug, PartialEq, Eq)]
 pub struct Limits {
-    /// The whole input has at most so many bytes.
+    /// The whole input has at most this many bytes.
     pub input: usize,
-    /// The longest line has so many bytes, at most 32,766, without its newline. A carriage return at its end counts here. Whether it counts
+    /// The longest line has this many bytes, at most 32,766, without its newline. A carriage return at its end counts here. Whether it counts
     /// where a language limits its lines, the language says: it does in a script, and not in a request of the lock service.
     pub line: usize,
 }
@@ -58,21 +58,21 @@ impl Input {
         }
     }
 
-    /// The bytes that are held.
+    /// Returns the bytes that are held.
     pub fn held(&self) -> &[u8]
         ensures { result.now ≡ self.now.held }
     {
         self.bytes.as_slice().split_at(self.start).1
     }
 
-    /// Whether a byte past the limit was read.
+    /// Returns whether a byte past the limit was read.
     pub fn is_past_limit(&self) -> bool
         ensures { IsTrue result ↔ (self.now.limits.input < self.now.taken) }
     {
         self.taken > self.limits.input
     }
 
-    /// Reads once, at most one byte past the limit, and returns whether a byte came. A byte past the limit is not held. Call it where no
+    /// Reads once, at most one byte past the limit, and returns whether a byte came. A byte past the limit is not held. Call it if no
     /// whole line is held: of the open line at most one byte more stays held than the longest line has.
     pub fn read<R: Read>(&mut self, reader: &mut R) -> Result<bool, Fault>
         requires { self.old.taken ≤ self.old.limits.input }

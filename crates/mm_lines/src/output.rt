@@ -41,7 +41,7 @@ pub(crate) fn flush_output<W: Write>(output: &mut Output, writer: &mut W) -> Res
     }
 }
 
-/// Writes all replies where there may be no room for so many bytes more.
+/// Writes all replies if there may be no room for this many bytes more.
 pub fn make_room<W: Write>(output: &mut Output, room: usize, writer: &mut W) -> Result<(), Fault>
     requires { room ≤ OUTPUT_LEN }
     ensures written { (lost : List ℕ) × Writes (W.contents writer.old) (W.contents writer.new) output.old.items lost

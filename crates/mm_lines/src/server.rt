@@ -26,10 +26,10 @@ pub trait Answerer {
 
     ghost ROOM: { ℕ };
 
-    /// Before each answer there is room for so many bytes.
+    /// Before each answer there is room for this many bytes.
     const ROOM: usize;
 
-    /// Answers a line, which has no newline, and returns whether it is malformed. Where there is no room for all of the reply it writes a
+    /// Answers a line, which has no newline, and returns whether it is malformed. If there is no room for all of the reply it writes a
     /// part. At a fault a part of the reply, and of those before it, is lost.
     fn answer<W: Write>(
         &mut self,
@@ -55,7 +55,7 @@ pub trait Answerer {
 /// - `TooLong`: one byte past the limit was read. The replies to the lines whose newline is within the limit are written.
 /// - `Write`: a write or the flush failed, or a write took no byte. A part of the replies from the front on is written.
 ///
-/// After a fault too the answerer is as the lines that were answered leave it, also where their replies are lost.
+/// After a fault too the answerer is as the lines that were answered leave it, also if their replies are lost.
 ///
 /// O(bytes) time beside that of the answers. It takes no memory; input and replies take about 100 KiB of the stack.
 pub fn serve<A: Answerer, R: Read, W: Write>(

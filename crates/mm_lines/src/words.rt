@@ -21,7 +21,7 @@ impl<'a> Words<'a> {
         Words { rest: line }
     }
 
-    /// The number that the next word spells, if there is a word.
+    /// Returns the number that the next word spells, if there is a word.
     pub fn next_number64(&mut self) -> Option<u64>
         ensures { TakesFirst (number_at_most u64.MAX) self.old result self.new }
     {
@@ -35,7 +35,7 @@ impl<'a> Words<'a> {
         number32(self.next()?)
     }
 
-    /// The key that the next word spells, if there is a word.
+    /// Returns the key that the next word spells, if there is a word.
     pub fn next_key(&mut self) -> Option<Key>
         ensures { TakesFirst key_of self.old result self.new }
     {
@@ -67,7 +67,7 @@ impl<'a> Iterator for Words<'a> {
 /// The longest number in digits.
 const MAX_DIGITS: usize = 20;
 
-/// The number that a word spells.
+/// Returns the number that a word spells.
 fn number64(word: &[u8]) -> Option<u64>
     ensures { result ≡ number_at_most u64.MAX word.now }
 {
@@ -93,7 +93,7 @@ pub fn number32(word: &[u8]) -> Option<u32>
     u32::try_from(number64(word)?).ok()
 }
 
-/// The key that a word spells.
+/// Returns the key that a word spells.
 fn key(word: &[u8]) -> Option<Key>
     ensures { result ≡ key_of word.now }
 {

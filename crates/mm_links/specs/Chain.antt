@@ -13,13 +13,13 @@ abbrev pub last_or : Option ℕ → List ℕ → Option ℕ
 last_or before [] = before
 last_or before (place ∷ places) = last_or (Some place) places
 
--- the places along the links from a first one, so many at most
+-- the places along the links from a first one, this many at most
 abbrev pub walk : List Links → ℕ → Option ℕ → List ℕ
 walk links zero first = []
 walk links (suc most) None = []
 walk links (suc most) (Some place) = place ∷ walk links most (next_of links place)
 
--- the first of a list, once this follows a place of it: where there is none, this is the first
+-- the first of a list, once this follows a place of it: if there is none, this is the first
 abbrev pub first_with_next : Option ℕ → Option ℕ → Option ℕ → Option ℕ
 first_with_next first None next = next
 first_with_next first (Some place) next = first

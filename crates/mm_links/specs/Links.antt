@@ -15,13 +15,13 @@ before_of links place = option_and_then (λ l. l.before) (slice_get links place)
 abbrev pub next_of : List Links → ℕ → Option ℕ
 next_of links place = option_and_then (λ l. l.next) (slice_get links place)
 
--- with this before a place, where there is one
+-- with this before a place, if there is one
 abbrev pub with_before : List Links → Option ℕ → Option ℕ → List Links
 with_before links None before = links
 with_before links (Some place) before =
     slice_set links place (record { before = before; next = next_of links place })
 
--- with this after a place, where there is one
+-- with this after a place, if there is one
 abbrev pub with_next : List Links → Option ℕ → Option ℕ → List Links
 with_next links None next = links
 with_next links (Some place) next =

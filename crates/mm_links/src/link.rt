@@ -41,7 +41,7 @@ impl Link {
         Link { number: place }
     }
 
-    /// The place, in constant time.
+    /// Returns the place, in constant time.
     #[inline]
     pub fn get(self) -> Option<u32>
         ensures { result ≡ self }

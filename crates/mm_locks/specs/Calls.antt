@@ -37,7 +37,7 @@ Asks old k name (Ok outcome.Waits) new = (h : Key) × Locked old k name (Ok (loc
 Asks old k name (Err error) new =
     ((error ≡ Deadlock) × ((h : Key) × Locked old k name (Ok (lock.Deadlock h)) new)) ⊎ Because (λ refusal. Locked old k name (Err refusal) new) error
 
--- what a request has come to by what the transaction does, where it does not own the name
+-- what a request has come to by what the transaction does, if it does not own the name
 abbrev pub found_by : Result Status Refusal → Result Outcome LockError
 found_by (Ok (status.Waiting n h aborting)) = Ok outcome.Waits
 found_by (Ok (status.Deadlock n h)) = Err Deadlock

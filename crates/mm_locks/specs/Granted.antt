@@ -1,4 +1,4 @@
--- For whom and for which names the value behind the lock gave something out.
+-- The keys and names for which the value behind the lock gave out a token.
 use Rattle.std.specs.Prelude.{◌≡◌, ◌≤◌, ℕ, List, length}
 use Rattle.std.specs.Borrow.{Bor}
 use Rattle.mm_arena.specs.declared.key.Key.{Key}
@@ -11,7 +11,7 @@ use Rattle.mm_locks.specs.declared.monitor.tokens.GrantedUpTo.{GrantedUpTo}
 abbrev pub IsFor : Key → List ℕ → Granted → Type 0
 IsFor k name granted = (granted.key ≡ k) × (granted.name.now ≡ name)
 
--- what a request has come to: where the name is owned, that is said of k and of this name
+-- what a request has come to: if the name is owned, that is said of k and of this name
 abbrev pub OwnsFor : Key → List ℕ → Outcome → Type 0
 OwnsFor k name (outcome.Owns granted) = IsFor k name granted
 OwnsFor k name outcome.Waits = Unit {0}

@@ -1,10 +1,10 @@
 -- which refusal of the manager is which error
 pub mod Errors
--- whom a call is to wake
+-- the processes that a call is to wake
 pub mod Wakes
 -- who is overdue
 pub mod Overdue
--- what is given out where a name is owned
+-- what is given out if a name is owned
 pub mod Granted
 -- what the calls do behind the lock
 pub mod Calls

@@ -29,7 +29,7 @@ impl Backoff {
         Backoff { bound: FIRST }
     }
 
-    /// The pause after the attempt of this transaction. No two live transactions have one key, so those that met get lengths of their own.
+    /// Returns the pause after the attempt of this transaction. No two live transactions have one key, so those that met get lengths of their own.
     pub fn next(&mut self, key: Key) -> Duration
         ensures below { as_nanos result < 1_000 * self.old.bound }
         ensures doubles { self.new.bound ≡ min (2 * self.old.bound) 32_768 }

@@ -35,7 +35,7 @@ impl LockError {
     ghost use Rattle.std.specs.Prelude.{◌≡◌, ◌≢◌};
     ghost use Rattle.mm_locks.specs.Errors.{error_of};
 
-    /// What a refusal of the manager means.
+    /// Returns what a refusal of the manager means.
     #[inline(never)]
     pub(crate) fn of_refusal(refusal: Refusal) -> LockError
         ensures error { result ≡ error_of refusal }

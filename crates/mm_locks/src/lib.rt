@@ -4,8 +4,8 @@
 //! - `transaction`: `Transaction`, which locks names, and gives all back at its end.
 //! - `run`: work that is done again after a deadlock, and `backoff`: the pauses before that.
 //! - `error`: why a call is refused.
-//! - `monitor`: the manager behind the lock, with whom it is to wake.
-//! - `wakes`: whom a call is to wake once the lock is free.
+//! - `monitor`: the manager behind the lock, with the processes that it is to wake.
+//! - `wakes`: the processes that a call is to wake once the lock is free.
 //! - `parkers`: where the thread of each transaction sleeps.
 //! - `patience`: how long a thread is to wait.
 #![tactic(auto)]

@@ -16,7 +16,7 @@ use std::sync::Wait;
 
 /// A lock manager that threads share by reference: a `LockManager` behind one lock, and beside it a place to sleep for each transaction.
 ///
-/// Each call takes the lock, makes one call of the manager, lets go, and wakes exactly those whom that call granted a name, or whose abort
+/// Each call takes the lock, makes one call of the manager, lets go, and wakes exactly those that the call granted a name, or whose abort
 /// came due in it. A call that may have ended something also wakes those whose time is up and who try again. So a call may wait for the
 /// lock, and `Transaction::lock` for a name too, but nobody sleeps under the lock. What the manager promises holds of whatever stands
 /// behind the lock at any time (`LockManager::keeps_laws`). No call but `open` takes memory.
@@ -43,7 +43,7 @@ struct Room {
 }
 
 impl Room {
-    /// Room for so many transactions.
+    /// Returns room for this many transactions.
     fn open(alloc: Global, transactions: u32) -> Result<Room, AllocError> {
         let parkers = Parkers::open(alloc, transactions)?;
         let pending = PendingWakes::open(alloc, transactions)?;
@@ -54,8 +54,8 @@ impl Room {
 impl Locks {
     /// Locks of this configuration: no transaction is live, and nobody owns a name.
     ///
-    /// Refused as `LockManager::open` is: as `Transactions`, `Names` or `NameBytes` exactly where that number is out of its range and those
-    /// before it are not, and as `Memory` only where a request for memory was refused. This is the one call that takes memory: what
+    /// Refused as `LockManager::open` is: as `Transactions`, `Names` or `NameBytes` exactly if that number is out of its range and those
+    /// before it are not, and as `Memory` only if a request for memory was refused. This is the one call that takes memory: what
     /// `LockManager::open` takes, and for each transaction a cache line, in which its thread sleeps, and two bits.
     pub fn open(alloc: Global, config: ManagerConfig) -> Result<Locks, OpenError>
         ensures transactions { (result ≡ Err OpenError.Transactions) ↔ IsTransactionsOut config }
@@ -76,7 +76,7 @@ impl Locks {
         }
     }
 
-    /// Begins a transaction. It ends by `commit`; where it is dropped it is rolled back.
+    /// Begins a transaction. It ends by `commit`; if it is dropped it is rolled back.
     ///
     /// Refused as `TransactionsFull` or `CountsFull`. Constant time.
     pub fn begin<'m, R: Wait>(&'m self, rt: &'m R) -> Result<Transaction<'m, R>, LockError>
@@ -104,7 +104,7 @@ impl Locks {
         Ok((transaction, granted))
     }
 
-    /// The transaction of a key that has just begun.
+    /// Returns the transaction of a key that has just begun.
     fn begun<'m, R: Wait>(&'m self, rt: &'m R, key: Key) -> Result<Transaction<'m, R>, LockError>
         ensures key { IfOk result (λ transaction. transaction.key ≡ key) }
         ensures refused { IfErr result (λ error. of_begin error ≡ true) }
@@ -119,7 +119,7 @@ impl Locks {
         }
     }
 
-    /// Takes the lock. Whoever is to sleep lets go of the guard before: a `match` on what a call answers would keep it.
+    /// Takes the lock. A thread that is to sleep lets go of the guard before: a `match` on what a call answers would keep it.
     #[inline(always)]
     pub(crate) fn monitor<R: Wait>(&self, rt: &R) -> Guard<'_, Monitor> {
         self.monitor.take(rt)
@@ -141,7 +141,7 @@ impl Locks {
         answer
     }
 
-    /// `Monitor::unlock`, and wakes whom it told something.
+    /// `Monitor::unlock`, and wakes the processes whose waits it ended.
     pub(crate) fn unlock<R: Wait>(&self, rt: &R, key: Key, name: &[u8]) -> Result<(), LockError>
         ensures refused { IfErr result (λ error. of_unlock error ≡ true) }
     {
@@ -151,7 +151,7 @@ impl Locks {
         answer
     }
 
-    /// `Monitor::commit`, and wakes whom it told something.
+    /// `Monitor::commit`, and wakes the processes whose waits it ended.
     pub(crate) fn commit<R: Wait>(&self, rt: &R, key: Key) -> Result<(), LockError>
         ensures refused { IfErr result (λ error. of_commit error ≡ true) }
     {
@@ -161,7 +161,7 @@ impl Locks {
         answer
     }
 
-    /// `Monitor::roll_back`, and wakes whom it told something. Returns whether the transaction was in a deadlock.
+    /// `Monitor::roll_back`, and wakes the processes whose waits it ended. Returns whether the transaction was in a deadlock.
     pub(crate) fn roll_back<R: Wait>(&self, rt: &R, key: Key) -> bool {
         let mut wakes = Wakes::new();
         let was_in_deadlock = self.monitor(rt).inside().roll_back(key, &mut wakes);
@@ -169,17 +169,17 @@ impl Locks {
         was_in_deadlock
     }
 
-    /// What was counted since the opening, as `LockManager::totals`. Constant time.
+    /// Returns what was counted since the opening, as `LockManager::totals`. Constant time.
     pub fn totals<R: Wait>(&self, rt: &R) -> Totals {
         self.monitor(rt).inside().totals()
     }
 
-    /// How many events of the table were counted since the opening, as `LockManager::events`. Constant time.
+    /// Returns how many events of the table were counted since the opening, as `LockManager::events`. Constant time.
     pub fn events<R: Wait>(&self, rt: &R) -> u64 {
         self.monitor(rt).inside().events()
     }
 
-    /// Wakes these, and then those for whom there was no room among them. The lock is free.
+    /// Wakes these, and then those for which there was no room among them. The lock is free.
     fn wake<R: Wait>(&self, rt: &R, wakes: &Wakes) {
         self.parkers.wake(wakes);
         if wakes.is_full() {
@@ -187,7 +187,7 @@ impl Locks {
         }
     }
 
-    /// Wakes those who are to be woken and whom nobody has taken to wake, some at a time, until none is left.
+    /// Wakes the processes whose wake-up is still pending, some at a time, until none is left.
     #[inline(never)]
     fn wake_rest<R: Wait>(&self, rt: &R) {
         for _ in rt.forever() {

@@ -20,7 +20,7 @@ use crate::wakes::{MAX_WAKES, PendingWakes, Wakes};
 use mm_manager::{Abort, Cancel, Key, Lock, LockManager, Refusal, Status, Totals, TryLock};
 pub use tokens::{Granted, GrantedUpTo};
 
-/// A manager, and those who are to be woken and whom nobody has taken to wake, with those that are overdue.
+/// The manager, the processes whose wake-up is still pending, and those that are overdue.
 #[derive(Drop)]
 pub struct Monitor {
     manager: LockManager,
@@ -142,7 +142,7 @@ impl Monitor {
         Ok(granted)
     }
 
-    /// Looks what the request for the first name that is left has come to. Where the transaction owns it, asks for those behind it, as
+    /// Looks what the request for the first name that is left has come to. If the transaction owns it, asks for those after it, as
     /// `lock_each`.
     #[inline(never)]
     pub fn go_on<'n>(&mut self, so_far: GrantedUpTo<'n>) -> Result<GrantedUpTo<'n>, LockError>
@@ -160,7 +160,7 @@ impl Monitor {
         }
     }
 
-    /// Asks for a name, and never waits. Returns `None` where another transaction owns it.
+    /// Asks for a name, and never waits. Returns `None` if another transaction owns it.
     pub fn try_lock<'n>(
         &mut self,
         key: Key,
@@ -178,7 +178,7 @@ impl Monitor {
         }
     }
 
-    /// Whether the transaction owns the name.
+    /// Returns whether the transaction owns the name.
     fn owns(&self, key: Key, name: &[u8]) -> bool
         ensures { IsTrue result ↔ Owns self.now.manager key name.now }
     {
@@ -188,7 +188,7 @@ impl Monitor {
         }
     }
 
-    /// What a request has come to that was told to wait. `Owns` only where the transaction owns the name at this moment.
+    /// Returns what a request has come to that was told to wait. `Owns` only if the transaction owns the name at this moment.
     pub fn outcome<'n>(&self, key: Key, name: &'n [u8]) -> Result<Outcome<'n>, LockError>
         ensures finds { Finds self.now.manager key name.now result }
         ensures granted { IfOk result (OwnsFor key name.now) }
@@ -204,7 +204,7 @@ impl Monitor {
         }
     }
 
-    /// Whether the transaction is in a deadlock.
+    /// Returns whether the transaction is in a deadlock.
     pub fn is_in_deadlock(&self, key: Key) -> bool
         ensures { (does : Result StatusValue RefusalValue) × HasStatus self.now.manager key does × (result ≡ is_deadlock does) }
     {
@@ -214,7 +214,7 @@ impl Monitor {
         }
     }
 
-    /// Takes back the request of one that waits: `TimedOut` where that is done. Else it owns the name; or it waits on, since a transaction
+    /// Takes back the request of one that waits: `TimedOut` if that is done. Else it owns the name; or it waits on, since a transaction
     /// ahead was told of a deadlock and has yet to abort, and is overdue from now on.
     pub fn take_back<'n>(
         &mut self,
@@ -304,7 +304,7 @@ impl Monitor {
         self.manager.events()
     }
 
-    /// Notes whom the last call told something: those for whom there is no room in `wakes`, here.
+    /// Notes the processes that the last call told something: those for which there is no room in `wakes`, here.
     #[inline]
     fn note_told(&mut self, wakes: &mut Wakes)
         ensures noted { NotesTold self.old.manager self.old.pending.overdue wakes.old self.old.pending wakes.new self.new.pending }
@@ -315,7 +315,7 @@ impl Monitor {
         pending.note_aborted(wakes, manager.aborted());
     }
 
-    /// Notes whom the last call told something, and those that are overdue: that call may have ended what they wait behind.
+    /// Notes the processes that the last call told something, and those that are overdue: that call may have ended what they wait for.
     fn note(&mut self, wakes: &mut Wakes)
         ensures noted { NotesEnd self.old.manager wakes.old self.old.pending wakes.new self.new.pending }
         ensures manager { self.new.manager ≡ self.old.manager }

@@ -63,7 +63,7 @@ pub struct Parkers {
 }
 
 impl Parkers {
-    /// So many places. This takes memory once.
+    /// This many places. This takes memory once.
     pub fn open(alloc: Global, count: u32) -> Result<Parkers, AllocError> {
         let mut parkers = Vec::with_capacity(alloc, count as usize)?;
         for _ in 0..count {
@@ -78,7 +78,7 @@ impl Parkers {
         Some(&**parker)
     }
 
-    /// Wakes these. Whoever does not sleep at the moment does not sleep the next time.
+    /// Wakes these. A thread that does not sleep now does not sleep the next time.
     pub fn wake(&self, wakes: &Wakes) {
         for process in wakes.processes() {
             if let Some(parker) = self.of(*process) {

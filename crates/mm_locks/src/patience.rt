@@ -4,7 +4,7 @@ use std::time::{Clock, Duration, Instant};
 /// A time by which a thread is to have what it waits for.
 #[derive(Clone, Copy)]
 pub struct Patience {
-    /// `None` where the clock could not be read.
+    /// `None` if the clock could not be read.
     start: Option<Instant>,
     limit: Duration,
 }
@@ -17,7 +17,7 @@ impl Patience {
         }
     }
 
-    /// What is left of the time; `None` where it is up, or the clock cannot be read.
+    /// Returns what is left of the time; `None` if it is up, or the clock cannot be read.
     pub fn left(&self, clock: &impl Clock) -> Option<Duration> {
         let took = self.start?.elapsed(clock).ok()?;
         self.limit.checked_sub(took)

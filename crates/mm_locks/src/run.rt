@@ -23,9 +23,9 @@ enum Failure<E> {
 impl Locks {
     /// Begins a transaction, lends it to the work, commits it, and returns what the work returned.
     ///
-    /// Where the transaction comes to be in a deadlock, it is rolled back, whatever the work made of that error; and after a pause all is done
+    /// If the transaction comes to be in a deadlock, it is rolled back, whatever the work made of that error; and after a pause all is done
     /// again in a new transaction, at most `attempts` times, and once at the least. A pause is of a random length. Its bound is 32 microseconds
-    /// at first, and doubles with each attempt up to 33 milliseconds. Where the work fails otherwise, the transaction is rolled back and the
+    /// at first, and doubles with each attempt up to 33 milliseconds. If the work fails otherwise, the transaction is rolled back and the
     /// error returned, and so is the error of the last attempt. The locks do not know what the work wrote: it undoes that itself before it
     /// returns an error.
     ///

@@ -17,8 +17,9 @@ use std::time::{Clock, Duration};
 /// same cycle once more, before the others are done.
 const VICTIM_YIELDS: u32 = 256;
 
-/// A transaction. Where it is dropped it is rolled back: all that it owns is handed over, and whoever was granted something is woken. After a
-/// deadlock the drop then yields the processor for a while, so that the others come to their ends before the caller begins again.
+/// A transaction. If it is dropped it is rolled back: all that it owns is handed over, and the processes that were granted something are
+/// woken. After a deadlock the drop then yields the processor for a while, so that the others come to their ends before the caller begins
+/// again.
 ///
 /// Between its calls it does not wait: it is active, or in a deadlock. One thread at a time has it, and may hand it to another one.
 pub struct Transaction<'m, R: Wait> {
@@ -79,7 +80,7 @@ impl<'m, R: Wait> Transaction<'m, R> {
         self.locks.monitor(self.rt).inside().lock(self.key, name)
     }
 
-    /// What a request for the name has come to. The lock is free when this returns.
+    /// Returns what a request for the name has come to. The lock is free when this returns.
     fn outcome<'n>(&self, name: &'n [u8]) -> Result<Outcome<'n>, LockError>
         ensures granted { IfOk result (OwnsFor self.now.key name.now) }
         ensures refused { IfErr result (λ error. of_lock error ≡ true) }
@@ -87,9 +88,9 @@ impl<'m, R: Wait> Transaction<'m, R> {
         self.locks.monitor(self.rt).inside().outcome(self.key, name)
     }
 
-    /// Locks the name: returns when the transaction owns it, at once where nobody else does, and else it sleeps until it was granted.
+    /// Locks the name: returns when the transaction owns it, at once if nobody else does, and else it sleeps until it was granted.
     ///
-    /// `Deadlock` comes at once too, where the wait would close a cycle of waits; no other call makes a victim of one that sleeps. The
+    /// `Deadlock` comes at once too, if the wait would close a cycle of waits; no other call makes a victim of one that sleeps. The
     /// transaction is then to be dropped: it keeps what it owns until that, so that its caller can undo what it did. Until then each further
     /// call is refused as `Deadlock` too; `commit` also rolls it back. A name that it owns already is `Ok`, and is owned once. Refused as
     /// `Deadlock`, `NameEmpty`, `NameTooLong`, `NamesFull`, `CountsFull` or `LabelsFull`. A refusal changes nothing, but that the victim of
@@ -124,7 +125,7 @@ impl<'m, R: Wait> Transaction<'m, R> {
     /// Locks these names in the order given, as `lock` does one after the other, but takes the manager's lock only once, and once more after
     /// each sleep.
     ///
-    /// Where one of them is refused, those before it stay locked, and those behind it were not asked for. Refused as `lock` is. It costs what
+    /// If one of them is refused, those before it stay locked, and those after it were not asked for. Refused as `lock` is. It costs what
     /// the locks cost, all that are granted without a sleep between them under one taking of the manager's lock.
     pub fn lock_all<'n>(&mut self, names: &'n [&'n [u8]]) -> Result<GrantedUpTo<'n>, LockError>
         ensures granted { IfOk result (IsForAll self.old.key names.now) }
@@ -135,7 +136,7 @@ impl<'m, R: Wait> Transaction<'m, R> {
         self.go_on(so_far)
     }
 
-    /// Returns at once where all names were granted; else the transaction waits for the first one that is left.
+    /// Returns at once if all names were granted; else the transaction waits for the first one that is left.
     #[inline]
     pub(crate) fn go_on<'n>(&self, so_far: GrantedUpTo<'n>) -> Result<GrantedUpTo<'n>, LockError>
         ensures granted { IfOk result (IsForAll so_far.entry.key so_far.entry.names.now) }
@@ -147,7 +148,7 @@ impl<'m, R: Wait> Transaction<'m, R> {
         self.sleep_for_each(so_far)
     }
 
-    /// Sleeps until the transaction owns the first name that is left, for which it waits, and goes on with those behind it.
+    /// Sleeps until the transaction owns the first name that is left, for which it waits, and goes on with those after it.
     #[inline(never)]
     fn sleep_for_each<'n>(&self, so_far: GrantedUpTo<'n>) -> Result<GrantedUpTo<'n>, LockError>
         ensures granted { IfOk result (IsForAll so_far.entry.key so_far.entry.names.now) }
@@ -186,7 +187,7 @@ impl<'m, R: Wait> Transaction<'m, R> {
         self.locks.unlock(self.rt, self.key, name)
     }
 
-    /// Ends the transaction: all that it owns is handed over, and whoever was granted something is woken.
+    /// Ends the transaction: all that it owns is handed over, and the processes that were granted something are woken.
     ///
     /// A transaction that is in a deadlock is rolled back, and the call is refused as `Deadlock`. It costs what `LockManager::commit` costs.
     pub fn commit(self) -> Result<(), LockError>
@@ -203,7 +204,7 @@ impl<'m, R: Wait> Transaction<'m, R> {
 }
 
 impl<'m, R: Wait + Clock> Transaction<'m, R> {
-    /// `lock` that gives up: `TimedOut` where the name was not granted in this time. The transaction then goes on, and keeps what it owns.
+    /// `lock` that gives up: `TimedOut` if the name was not granted in this time. The transaction then goes on, and keeps what it owns.
     ///
     /// It returns after the time and a scheduling delay at most, but while a transaction ahead was told of a deadlock and has yet to abort:
     /// the request can then not be taken back. The thread sleeps on and tries again after each end, until it may take the request back, or

@@ -1,4 +1,4 @@
-//! Whom a call is to wake.
+//! The processes that a call is to wake.
 ghost use Rattle.std.specs.Prelude.{◌≡◌, ◌≤◌, ◌<◌, ◌↔◌, [], ◌∷◌, ◌++◌, ℕ, true, false, IsTrue, length, map, slice_set};
 ghost use Rattle.mm_bit_set.specs.BitSet.{HasNoneFrom, members};
 ghost use Rattle.mm_locks.specs.Wakes.{IsToWake, Notes};
@@ -27,7 +27,7 @@ impl Wakes {
         }
     }
 
-    /// Adds a process, where there is room. Returns whether there was.
+    /// Adds a process, if there is room. Returns whether there was.
     pub fn add(&mut self, process: u32) -> bool
         ensures added { result ≡ true → self.new.processes.items ≡ self.old.processes.items ++ process ∷ [] }
         ensures full { result ≡ false → self.new.processes.items ≡ self.old.processes.items }
@@ -71,7 +71,7 @@ impl PendingWakes {
         })
     }
 
-    /// Notes one that is to be woken: in `wakes`, or here where there is no room. At the bound and above nobody sleeps.
+    /// Notes one that is to be woken: in `wakes`, or here if there is no room. At the bound and above nobody sleeps.
     fn note(&mut self, wakes: &mut Wakes, process: u32)
         ensures noted { Notes (process ∷ []) wakes.old.processes.items self.old.set wakes.new.processes.items self.new.set }
         ensures overdue { self.new.overdue ≡ self.old.overdue }
@@ -114,7 +114,7 @@ impl PendingWakes {
         }
     }
 
-    /// Notes all that are overdue: they are to be woken, and nobody is overdue from now on. One comparison where nobody was overdue since
+    /// Notes all that are overdue: they are to be woken, and nobody is overdue from now on. One comparison if nobody was overdue since
     /// the last call.
     #[inline]
     pub fn note_overdue(&mut self, wakes: &mut Wakes)

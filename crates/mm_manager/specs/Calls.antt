@@ -132,11 +132,11 @@ pub record Passes (old : LockState) (k : Key) (Loses : Key → List ℕ → Type
 
 -- ---- unlock, commit
 
--- k this name, or whoever is aborted
+-- k this name, or a transaction that is aborted
 abbrev pub LosesName : Key → List ℕ → List Key → Key → List ℕ → Type 0
 LosesName k name aborted h other = ((h ≡ k) × (other ≡ name)) ⊎ Among h aborted
 
--- k all that it owns, or whoever is aborted
+-- k all that it owns, or a transaction that is aborted
 abbrev pub LosesAll : Key → List Key → Key → List ℕ → Type 0
 LosesAll k aborted h name = (h ≡ k) ⊎ Among h aborted
 

@@ -14,7 +14,7 @@ pub record LockState : Type 0 where
   pub table : TableState  -- its resources are the numbers of names
   pub names : NameTable
   pub due : List Bool  -- by process: whether its transaction is aborted as soon as its wait ends
-  pub granted : List Grant  -- whom the last call granted what, in order
+  pub granted : List Grant  -- the grants of the last call, in order
   pub aborted : List Key  -- whose abort came due in the last call, in order
   pub totals : Totals  -- what was counted since the opening
 
@@ -54,3 +54,7 @@ pub record IsLawful (m : LockState) : Type 0 where
   pub returns : (k : Key) → is_live m.table k ≡ true → has_verdict m.table k.process ≡ true
       → (i : ℕ) × (0 < i) × (i ≤ m.table.config.processes) × (walk m.table i k ≡ Some k)  -- a walk along the waits from a victim returns to it
   pub counted : all_of m.totals ≤ m.table.totals.accepted  -- the counts together are no more than the events
+
+-- k has one of the slots, and no other live transaction has that one
+abbrev pub HasOwnSlot : LockState → Key → Type 0
+HasOwnSlot m k = (k.process < m.table.config.processes) × ((other : Key) → is_live m.table other ≡ true → other.process ≡ k.process → other ≡ k)

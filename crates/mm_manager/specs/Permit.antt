@@ -37,7 +37,7 @@ may_cancel_in (Some n) false = Ok tt
 abbrev pub may_cancel : TableState → Key → Result (Unit {0}) Refusal
 may_cancel s k = if is_live s k then may_cancel_in (wait_of s k.process) (has_verdict s k.process) else Err NoTransaction
 
--- where so many events were counted, no transaction begins and no name is asked for: what the table can count beyond is left for the ends of those that are live
+-- if this many events were counted, no transaction begins and no name is asked for: what the table can count beyond is left for the ends of those that are live
 abbrev pub event_limit : ℕ
 event_limit = 2 ^ 62 - 2 ^ 20
 

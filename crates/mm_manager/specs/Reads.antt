@@ -45,7 +45,7 @@ live_of s = live_from s 0
 
 -- ---- the wait-for graph
 
--- the wait of process p for number n, where somebody owns that
+-- the wait of process p for number n, if somebody owns that
 abbrev pub edge : TableState → ℕ → ℕ → Option Wait
 edge s p n = option_map (λ h. record { key = key_of s p; number = n; holder = h }) (owner_of s n)
 

@@ -29,7 +29,7 @@ after_lock t (Ok lock.Granted) = t
 after_lock t (Ok lock.Held) = t
 after_lock t (Err refusal) = t
 
--- so many aborts came due
+-- this many aborts came due
 abbrev pub after_unlock : Totals → Result (Unit {0}) Refusal → ℕ → Totals
 after_unlock t (Ok done) came_due = record t { aborted = t.aborted + came_due }
 after_unlock t (Err refusal) came_due = t

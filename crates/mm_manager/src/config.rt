@@ -12,9 +12,9 @@ pub struct ManagerConfig {
     pub transactions: u32,
     /// How many names can be owned at once: 1 to 65,536.
     pub names: u32,
-    /// How many bytes a name may have: 1 to 1,024. Memory is taken for so many bytes of each name.
+    /// How many bytes a name may have: 1 to 1,024. Memory is taken for this many bytes of each name.
     pub name_bytes: u32,
-    /// Any number. Whoever chooses the names should not know it, so that they cannot choose names of one hash.
+    /// Any number. Keep it from those who choose the names: with it they could choose names of one hash.
     pub seed: u64,
 }
 
@@ -22,7 +22,7 @@ impl ManagerConfig {
     ghost use Rattle.std.specs.Prelude.{◌≡◌, ◌↔◌, Err};
     ghost use Rattle.mm_manager.specs.Opening.{table_config, IsTransactionsOut, IsNamesOut, IsNameBytesOut};
 
-    /// Whether each number is in its range.
+    /// Returns whether each number is in its range.
     pub(crate) fn check(&self) -> Result<(), OpenError>
         ensures transactions { (result ≡ Err OpenError.Transactions) ↔ IsTransactionsOut self.now }
         ensures names { (result ≡ Err OpenError.Names) ↔ (¬ IsTransactionsOut self.now × IsNamesOut self.now) }
@@ -41,7 +41,7 @@ impl ManagerConfig {
         Ok(())
     }
 
-    /// The numbers of its table: a resource for each name. Labels and generations may be as great as a table allows.
+    /// Returns the numbers of its table: a resource for each name. Labels and generations may be as great as a table allows.
     pub(crate) fn of_table(&self) -> Config
         ensures { result ≡ table_config self.now }
     {
@@ -53,7 +53,7 @@ impl ManagerConfig {
         }
     }
 
-    /// The numbers of its names.
+    /// Returns the numbers of its names.
     pub(crate) fn of_names(&self) -> NamesConfig
         ensures names { result.names ≡ self.now.names }
         ensures name_bytes { result.name_bytes ≡ self.now.name_bytes }
@@ -66,7 +66,7 @@ impl ManagerConfig {
     }
 }
 
-/// Whether a number is not from 1 to this one.
+/// Returns whether a number is not from 1 to this one.
 fn is_out(number: u32, most: u32) -> bool
     ensures { (result ≡ true) ↔ ((number ≡ 0) ⊎ (most < number)) }
 {

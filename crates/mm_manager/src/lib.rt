@@ -1,4 +1,4 @@
-//! A lock manager: exclusive locks on names, for transactions. A request is answered at once and for good.
+//! A lock manager: exclusive locks on names, for transactions. A request is answered at once and finally.
 //!
 //! - `config`, `refusal`, `reply`: the plain data of calls.
 //! - `permit`: what a call is refused for before the table is asked.
@@ -7,20 +7,23 @@
 //! - `due`: the ends of those whose abort comes due in a call.
 //! - `lists`: what the last call told, and whose abort is due.
 //! - `open`: the parts of a manager that is opened.
-//! - `aborts`: the ends of transactions that wait, and the waits that are taken back.
-//! - `parts`: the parts of a manager, and the calls over them.
+//! - `parts`: the parts of a manager, and what several calls do with them.
+//! - `begin`, `lock`, `try_lock`, `unlock`, `commit`, `abort`, `cancel`: the calls, over these.
 //! - `manager`: `LockManager`, with one method for each call.
-//! - `request`: a request for a name.
 //! - `reads`: what can be read of a manager.
 //! - `graph`: the wait-for graph. `transactions`: the live transactions.
 //! - `totals`: what is counted.
 #![tactic(auto)]
 
-mod aborts;
+mod abort;
+mod begin;
+mod cancel;
+mod commit;
 mod config;
 mod due;
 mod graph;
 mod lists;
+mod lock;
 mod manager;
 mod named;
 mod numbers;
@@ -30,9 +33,10 @@ mod permit;
 mod reads;
 mod refusal;
 mod reply;
-mod request;
 mod totals;
 mod transactions;
+mod try_lock;
+mod unlock;
 
 pub use config::ManagerConfig;
 pub use graph::Graph;

@@ -7,7 +7,7 @@ use std::alloc::{AllocError, Global};
 /// What the last call told, and whose abort is due. All memory is taken at opening.
 #[derive(Drop)]
 pub struct Lists {
-    /// Whom the call granted what, in order.
+    /// The grants of the call, in order.
     pub granted: Vec<Grant>,
     /// Whose abort came due in the call, in order.
     pub aborted: Vec<Key>,
@@ -45,7 +45,7 @@ impl Lists {
         self.aborted.clear();
     }
 
-    /// Whether the abort of the transaction in this key's process is due.
+    /// Returns whether the abort of the transaction in this key's process is due.
     pub fn is_due(&self, key: Key) -> bool
         ensures { result ≡ has self.now.due.items key.process }
     {
@@ -55,7 +55,7 @@ impl Lists {
         }
     }
 
-    /// How many aborts came due in the call.
+    /// Returns how many aborts came due in the call.
     #[inline]
     pub fn came_due(&self) -> u64
         ensures { result ≡ length self.now.aborted.items }

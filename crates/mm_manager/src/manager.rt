@@ -8,7 +8,7 @@ ghost use Rattle.mm_names.specs.Names.{name_of};
 ghost use Rattle.mm_rules.specs.TableState.{owner_of};
 ghost use Rattle.mm_rules.specs.Event.{tenant_of};
 ghost use Rattle.mm_settled.specs.Calls.{OthersKeepVerdicts};
-ghost use Rattle.mm_manager.specs.LockState.{Owns, IsLawful};
+ghost use Rattle.mm_manager.specs.LockState.{HasOwnSlot, Owns, IsLawful};
 ghost use Rattle.mm_manager.specs.Permit.{counts_left, labels_left, may_ask, may_request};
 ghost use Rattle.mm_manager.specs.Opening.{opening_state, IsTransactionsOut, IsNamesOut, IsNameBytesOut};
 ghost use Rattle.mm_manager.specs.Calls.{Begins, LocksName, TriesName, Requests, Tries, UnlocksName, Commits, Aborts, Cancels};
@@ -28,7 +28,7 @@ use crate::{
 use std::alloc::Global;
 use std::marker::Model;
 
-/// Exclusive locks on names, for transactions. A request is answered at once and for good.
+/// Exclusive locks on names, for transactions. A request is answered at once and finally.
 ///
 /// A contract sees it as a `LockState` (`specs/LockState.antt`). A name has a number exactly while somebody owns it. Each call tells what
 /// it did for others, in `granted` and in `aborted`; a refused call changes nothing, tells of nobody and counts nothing. No call but `open`
@@ -60,10 +60,10 @@ impl Model for LockManager {
 }
 
 impl LockManager {
-    /// A manager of this configuration: no transaction is live, and nobody owns a name.
+    /// Returns a manager of this configuration: no transaction is live, and nobody owns a name.
     ///
-    /// Refused as `Transactions`, `Names` or `NameBytes` exactly where that number is out of its range and those before it are not, and
-    /// as `Memory` only where a request for memory was refused. This is the one call that takes memory: what `SettledTable::open` and
+    /// Refused as `Transactions`, `Names` or `NameBytes` exactly if that number is out of its range and those before it are not, and
+    /// as `Memory` only if a request for memory was refused. This is the one call that takes memory: what `SettledTable::open` and
     /// `Names::open` take, and for each transaction 21 bytes.
     pub fn open(alloc: Global, config: ManagerConfig) -> Result<LockManager, OpenError>
         ensures opened { IfOk result (λ manager. manager ≡ opening_state config) }
@@ -75,7 +75,7 @@ impl LockManager {
         LockManager::open_in_range(alloc, config)
     }
 
-    /// `open`, where each number is in its range: only a request for memory can be refused.
+    /// `open`, if each number is in its range: only a request for memory can be refused.
     fn open_in_range(alloc: Global, config: ManagerConfig) -> Result<LockManager, OpenError>
         requires transactions { ¬ IsTransactionsOut config }
         requires names { ¬ IsNamesOut config }
@@ -93,16 +93,20 @@ impl LockManager {
         })
     }
 
-    /// Starts a transaction, and returns its key. Nothing else changes.
+    /// Starts a transaction, and returns its key. Nothing else changes. The `process` of the key is a slot: it is below the `transactions` of
+    /// the configuration, and no other live transaction has it.
     ///
-    /// Refused as `CountsFull` where 4,611,686,018,426,339,328 events were counted or more, and as `TransactionsFull` where there are as
+    /// Refused as `CountsFull` if 4,611,686,018,426,339,328 events were counted or more, and as `TransactionsFull` if there are as
     /// many transactions as there can be, which is tested second. Constant time.
     #[inline(always)]
     pub fn begin(&mut self) -> Result<Key, Refusal>
         ensures begins { Begins self.old result self.new }
+        ensures slot { IfOk result (λ key. HasOwnSlot self.new key) }
         ensures totals { self.new.totals ≡ after_begin self.old.totals result }
     {
+        self.parts.named.table.is_at_rest();
         let answer = self.parts.begin();
+        self.parts.named.table.is_at_rest();
         self.totals.count_begin(&answer);
         answer
     }
@@ -116,9 +120,9 @@ impl LockManager {
     /// - `Deadlock`: the same, but it closed a cycle of waits by that. It keeps what it owns, and `abort` is the one call that it may make.
     ///
     /// Nobody else's owners, waits or verdicts change. Refused as `NoTransaction`, `MustAbort`, `Waiting`, `CountsFull`, `NameEmpty`,
-    /// `NameTooLong`, `NamesFull` or `LabelsFull`, which are tested in this order: as `CountsFull` where `begin` is, as `NamesFull` where
-    /// nobody owns the name and all numbers are taken, and as `LabelsFull` where it would wait, and half as many events were counted as
-    /// labels can be high, 8,796,093,022,207, or more. `O(length)` where it does not wait; a wait costs the settle that follows.
+    /// `NameTooLong`, `NamesFull` or `LabelsFull`, which are tested in this order: as `CountsFull` if `begin` is, as `NamesFull` if
+    /// nobody owns the name and all numbers are taken, and as `LabelsFull` if it would wait, and half as many events were counted as
+    /// labels can be high, 8,796,093,022,207, or more. `O(length)` if it does not wait; a wait costs the settle that follows.
     // In place: it is one call itself, of `Parts::lock`.
     #[inline(always)]
     pub fn lock(&mut self, key: Key, name: &[u8]) -> Result<Lock, Refusal>
@@ -161,7 +165,7 @@ impl LockManager {
         answer
     }
 
-    /// Asks for a name, and gets it where nobody owns it. It never waits.
+    /// Asks for a name, and gets it if nobody owns it. It never waits.
     ///
     /// - `Granted`: nobody owned it, and the transaction does now.
     /// - `Held`: the transaction owns it already, and nothing changes.
@@ -237,7 +241,7 @@ impl LockManager {
     ///   succeed. With no victim among the transactions no cancel is answered so.
     ///
     /// Refused as `NoTransaction`, `MustAbort` or `NotWaiting`. If no abort is due, it costs constant time, and one settle if another
-    /// transaction got a new label by it, which raises those that wait behind that one.
+    /// transaction got a new label by it, which raises those that wait for that one.
     pub fn cancel(&mut self, key: Key) -> Result<Cancel, Refusal>
         ensures cancels { Cancels self.old key result self.new }
         ensures totals { self.new.totals ≡ after_cancel self.old.totals result (has self.old.due key.process) (length self.new.aborted) }
@@ -249,7 +253,7 @@ impl LockManager {
         answer
     }
 
-    /// Whom the last call granted what, in order. `Grant::resource` is the number of the name. Constant time.
+    /// Returns the grants of the last call, in order. `Grant::resource` is the number of the name. Constant time.
     pub fn granted(&self) -> &[Grant]
         ensures { result.now ≡ self.now.granted }
     {
@@ -263,7 +267,7 @@ impl LockManager {
         &self.parts.lists.aborted
     }
 
-    /// The owner of a name; `None` where nobody owns it. `O(length)`.
+    /// Returns the owner of a name; `None` if nobody owns it. `O(length)`.
     pub fn owner(&self, name: &[u8]) -> Option<Key>
         ensures { (k : KeyValue) → (result ≡ Some k) ↔ Owns self.now k name.now }
     {
@@ -272,7 +276,7 @@ impl LockManager {
         owner_of(self.parts.named.table.table(), number)
     }
 
-    /// What a transaction does: nothing that it waits for, or for which name and whose, and whether it is in a deadlock or its abort is due.
+    /// Returns what a transaction does: nothing that it waits for, or for which name and whose, and whether it is in a deadlock or its abort is due.
     ///
     /// Refused as `NoTransaction`. Constant time.
     pub fn status(&self, key: Key) -> Result<Status, Refusal>
@@ -282,7 +286,7 @@ impl LockManager {
     }
 
     /// Lists the numbers of the names that the transaction owns, in place of what `numbers` held, each once, in no order that is promised;
-    /// none where the key is not live. `numbers` has room for each number, and no memory is taken. `O(its names)`.
+    /// none if the key is not live. `numbers` has room for each number, and no memory is taken. `O(its names)`.
     pub fn holds(&self, key: Key, numbers: &mut Vec<u32>)
         requires { self.now.table.config.resources ≤ vec_capacity numbers.old }
         ensures holds { (name : List ℕ) → Owns self.now key name ↔ ((n : ℕ) × Among n numbers.new.items × (name_of self.now.names n ≡ Some name)) }
@@ -293,7 +297,7 @@ impl LockManager {
         self.parts.named.table.table().owned_by(key, numbers);
     }
 
-    /// The live transaction of a slot; `None` if it has none, or is not one of the slots. The slot of a transaction is the `process` of its
+    /// Returns the live transaction of a slot; `None` if it has none, or is not one of the slots. The slot of a transaction is the `process` of its
     /// key. Constant time.
     pub fn transaction_at(&self, slot: u32) -> Option<Key>
         ensures { result ≡ tenant_of self.now.table slot }
@@ -301,7 +305,7 @@ impl LockManager {
         self.parts.named.table.table().tenant(slot)
     }
 
-    /// The live transactions, by rising slot. Constant time; going through all of them takes `O(transactions)`.
+    /// Returns the live transactions, by rising slot. Constant time; going through all of them takes `O(transactions)`.
     pub fn transactions(&self) -> Transactions<'_>
         ensures { result ≡ live_of self.now.table }
     {
@@ -318,7 +322,7 @@ impl LockManager {
         reads::wait_at(self.parts.named.table.table(), slot)
     }
 
-    /// The numbers with which the manager was opened. The seed is not told: 0 stands for it. Constant time.
+    /// Returns the numbers with which the manager was opened. The seed is not told: 0 stands for it. Constant time.
     pub fn config(&self) -> ManagerConfig
         ensures { result ≡ config_of self.now }
     {
@@ -331,7 +335,7 @@ impl LockManager {
         }
     }
 
-    /// The wait-for graph: each transaction that waits, the number that it waits for, and the owner of that, in rising order of the waiter's
+    /// Returns the wait-for graph: each transaction that waits, the number that it waits for, and the owner of that, in rising order of the waiter's
     /// process. `name` gives the name of a number. Constant time; going through all of it takes `O(transactions)`.
     pub fn graph(&self) -> Graph<'_>
         ensures { result ≡ waits_of self.now.table }
@@ -342,21 +346,21 @@ impl LockManager {
         }
     }
 
-    /// The name of a number; `None` where it has none. Constant time.
+    /// Returns the name of a number; `None` if it has none. Constant time.
     pub fn name(&self, number: u32) -> Option<&[u8]>
         ensures { option_copied result ≡ name_of self.now.names number }
     {
         self.parts.named.names.name(number)
     }
 
-    /// What was counted since the opening. Constant time.
+    /// Returns what was counted since the opening. Constant time.
     pub fn totals(&self) -> Totals
         ensures { result ≡ self.now.totals }
     {
         self.totals
     }
 
-    /// How many events of the table were counted since the opening: each begin, request, hand-over, end and wait that is taken back, and
+    /// Returns how many events of the table were counted since the opening: each begin, request, hand-over, end and wait that is taken back, and
     /// each settle. By this number `begin`, `lock` and `try_lock` are refused as `CountsFull`. Constant time.
     pub fn events(&self) -> u64
         ensures { result ≡ self.now.table.totals.accepted }
@@ -364,14 +368,14 @@ impl LockManager {
         self.parts.named.table.table().totals().accepted
     }
 
-    /// How many events can be counted before `begin`, `lock` and `try_lock` are refused as `CountsFull`. Constant time.
+    /// Returns how many events can be counted before `begin`, `lock` and `try_lock` are refused as `CountsFull`. Constant time.
     pub fn counts_left(&self) -> u64
         ensures { result ≡ counts_left self.now.table }
     {
         permit::counts_left(self.parts.named.table.table())
     }
 
-    /// How many events can be counted before a `lock` that would wait is refused as `LabelsFull`. Constant time.
+    /// Returns how many events can be counted before a `lock` that would wait is refused as `LabelsFull`. Constant time.
     pub fn labels_left(&self) -> u64
         ensures { result ≡ labels_left self.now.table }
     {

@@ -12,7 +12,7 @@ use crate::{Key, Refusal};
 use mm_names::{Entry, Names, NamesError};
 use mm_settled::{Released, SettledTable, Table};
 
-/// The owner of a number; `None` where it has none, or is not one of the numbers.
+/// Returns the owner of a number; `None` if it has none, or is not one of the numbers.
 pub fn owner_of(table: &Table, number: u32) -> Option<Key>
     ensures { result ≡ owner_of table.now number }
 {
@@ -20,7 +20,7 @@ pub fn owner_of(table: &Table, number: u32) -> Option<Key>
     table.owner(number).ok()?
 }
 
-/// The number of a name, which it has already, or gets, and whether the name is new.
+/// Returns the number of a name, which it has already, or gets, and whether the name is new.
 #[inline(always)]
 pub fn entry_of(names: &mut Names, name: &[u8]) -> Result<Entry, Refusal>
     ensures interned { IfOk result (λ entry. Interns names.old name.now entry.number names.new) }
@@ -37,7 +37,7 @@ pub fn entry_of(names: &mut Names, name: &[u8]) -> Result<Entry, Refusal>
     }
 }
 
-/// The number of a name. Where no number has it, the answer is why the transaction cannot unlock it.
+/// Returns the number of a name. If no number has it, the answer is why the transaction cannot unlock it.
 #[inline(always)]
 pub fn named_number(table: &Table, names: &Names, key: Key, name: &[u8]) -> Result<u32, Refusal>
     ensures named { IfOk result (λ n. name_of names.now n ≡ Some name.now) }
@@ -49,7 +49,7 @@ pub fn named_number(table: &Table, names: &Names, key: Key, name: &[u8]) -> Resu
     }
 }
 
-/// Why a transaction cannot unlock a name that no number has.
+/// Returns why a transaction cannot unlock a name that no number has.
 #[inline(never)]
 fn unnamed(table: &Table, names: &Names, key: Key, name: &[u8]) -> Refusal
     ensures { (may_ask_for table.now names.now.name_bytes key name.now ≡ Err result)
@@ -64,7 +64,7 @@ fn unnamed(table: &Table, names: &Names, key: Key, name: &[u8]) -> Refusal
     }
 }
 
-/// Why a transaction cannot unlock a name that a number has.
+/// Returns why a transaction cannot unlock a name that a number has.
 #[inline(never)]
 pub fn not_released(table: &Table, key: Key) -> Refusal
     ensures { (may_ask table.now key ≡ Err result) ⊎ ((may_ask table.now key ≡ Ok tt) × (result ≡ Refusal.NotOwner)) }
@@ -75,7 +75,7 @@ pub fn not_released(table: &Table, key: Key) -> Refusal
     }
 }
 
-/// Takes its name from a number whose release was answered so, where nobody owns it now.
+/// Takes its name from a number whose release was answered so, if nobody owns it now.
 pub fn forget_released(names: &mut Names, number: u32, answer: Released)
     requires { IsSome (name_of names.old number) }
     ensures { names.new ≡ left_by answer names.old number }

@@ -9,7 +9,7 @@ use mm_names::Names;
 use mm_settled::SettledTable;
 use std::alloc::Global;
 
-/// The names of a manager: none yet. The numbers are in range.
+/// Returns the names of a manager: none yet. The numbers are in range.
 pub fn open_names(alloc: Global, config: ManagerConfig) -> Result<Names, OpenError>
     requires names { ¬ IsNamesOut config }
     requires name_bytes { ¬ IsNameBytesOut config }
@@ -22,7 +22,7 @@ pub fn open_names(alloc: Global, config: ManagerConfig) -> Result<Names, OpenErr
     }
 }
 
-/// The table of a manager. The numbers are in range.
+/// Returns the table of a manager. The numbers are in range.
 pub fn open_table(alloc: Global, config: ManagerConfig) -> Result<SettledTable, OpenError>
     requires transactions { ¬ IsTransactionsOut config }
     requires names { ¬ IsNamesOut config }

@@ -13,7 +13,7 @@ use mm_table::Mode;
 /// of those that are live then.
 const EVENT_LIMIT: u64 = COUNT_LIMIT - (1 << 20);
 
-/// Whether a transaction may ask for something: its key is live, and it does not wait.
+/// Returns whether a transaction may ask for something: its key is live, and it does not wait.
 pub fn may_ask(table: &Table, key: Key) -> Result<(), Refusal>
     ensures { result ≡ may_ask table.now key }
 {
@@ -27,7 +27,7 @@ pub fn may_ask(table: &Table, key: Key) -> Result<(), Refusal>
     }
 }
 
-/// Why a transaction may not ask for anything.
+/// Returns why a transaction may not ask for anything.
 #[inline(never)]
 pub fn why_not_asked(table: &Table, key: Key) -> Refusal
     requires { may_ask table.now key ≢ Ok tt }
@@ -39,7 +39,7 @@ pub fn why_not_asked(table: &Table, key: Key) -> Refusal
     refusal
 }
 
-/// Whether a transaction may take back its wait: its key is live, and it waits in no deadlock.
+/// Returns whether a transaction may take back its wait: its key is live, and it waits in no deadlock.
 pub fn may_cancel(table: &Table, key: Key) -> Result<(), Refusal>
     ensures { result ≡ may_cancel table.now key }
 {
@@ -53,7 +53,7 @@ pub fn may_cancel(table: &Table, key: Key) -> Result<(), Refusal>
     }
 }
 
-/// Whether an event may be counted that is no end.
+/// Returns whether a begin or a request may still be counted; ends always may.
 pub fn may_count(table: &Table) -> Result<(), Refusal>
     ensures { result ≡ may_count table.now }
 {
@@ -64,21 +64,21 @@ pub fn may_count(table: &Table) -> Result<(), Refusal>
     }
 }
 
-/// How many events can be counted before `CountsFull`.
+/// Returns how many events can be counted before `CountsFull`.
 pub fn counts_left(table: &Table) -> u64
     ensures { result ≡ counts_left table.now }
 {
     EVENT_LIMIT.saturating_sub(table.totals().accepted)
 }
 
-/// How many events can be counted before `LabelsFull`.
+/// Returns how many events can be counted before `LabelsFull`.
 pub fn labels_left(table: &Table) -> u64
     ensures { result ≡ labels_left table.now }
 {
     (table.config().label_limit / 2).saturating_sub(table.totals().accepted)
 }
 
-/// Why a request is refused, whatever the name is that it asks for.
+/// Returns why a request is refused, whatever the name is that it asks for.
 #[inline(never)]
 pub fn why_refused(table: &Table, key: Key) -> Refusal
     requires { may_ask_more table.now key ≢ Ok tt }
@@ -90,7 +90,7 @@ pub fn why_refused(table: &Table, key: Key) -> Refusal
     }
 }
 
-/// Why a request is refused for which this was found: that, where the transaction may ask and an event may be counted.
+/// Returns the first refusal of a request: of the transaction, of the counts, or else the one that was found.
 #[inline(never)]
 pub fn refused_first(table: &Table, key: Key, found: Refusal) -> Refusal
     ensures { Err result ≡ first_refusal (may_ask_more table.now key) (Err found) }
@@ -104,14 +104,14 @@ pub fn refused_first(table: &Table, key: Key, found: Refusal) -> Refusal
     }
 }
 
-/// Whether there is a label left for one more wait, and for the hand-overs after it.
+/// Returns whether there is a label left for one more wait, and for the hand-overs after it.
 pub fn may_wait(table: &Table) -> bool
     ensures { result ≡ may_wait table.now }
 {
     table.totals().accepted < table.config().label_limit / 2
 }
 
-/// Whether these bytes can be a name.
+/// Returns whether these bytes can be a name.
 pub fn may_name(names: &Names, name: &[u8]) -> Result<(), Refusal>
     ensures { result ≡ may_name names.now.name_bytes name.now }
 {

@@ -9,7 +9,7 @@ use crate::{Key, Refusal, Status, Wait};
 use mm_settled::Table;
 use mm_table::Mode;
 
-/// What a transaction does. `due` says of each process whether the abort of its transaction is due.
+/// Returns what a transaction does. `due` says of each process whether the abort of its transaction is due.
 pub fn status(table: &Table, due: &[bool], key: Key) -> Result<Status, Refusal>
     requires { length due.now ≡ table.now.config.processes }
     ensures { HasStatus (marked table.now due.now) key result }
@@ -32,7 +32,7 @@ pub fn status(table: &Table, due: &[bool], key: Key) -> Result<Status, Refusal>
     }
 }
 
-/// The owner of a number that is owned.
+/// Returns the owner of a number that is owned.
 fn holder(table: &Table, number: u32) -> Key
     requires { IsSome (owner_of table.now number) }
     ensures { owner_of table.now number ≡ Some result }

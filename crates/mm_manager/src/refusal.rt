@@ -8,10 +8,10 @@ pub enum OpenError {
     /// The field `transactions` of the configuration.
     #[error("transactions is not from 1 to 65536")]
     Transactions,
-    /// The field `names`, where the one before is in its range.
+    /// The field `names`, if the one before is in its range.
     #[error("names is not from 1 to 65536")]
     Names,
-    /// The field `name_bytes`, where those before are in their ranges.
+    /// The field `name_bytes`, if those before are in their ranges.
     #[error("name_bytes is not from 1 to 1024")]
     NameBytes,
     #[error("a request for memory was refused")]
@@ -39,7 +39,7 @@ pub enum Refusal {
     TransactionsFull,
     #[error("as many names are owned as there can be")]
     NamesFull,
-    /// Only of `lock`, where it would wait.
+    /// Only of `lock`, if it would wait.
     #[error("there may be no label left for one more wait")]
     LabelsFull,
     /// Only of `begin`, `lock` and `try_lock`.

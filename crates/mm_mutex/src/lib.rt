@@ -27,21 +27,21 @@ impl<T: Drop> Drop for YieldingMutex<T> {
 }
 
 impl<T> YieldingMutex<T> {
-    /// A free lock with this value behind it. Constant time, and it takes no memory.
+    /// Returns a free lock with this value behind it. Constant time, and it takes no memory.
     pub fn new(value: T) -> YieldingMutex<T> {
         YieldingMutex {
             inside: CachePadded::new(Mutex::new(CachePadded::new(value))),
         }
     }
 
-    /// What stands behind the lock, which nobody else can take any more. Constant time.
+    /// Returns the value behind the lock, which nobody else can take any more. Constant time.
     pub fn into_inner(self) -> T {
         let YieldingMutex { inside } = self;
         inside.into_inner().into_inner().into_inner()
     }
 
-    /// Takes the lock. Constant time where it is free; else the thread waits until whoever has it lets go.
-    // In place where it is free, since `Mutex::lock` itself is too long for that.
+    /// Takes the lock. Constant time if it is free; else the thread waits until the thread that has it lets go.
+    // In place if it is free, since `Mutex::lock` itself is too long for that.
     #[inline(always)]
     pub fn take<R: Wait>(&self, rt: &R) -> Guard<'_, T> {
         match self.inside.try_lock() {
@@ -73,7 +73,7 @@ pub struct Guard<'a, T> {
 }
 
 impl<T> Guard<'_, T> {
-    /// What stands behind the lock. Constant time.
+    /// Returns the value behind the lock. Constant time.
     #[inline(always)]
     pub fn inside(&mut self) -> &mut T {
         &mut self.guard

@@ -12,7 +12,7 @@ pub record NameTable : Type 0 where
 abbrev pub name_of : NameTable → ℕ → Option (List ℕ)
 name_of t n = slice_index_or t.names n None
 
--- so many numbers, none of which has a name
+-- this many numbers, none of which has a name
 abbrev pub nameless : ℕ → ℕ → NameTable
 nameless numbers name_bytes = record { names = replicate numbers None; name_bytes = name_bytes }
 

@@ -1,5 +1,4 @@
 pub mod Places
-pub mod Hash
 pub mod Spots
 pub mod Index
 -- what the bytes of a length mean

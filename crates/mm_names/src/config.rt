@@ -5,9 +5,9 @@
 pub struct NamesConfig {
     /// How many names there can be at once: 1 to 65,536.
     pub names: u32,
-    /// How many bytes a name may have: 1 to 1,024. Memory is taken for so many bytes of each name.
+    /// How many bytes a name may have: 1 to 1,024. Memory is taken for this many bytes of each name.
     pub name_bytes: u32,
-    /// Any number. Whoever chooses the names should not know it, so that they cannot choose names of one hash.
+    /// Any number. Keep it from those who choose the names: with it they could choose names of one hash.
     pub seed: u64,
 }
 

@@ -8,7 +8,7 @@ pub enum OpenError {
     /// The field `names` of the configuration.
     #[error("names is not from 1 to 65536")]
     Names,
-    /// The field `name_bytes` of the configuration, where `names` is in its range.
+    /// The field `name_bytes` of the configuration, if `names` is in its range.
     #[error("name_bytes is not from 1 to 1024")]
     NameBytes,
     #[error("a request for memory was refused")]

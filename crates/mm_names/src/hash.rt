@@ -10,19 +10,19 @@ const BLOCK: usize = 16;
 /// What names are hashed with: two numbers that come of the seed.
 ///
 /// A step takes two words of the name, joins each with one of the numbers by `^`, multiplies them to 128 bits, and joins the halves of
-/// the product by `^`, as wyhash and foldhash do. Whoever chooses names and knows neither the seed nor how long calls take has no way
-/// known to choose names of one hash; that there is none is not proved. Whoever knows the seed can choose them.
+/// the product by `^`, as wyhash and foldhash do. For somebody who knows neither the seed nor how long calls take, no way is
+/// known to choose names of one hash. This is not proved. With the seed names of one hash can be chosen.
 #[derive(Clone, Copy)]
-pub(crate) struct NameHash {
+pub struct NameHash {
     first: u64,
     second: u64,
 }
 
 impl NameHash {
-    ghost use Rattle.mm_names.specs.private.Hash.{hash_by, hash_of, last_step};
+    ghost use Rattle.mm_names.specs.Hash.{hash_by, hash_of, last_step};
 
-    /// The hash by the numbers that SipHash-1-3 makes of this seed.
-    pub(crate) fn new(seed: u64) -> NameHash
+    /// Returns the hash by the numbers that SipHash-1-3 makes of this seed.
+    pub fn new(seed: u64) -> NameHash
         ensures { result ≡ hash_by seed }
     {
         let mut hasher = DefaultHasher::new();
@@ -35,10 +35,10 @@ impl NameHash {
         }
     }
 
-    /// The hash of a name, in `O(length)`.
+    /// Returns the hash of a name, in `O(length)`.
     // In place: most names are short, and cost little more than a call.
     #[inline(always)]
-    pub(crate) fn of(&self, name: &[u8]) -> u64
+    pub fn of(&self, name: &[u8]) -> u64
         ensures { result ≡ hash_of self.now name.now }
     {
         let state = self.first ^ name.len() as u64;
@@ -48,7 +48,7 @@ impl NameHash {
         self.of_long(state, name)
     }
 
-    /// The hash of a name of more than one block, in `O(length)`.
+    /// Returns the hash of a name of more than one block, in `O(length)`.
     fn of_long(&self, start: u64, name: &[u8]) -> u64
         requires long { 16 < length name.now }
         requires start { start ≡ bit_xor self.now.first (length name.now) }
@@ -63,7 +63,7 @@ impl NameHash {
         self.last_step(state, &name[BLOCK * blocks..])
     }
 
-    /// The hash of a name of which this is left: its last one to sixteen bytes, as two words that may overlap, or as one.
+    /// Returns the hash of a name of which this is left: its last one to sixteen bytes, as two words that may overlap, or as one.
     #[inline]
     fn last_step(&self, state: u64, rest: &[u8]) -> u64
         ensures { result ≡ last_step self.now state rest.now }
@@ -79,7 +79,7 @@ impl NameHash {
     }
 }
 
-/// The two halves of the 128 bits of a product, joined by `^`.
+/// Returns the two halves of the 128 bits of a product, joined by `^`.
 #[inline]
 fn folded(a: u64, b: u64) -> u64
     ensures { result ≡ folded_multiply a b }
@@ -88,7 +88,7 @@ fn folded(a: u64, b: u64) -> u64
     (product & 0xFFFF_FFFF_FFFF_FFFF) as u64 ^ (product >> 64) as u64
 }
 
-/// The four bytes from `at` on as one number, the lowest first.
+/// Returns the four bytes from `at` on as one number, the lowest first.
 // Copied, and not read one by one: so the compiler makes one load of them.
 #[inline]
 fn half_word(name: &[u8], at: usize) -> u64
@@ -100,7 +100,7 @@ fn half_word(name: &[u8], at: usize) -> u64
     u32::from_le_bytes(bytes) as u64
 }
 
-/// The eight bytes from `at` on as one number, the lowest first.
+/// Returns the eight bytes from `at` on as one number, the lowest first.
 #[inline]
 fn word(name: &[u8], at: usize) -> u64
     requires { at + 8 ≤ length name.now }

@@ -40,7 +40,7 @@ impl Length {
         Length { bytes }
     }
 
-    /// The length, in constant time.
+    /// Returns the length, in constant time.
     #[inline]
     pub(crate) fn get(self) -> Option<u16>
         ensures { result ≡ self }

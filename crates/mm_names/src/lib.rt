@@ -18,4 +18,5 @@ mod spots;
 
 pub use config::NamesConfig;
 pub use error::{NamesError, OpenError};
+pub use hash::NameHash;
 pub use names::{Entry, Names};

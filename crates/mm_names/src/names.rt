@@ -48,8 +48,8 @@ impl Model for Names {
 impl Names {
     /// Names of this configuration: no number has a name yet. `O(names * name_bytes)`.
     ///
-    /// Refused as `Names` or else as `NameBytes` exactly where that number of the configuration is out of its range, and as `Memory`
-    /// only where a request for memory was refused. This is the one call that takes memory: for the bytes of the names, for their
+    /// Refused as `Names` or else as `NameBytes` exactly if that number of the configuration is out of its range, and as `Memory`
+    /// only if a request for memory was refused. This is the one call that takes memory: for the bytes of the names, for their
     /// lengths, for the lists, for the links of each number, and for the numbers without a name.
     pub fn open(alloc: Global, config: NamesConfig) -> Result<Names, OpenError>
         ensures opened { IfOk result (λ names. names ≡ nameless config.names config.name_bytes) }
@@ -65,7 +65,7 @@ impl Names {
         Ok(no_names(alloc, config)?)
     }
 
-    /// The number of a name; `None` exactly where no number has it. `O(length)`, and a look at each name of the same list.
+    /// Returns the number of a name; `None` exactly if no number has it. `O(length)`, and a look at each name of the same list.
     // In place, as `enter` is: a call would cost a tenth of what it does.
     #[inline(always)]
     pub fn find(&self, name: &[u8]) -> Option<u32>
@@ -113,7 +113,7 @@ impl Names {
         })
     }
 
-    /// The name of a number, in constant time. `None` where it has none, or is not one of the numbers.
+    /// Returns the name of a number, in constant time. `None` if it has none, or is not one of the numbers.
     pub fn name(&self, number: u32) -> Option<&[u8]>
         ensures { option_copied result ≡ name_of self.now number }
     {
@@ -139,7 +139,7 @@ impl Names {
         true
     }
 
-    /// Whether a number has a name: it stands in a list exactly then. Constant time.
+    /// Returns whether a number has a name: it stands in a list exactly then. Constant time.
     #[inline]
     fn has_name(&self, number: u32) -> bool
         ensures { IsTrue result ↔ IsSome (name_of self.now number) }
@@ -150,7 +150,7 @@ impl Names {
         self.index.spot(number).is_some()
     }
 
-    /// How many bytes a name may have, in constant time.
+    /// Returns how many bytes a name may have, in constant time.
     #[inline]
     pub fn name_bytes(&self) -> u32
         ensures { result ≡ self.now.name_bytes }
@@ -186,7 +186,7 @@ fn no_names(alloc: Global, config: NamesConfig) -> Result<Names, AllocError>
     })
 }
 
-/// The numbers below this one, the least one last.
+/// Returns the numbers below this one, the least one last.
 fn all_free(alloc: Global, numbers: u32) -> Result<Vec<u32>, AllocError>
     ensures all { IfOk result (λ free. AreAll numbers free.items) }
     ensures room { IfOk result (λ free. numbers ≤ vec_capacity free) }
@@ -200,7 +200,7 @@ fn all_free(alloc: Global, numbers: u32) -> Result<Vec<u32>, AllocError>
     Ok(free)
 }
 
-/// The number of a name that is nowhere but at this spot. Most lists have one number or none, so the first one is looked at here.
+/// Returns the number of a name that is nowhere but at this spot. Most lists have one number or none, so the first one is looked at here.
 #[inline(always)]
 fn find_at(places: &Places, index: &TaggedLists, spot: Spot, name: &[u8]) -> Option<u32>
     requires in_range { spot.list < length index.now.lists }
@@ -217,7 +217,7 @@ fn find_at(places: &Places, index: &TaggedLists, spot: Spot, name: &[u8]) -> Opt
     find_in_list(places, index, spot, name)
 }
 
-/// The number of a name that is nowhere but at this spot, wherever it stands in the list.
+/// Returns the number of a name that is nowhere but at this spot, wherever it stands in the list.
 #[inline(never)]
 fn find_in_list(places: &Places, index: &TaggedLists, spot: Spot, name: &[u8]) -> Option<u32>
     requires in_range { spot.list < length index.now.lists }
@@ -235,7 +235,7 @@ fn find_in_list(places: &Places, index: &TaggedLists, spot: Spot, name: &[u8]) -
     None
 }
 
-/// Whether a number stands in its list under this part of a hash. That is compared before the bytes: most other names are not read.
+/// Returns whether a number stands in its list under this part of a hash. That is compared before the bytes: most other names are not read.
 #[inline(always)]
 fn has_tag(index: &TaggedLists, number: u32, tag: u32) -> bool
     requires { number < length index.now.spots }

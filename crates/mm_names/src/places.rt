@@ -31,7 +31,7 @@ impl Model for Places {
 impl Places {
     /// This many numbers without a name, in `O(numbers * name_bytes)`. It takes memory twice, and no later call takes any.
     ///
-    /// `Err` only where that memory is refused.
+    /// `Err` only if that memory is refused.
     pub(crate) fn new(alloc: Global, numbers: u32, name_bytes: u32) -> Result<Places, AllocError>
         requires some_numbers { 1 ≤ numbers }
         requires few_numbers { numbers ≤ NamesConfig.MAX_NAMES }
@@ -51,7 +51,7 @@ impl Places {
         })
     }
 
-    /// How many numbers there are, in constant time.
+    /// Returns how many numbers there are, in constant time.
     #[inline]
     pub(crate) fn numbers(&self) -> u32
         ensures { result ≡ length self.now.names }
@@ -59,7 +59,7 @@ impl Places {
         self.lengths.len() as u32
     }
 
-    /// How many bytes a name may have, in constant time.
+    /// Returns how many bytes a name may have, in constant time.
     #[inline]
     pub(crate) fn name_bytes(&self) -> u32
         ensures { result ≡ self.now.name_bytes }
@@ -67,7 +67,7 @@ impl Places {
         self.name_bytes
     }
 
-    /// The name of a number, in constant time.
+    /// Returns the name of a number, in constant time.
     #[inline]
     pub(crate) fn get(&self, number: u32) -> Option<&[u8]>
         requires { number < length self.now.names }
@@ -78,7 +78,7 @@ impl Places {
         Some(&self.bytes[start..start + length as usize])
     }
 
-    /// Whether a number has this name, in `O(length)`.
+    /// Returns whether a number has this name, in `O(length)`.
     #[inline]
     pub(crate) fn has(&self, number: u32, name: &[u8]) -> bool
         requires { number < length self.now.names }
@@ -177,7 +177,7 @@ fn copy_word(place: &mut [u8], name: &[u8], at: usize)
     place[at..at + 8].copy_from_slice(&word);
 }
 
-/// Whether two names are one. For most names that costs less than a call of the C library.
+/// Returns whether two names are one. For most names that costs less than a call of the C library.
 #[inline]
 fn are_equal(first: &[u8], second: &[u8]) -> bool
     ensures { IsTrue result ↔ (first.now ≡ second.now) }
@@ -191,7 +191,7 @@ fn are_equal(first: &[u8], second: &[u8]) -> bool
     }
 }
 
-/// Whether two names of 8 to 16 bytes are one, by their first eight bytes and their last eight.
+/// Returns whether two names of 8 to 16 bytes are one, by their first eight bytes and their last eight.
 #[inline]
 fn have_equal_ends(first: &[u8], second: &[u8]) -> bool
     requires long { 8 ≤ length first.now }
@@ -202,7 +202,7 @@ fn have_equal_ends(first: &[u8], second: &[u8]) -> bool
     have_equal_word(first, second, 0) && have_equal_word(first, second, first.len() - 8)
 }
 
-/// Whether the eight bytes from `at` on are those of both names.
+/// Returns whether the eight bytes from `at` on are those of both names.
 #[inline]
 fn have_equal_word(first: &[u8], second: &[u8], at: usize) -> bool
     requires first { at + 8 ≤ length first.now }
@@ -218,7 +218,7 @@ fn have_equal_word(first: &[u8], second: &[u8], at: usize) -> bool
     word == other
 }
 
-/// Whether two names are one, eight bytes at a time.
+/// Returns whether two names are one, eight bytes at a time.
 // Apart: so the comparison of short names stays where it is made.
 #[inline(never)]
 fn have_equal_words(first: &[u8], second: &[u8]) -> bool
@@ -239,7 +239,7 @@ fn have_equal_words(first: &[u8], second: &[u8]) -> bool
     are_equal_bytes(first, second)
 }
 
-/// Whether the last bytes of two names are equal.
+/// Returns whether the last bytes of two names are equal.
 #[inline]
 fn are_equal_bytes(first: &[u8], second: &[u8]) -> bool
     requires { length first.now ≡ length second.now }

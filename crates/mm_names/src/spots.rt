@@ -19,7 +19,7 @@ pub(crate) struct Spots {
 }
 
 impl Spots {
-    ghost use Rattle.mm_names.specs.private.Hash.{hash_by};
+    ghost use Rattle.mm_names.specs.Hash.{hash_by};
     ghost use Rattle.mm_names.specs.private.Spots.{spot_of};
 
     /// Spots for this many names, by the hash of this seed.
@@ -35,7 +35,7 @@ impl Spots {
         }
     }
 
-    /// The spot of a name, in `O(length)`.
+    /// Returns the spot of a name, in `O(length)`.
     // In place, as the hash is.
     #[inline(always)]
     pub(crate) fn of(&self, name: &[u8]) -> Spot
@@ -49,7 +49,7 @@ impl Spots {
         }
     }
 
-    /// How many lists there are, in constant time.
+    /// Returns how many lists there are, in constant time.
     #[inline]
     pub(crate) fn lists(&self) -> u32
         ensures { result ≡ self.now.lists }

@@ -13,7 +13,7 @@ pub record Queues : Type 0 where
 abbrev pub queue : Queues → ℕ → List Key
 queue q list = slice_index_or q.lists list []
 
--- so many lists without keys, for so many processes
+-- this many lists without keys, for this many processes
 abbrev pub empty_queues : ℕ → ℕ → Queues
 empty_queues lists processes = record { lists = replicate lists []; processes = processes }
 

@@ -33,7 +33,7 @@ impl Model for Lists {
 impl Lists {
     /// This many lists without keys, for this many processes, in `O(lists + processes)`. It takes memory twice, and no later call takes any.
     ///
-    /// `Err` only where that memory is refused.
+    /// `Err` only if that memory is refused.
     pub fn new(alloc: Global, lists: u32, processes: u32) -> Result<Lists, Memory>
         requires some_lists { 1 ≤ lists }
         requires lists_in_range { lists ≤ MAX_CAPACITY }
@@ -75,7 +75,7 @@ impl Lists {
         set_next(&mut self.entries, &mut ends.front, last, link);
     }
 
-    /// The first key of a list, in constant time. `None` where the list has none.
+    /// Returns the first key of a list, in constant time. `None` if the list has none.
     #[inline]
     pub fn front(&self, list: u32) -> Option<Key>
         requires { list < length self.now.lists }
@@ -89,7 +89,7 @@ impl Lists {
         })
     }
 
-    /// The key after this one in its list, in constant time. `None` for the last of a list, and for a key that stands in no list.
+    /// Returns the key after this one in its list, in constant time. `None` for the last of a list, and for a key that stands in no list.
     #[inline]
     pub fn next(&self, key: Key) -> Option<Key>
         ensures listed { IsNextKey self.now key result }
@@ -104,7 +104,7 @@ impl Lists {
         })
     }
 
-    /// The process whose key comes after that of a process which stands in a list, in constant time. `None` for the last of the list.
+    /// Returns the process whose key comes after that of a process which stands in a list, in constant time. `None` for the last of the list.
     #[inline]
     pub fn next_process(&self, process: u32) -> Option<u32>
         requires { IsOccupied self.now process }
@@ -114,7 +114,7 @@ impl Lists {
         next.get()
     }
 
-    /// Takes a key out of its list, in constant time. `false` exactly where it stands in none, and then nothing changes.
+    /// Takes a key out of its list, in constant time. `false` exactly if it stands in none, and then nothing changes.
     #[inline]
     pub fn remove(&mut self, key: Key) -> bool
         ensures found { IsTrue result ↔ Stands self.old key }
@@ -146,7 +146,7 @@ impl Lists {
         set_before(&mut self.entries, &mut ends.back, next, before);
     }
 
-    /// Takes the first key out of a list, in constant time. `None` where the list has none, and then nothing changes.
+    /// Takes the first key out of a list, in constant time. `None` if the list has none, and then nothing changes.
     pub fn pop_front(&mut self, list: u32) -> Option<Key>
         requires { list < length self.old.lists }
         ensures key { result ≡ head (queue self.old list) }
@@ -157,7 +157,7 @@ impl Lists {
         Some(key)
     }
 
-    /// How many keys a list has, in constant time.
+    /// Returns how many keys a list has, in constant time.
     pub fn len(&self, list: u32) -> u32
         requires { list < length self.now.lists }
         ensures { result ≡ length (queue self.now list) }
@@ -165,14 +165,14 @@ impl Lists {
         self.ends[list as usize].len
     }
 
-    /// The list in which a key stands, in constant time. `None` exactly where it stands in none.
+    /// Returns the list in which a key stands, in constant time. `None` exactly if it stands in none.
     pub fn list_of(&self, key: Key) -> Option<u32>
         ensures { MatchOption result (¬ Stands self.now key) (λ list. Among key (queue self.now list)) }
     {
         Some(self.entries.get(key)?.list)
     }
 
-    /// Whether a key of this process stands in some list, in constant time.
+    /// Returns whether a key of this process stands in some list, in constant time.
     pub fn occupied(&self, process: u32) -> bool
         ensures { IsTrue result ↔ IsOccupied self.now process }
     {

@@ -17,7 +17,7 @@ pub(crate) struct Standing {
 
 const _: () = prove!(size_of::<Standing>() == 12);
 
-/// Sets what comes before a process, in constant time. Where there is none, it is the last of its list.
+/// Sets what comes before a process, in constant time. If there is none, it is the last of its list.
 #[inline]
 pub(crate) fn set_before(
     entries: &mut Shelf<Standing>,
@@ -36,7 +36,7 @@ pub(crate) fn set_before(
     }
 }
 
-/// Sets what follows a process, in constant time. Where there is none, it is the first of its list.
+/// Sets what follows a process, in constant time. If there is none, it is the first of its list.
 #[inline]
 pub(crate) fn set_next(entries: &mut Shelf<Standing>, first: &mut Link, process: Link, next: Link)
     requires { ForSome process (HasEntry entries.old) }

@@ -54,7 +54,7 @@ abort s n = vacate (take_back s n) n
 
 -- ---- transmit, detect
 
--- the public label of n's holder, where that is greater than n's own
+-- the public label of n's holder, if that is greater than n's own
 abbrev pub greater_label : TableState → ℕ → Option Label
 greater_label s n = option_and_then (λ h. if label_lt (public_of s n) (public_of s h) then Some (public_of s h) else None) (holder_of s n)
 
@@ -71,7 +71,7 @@ can_detect s n =
     not (has_verdict s n) && label_eq (private_of s n) (public_of s n)
     && option_map_or (λ h. label_eq (public_of s n) (public_of s h)) (holder_of s n) false
 
--- where n can detect, its key gets a verdict, and this is counted
+-- if n can detect, its key gets a verdict, and this is counted
 abbrev pub detect : TableState → ℕ → TableState
 detect s n =
     if can_detect s n
@@ -80,7 +80,7 @@ detect s n =
 
 -- ---- settle
 
--- each waiting process in turn transmits where it can
+-- each waiting process in turn transmits if it can
 abbrev pub sweep : TableState → TableState
 sweep s = fold transmit s (waiting_processes s)
 

@@ -132,7 +132,7 @@ aborted s k = outcome (abort_tests s k) s tt (abort s k.process)
 abbrev pub given_up : TableState → Key → Outcome (Unit {0})
 given_up s k = outcome (give_up_tests s k) s tt (activate s k.process)
 
--- settle, after n sweeps: each waiting process then detects where it can
+-- settle, after n sweeps: each waiting process then detects if it can
 abbrev pub settled : TableState → ℕ → Outcome Settled
 settled s n =
     let t = swept s n in
@@ -157,7 +157,7 @@ pub data Event : Type 0 where
   Settle : Event
   GiveUp : (key : Key) → Event
 
--- what each event answers where it is accepted
+-- what each event answers if it is accepted
 abbrev pub Answer : Event → Type 0
 Answer Begin = Key
 Answer (Acquire k r) = Acquired
@@ -196,7 +196,7 @@ IsReached c s = (es : List Event) × Run (opening c) es s
 -- ---- opening and reads
 
 -- `open` is refused for a number out of range, and else only for want of memory; it gives the opening of the configuration.
--- When `Memory` comes is left open: only where a request for memory was refused, which no clause can say.
+-- When `Memory` comes is left open: only if a request for memory was refused, which no clause can say.
 abbrev pub Opens : Config → Result TableState Refusal → Type 0
 Opens c (Ok s) = IsInRange c × (s ≡ opening c)
 Opens c (Err e) = ((e ≡ BadConfig) × ¬ IsInRange c) ⊎ ((e ≡ Memory) × IsInRange c)

@@ -1,4 +1,4 @@
--- The wait-for graph: who waits for whom, and two labels of each process, as numbers in one order. Processes are the numbers below `processes`.
+-- The wait-for graph: the waits, and two labels of each process, as numbers in one order. Processes are the numbers below `processes`.
 use Rattle.std.specs.Prelude.{ℕ, Option, Some, None, ◌≡◌, ◌≢◌, ◌≤◌, ◌<◌, ◌⊎◌, List, [], ◌∷◌, length, ⊤}
 use Rattle.mm_lists.specs.Members.{Among, NoRepeat}
 
@@ -85,7 +85,7 @@ pub record IsGreatest (g : Graph) (k L : ℕ) : Type 0 where
 abbrev pub RisingLaw : Graph → Type 0
 RisingLaw g = (k h : ℕ) → WaitsFor g k h → (g.public k ≡ g.private k) ⊎ (g.public k ≤ g.public h)
 
--- where another process shows the own label of a waiting one, that label came to it along the waits
+-- if another process shows the own label of a waiting one, that label came to it along the waits
 abbrev pub PropagatedLaw : Graph → Type 0
 PropagatedLaw g = (m h n : ℕ) → WaitsFor g m h → n < g.processes → n ≢ m → g.public n ≡ g.private m → Propagated g (g.private m) n m
 

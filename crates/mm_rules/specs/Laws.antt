@@ -175,7 +175,7 @@ TransmitsAndDetects (Transmit k ∷ es) = TransmitsAndDetects es
 TransmitsAndDetects (Detect k ∷ es) = TransmitsAndDetects es
 TransmitsAndDetects (e ∷ es) = ⊥
 
--- 1 where a transmit answers that it raised a label, and else 0
+-- 1 if a transmit answers that it raised a label, and else 0
 abbrev pub raise_told : (e : Event) → Result (Answer e) Refusal → ℕ
 raise_told (Transmit k) (Ok (Raised l)) = 1
 raise_told e reply = 0
@@ -189,7 +189,7 @@ raises_told (e ∷ es) old new (mid, reply, step, rest) = raise_told e reply + r
 abbrev pub StepsAreDetermined : Type 0
 StepsAreDetermined = (e : Event) (s t u : TableState) (r q : Result (Answer e) Refusal) → Step e s r t → Step e s q u → (r ≡ q) × (t ≡ u)
 
--- transmits and detects alone, however many, raise at most so many labels
+-- transmits and detects alone, however many, raise at most this many labels
 abbrev pub RaisesAreBounded : Type 0
 RaisesAreBounded = (old new : TableState) (es : List Event) → TransmitsAndDetects es → (run : Run old es new) → Laws old → raises_told es old new run ≤ most_raises old
 
@@ -197,7 +197,7 @@ RaisesAreBounded = (old new : TableState) (es : List Event) → TransmitsAndDete
 abbrev pub SettleEnds : Type 0
 SettleEnds = (s : TableState) → Laws s → (n : ℕ) × Settles s n
 
--- the table is at rest, each process shows the greatest public label that stood along its waits, and at most so many labels were raised
+-- the table is at rest, each process shows the greatest public label that stood along its waits, and at most this many labels were raised
 pub record RestsFrom (old new : TableState) (answer : Settled) : Type 0 where
   pub at_rest : AtRest new
   pub greatest : (k : ℕ) → IsGreatest (graph_of old) k (word_of (public_of new k))

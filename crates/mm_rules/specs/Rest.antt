@@ -7,7 +7,7 @@ use Rattle.mm_rules.specs.Event.{Event, Answer, Step}
 use Rattle.mm_rules.specs.Graph.{WaitsFor}
 use Rattle.mm_rules.specs.Laws.{Laws, AtRest}
 
--- whoever is waited for shows the label that it showed before
+-- each holder shows the label that it showed before
 abbrev pub HoldersShowTheSame : TableState → TableState → Type 0
 HoldersShowTheSame old new = (n h : ℕ) → WaitsFor (graph_of new) n h → public_of new h ≡ public_of old h
 
@@ -15,6 +15,6 @@ HoldersShowTheSame old new = (n h : ℕ) → WaitsFor (graph_of new) n h → pub
 abbrev pub OpeningIsAtRest : Type 0
 OpeningIsAtRest = (c : Config) → IsInRange c → AtRest (opening c)
 
--- and it stays at rest by each event after which whoever is waited for shows the label that it showed before
+-- and it stays at rest by each event after which each holder shows the label that it showed before
 abbrev pub RestStays : Type 0
 RestStays = (e : Event) (old new : TableState) (reply : Result (Answer e) Refusal) → Step e old reply new → Laws old → AtRest old → HoldersShowTheSame old new → AtRest new

@@ -13,7 +13,7 @@ blocked_on s h ws = fold (λ t w. block t w.key.process h) s ws
 abbrev pub NoneIs : ℕ → List Wait → Type 0
 NoneIs h ws = AllByRecursion (λ w. w.key.process ≢ h) ws
 
--- all sweeps of a settle lead from old to new, and raise so many labels
+-- all sweeps of a settle lead from old to new, and raise this many labels
 pub record IsSwept (old : TableState) (raises : ℕ) (new : TableState) : Type 0 where
   pub sweeps : ℕ
   pub settles : Settles old sweeps

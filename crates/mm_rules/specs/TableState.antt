@@ -112,7 +112,7 @@ holder_of s n = option_map (λ k. k.process) (option_and_then (owner_of s) (wait
 abbrev pub waiters_of : TableState → ℕ → List Wait
 waiters_of s r = filter (λ w. nat_eq w.resource r) s.waits
 
--- who waits for whom; labels are compared as words
+-- the waits; labels are compared as words
 abbrev pub graph_of : TableState → Graph
 graph_of s = record {
   processes = s.config.processes;

@@ -1,4 +1,4 @@
--- Who is convicted by a settle: whoever closed a cycle of waits, where the table was at rest before.
+-- The transaction that a settle convicts: the one that closed a cycle of waits, if the table was at rest before.
 use Rattle.std.specs.Prelude.{ℕ, ◌≡◌, ◌≢◌, ◌<◌, ◌⊎◌, ◌↔◌, ⊤, List, Result, Ok, IsTrue, IsFalse}
 use Rattle.mm_arena.specs.declared.key.Key.{Key}
 use Rattle.mm_label.specs.Label.{Label, word_of}
@@ -25,7 +25,7 @@ BeginsWait e reply = ⊥
 
 -- ---- who closes a cycle is its victim
 
--- from old to new nobody gets or loses a verdict but n, which had none; it has one in new exactly where it is on a cycle of mid, and the answer counts it
+-- from old to new nobody gets or loses a verdict but n, which had none; it has one in new exactly if it is on a cycle of mid, and the answer counts it
 pub record OnlyCloserIsConvicted (old mid new : TableState) (n : ℕ) (answer : Settled) : Type 0 where
   pub before : IsFalse (has_verdict old n)
   pub others : (v : ℕ) → v ≢ n → has_verdict new v ≡ has_verdict old v
@@ -36,7 +36,7 @@ pub record OnlyCloserIsConvicted (old mid new : TableState) (n : ℕ) (answer : 
 abbrev pub IsNewest : TableState → ℕ → Label → Type 0
 IsNewest s h l = (way : List ℕ) (m : ℕ) → Path (graph_of s) h way m → (graph_of s).private m < word_of l
 
--- so it is where one verdict stands on each cycle, k begins to wait under a label that is greater than each private one along its waits, and the table is then settled
+-- so it is if one verdict stands on each cycle, k begins to wait under a label that is greater than each private one along its waits, and the table is then settled
 abbrev pub NewestCloserIsVictim : Type 0
 NewestCloserIsVictim = (old mid new : TableState) (k h : Key) (r : ℕ) (l : Label) (answer : Settled)
     → Step (Acquire k r) old (Ok (Waits h l)) mid → Step Settle mid (Ok answer) new → Laws old → EachCycleHasVerdict old → IsNewest old h.process l
@@ -54,7 +54,7 @@ CloserIsVictim = (old mid new : TableState) (k h : Key) (r : ℕ) (l : Label) (a
 
 -- ---- no other event closes one
 
--- where one verdict stands on each cycle, it is so after each event by which nobody begins to wait
+-- if one verdict stands on each cycle, it is so after each event by which nobody begins to wait
 abbrev pub OnlyWaitsCloseCycles : Type 0
 OnlyWaitsCloseCycles = (e : Event) (old new : TableState) (reply : Result (Answer e) Refusal) → Step e old reply new → (BeginsWait e reply → ⊥)
     → Laws old → EachCycleHasVerdict old → EachCycleHasVerdict new

@@ -22,7 +22,7 @@ impl Config {
 
     pub const MAX_LABEL_LIMIT: u64 = 17_592_186_044_415;
 
-    /// Whether each number is in its range.
+    /// Returns whether each number is in its range.
     pub fn is_in_range(&self) -> bool
         ensures { IsTrue result ↔ IsInRange self.now }
     {

@@ -44,7 +44,7 @@ pub fn public_labels_never_fall()
     ensures { PublicLabelsNeverFall }
 {}
 
-/// An accepted event adds one to the accepted events, the verdicts that it gives to the verdicts, and one to the aborts where it is an
+/// An accepted event adds one to the accepted events, the verdicts that it gives to the verdicts, and one to the aborts if it is an
 /// abort. A refused one changes none of the three.
 pub fn counts_are_exact()
     ensures { CountsAreExact }
@@ -76,24 +76,24 @@ pub fn settle_gives_rest()
     ensures { SettleGivesRest }
 {}
 
-/// Who begins to wait while the table is at rest is convicted by the settle that follows exactly where it closed a cycle of waits, and
+/// If the table is at rest, the settle after a request that waits convicts the requester exactly if its wait closed a cycle of waits, and
 /// nobody else is.
 pub fn closer_is_victim()
     ensures { CloserIsVictim }
 {}
 
-/// More exactly: it is so where one verdict stands on each cycle of waits, and the label under which the transaction waits is greater
+/// More exactly: it is so if one verdict stands on each cycle of waits, and the label under which the transaction waits is greater
 /// than each private one along the waits from its holder.
 pub fn newest_closer_is_victim()
     ensures { NewestCloserIsVictim }
 {}
 
-/// And it is not so where that label is not: the settle then convicts another one of the cycle.
+/// If the label of the transaction is not greater than each of those, the settle convicts another transaction of the cycle.
 pub fn victim_is_newest()
     ensures { VictimIsNewest }
 {}
 
-/// Where one verdict stands on each cycle of waits, it is so after each event by which nobody begins to wait.
+/// If one verdict stands on each cycle of waits, it is so after each event by which nobody begins to wait.
 pub fn only_waits_close_cycles()
     ensures { OnlyWaitsCloseCycles }
 {}
@@ -108,7 +108,7 @@ pub fn opening_is_at_rest()
     ensures { OpeningIsAtRest }
 {}
 
-/// A table stays at rest by each event after which whoever is waited for shows the label that it showed before.
+/// A table stays at rest by each event after which each holder shows the label that it showed before.
 pub fn rest_stays()
     ensures { RestStays }
 {}

@@ -40,7 +40,7 @@ pub enum Refusal {
 impl Refusal {
     ghost use Rattle.mm_rules.specs.Refusal.{number_of, name_of};
 
-    /// The number under which the refusal is printed: 1 to 15.
+    /// Returns the number under which the refusal is printed: 1 to 15.
     pub fn number(self) -> u8
         ensures { result ≡ number_of self }
     {
@@ -63,7 +63,7 @@ impl Refusal {
         }
     }
 
-    /// The name under which the refusal is printed.
+    /// Returns the name under which the refusal is printed.
     pub fn name(self) -> &'static str
         ensures { result.now ≡ name_of self }
     {

@@ -29,7 +29,7 @@ pub fn read_file(rt: &impl Files, alloc: Global, path: &str) -> FileBytes {
     }
 }
 
-/// The bytes that a reader has left, or the first `BYTES_READ` of them.
+/// Returns the bytes that a reader has left, or the first `BYTES_READ` of them.
 pub fn read_all<R: Read + Drop>(alloc: Global, reader: R) -> FileBytes {
     let mut bytes = Vec::new(alloc);
     match reader.take(BYTES_READ).read_to_end(&mut bytes) {
@@ -55,7 +55,7 @@ pub fn is_same_file(rt: &impl Files, path: &str, other: &str) -> bool {
     }
 }
 
-/// Tells on standard error what is wrong with this file. Where that cannot be written, it is left out.
+/// Tells on standard error what is wrong with this file. If that cannot be written, it is left out.
 pub fn tell<R: Eprint, T: Display>(rt: &R, path: &str, fault: &T) {
     let _ = eprintln!(rt; "{path}: {fault}");
 }

@@ -1,4 +1,4 @@
-//! What is told of a run of a workload: what came of it, in two lines and a status; how it goes; and a report as JSON. It is made from the
+//! Reports a workload run: two summary lines, an exit status, progress, and a report as JSON. It is made from the
 //! outcome that the workers report, and needs no threads.
 //!
 //! - `work_end`: what came of a workload. `progress`: what is printed meanwhile for a person. `telling`: the lines and the report, or why there

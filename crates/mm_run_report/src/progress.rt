@@ -1,4 +1,4 @@
-//! What is printed on standard error for a person while a workload is run. Where that cannot be written, it is left out, and the run goes on.
+//! What is printed on standard error for a person while a workload is run. If that cannot be written, it is left out, and the run goes on.
 
 use mm_clients::{End, Outcome};
 use mm_workload::Workload;

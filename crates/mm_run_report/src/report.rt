@@ -26,7 +26,7 @@ pub struct RunReport<'a> {
     pub waits: u64,
     /// How many labels the workers raised.
     pub raises: u64,
-    /// How long all of it took; nothing where the system gave no time.
+    /// How long all of it took; nothing if the system gave no time.
     pub seconds: Option<f64>,
 }
 

@@ -21,7 +21,7 @@ pub enum Source<'a> {
 }
 
 impl<'a> Source<'a> {
-    /// A workload that is generated from these numbers.
+    /// Returns a workload that is generated from these numbers.
     pub fn of_storm(options: &StormOptions) -> Source<'a> {
         Source::Storm {
             seed: options.seed,
@@ -31,7 +31,7 @@ impl<'a> Source<'a> {
         }
     }
 
-    /// The name that lines for people begin with: that of the file, or `storm`.
+    /// Returns the name that lines for people begin with: that of the file, or `storm`.
     pub fn name(&self) -> &'a str {
         match self {
             Source::Threads { file } => file,

@@ -33,7 +33,7 @@ impl<'a> RunOptions<'a> {
         }
     }
 
-    /// What the words of the command line ask for.
+    /// Returns what the words of the command line ask for.
     pub fn new(source: Source<'a>, report: &'a Option<String>, verbose: bool) -> RunOptions<'a> {
         RunOptions {
             source,
@@ -42,7 +42,7 @@ impl<'a> RunOptions<'a> {
         }
     }
 
-    /// Whether nothing is told but the two lines.
+    /// Returns whether nothing is told but the two lines.
     pub fn is_nothing(&self) -> bool {
         self.report.is_none() && !self.verbose
     }
@@ -82,7 +82,7 @@ pub fn tell_end<R: Files + Eprint + AllocGlobal, W: Write>(
     Ok(status)
 }
 
-/// How many seconds have passed; nothing where the system gives no time.
+/// Returns how many seconds have passed; nothing if the system gives no time.
 pub fn seconds_since(rt: &impl Clock, begun: Option<Instant>) -> Option<f64> {
     match begun {
         Some(begun) => Some(begun.elapsed(rt).ok()?.as_secs_f64()),
@@ -90,7 +90,7 @@ pub fn seconds_since(rt: &impl Clock, begun: Option<Instant>) -> Option<f64> {
     }
 }
 
-/// Writes the report to this file. Where that fails, standard error names the file.
+/// Writes the report to this file. If that fails, standard error names the file.
 fn write_report<R: Files + Eprint + AllocGlobal>(
     rt: &R,
     path: &str,

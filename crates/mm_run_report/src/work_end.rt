@@ -23,7 +23,7 @@ pub enum WorkEnd {
 }
 
 impl WorkEnd {
-    /// What it comes to that no workload could be made.
+    /// Returns the end of a run for which no workload could be made.
     pub fn of_fault(fault: WorkFault) -> WorkEnd
         ensures { result ≡ end_after fault }
     {
@@ -33,8 +33,8 @@ impl WorkEnd {
         }
     }
 
-    /// The status: 0 where each client finished or was aborted, 5 where some client used up its turns or was refused, 1 where the file is
-    /// malformed, and 4 where something else was refused.
+    /// Returns the status: 0 if each client finished or was aborted, 5 if some client used up its turns or was refused, 1 if the file is
+    /// malformed, and 4 if something else was refused.
     pub fn status(&self) -> u8
         ensures { result ≡ work_status self.now }
     {
@@ -47,7 +47,7 @@ impl WorkEnd {
     }
 }
 
-/// Whether each client finished or was aborted.
+/// Returns whether each client finished or was aborted.
 fn all_have_ended(ends: &[End]) -> bool
     ensures { result ≡ list_all has_ended ends.now }
 {
@@ -75,7 +75,7 @@ pub fn print_fault<W: Write>(fault: WorkFault, writer: &mut W) -> Result<u8, Fau
     print_end(&WorkEnd::of_fault(fault), writer)
 }
 
-/// Prints what came of a workload, and returns the status; `Err` where that could not be written.
+/// Prints what came of a workload, and returns the status; `Err` if that could not be written.
 pub fn print_end<W: Write>(end: &WorkEnd, writer: &mut W) -> Result<u8, Fault>
     ensures status { IfOk result (λ status. status ≡ work_status end.now) }
     ensures fault { IfErr result (λ fault. fault ≡ Fault.Write) }

@@ -1,4 +1,4 @@
--- The calls that a line can make: a word, and what stands behind it.
+-- The calls that a line can make: a word, and what follows it.
 use Rattle.std.specs.Prelude.{option_map, ℕ, ◌-◌, ◌^◌, List, [], ◌∷◌, Option, Some, None, codes}
 use Rattle.std.specs.Map.{lookup}
 use Rattle.std.specs.Str.{bytes_eq}
@@ -42,7 +42,7 @@ abbrev pub with_resource : (ℕ → Call) → List (List ℕ) → Option Call
 with_resource call (r ∷ []) = option_map call (number_at_most (2 ^ 32 - 1) r)
 with_resource _ _ = None
 
--- each word that calls, with what stands behind it
+-- each word that calls, with what follows it
 abbrev pub forms : List (List ℕ × (List (List ℕ) → Option Call))
 forms =
     (codes "table", table_call headers.Table)

@@ -11,11 +11,11 @@ use Rattle.mm_script.specs.Text.{Answers}
 abbrev pub input_limit : ℕ
 input_limit = 16777216
 
--- these are the replies to all lines, where no table stands at first
+-- these are the replies to all lines, if no table stands at first
 abbrev pub AreReplies : List (List ℕ) → List ℕ → Type 0
 AreReplies lines out = (malformed : ℕ) × (last : Option TableState) × texts.Text Answers true None lines out malformed last
 
--- a run that ended so read these bytes and wrote those, where no table stood at first; if a write failed, all lines that were read have replies, of which those
+-- a run that ended so read these bytes and wrote those, if no table stood at first; if a write failed, all lines that were read have replies, of which those
 -- bytes are the front
 abbrev pub Ends : Result ℕ Fault → List ℕ → List ℕ → Type 0
 Ends result read written =

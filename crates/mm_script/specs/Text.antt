@@ -49,7 +49,7 @@ abbrev pub most_processes : Header → ℕ
 most_processes headers.Table = 4096
 most_processes headers.Table2 = MAX_PROCESSES
 
--- what opening a table by a header comes to: a bad configuration where there are more processes than it allows, and else what opening one comes to
+-- what opening a table by a header comes to: a bad configuration if there are more processes than it allows, and else what opening one comes to
 abbrev pub OpensBy : Header → Config → Result TableState Refusal → Type 0
 OpensBy header c opened = ((most_processes header < c.processes) × (opened ≡ Err BadConfig)) ⊎ ((c.processes ≤ most_processes header) × Opens c opened)
 

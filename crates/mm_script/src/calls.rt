@@ -8,7 +8,7 @@ use mm_table::{Config, Refusal, Table};
 use std::alloc::Global;
 
 impl Header {
-    /// How many processes a table may have that this word opens.
+    /// Returns how many processes a table may have that this word opens.
     fn most_processes(self) -> u32
         ensures { result ≡ most_processes self }
     {
@@ -77,7 +77,7 @@ fn make_with_none(table: &mut Option<Table>, alloc: Global, call: Call) -> Reply
     }
 }
 
-/// Puts a value where there is none.
+/// Puts a value if there is none.
 fn fill<T: Drop>(place: &mut Option<T>, value: T)
     requires { place.old ≡ None }
     ensures { place.new ≡ Some value }
@@ -85,7 +85,7 @@ fn fill<T: Drop>(place: &mut Option<T>, value: T)
     *place = Some(value);
 }
 
-/// Opens a table by a header. Refused as `BadConfig` before any request for memory where it has more processes than the header allows.
+/// Opens a table by a header. Refused as `BadConfig` before any request for memory if it has more processes than the header allows.
 fn open(alloc: Global, header: Header, config: Config) -> Result<Table, Refusal>
     ensures { OpensBy header config result }
 {

@@ -1,4 +1,4 @@
-//! The calls that a line can make: a word, and what stands behind it.
+//! The calls that a line can make: a word, and what follows it.
 ghost use Rattle.std.specs.Prelude.{◌≡◌, map, option_map};
 ghost use Rattle.std.specs.Map.{lookup};
 ghost use Rattle.std.specs.Str.{bytes_eq};
@@ -10,7 +10,7 @@ use super::line::{Call, Header};
 use mm_lines::{Words, row_of};
 use mm_table::{Config, Key};
 
-/// What stands behind the word of a call, and the call that they make.
+/// What follows the word of a call, and the call that they make.
 #[derive(Clone, Copy)]
 pub enum Form {
     /// `P R L G`: how many processes and resources a table has, its label limit and its generation limit.
@@ -43,7 +43,7 @@ pub enum ResourceCall {
     Release,
 }
 
-/// Each word that calls, with what stands behind it.
+/// Each word that calls, with what follows it.
 const FORMS: [(&str, Form); 14] = [
     ("table", Form::Table(Header::Table)),
     ("table2", Form::Table(Header::Table2)),
@@ -61,7 +61,7 @@ const FORMS: [(&str, Form); 14] = [
     ("totals", Form::Alone(Call::Totals)),
 ];
 
-/// The call that a word makes with these arguments.
+/// Returns the call that a word makes with these arguments.
 pub fn call_of(word: &[u8], arguments: &mut Words<'_>) -> Option<Call>
     ensures { result ≡ call_of word.now (words_left arguments.old) }
 {
@@ -71,7 +71,7 @@ pub fn call_of(word: &[u8], arguments: &mut Words<'_>) -> Option<Call>
     }
 }
 
-/// The word of a call and what stands behind it, if this word calls.
+/// Returns the word of a call and what follows it, if this word calls.
 pub fn usage_of(word: &[u8]) -> Option<(&'static str, Form)> {
     row_of(word, &FORMS)
 }
@@ -79,7 +79,7 @@ pub fn usage_of(word: &[u8]) -> Option<(&'static str, Form)> {
 impl Form {
     ghost use Rattle.mm_script.specs.private.Forms.{call_by, call_before};
 
-    /// How many words stand behind the word, and the same as a text.
+    /// Returns how many words follow the word, and the same as a text.
     pub fn wanted(self) -> (usize, &'static str) {
         match self {
             Form::Table(_) => (4, "four words, P R L G,"),
@@ -90,7 +90,7 @@ impl Form {
         }
     }
 
-    /// The call that is made with these arguments.
+    /// Returns the call that is made with these arguments.
     fn call(self, arguments: &mut Words<'_>) -> Option<Call>
         ensures { result ≡ call_by self (words_left arguments.old) }
     {
@@ -98,7 +98,7 @@ impl Form {
         arguments.next().is_none().then_some(call)
     }
 
-    /// The call that the arguments at the front make, where no others are left.
+    /// Returns the call that the arguments at the front make, if no others are left.
     fn read(self, arguments: &mut Words<'_>) -> Option<Call>
         ensures { call_by self (words_left arguments.old) ≡ call_before result (words_left arguments.new) }
     {

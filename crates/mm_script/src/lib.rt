@@ -1,7 +1,7 @@
 //! Scripts: lines that call a table, and the replies to them, from any reader to any writer. It has no threads.
 //!
 //! - `line`: what a line is.
-//! - `forms`: the calls that a line can make: a word, and what stands behind it.
+//! - `forms`: the calls that a line can make: a word, and what follows it.
 //! - `reason`: why a line is malformed.
 //! - `calls`: makes a call of the table that stands, if one does.
 //! - `reply`: replies, and how they are printed.
@@ -34,7 +34,7 @@ use std::io::{Read, Write};
 /// The longest line in bytes, as `Limits` of mm_lines counts them.
 pub const MAX_LINE: usize = 128;
 
-/// A script has at most so many bytes: 16 MiB.
+/// A script has at most this many bytes: 16 MiB.
 pub const INPUT_LIMIT: usize = 16_777_216;
 
 /// Reads a script to the reader's end, writes one reply for each call and each malformed line, in their order, and returns how many
@@ -60,7 +60,7 @@ pub fn run_script<R: Read, W: Write>(
 {
     let mut script = Script::new(alloc);
     let outcome = serve(&mut script, reader, writer);
-    // The proof is short where the script, with its table, is dropped by a call.
+    // The proof is short if the script, with its table, is dropped by a call.
     drop(script);
     outcome
 }

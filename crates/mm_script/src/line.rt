@@ -44,7 +44,7 @@ pub enum Call {
     Totals,
 }
 
-/// What a line is, without its newline.
+/// Returns what a line is, without its newline.
 pub fn line_of(line: &[u8]) -> Line
     ensures { result ≡ line_of line.now }
 {

@@ -38,9 +38,9 @@ const MOST: u64 = u32::MAX as u64;
 /// The numbers of a table but the last, each with the greatest that it can be.
 static TABLE_NUMBERS: [(&str, u64); 3] = [("P", MOST), ("R", MOST), ("L", u64::MAX)];
 
-/// Returns why the line is malformed, or `None` where it is not; a line has no newline here. It takes no memory; `O(bytes)`.
+/// Returns why the line is malformed, or `None` if it is not; a line has no newline here. It takes no memory; `O(bytes)`.
 ///
-/// Where more than one thing is at fault, no clause says which is returned: it is the first of the length, the word, the count of
+/// If more than one thing is at fault, no clause says which is returned: it is the first of the length, the word, the count of
 /// arguments, and the arguments from left to right.
 pub fn line_fault(line: &[u8]) -> Option<LineFault>
     ensures { is_some result ≡ is_malformed (line_of line.now) }
@@ -52,7 +52,7 @@ pub fn line_fault(line: &[u8]) -> Option<LineFault>
     }
 }
 
-/// What is wrong with a malformed line.
+/// Returns what is wrong with a malformed line.
 fn reason(line: &[u8]) -> LineFault {
     if line.len() > MAX_LINE {
         return LineFault::TooLong;
@@ -67,7 +67,7 @@ fn reason(line: &[u8]) -> LineFault {
     }
 }
 
-/// What is wrong with a malformed line that begins with the word of this call.
+/// Returns what is wrong with a malformed line that begins with the word of this call.
 fn call_fault(word: &'static str, form: Form, line: &[u8]) -> LineFault {
     let given = count(arguments_of(line));
     let (count, wanted) = form.wanted();
@@ -81,7 +81,7 @@ fn call_fault(word: &'static str, form: Form, line: &[u8]) -> LineFault {
     argument_fault(form, &mut arguments_of(line))
 }
 
-/// The words behind the first.
+/// Returns the words after the first.
 fn arguments_of(line: &[u8]) -> Words<'_> {
     let mut words = Words::new(line);
     let _word = words.next();
@@ -96,7 +96,7 @@ fn count(words: Words<'_>) -> usize {
     count
 }
 
-/// What is wrong with the arguments, where there are as many as the call wants.
+/// Returns what is wrong with the arguments, if there are as many as the call wants.
 fn argument_fault(form: Form, arguments: &mut Words<'_>) -> LineFault {
     const RESOURCE: LineFault = LineFault::Number {
         name: "r",
@@ -111,7 +111,7 @@ fn argument_fault(form: Form, arguments: &mut Words<'_>) -> LineFault {
     }
 }
 
-/// What is wrong with the numbers of a table.
+/// Returns what is wrong with the numbers of a table.
 fn table_fault(arguments: &mut Words<'_>) -> LineFault {
     for &(name, most) in &TABLE_NUMBERS {
         match arguments.next_number64() {

@@ -32,7 +32,7 @@ pub enum Reply {
     Refused(Refusal),
 }
 
-/// A reply has at most so many bytes, with its newline.
+/// A reply has at most this many bytes, with its newline.
 pub const MAX_REPLY: usize = 128;
 
 /// Adds a reply and a newline.

@@ -21,7 +21,7 @@ pub record AskedFor : Type 0 where
 abbrev pub is_name_byte : ℕ → Bool
 is_name_byte b = (nat_le 0x21 b && nat_le b 0x7e) || nat_le 0x80 b
 
--- so many such bytes at most
+-- this many such bytes at most
 abbrev pub name_of_word : List ℕ → Option (List ℕ)
 name_of_word word = if nat_le (length word) MAX_NAME_BYTES && list_all is_name_byte word then Some word else None
 

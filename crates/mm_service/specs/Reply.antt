@@ -91,7 +91,7 @@ aborted_text key = codes "* aborted " ++ key_text key
 abbrev pub edge_text : Key → List ℕ → Key → List ℕ
 edge_text key name holder = codes "* " ++ key_text key ++ wait_text name holder
 
--- the name of a number; no bytes where it has none
+-- the name of a number; no bytes if it has none
 abbrev pub name_at : LockState → ℕ → List ℕ
 name_at m n = unwrap_or (name_of m.names n) []
 

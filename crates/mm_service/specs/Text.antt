@@ -97,7 +97,7 @@ abbrev pub names_text : LockState → List ℕ → List ℕ
 names_text m [] = []
 names_text m (n ∷ ns) = codes " " ++ name_at m n ++ names_text m ns
 
--- the names that a transaction owns, where it is live
+-- the names that a transaction owns, if it is live
 abbrev pub HoldsText : LockState → Key → List ℕ → Type 0
 HoldsText m k out =
     ((is_live m.table k ≡ true) × ((numbers : List ℕ) × AreHeld m k numbers × (out ≡ line_text (codes "holds" ++ names_text m numbers))))

@@ -10,14 +10,14 @@ use crate::reply::MAX_NAME;
 use crate::requests::{Form, form_of};
 use mm_lines::Words;
 
-/// The request that a word makes with these arguments.
+/// Returns the request that a word makes with these arguments.
 pub fn request_of<'a>(word: &[u8], arguments: &mut Words<'a>) -> Option<Asked<'a>>
     ensures { option_map asked_for result ≡ request_of word.now (words_left arguments.old) }
 {
     request_by(form_of(word)?, arguments)
 }
 
-/// The request that a form makes with these arguments.
+/// Returns the request that a form makes with these arguments.
 fn request_by<'a>(form: Form, arguments: &mut Words<'a>) -> Option<Asked<'a>>
     ensures { option_map asked_for result ≡ request_by form (words_left arguments.old) }
 {
@@ -25,7 +25,7 @@ fn request_by<'a>(form: Form, arguments: &mut Words<'a>) -> Option<Asked<'a>>
     arguments.next().is_none().then_some(asked)
 }
 
-/// The request that the arguments at the front make, where no others are left.
+/// Returns the request that the arguments at the front make, if no others are left.
 fn read<'a>(form: Form, arguments: &mut Words<'a>) -> Option<Asked<'a>>
     ensures { request_by form (words_left arguments.old) ≡ request_before (option_map asked_for result) (words_left arguments.new) }
 {
@@ -56,14 +56,14 @@ fn read<'a>(form: Form, arguments: &mut Words<'a>) -> Option<Asked<'a>>
     }
 }
 
-/// A request that is about no name.
+/// Returns a request that is about no name.
 fn nameless(request: Request) -> Asked<'static>
     ensures { asked_for result ≡ record { request = request; name = [] } }
 {
     Asked { request, name: &[] }
 }
 
-/// The name that the next word is, if there is a word.
+/// Returns the name that the next word is, if there is a word.
 fn next_name<'a>(arguments: &mut Words<'a>) -> Option<&'a [u8]>
     ensures taken { option_copied result ≡ first_spells name_of_word (words_left arguments.old) }
     ensures left { words_left arguments.new ≡ drop 1 (words_left arguments.old) }
@@ -72,7 +72,7 @@ fn next_name<'a>(arguments: &mut Words<'a>) -> Option<&'a [u8]>
     is_name(word).then_some(word)
 }
 
-/// Whether a word can be a name.
+/// Returns whether a word can be a name.
 pub fn is_name(word: &[u8]) -> bool
     ensures { result ≡ (nat_le (length word.now) MAX_NAME && list_all is_name_byte word.now) }
 {
@@ -85,7 +85,7 @@ fn are_name_bytes(word: &[u8]) -> bool
     word.iter().all(|&byte| is_name_byte(byte))
 }
 
-/// Whether a name may have this byte: from `!` to `~`, or 80 (hexadecimal) and above.
+/// Returns whether a name may have this byte: from `!` to `~`, or 80 (hexadecimal) and above.
 fn is_name_byte(byte: u8) -> bool
     ensures { result ≡ is_name_byte byte }
 {

@@ -43,21 +43,21 @@ pub enum Request {
     Totals,
 }
 
-/// A request and the name that it is about; no bytes where it is about none.
+/// A request and the name that it is about; no bytes if it is about none.
 #[derive(Clone, Copy)]
 pub struct Asked<'a> {
     pub request: Request,
     pub name: &'a [u8],
 }
 
-/// A line, and the name that its request is about; no bytes where there is none.
+/// A line, and the name that its request is about; no bytes if there is none.
 #[derive(Clone, Copy)]
 pub struct Named<'a> {
     pub line: Line,
     pub name: &'a [u8],
 }
 
-/// What a line is, without its newline.
+/// Returns what a line is, without its newline.
 pub fn line_of(line: &[u8]) -> Named<'_>
     ensures line { result.line ≡ (line_of line.now).line }
     ensures name { result.name.now ≡ (line_of line.now).name }

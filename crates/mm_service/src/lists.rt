@@ -1,4 +1,4 @@
-//! Replies that list something: whom a request ended the wait of, the names that a transaction owns, and the wait-for graph.
+//! Replies that list something: the waits that a request ended, the names that a transaction owns, and the wait-for graph.
 ghost use Rattle.std.specs.Prelude.{◌≡◌, ◌≤◌, ◌+◌, ◌++◌, ℕ, List, [], length, codes, vec_capacity, OnOk, IsOkUnless};
 ghost use Rattle.arrayvec.specs.ArrayVec.{array_vec_len};
 ghost use Rattle.mm_lines.specs.Output.{Prints, Writes};
@@ -89,7 +89,7 @@ fn print_told(manager: &LockManager, output: &mut Output, grant: Grant)
     }
 }
 
-/// Writes the names that a transaction owns, in the order of their bytes, where it is live.
+/// Writes the names that a transaction owns, in the order of their bytes, if it is live.
 pub fn write_holds<W: Write>(
     manager: &LockManager,
     numbers: &mut Numbers,
@@ -144,7 +144,7 @@ pub fn list_held(manager: &LockManager, numbers: &mut Numbers, key: Key)
     )));
 }
 
-/// Writes the names of these numbers, each behind a space.
+/// Writes the names of these numbers, each after a space.
 fn write_names<W: Write>(
     manager: &LockManager,
     numbers: &Numbers,

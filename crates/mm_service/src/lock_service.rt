@@ -31,7 +31,7 @@ impl Model for LockService {
 }
 
 impl LockService {
-    /// A service of this configuration: no transaction is live, and nobody owns a name.
+    /// Returns a service of this configuration: no transaction is live, and nobody owns a name.
     ///
     /// Refused as `LockManager::open` is. This is the one call that takes memory: that of the manager, and 256 KiB.
     pub fn open(alloc: Global, config: ManagerConfig) -> Result<LockService, OpenError>
@@ -55,7 +55,7 @@ impl LockService {
     /// - `TooLong`: a byte past 2 to the 64, less two, was read, which is no case in practice.
     /// - `Write`: a write or the flush failed, or a write took no byte. A part of the replies from the front on is written.
     ///
-    /// After a fault too the manager is the one after the lines that were answered, also where their replies are lost.
+    /// After a fault too the manager is the one after the lines that were answered, also if their replies are lost.
     ///
     /// O(bytes) time beside that of the manager's calls. It takes no memory; input and replies take about 100 KiB of the stack.
     pub fn run<R: Read, W: Write>(

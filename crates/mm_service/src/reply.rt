@@ -8,13 +8,13 @@ use mm_limits::MAX_NAME_BYTES;
 use mm_lines::{OUTPUT_LEN, Output, print_key, print_number, print_text};
 use mm_manager::{Abort, Cancel, Key, Lock, LockManager, Refusal, Status, Totals, TryLock};
 
-/// A line about no name has at most so many bytes, with its newline.
+/// A line about no name has at most this many bytes, with its newline.
 pub const MAX_REPLY: usize = 128;
 
-/// A line about a name has at most so many bytes, with its newline.
+/// A line about a name has at most this many bytes, with its newline.
 pub const MAX_NAMED: usize = 1_200;
 
-/// A name has at most so many bytes.
+/// A name has at most this many bytes.
 pub const MAX_NAME: usize = MAX_NAME_BYTES as usize;
 
 /// Ends a line.
@@ -168,7 +168,7 @@ pub fn print_totals(output: &mut Output, totals: &Totals)
     end_line(output);
 }
 
-/// The name of a number; no bytes where it has none.
+/// Returns the name of a number; no bytes if it has none.
 pub fn name_at(manager: &LockManager, number: u32) -> &[u8]
     ensures name { result.now ≡ name_at manager.now number }
     ensures short { length result.now ≤ MAX_NAME }
@@ -177,7 +177,7 @@ pub fn name_at(manager: &LockManager, number: u32) -> &[u8]
     manager.name(number).unwrap_or(b"")
 }
 
-/// A name and whose it is, behind who waits for it.
+/// A name and whose it is, after the transaction that waits for it.
 fn print_wait(output: &mut Output, name: &[u8], holder: Key)
     requires room { array_vec_len output.old + 1070 ≤ OUTPUT_LEN }
     requires name { length name.now ≤ MAX_NAME }

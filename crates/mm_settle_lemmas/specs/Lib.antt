@@ -1,4 +1,4 @@
 pub mod Touched
 pub mod Shown
--- what the parts of a settle and of a hand-over leave, for the contracts of whoever keeps a table; no public clause cites these
+-- what the parts of a settle and of a hand-over leave, for the contracts of code that keeps a table; no public clause cites these
 pub mod Steps

@@ -1,4 +1,4 @@
--- Whom an event changed: the processes whose labels, wait, holder or verdict are other than before.
+-- The processes that an event changed: the processes whose labels, wait, holder or verdict are other than before.
 use Rattle.std.specs.Prelude.{◌≡◌, ◌⊎◌, ◌&&◌, not, nat_eq, ℕ, Bool, true, false, List, length, filter}
 use Rattle.std.specs.Bool.{beq}
 use Rattle.std.specs.Option.{option_eq}
@@ -19,7 +19,7 @@ pub record IsUnchanged (s t : TableState) (n : ℕ) : Type 0 where
 abbrev pub IsChanged : TableState → TableState → ℕ → Type 0
 IsChanged s t n = IsUnchanged s t n → ⊥
 
--- whoever changed was added to the set, and nobody else
+-- the processes that changed were added to the set, and no others
 pub record Touches (s t : TableState) (old new : List Bool) : Type 0 where
   pub kept : (n : ℕ) → has old n ≡ true → has new n ≡ true
   pub others : (n : ℕ) → has new n ≡ false → IsUnchanged s t n
@@ -32,6 +32,6 @@ is_changed s t n =
     not (label_eq (private_of t n) (private_of s n) && label_eq (public_of t n) (public_of s n) && option_eq nat_eq (wait_of t n) (wait_of s n)
     && option_eq nat_eq (holder_of t n) (holder_of s n) && beq (has_verdict t n) (has_verdict s n))
 
--- those that are other than they were, by rising number
+-- those that are other than they were, in ascending order
 abbrev pub changed_processes : TableState → TableState → List ℕ
 changed_processes s t = filter (is_changed s t) (range_with_len 0 s.config.processes)

@@ -72,7 +72,7 @@ MakesWithdrawal k old (Err refusal) new = (new ≡ old) × MatchBool (has_room o
 abbrev pub OthersKeepVerdicts : TableState → TableState → ℕ → Type 0
 OthersKeepVerdicts old new n = (v : ℕ) → v ≢ n → has_verdict new v ≡ has_verdict old v
 
--- ---- lock
+-- ---- acquire
 
 -- k waits for r, which h owns, and the table is settled
 pub record WaitsFrom (old : TableState) (k : Key) (r : ℕ) (h : Key) (new : TableState) : Type 0 where

@@ -1,4 +1,4 @@
--- Whom a call granted what, from the tables before and after it.
+-- The grants of a call, from the tables before and after it.
 use Rattle.std.specs.Prelude.{◌≡◌, ◌≢◌, ℕ, Bool, false, List, Option, None, Some, option_and_then, if◌then◌else◌, nat_eq}
 use Rattle.std.specs.Option.{option_map_or}
 use Rattle.std.specs.List.{filter_map, range_with_len}

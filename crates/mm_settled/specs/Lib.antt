@@ -1,6 +1,6 @@
 -- what a contract sees of a settled table
 pub mod SettledState
--- whom a call granted what
+-- the grants of a call
 pub mod Grants
 -- what the calls do
 pub mod Calls

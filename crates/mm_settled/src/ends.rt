@@ -50,7 +50,7 @@ impl Parts {
         Ok(())
     }
 
-    /// `Table::release`, which also lists whom it grants what and whom it changes.
+    /// `Table::release`, which also lists what it grants, and which processes it changes.
     fn release_listing(&mut self, key: Key, resource: u32) -> Result<Released, Refusal>
         requires laws { Laws self.old.table }
         requires fits { Fits self.old.table.config self.old.lists }
@@ -69,7 +69,7 @@ impl Parts {
         Ok(answer)
     }
 
-    /// Ends a transaction in the table, and lists what it owned, whom that grants what and whom it changes. If it changes nobody, it grants
+    /// Ends a transaction in the table, and lists what it owned, what that grants, and which processes it changes. If it changes nobody, it grants
     /// nothing.
     #[inline(always)]
     fn end_listing(&mut self, kind: EndKind, key: Key) -> Result<(), Refusal>
@@ -91,7 +91,7 @@ impl Parts {
         Ok(())
     }
 
-    /// Ends a transaction in the table by a finish or an abort, and lists what it owned and whom to wake.
+    /// Ends a transaction in the table by a finish or an abort, and lists what it owned and the processes to wake.
     #[inline(always)]
     fn end_waking(&mut self, kind: EndKind, key: Key) -> Result<(), Refusal>
         requires { Fits self.old.table.config self.old.lists }

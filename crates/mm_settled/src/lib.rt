@@ -1,17 +1,17 @@
-//! A table of exclusive locks that is at rest between its calls: each request for a lock is answered at once and for good, and whoever
+//! A table of exclusive locks that is at rest between its calls: each request for a lock is answered at once and finally, and the transaction that
 //! closes a cycle of waits is its victim.
 //!
 //! - `settled`: `SettledTable`, with one method for each call.
 //! - `reply`: what a request is told, what a grant is, and how a call ends a transaction.
 //! - `parts`: a table and the lists that its calls fill.
-//! - `lock`, `withdraw`, `ends`: the calls, over these.
-//! - `lists`: whom a call granted what, and how that is found.
+//! - `acquire`, `withdraw`, `ends`: the calls, over these.
+//! - `lists`: the grants of a call, and how that is found.
 //! - `settle`: a settle that is not refused, and when one is needed.
 #![tactic(auto)]
 
+mod acquire;
 mod ends;
 mod lists;
-mod lock;
 mod parts;
 mod reply;
 mod settle;

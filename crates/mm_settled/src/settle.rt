@@ -8,7 +8,7 @@ use crate::Table;
 use mm_limits::COUNT_LIMIT;
 use mm_table::Settled;
 
-/// Whether an event and a settle can be counted.
+/// Returns whether an event and a settle can be counted.
 #[inline]
 pub fn has_room(table: &Table) -> bool
     ensures { result ≡ has_room table.now }
@@ -41,7 +41,7 @@ pub fn come_to_rest(table: &mut Table, woken: &[u32])
     }
 }
 
-/// Whether one of these processes waits.
+/// Returns whether one of these processes waits.
 fn any_waits(table: &Table, processes: &[u32]) -> bool
     ensures { IsFalse result ↔ NoneWaits table.now processes.now }
 {

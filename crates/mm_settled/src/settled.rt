@@ -9,8 +9,8 @@ ghost use Rattle.mm_rules.specs.Withdraw.{IsBehindVictim};
 ghost use Rattle.mm_settled.specs.Calls.{OpensSettled, Locks, IsDeadlock, Makes, MakesEnd, MakesWithdrawal, OthersKeepVerdicts};
 ghost use Rattle.mm_settled.specs.Grants.{Tells, EndsWaits};
 
+use crate::acquire::acquire;
 use crate::lists::{Lists, is_told};
-use crate::lock::lock;
 use crate::parts::Parts;
 use crate::{Config, EndKind, Grant, Key, Locked, Refusal, Released, Table};
 use std::alloc::Global;
@@ -19,7 +19,7 @@ use std::marker::Model;
 /// A table of exclusive locks that is at rest between its calls: nothing is left to transmit or to detect, and one verdict stands on
 /// each cycle of waits.
 ///
-/// A contract sees it as a `SettledState`: the table, and whom the last call granted what. After a call that is refused that list is
+/// A contract sees it as a `SettledState`: the table, and the grants of the last call. After a call that is refused that list is
 /// empty, and the table is as it was. No call but `open` takes memory.
 pub struct SettledTable {
     parts: Parts,
@@ -50,9 +50,9 @@ impl Model for SettledTable {
 }
 
 impl SettledTable {
-    /// A table of this configuration, which has no transaction, and in which no resource has an owner.
+    /// Returns a table of this configuration, which has no transaction, and in which no resource has an owner.
     ///
-    /// Refused as `BadConfig` exactly where a number is out of its range, and as `Memory` only where a request for memory was
+    /// Refused as `BadConfig` exactly if a number is out of its range, and as `Memory` only if a request for memory was
     /// refused. This is the one call that takes memory: what `Table::open` takes, for each process 16 bytes, and for each
     /// resource 4 bytes and a bit more.
     pub fn open(alloc: Global, config: Config) -> Result<SettledTable, Refusal>
@@ -93,19 +93,19 @@ impl SettledTable {
     /// - `Deadlock`: the transaction waits for the holder, and closed a cycle of waits by that. It has the verdict of that cycle, and
     ///   nobody else has a new one. It keeps what it owns and goes on by `abort` alone.
     ///
-    /// Refused as `CountsExhausted` where somebody owns the resource and an event and a settle can no longer be counted, and else as
-    /// `Table::acquire` is: `CountsExhausted`, `Stale`, `NoResource`, `Waiting`, `AlreadyOwns` or `LabelsExhausted`. Constant time where it is granted; a wait costs the settle that
+    /// Refused as `CountsExhausted` if somebody owns the resource and an event and a settle can no longer be counted, and else as
+    /// `Table::acquire` is: `CountsExhausted`, `Stale`, `NoResource`, `Waiting`, `AlreadyOwns` or `LabelsExhausted`. Constant time if it is granted; a wait costs the settle that
     /// follows, as `Table::settle` says: those that wait for the transaction, and those whose labels it raises.
     // In place: a granted lock does less than a call from here would cost.
     #[inline(always)]
-    pub fn lock(&mut self, key: Key, resource: u32) -> Result<Locked, Refusal>
+    pub fn acquire(&mut self, key: Key, resource: u32) -> Result<Locked, Refusal>
         ensures locks { Locks self.old.table key resource result self.new.table }
         ensures deadlock { OnOk result (IsTrue (IsDeadlock result) ↔ IsOnCycle self.new.table key.process) }
         ensures others { OthersKeepVerdicts self.old.table self.new.table key.process }
         ensures told { Tells self.old.table self.new }
     {
         self.parts.table.keeps_laws();
-        lock(
+        acquire(
             &mut self.parts.table,
             &mut self.parts.lists.granted,
             key,
@@ -113,7 +113,7 @@ impl SettledTable {
         )
     }
 
-    /// `lock` of a resource that nobody owns, by a key that may use it: so nothing is tested, and it is granted. Constant time.
+    /// `acquire` of a resource that nobody owns, by a key that may use it: so nothing is tested, and it is granted. Constant time.
     #[inline(always)]
     pub fn grant_free(&mut self, key: Key, resource: u32)
         requires passed { allowed (resource_tests self.old.table key resource) ≡ Ok tt }
@@ -130,10 +130,10 @@ impl SettledTable {
     }
 
     /// Hands the resource over: the longest waiter owns it from now on and is listed in `granted`, and each other waiter keeps its
-    /// place; with no waiter it is free. Where others wait on, the table is settled. Nobody gets a verdict.
+    /// place; with no waiter it is free. If others wait on, the table is settled. Nobody gets a verdict.
     ///
-    /// Refused as `CountsExhausted` where an event and a settle can no longer be counted, and else as `Table::release` is: `Stale`,
-    /// `NoResource`, `Waiting`, `NotOwner` or `LabelsExhausted`. `O(waiters of the resource)`, and the settle where one is made.
+    /// Refused as `CountsExhausted` if an event and a settle can no longer be counted, and else as `Table::release` is: `Stale`,
+    /// `NoResource`, `Waiting`, `NotOwner` or `LabelsExhausted`. `O(waiters of the resource)`, and the settle if one is made.
     pub fn release(&mut self, key: Key, resource: u32) -> Result<Released, Refusal>
         ensures makes { Makes (Release key resource) self.old.table result self.new.table }
         ensures others { OthersKeepVerdicts self.old.table self.new.table key.process }
@@ -145,11 +145,11 @@ impl SettledTable {
         answer
     }
 
-    /// Ends an active transaction: hands over all that it owns, by rising number, each resource as `release` does, and frees its process.
+    /// Ends an active transaction: hands over all that it owns, in ascending order, each resource as `release` does, and frees its process.
     /// Nobody gets a verdict.
     ///
-    /// Refused as `CountsExhausted` where an event and a settle can no longer be counted, and else as `Table::finish` is: `Stale`,
-    /// `Waiting` or `LabelsExhausted`. `O(its resources + their waiters)`, and the settle where one is made.
+    /// Refused as `CountsExhausted` if an event and a settle can no longer be counted, and else as `Table::finish` is: `Stale`,
+    /// `Waiting` or `LabelsExhausted`. `O(its resources + their waiters)`, and the settle if one is made.
     pub fn finish(&mut self, key: Key) -> Result<(), Refusal>
         ensures makes { Makes (Finish key) self.old.table result self.new.table }
         ensures others { OthersKeepVerdicts self.old.table self.new.table key.process }
@@ -161,8 +161,8 @@ impl SettledTable {
 
     /// Ends a transaction that was told of a deadlock: takes back its wait, and goes on as `finish`. Nobody gets a verdict.
     ///
-    /// Refused as `CountsExhausted` where an event and a settle can no longer be counted, and else as `Table::abort` is: `Stale`,
-    /// `NoVerdict` or `LabelsExhausted`. `O(its resources + their waiters)`, and the settle where one is made.
+    /// Refused as `CountsExhausted` if an event and a settle can no longer be counted, and else as `Table::abort` is: `Stale`,
+    /// `NoVerdict` or `LabelsExhausted`. `O(its resources + their waiters)`, and the settle if one is made.
     pub fn abort(&mut self, key: Key) -> Result<(), Refusal>
         ensures makes { Makes (Abort key) self.old.table result self.new.table }
         ensures others { OthersKeepVerdicts self.old.table self.new.table key.process }
@@ -194,7 +194,7 @@ impl SettledTable {
     /// Refused as `CountsExhausted` if an event and a settle can no longer be counted, and else as `Table::withdraw_waking` is: `Stale`,
     /// `NotWaiting`, `UnderVerdict`, `Carried` or `LabelsExhausted`. `Carried` means that it waits, directly or over others, for a victim,
     /// which has yet to abort: with no victim in the table nobody is refused so. Constant time, and one settle if another transaction got
-    /// a new label, which raises those that wait behind that one.
+    /// a new label, which raises those that wait for that one.
     pub fn withdraw(&mut self, key: Key) -> Result<(), Refusal>
         ensures makes { MakesWithdrawal key self.old.table result self.new.table }
         ensures carried { (result ≡ Err Refusal.Carried) → IsBehindVictim self.old.table key.process }
@@ -206,7 +206,7 @@ impl SettledTable {
         answer
     }
 
-    /// Whom the last call granted what, in the order of the hand-overs. Constant time.
+    /// Returns the grants of the last call, in the order of the hand-overs. Constant time.
     pub fn granted(&self) -> &[Grant]
         ensures { result.now ≡ self.now.granted }
     {
@@ -216,7 +216,7 @@ impl SettledTable {
         &self.parts.lists.granted
     }
 
-    /// What the transaction owned that ended last, each resource once, in no order that is promised. After a refused end it means
+    /// Returns what the transaction owned that ended last, each resource once, in no order that is promised. After a refused end it means
     /// nothing. Constant time.
     #[inline]
     pub fn ended(&self) -> &[u32]
@@ -225,8 +225,8 @@ impl SettledTable {
         &self.parts.lists.owned
     }
 
-    /// The table, to read it: what a transaction does (`state`), who owns a resource (`owner`) and what a key owns (`owned_by`), for
-    /// whom a process waits (`holder`), the live keys (`tenant`), the configuration and the counts. Constant time.
+    /// Returns the table, to read it: what a transaction does (`state`), who owns a resource (`owner`) and what a key owns (`owned_by`), for
+    /// what a process waits for (`holder`), the live keys (`tenant`), the configuration and the counts. Constant time.
     #[inline]
     pub fn table(&self) -> &Table
         ensures { result.now ≡ self.now.table }

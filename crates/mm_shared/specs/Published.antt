@@ -21,7 +21,7 @@ pub record IsPublished (p : Published) (s : TableState) : Type 0 where
 abbrev pub AppendsOnly : Published → Published → TableState → Type 0
 AppendsOnly before after s = (n : ℕ) → (times : ℕ) × (history after n ≡ history before n ++ replicate times (public_of s n))
 
--- how many holders an acquire stores: one where it waits
+-- how many holders an acquire stores: one if it waits
 abbrev pub holders_of : Acquired → ℕ
 holders_of Granted = 0
 holders_of (Waits holder label) = 1

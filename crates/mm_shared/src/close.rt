@@ -24,7 +24,7 @@ pub struct CloseRefused<N: Name, A: Ledger, V: Ledger, B: Ledger> {
 impl<N: Name, A: Ledger, V: Ledger, B: Ledger> SharedTable<N, A, V, B> {
     /// Ends the table, and reports what it counted: that is what the pass has counted, once all passes are joined into it.
     ///
-    /// Refused as `SharesMissing` exactly where the pass does not have all parts; the table and the pass are then given back, both as
+    /// Refused as `SharesMissing` exactly if the pass does not have all parts; the table and the pass are then given back, both as
     /// they were. It takes no lock, since nobody else has the table, and no memory. Constant time, apart from giving the table's
     /// memory back.
     pub fn close(self, pass: Pass<N, A, V, B>) -> Result<Report, CloseRefused<N, A, V, B>>
@@ -41,7 +41,7 @@ impl<N: Name, A: Ledger, V: Ledger, B: Ledger> SharedTable<N, A, V, B> {
         Ok(self.counted(pass))
     }
 
-    /// Ends the table as `close` does. `None` exactly where `close` is refused; the table and the pass are gone then as well.
+    /// Ends the table as `close` does. `None` exactly if `close` is refused; the table and the pass are gone then as well.
     ///
     /// It takes no lock and no memory. Constant time, apart from giving the table's memory back.
     pub fn into_report(self, pass: Pass<N, A, V, B>) -> Option<Report>
@@ -54,7 +54,7 @@ impl<N: Name, A: Ledger, V: Ledger, B: Ledger> SharedTable<N, A, V, B> {
         None
     }
 
-    /// What the table counted, by the pass that has all parts.
+    /// Returns what the table counted, by the pass that has all parts.
     fn counted(self, pass: Pass<N, A, V, B>) -> Report
         requires { pass.parts ≡ all_parts }
         ensures accepted { result.accepted ≡ pass.accepted }

@@ -22,7 +22,7 @@ use std::sync::ledger::{Book, Ledger};
 /// verdicts and its aborts.
 ///
 /// In every value of this type the board shows each process's public label and holder, and the books equal the table's totals; and the
-/// table keeps all laws of mm_rules by its own type. So all of this holds of whatever a thread finds behind the lock. Only
+/// table keeps all laws of mm_rules by its own type. So all of this holds of each value that a thread finds behind the lock. Only
 /// `Prepared::open` makes one.
 #[derive(Drop)]
 pub struct Inside<N: Name, A: Ledger, V: Ledger, B: Ledger> {
@@ -39,12 +39,12 @@ pub struct Inside<N: Name, A: Ledger, V: Ledger, B: Ledger> {
     ghost booked: { Booked table.totals accepted.total verdicts.total aborts.total },
 }
 
-/// Each event is the one call of its name on the table; a shared call makes it under the lock. Where it is accepted, the pass counts it,
-/// with the verdicts that it gives and the abort that it is (`CountsEvent`); where it is refused, nothing changes.
+/// Each event is the one call of its name on the table; a shared call makes it under the lock. If it is accepted, the pass counts it,
+/// with the verdicts that it gives and the abort that it is (`CountsEvent`); if it is refused, nothing changes.
 ///
 /// Before an accepted event returns, it stores on the board what it changed of public labels and holders.
 impl<N: Name, A: Ledger, V: Ledger, B: Ledger> Inside<N, A, V, B> {
-    /// The table, the publisher and the books that stand in a new shared table.
+    /// Returns the table, the publisher and the books that stand in a new shared table.
     pub(crate) fn new(
         table: Table,
         publisher: Publisher<N>,
@@ -83,7 +83,7 @@ impl<N: Name, A: Ledger, V: Ledger, B: Ledger> Inside<N, A, V, B> {
     }
 
     /// `Table::acquire`: grants a free resource; for an owned one the transaction waits, last in its queue, with a fresh label.
-    /// Where it waits, the board is then shown to the pass, which so has seen that label.
+    /// If it waits, the board is then shown to the pass, which so has seen that label.
     ///
     /// Refused as `CountsExhausted`, `Stale`, `NoResource`, `Waiting`, `AlreadyOwns` or `LabelsExhausted`. Constant time.
     pub fn acquire(
@@ -158,8 +158,8 @@ impl<N: Name, A: Ledger, V: Ledger, B: Ledger> Inside<N, A, V, B> {
         Ok(())
     }
 
-    /// `Table::transmit`: the waiting transaction takes over its holder's public label where that is greater.
-    /// Where it does, the board is then shown to the pass, which so has seen that label.
+    /// `Table::transmit`: the waiting transaction takes over its holder's public label if that is greater.
+    /// If it does, the board is then shown to the pass, which so has seen that label.
     ///
     /// Refused as `CountsExhausted`, `Stale` or `NotWaiting`. Constant time.
     pub fn transmit(
@@ -187,7 +187,7 @@ impl<N: Name, A: Ledger, V: Ledger, B: Ledger> Inside<N, A, V, B> {
         Ok(answer)
     }
 
-    /// `Table::detect`: gives the waiting transaction a verdict where its two labels and its holder's public one are one label. The pass
+    /// `Table::detect`: gives the waiting transaction a verdict if its two labels and its holder's public one are one label. The pass
     /// counts a new verdict, and not one that stands already.
     ///
     /// Refused as `CountsExhausted`, `Stale` or `NotWaiting`. Constant time.
@@ -295,7 +295,7 @@ impl<N: Name, A: Ledger, V: Ledger, B: Ledger> Inside<N, A, V, B> {
         self.table.state(key)
     }
 
-    /// `Table::owner`: the key that owns the resource; `None` where it is free.
+    /// `Table::owner`: the key that owns the resource; `None` if it is free.
     ///
     /// Refused as `NoResource`. Changes nothing and is not counted. Constant time.
     pub fn owner(
@@ -310,7 +310,7 @@ impl<N: Name, A: Ledger, V: Ledger, B: Ledger> Inside<N, A, V, B> {
         self.table.owner(resource)
     }
 
-    /// `Table::tenant`: the live key of the process; `None` where it has none, or is not one of the table's.
+    /// `Table::tenant`: the live key of the process; `None` if it has none, or is not one of the table's.
     ///
     /// Changes nothing and is not counted. Constant time.
     pub fn tenant(
@@ -325,8 +325,8 @@ impl<N: Name, A: Ledger, V: Ledger, B: Ledger> Inside<N, A, V, B> {
         self.table.tenant(process)
     }
 
-    /// The processes whose labels, wait, holder or verdict the last `release`, `finish`, `abort` or `settle` changed, each once, by
-    /// rising number: none where it was refused. Constant time.
+    /// Returns the processes whose labels, wait, holder or verdict the last `release`, `finish`, `abort` or `settle` changed, each once, by
+    /// rising number: none if it was refused. Constant time.
     pub fn changed(&self) -> &[u32]
         ensures { result.now ≡ self.now.changed.items }
     {
@@ -343,7 +343,7 @@ impl<N: Name, A: Ledger, V: Ledger, B: Ledger> Inside<N, A, V, B> {
         mem::swap(&mut self.changed, list);
     }
 
-    /// What the table counted. For a pass of all parts, the table's totals, the books and the pass's shares are one and the same.
+    /// Returns what the table counted. For a pass of all parts, the table's totals, the books and the pass's shares are one and the same.
     ///
     /// Changes nothing. Constant time.
     pub fn report(&mut self, pass: &mut Pass<N, A, V, B>) -> Report
@@ -362,7 +362,7 @@ impl<N: Name, A: Ledger, V: Ledger, B: Ledger> Inside<N, A, V, B> {
         }
     }
 
-    /// Does nothing. Its contract is what holds of any value behind the lock, whatever was called and by whom: the table keeps all laws,
+    /// Does nothing. Its contract is what holds of any value behind the lock, after any calls of any threads: the table keeps all laws,
     /// so no owner or wait names a freed key, private labels are distinct, each standing verdict names a transaction on a cycle of waits
     /// whose private label is that cycle's greatest, and no cycle has two; the books equal the table's totals, and the board shows each
     /// public label and holder.

@@ -11,7 +11,7 @@ use mm_table::Label;
 use std::sync::ledger::Ledger;
 
 impl<N: Name, A: Ledger, V: Ledger, B: Ledger> SharedTable<N, A, V, B> {
-    /// The public label of a process, read on the board without the lock: its opening label, or one that an event gave it, not below the
+    /// Returns the public label of a process, read on the board without the lock: its opening label, or one that an event gave it, not below the
     /// one that this pass had seen. The table may have changed since.
     ///
     /// Constant time: one load. It takes no lock and no memory.
@@ -24,11 +24,11 @@ impl<N: Name, A: Ledger, V: Ledger, B: Ledger> SharedTable<N, A, V, B> {
         pass.reader.read_label(&self.board, process)
     }
 
-    /// Looks at the processes from `from` on, by rising number, without the lock, and returns the first that has a holder whose label is
-    /// seen above its own or is the same. `None` where there is none; so it is where `from` is not below the number of processes.
+    /// Looks at the processes from `from` on, in ascending order, without the lock, and returns the first that has a holder whose label is
+    /// seen above its own or is the same. `None` if there is none; so it is if `from` is not below the number of processes.
     ///
     /// The two labels are read one after the other, and the table may have changed since: a hint promises nothing of it.
-    /// `O(processes looked at)`: one load for each, and two more where it has a holder. It takes no lock and no memory.
+    /// `O(processes looked at)`: one load for each, and two more if it has a holder. It takes no lock and no memory.
     pub fn scan(&self, pass: &mut Pass<N, A, V, B>, from: u32) -> Option<Hint>
         ensures hint { IfSome result (λ hint. IsHint self.now from pass.new.seen.labels hint) }
         ensures rises { NoneFalls pass.old.seen.labels pass.new.seen.labels }

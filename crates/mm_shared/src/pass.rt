@@ -53,7 +53,7 @@ impl<N: Name, A: Ledger, V: Ledger, B: Ledger> Model for Pass<N, A, V, B> {
 }
 
 impl<N: Name, A: Ledger, V: Ledger, B: Ledger> Pass<N, A, V, B> {
-    /// A pass of this reader and these shares, each of which has so many parts.
+    /// Returns a pass of this reader and these shares, each of which has this many parts.
     pub(crate) fn new(
         reader: Reader<N>,
         accepted: Share<A>,
@@ -74,7 +74,7 @@ impl<N: Name, A: Ledger, V: Ledger, B: Ledger> Pass<N, A, V, B> {
         }
     }
 
-    /// How many parts of each ledger this pass has: 1 to `ALL_PARTS`. Constant time, and takes no lock.
+    /// Returns how many parts of each ledger this pass has: 1 to `ALL_PARTS`. Constant time, and takes no lock.
     pub fn parts(&self) -> u64
         ensures { result ≡ self.now.parts }
     {

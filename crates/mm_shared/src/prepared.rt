@@ -62,7 +62,7 @@ impl Prepared {
         }
     }
 
-    /// The table under its names, and the pass that has all parts.
+    /// Returns the table under its names, and the pass that has all parts.
     ///
     /// It is called in a function over the four names, which is itself called with `Brand` for each: the caller's proof then picks the
     /// board and the ledgers of this `Prepared`. Constant time.
@@ -108,7 +108,7 @@ impl Prepared {
     }
 }
 
-/// What the board and the list of the changed need, for so many processes.
+/// Returns what the board and the list of the changed need, for this many processes.
 fn board_and_list(alloc: Global, processes: u32) -> Result<(RawBoard, Vec<u32>), Refusal>
     requires some_processes { 1 ≤ processes }
     requires in_range { processes ≤ Config.MAX_PROCESSES }

@@ -71,7 +71,7 @@ impl<N: Name, A: Ledger, V: Ledger, B: Ledger> SharedTable<N, A, V, B> {
         let _ = &self.processes;
     }
 
-    /// What stands behind the lock, which nobody else can take any more.
+    /// Returns the value behind the lock, which nobody else can take any more.
     pub(crate) fn into_inside(self) -> Inside<N, A, V, B> {
         let SharedTable {
             board: _,
@@ -81,7 +81,7 @@ impl<N: Name, A: Ledger, V: Ledger, B: Ledger> SharedTable<N, A, V, B> {
         lock.into_inner()
     }
 
-    /// How many processes the table has. Constant time, and takes no lock.
+    /// Returns how many processes the table has. Constant time, and takes no lock.
     pub fn processes(&self) -> u32
         ensures { result ≡ self.now }
     {
@@ -98,7 +98,7 @@ impl<N: Name, A: Ledger, V: Ledger, B: Ledger> SharedTable<N, A, V, B> {
     }
 
     /// `Table::acquire`: grants a free resource; for an owned one the transaction waits, last in its queue, with a fresh label.
-    /// Where it waits, the pass has seen that label on the board afterwards.
+    /// If it waits, the pass has seen that label on the board afterwards.
     ///
     /// Refused as `CountsExhausted`, `Stale`, `NoResource`, `Waiting`, `AlreadyOwns` or `LabelsExhausted`. Constant time.
     // In place: the call most made, and a granted one does less than a call from here would cost.
@@ -138,9 +138,9 @@ impl<N: Name, A: Ledger, V: Ledger, B: Ledger> SharedTable<N, A, V, B> {
             .release(&self.board, pass, key, resource)
     }
 
-    /// `release`, which also lists whom to wake: `wake` then has, in place of what it had, all processes whose labels, wait, holder or
-    /// verdict the call changed, each once, by rising number;
-    /// none where the call is refused. `wake` has room for each process, and no memory is taken.
+    /// `release`, which also lists the processes to wake: `wake` then has, in place of what it had, all processes whose labels, wait, holder or
+    /// verdict the call changed, each once, in ascending order;
+    /// none if the call is refused. `wake` has room for each process, and no memory is taken.
     ///
     /// Refused as `release` is. `O(waiters of the resource)`.
     pub fn release_waking<R: Wait>(
@@ -176,9 +176,9 @@ impl<N: Name, A: Ledger, V: Ledger, B: Ledger> SharedTable<N, A, V, B> {
         self.lock.take(rt).inside().finish(&self.board, pass, key)
     }
 
-    /// `finish`, which also lists whom to wake: `wake` then has, in place of what it had, all processes whose labels, wait, holder or
-    /// verdict the call changed, each once, by rising number;
-    /// none where the call is refused. `wake` has room for each process, and no memory is taken.
+    /// `finish`, which also lists the processes to wake: `wake` then has, in place of what it had, all processes whose labels, wait, holder or
+    /// verdict the call changed, each once, in ascending order;
+    /// none if the call is refused. `wake` has room for each process, and no memory is taken.
     ///
     /// Refused as `finish` is. `O(its resources + their waiters)`.
     pub fn finish_waking<R: Wait>(
@@ -199,8 +199,8 @@ impl<N: Name, A: Ledger, V: Ledger, B: Ledger> SharedTable<N, A, V, B> {
         answer
     }
 
-    /// `Table::transmit`: the waiting transaction takes over its holder's public label where that is greater.
-    /// Where it does, the pass has seen that label on the board afterwards.
+    /// `Table::transmit`: the waiting transaction takes over its holder's public label if that is greater.
+    /// If it does, the pass has seen that label on the board afterwards.
     ///
     /// Refused as `CountsExhausted`, `Stale` or `NotWaiting`. Constant time.
     pub fn transmit<R: Wait>(
@@ -216,7 +216,7 @@ impl<N: Name, A: Ledger, V: Ledger, B: Ledger> SharedTable<N, A, V, B> {
         self.lock.take(rt).inside().transmit(&self.board, pass, key)
     }
 
-    /// `Table::detect`: gives the waiting transaction a verdict where its two labels and its holder's public one are one label. The pass
+    /// `Table::detect`: gives the waiting transaction a verdict if its two labels and its holder's public one are one label. The pass
     /// counts a new verdict, and not one that stands already.
     ///
     /// Refused as `CountsExhausted`, `Stale` or `NotWaiting`. Constant time.
@@ -245,9 +245,9 @@ impl<N: Name, A: Ledger, V: Ledger, B: Ledger> SharedTable<N, A, V, B> {
         self.lock.take(rt).inside().abort(&self.board, pass, key)
     }
 
-    /// `abort`, which also lists whom to wake: `wake` then has, in place of what it had, all processes whose labels, wait, holder or
-    /// verdict the call changed, each once, by rising number;
-    /// none where the call is refused. `wake` has room for each process, and no memory is taken.
+    /// `abort`, which also lists the processes to wake: `wake` then has, in place of what it had, all processes whose labels, wait, holder or
+    /// verdict the call changed, each once, in ascending order;
+    /// none if the call is refused. `wake` has room for each process, and no memory is taken.
     ///
     /// Refused as `abort` is. `O(its resources + their waiters)`.
     pub fn abort_waking<R: Wait>(
@@ -293,9 +293,9 @@ impl<N: Name, A: Ledger, V: Ledger, B: Ledger> SharedTable<N, A, V, B> {
         self.lock.take(rt).inside().settle(&self.board, pass)
     }
 
-    /// `settle`, which also lists whom to wake: `wake` then has, in place of what it had, all processes whose labels, wait, holder or
-    /// verdict the call changed, each once, by rising number;
-    /// none where the call is refused. `wake` has room for each process, and no memory is taken.
+    /// `settle`, which also lists the processes to wake: `wake` then has, in place of what it had, all processes whose labels, wait, holder or
+    /// verdict the call changed, each once, in ascending order;
+    /// none if the call is refused. `wake` has room for each process, and no memory is taken.
     ///
     /// Refused as `settle` is. It costs what `Table::settle` costs.
     pub fn settle_waking<R: Wait>(
@@ -329,7 +329,7 @@ impl<N: Name, A: Ledger, V: Ledger, B: Ledger> SharedTable<N, A, V, B> {
         self.lock.take(rt).inside().state(&self.board, pass, key)
     }
 
-    /// `Table::owner`: the key that owns the resource; `None` where it is free.
+    /// `Table::owner`: the key that owns the resource; `None` if it is free.
     ///
     /// Refused as `NoResource`. Changes nothing and is not counted. Constant time.
     pub fn owner<R: Wait>(
@@ -346,7 +346,7 @@ impl<N: Name, A: Ledger, V: Ledger, B: Ledger> SharedTable<N, A, V, B> {
             .owner(&self.board, pass, resource)
     }
 
-    /// `Table::tenant`: the live key of the process; `None` where it has none, or is not one of the table's.
+    /// `Table::tenant`: the live key of the process; `None` if it has none, or is not one of the table's.
     ///
     /// Changes nothing and is not counted. Constant time.
     pub fn tenant<R: Wait>(&self, rt: &R, pass: &mut Pass<N, A, V, B>, process: u32) -> Option<Key>

@@ -1,4 +1,4 @@
--- the rules, and whom an event changes, passed on, so that callers name this crate alone
+-- the rules, and the processes that an event changes, passed on, so that callers name this crate alone
 pub use Rattle.mm_rules.specs.Graph
 pub use Rattle.mm_rules.specs.Refusal
 pub use Rattle.mm_rules.specs.TableState

@@ -38,7 +38,7 @@ impl Model for Labels {
 }
 
 impl Labels {
-    /// The labels of so many processes, none of which was ever used.
+    /// Returns the labels of this many processes, none of which was ever used.
     pub fn open(alloc: Global, count: u32) -> Result<Labels, AllocError>
         requires { count ≤ process_range }
         ensures { IfOk result (λ labels. labels ≡ map opening_labels (range_with_len 0 count)) }
@@ -60,7 +60,7 @@ impl Labels {
         self.processes[process as usize]
     }
 
-    /// The public label of a process.
+    /// Returns the public label of a process.
     #[inline]
     pub fn public(&self, process: u32) -> Label
         requires { process < length self.now }
@@ -69,7 +69,7 @@ impl Labels {
         shown_by(&self.processes, process)
     }
 
-    /// Whether each public label has a counter below this one. `false` is no proof of the contrary.
+    /// Returns whether each public label has a counter below this one. `false` is no proof of the contrary.
     #[inline]
     pub fn are_below(&self, counter: u64) -> bool
         ensures { IsTrue result → (n : ℕ) → (public_in self.now n).counter < counter }
@@ -132,7 +132,7 @@ impl ProcessLabels {
         }
     }
 
-    /// The labels of a process that was never used.
+    /// Returns the labels of a process that was never used.
     fn at_opening(process: u32) -> ProcessLabels
         requires { process < process_range }
         ensures { result ≡ opening_labels process }
@@ -142,7 +142,7 @@ impl ProcessLabels {
     }
 }
 
-/// The public label that is kept for a process.
+/// Returns the public label that is kept for a process.
 #[inline]
 fn shown_by(processes: &[ProcessLabels], process: u32) -> Label
     requires { process < length processes.now }
@@ -151,7 +151,7 @@ fn shown_by(processes: &[ProcessLabels], process: u32) -> Label
     processes[process as usize].public
 }
 
-/// Makes `greatest` this label where that is greater.
+/// Makes `greatest` this label if that is greater.
 #[inline]
 fn raise_to(greatest: &mut Label, label: Label)
     ensures kept { greatest.old.counter ≤ greatest.new.counter }
@@ -162,7 +162,7 @@ fn raise_to(greatest: &mut Label, label: Label)
     }
 }
 
-/// The labels of so many processes that were never used.
+/// Returns the labels of this many processes that were never used.
 fn labels_at_opening(alloc: Global, count: u32) -> Result<Vec<ProcessLabels>, AllocError>
     requires { count ≤ process_range }
     ensures { IfOk result (λ v. v.items ≡ map opening_labels (range_with_len 0 count)) }

@@ -7,9 +7,9 @@ use std::alloc::{AllocError, Global};
 /// Sets of processes, each with a place for every process of the table.
 #[derive(Drop)]
 pub struct Sets {
-    /// Whoever may transmit or newly detect is one of these, or waits for one of these.
+    /// Each process that may transmit or newly detect is one of these, or waits for one of these.
     pub changed: BitSet,
-    /// Whom the call under way changed, where it lists them. Between calls it is empty.
+    /// The processes that the call under way changed, if it lists them. Between calls it is empty.
     pub touched: BitSet,
     /// Those to which a settle has still to come. What it has between calls means nothing.
     pub pending: BitSet,

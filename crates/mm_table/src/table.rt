@@ -54,9 +54,9 @@ impl Model for Table {
 }
 
 impl Table {
-    /// A table of this configuration, which has no transaction, and in which no resource has an owner.
+    /// Returns a table of this configuration, which has no transaction, and in which no resource has an owner.
     ///
-    /// Refused as `BadConfig` exactly where a number is out of its range, and as `Memory` only where a request for memory was
+    /// Refused as `BadConfig` exactly if a number is out of its range, and as `Memory` only if a request for memory was
     /// refused. This is the one call that takes memory: for the transactions, for the labels, for what is kept of each resource,
     /// for the first resource of each process, for the waits, and for four sets of processes in bits.
     pub fn open(alloc: Global, config: Config) -> Result<Table, Refusal>
@@ -115,9 +115,9 @@ impl Table {
         self.records.release(key, resource, &mut self.sets.changed)
     }
 
-    /// `release`, which also lists whom to wake: `wake` then has, in place of what it had, all processes whose labels, wait, holder or
-    /// verdict the call changed, each once, by rising number. These are the new owner and the waiters behind it, with their new labels;
-    /// none where the call is refused. `wake` has room for each process, and no memory is taken.
+    /// `release`, which also lists the processes to wake: `wake` then has, in place of what it had, all processes whose labels, wait, holder or
+    /// verdict the call changed, each once, in ascending order. These are the new owner and the waiters after it, with their new labels;
+    /// none if the call is refused. `wake` has room for each process, and no memory is taken.
     ///
     /// A caller goes on from each of them by its key (`tenant`) and what it does now (`state`): one that is active was given the resource.
     ///
@@ -149,7 +149,7 @@ impl Table {
         self.records.finish(key, &mut self.sets.changed)
     }
 
-    /// `finish`, which also lists whom to wake, as `release_waking` does: those that waited for what the transaction owned.
+    /// `finish`, which also lists the processes to wake, as `release_waking` does: those that waited for what the transaction owned.
     ///
     /// Refused as `finish` is. `O(its resources + their waiters)`.
     #[inline(always)]
@@ -191,7 +191,7 @@ impl Table {
         answer
     }
 
-    /// The waiting transaction takes over its holder's public label where that is greater; its private label stays.
+    /// The waiting transaction takes over its holder's public label if that is greater; its private label stays.
     ///
     /// Refused as `CountsExhausted`, `Stale` or `NotWaiting`. Constant time. The rule is Mitchell and Merritt's.
     pub fn transmit(&mut self, key: Key) -> Result<Transmitted, Refusal>
@@ -200,7 +200,7 @@ impl Table {
         self.records.transmit(key, &mut self.sets.changed)
     }
 
-    /// Gives the waiting transaction a verdict where its private label, its public one and its holder's public one are one label.
+    /// Gives the waiting transaction a verdict if its private label, its public one and its holder's public one are one label.
     /// It is then on a cycle of waits, and its private label is the greatest there.
     ///
     /// Refused as `CountsExhausted`, `Stale` or `NotWaiting`. Constant time: no wait is followed. The rule is Mitchell and Merritt's.
@@ -221,7 +221,7 @@ impl Table {
         self.records.abort(key, &mut self.sets.changed)
     }
 
-    /// `abort`, which also lists whom to wake, as `release_waking` does: those that waited for what the transaction owned, and the
+    /// `abort`, which also lists the processes to wake, as `release_waking` does: those that waited for what the transaction owned, and the
     /// process of the transaction itself, whose wait and verdict are gone.
     ///
     /// Refused as `abort` is. `O(its resources + their waiters)`.
@@ -239,7 +239,7 @@ impl Table {
 
     /// Takes back the wait of a transaction that has no verdict and whose private and public label are equal: it is active from now on,
     /// and keeps what it owns and both labels. Those that wait for the same resource keep their places and their labels. The caller
-    /// decides when; who has waited long enough may try, and go on with other work where it succeeds.
+    /// decides when; a transaction that has waited long enough may try, and go on with other work if it succeeds.
     ///
     /// Refused as `CountsExhausted`, `Stale`, `NotWaiting`, `UnderVerdict` or `Carried`. Under a verdict only `abort` ends the wait.
     /// `Carried` means that the two labels differ: a greater label was transmitted to the transaction and may have gone on to those
@@ -252,7 +252,7 @@ impl Table {
 
     /// Takes back the wait of a transaction that has no verdict, whatever label it shows: it is active from then on, and keeps what it owns
     /// and both its labels. If it shows the label with which another transaction waits, that one gets a new label, as if it began to wait
-    /// then; it keeps its place in the queue. The table has to be at rest. It also lists whom to wake, as `release_waking` does: the process
+    /// then; it keeps its place in the queue. The table has to be at rest. It also lists the processes to wake, as `release_waking` does: the process
     /// whose wait ended, and the one that got a new label.
     ///
     /// Refused as `CountsExhausted`, `Stale`, `NotWaiting`, `UnderVerdict`, `Carried` or `LabelsExhausted`, which are tested in this order.
@@ -270,13 +270,13 @@ impl Table {
         answer
     }
 
-    /// Each waiting transaction in turn, by rising process number, transmits where it can; this is done again until a whole sweep
-    /// raises nothing. Then each of them detects where it can. One accepted event; the reply counts the raises and the verdicts.
+    /// Each waiting transaction in turn, in ascending order of the processes, transmits if it can; this is done again until a whole sweep
+    /// raises nothing. Then each of them detects if it can. One accepted event; the reply counts the raises and the verdicts.
     /// The table is then at rest: one verdict stands on each cycle of waits, and nothing is left to transmit or to detect.
     ///
     /// Refused as `CountsExhausted`. It looks at those alone whose labels or waits changed since the last settle and at those that
-    /// wait for them, and again at those that wait for whoever it raises: `O(changed + raised, each with its resources and their
-    /// waiters)`. Where nothing changed it reads at most one word for each 4,096 processes and does no more. A settle raises no more
+    /// wait for them, and again at those that wait for each that it raises: `O(changed + raised, each with its resources and their
+    /// waiters)`. If nothing changed it reads at most one word for each 4,096 processes and does no more. A settle raises no more
     /// than waiting transactions times processes. The worst case known is the first settle of a chain of waits, each made before the
     /// one that it waits for: n waits take n (n - 1) / 2 raises, which took 0.2 s with 4,096 processes and 36 s with 65,536. A caller
     /// that settles after each `acquire` that waits never has such a chain. The two rules are Mitchell and Merritt's; to call them in sweeps is this project's way.
@@ -290,7 +290,7 @@ impl Table {
         answer
     }
 
-    /// `settle`, which also lists whom to wake, as `release_waking` does: those whose public labels it raised, and those to whom it gave
+    /// `settle`, which also lists the processes to wake, as `release_waking` does: those whose public labels it raised, and those that it gave
     /// a verdict; these are the ones that `state` shows as convicted.
     ///
     /// Refused as `settle` is. It costs what `settle` costs.
@@ -305,7 +305,7 @@ impl Table {
         answer
     }
 
-    /// What the transaction does, and its two labels.
+    /// Returns what the transaction does, and its two labels.
     ///
     /// Refused as `Stale`. Changes nothing and is not counted. Constant time.
     pub fn state(&self, key: Key) -> Result<State, Refusal>
@@ -314,7 +314,7 @@ impl Table {
         self.records.state(key)
     }
 
-    /// The key that owns the resource; `None` where it is free.
+    /// Returns the key that owns the resource; `None` if it is free.
     ///
     /// Refused as `NoResource`. Changes nothing and is not counted. Constant time.
     pub fn owner(&self, resource: u32) -> Result<Option<Key>, Refusal>
@@ -323,7 +323,7 @@ impl Table {
         self.records.owner(resource)
     }
 
-    /// Lists the resources that the key owns, in place of what `resources` held, each once, in no order that is promised; none where
+    /// Lists the resources that the key owns, in place of what `resources` held, each once, in no order that is promised; none if
     /// the key is not live. `resources` has room for each resource, and no memory is taken.
     ///
     /// Changes nothing and is not counted. `O(its resources)`.
@@ -336,7 +336,7 @@ impl Table {
         self.records.owned_by(key, resources);
     }
 
-    /// The live key of the process; `None` where it has none, or is not one of the table's.
+    /// Returns the live key of the process; `None` if it has none, or is not one of the table's.
     ///
     /// Changes nothing and is not counted. Constant time.
     pub fn tenant(&self, process: u32) -> Option<Key>
@@ -345,7 +345,7 @@ impl Table {
         self.records.tenant(process)
     }
 
-    /// The public label of the process, which has it also while it has no transaction.
+    /// Returns the public label of the process, which has it also while it has no transaction.
     ///
     /// Changes nothing and is not counted. Constant time.
     pub fn public_label(&self, process: u32) -> Label
@@ -355,7 +355,7 @@ impl Table {
         self.records.public(process)
     }
 
-    /// The process of the transaction for which that of this process waits: another one. `None` where it does not wait, or is not one
+    /// Returns the process of the transaction for which that of this process waits: another one. `None` if it does not wait, or is not one
     /// of the table's.
     ///
     /// Changes nothing and is not counted. Constant time.
@@ -367,14 +367,14 @@ impl Table {
         self.records.holder_at(process)
     }
 
-    /// The numbers that the table was opened with. Constant time.
+    /// Returns the numbers that the table was opened with. Constant time.
     pub fn config(&self) -> Config
         ensures { result ≡ self.now.config }
     {
         self.records.config()
     }
 
-    /// What was counted since the opening. Changes nothing and is not counted. Constant time.
+    /// Returns what was counted since the opening. Changes nothing and is not counted. Constant time.
     pub fn totals(&self) -> Totals
         ensures { result ≡ self.now.totals }
     {

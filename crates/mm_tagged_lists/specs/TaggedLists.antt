@@ -30,7 +30,7 @@ abbrev pub FollowsInList : Listing → ℕ → Option ℕ → Type 0
 FollowsInList s r next =
     (n : ℕ) (earlier later : List ℕ) → list_at s n ≡ earlier ++ r ∷ later → next ≡ head later
 
--- so many empty lists, and so many items that are in none
+-- this many empty lists, and this many items that are in none
 abbrev pub unlisted : ℕ → ℕ → Listing
 unlisted lists items = record { spots = replicate items None; lists = replicate lists [] }
 

@@ -44,7 +44,7 @@ impl Kept {
         }
     }
 
-    /// The spot, in constant time.
+    /// Returns the spot, in constant time.
     #[inline]
     pub fn get(&self) -> Option<Spot>
         ensures { result ≡ self.now }

@@ -63,7 +63,7 @@ impl TaggedLists {
     /// This many empty lists, and this many items that are in none, in `O(lists + items)`. It takes memory twice, and no later call
     /// takes any.
     ///
-    /// `Err` only where that memory is refused.
+    /// `Err` only if that memory is refused.
     pub fn new(alloc: Global, lists: u32, items: u32) -> Result<TaggedLists, AllocError>
         ensures { IfOk result (λ made. made ≡ unlisted lists items) }
     {
@@ -81,7 +81,7 @@ impl TaggedLists {
         })
     }
 
-    /// The list that an item is in, which is one of those that there are, and the tag, in constant time.
+    /// Returns the list that an item is in, which is one of those that there are, and the tag, in constant time.
     #[inline]
     pub fn spot(&self, item: u32) -> Option<Spot>
         requires { item < length self.now.spots }
@@ -91,7 +91,7 @@ impl TaggedLists {
         self.items[item as usize].spot.get()
     }
 
-    /// The first item of a list, in constant time. `None` if the list is empty.
+    /// Returns the first item of a list, in constant time. `None` if the list is empty.
     #[inline]
     pub fn first(&self, list: u32) -> Option<u32>
         requires { list < length self.now.lists }
@@ -101,7 +101,7 @@ impl TaggedLists {
         self.firsts[list as usize].get()
     }
 
-    /// The item that follows this one in its list, in constant time. `None` for the last of a list, and for an item that is in none.
+    /// Returns the item that follows this one in its list, in constant time. `None` for the last of a list, and for an item that is in none.
     #[inline]
     pub fn next(&self, item: u32) -> Option<u32>
         requires { item < length self.now.spots }
@@ -179,7 +179,7 @@ impl TaggedLists {
     }
 }
 
-/// Sets what comes before an item, where there is one.
+/// Sets what comes before an item, if there is one.
 #[inline]
 fn set_before(items: &mut [Item], item: Link, before: Link)
     requires { ForSome item (λ r. r < length items.old) }
@@ -191,7 +191,7 @@ fn set_before(items: &mut [Item], item: Link, before: Link)
     }
 }
 
-/// Sets what follows an item. Where there is none, it is the first of its list.
+/// Sets what follows an item. If there is none, it is the first of its list.
 #[inline]
 fn set_next(first: &mut Link, items: &mut [Item], item: Link, next: Link)
     requires { ForSome item (λ r. r < length items.old) }

@@ -14,7 +14,7 @@ pub struct Crew<T: Drop> {
 }
 
 impl<T: Drop> Crew<T> {
-    /// Nobody yet, with room for so many.
+    /// Nobody yet, with room for this many.
     pub fn new(alloc: Global, len: usize) -> Result<Crew<T>, AllocError>
         ensures threads { IfOk result (λ crew. (vec_len crew.threads ≡ 0) × (vec_capacity crew.threads ≡ len)) }
         ensures results { IfOk result (λ crew. (vec_len crew.results ≡ 0) × (vec_capacity crew.results ≡ len)) }
@@ -38,7 +38,7 @@ impl<T: Drop> Crew<T> {
     }
 }
 
-/// A crew with room for so many jobs of the first kind, and one with room for so many of the second.
+/// Returns a crew with room for this many jobs of the first kind, and one with room for this many of the second.
 pub fn two_crews<T: Drop, U: Drop>(
     alloc: Global,
     first: usize,

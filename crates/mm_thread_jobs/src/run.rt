@@ -10,7 +10,7 @@ use std::thread::{Scope, Threads};
 
 /// Runs all jobs at once, each on a thread of its own, and waits for them. What they give back stands in the order of the jobs of each kind.
 ///
-/// Refused where memory is refused or a thread cannot be started. The threads that were started have ended then. Takes memory; `O(jobs)`.
+/// Refused if memory is refused or a thread cannot be started. The threads that were started have ended then. Takes memory; `O(jobs)`.
 pub fn run_jobs<'a, J: Job + Send + 'a, K: Job + Send + 'a, R: Threads + Wait + Sync>(
     rt: &'a R,
     alloc: Global,

@@ -17,7 +17,7 @@ pub record Transactions : Type 0 where
   pub resources : ℕ
   pub generation_limit : ℕ
 
--- no transaction yet, for so many processes and resources, and with this last generation
+-- no transaction yet, for this many processes and resources, and with this last generation
 abbrev pub opening : ℕ → ℕ → ℕ → Transactions
 opening processes resources limit = record {
   generations = replicate processes 1;

@@ -4,7 +4,7 @@ use mm_links::Link;
 /// What a live transaction waits for, and whether it has a verdict.
 #[derive(Clone, Copy)]
 pub struct Transaction {
-    /// A resource; `None` where it waits for none.
+    /// A resource; `None` if it waits for none.
     pub waits_for: Option<u32>,
     pub has_verdict: bool,
 }

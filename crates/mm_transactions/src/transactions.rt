@@ -50,10 +50,10 @@ impl Model for Transactions {
 }
 
 impl Transactions {
-    /// No transaction yet, for so many processes and resources, in `O(processes + resources)`. A key has a generation of at most
+    /// No transaction yet, for this many processes and resources, in `O(processes + resources)`. A key has a generation of at most
     /// `generation_limit`. It takes memory four times, and no later call takes any.
     ///
-    /// `Err` only where that memory is refused.
+    /// `Err` only if that memory is refused.
     pub fn new(
         alloc: Global,
         processes: u32,
@@ -76,7 +76,7 @@ impl Transactions {
         })
     }
 
-    /// A new transaction in the first free process, in constant time. `None` exactly where no process is free, and then nothing changes.
+    /// A new transaction in the first free process, in constant time. `None` exactly if no process is free, and then nothing changes.
     #[inline]
     pub fn begin(&mut self) -> Option<Key>
         ensures { MatchOption result
@@ -105,7 +105,7 @@ impl Transactions {
         self.slots.remove_live(key);
     }
 
-    /// Whether the key is live, in constant time.
+    /// Returns whether the key is live, in constant time.
     #[inline]
     pub fn contains(&self, key: Key) -> bool
         ensures live { result ≡ is_live self.now key }
@@ -114,7 +114,7 @@ impl Transactions {
         self.slots.contains(key)
     }
 
-    /// The live key of a process, in constant time. A process that has none waits for nothing.
+    /// Returns the live key of a process, in constant time. A process that has none waits for nothing.
     #[inline]
     pub fn tenant(&self, process: u32) -> Option<Key>
         ensures tenant { result ≡ tenant_of self.now process }
@@ -124,7 +124,7 @@ impl Transactions {
         self.slots.key_at(process)
     }
 
-    /// What is known of a live transaction, in constant time. `None` exactly where the key is not live.
+    /// Returns what is known of a live transaction, in constant time. `None` exactly if the key is not live.
     #[inline]
     pub fn get(&self, key: Key) -> Option<Transaction>
         ensures told { result ≡ told self.now key }
@@ -147,7 +147,7 @@ impl Transactions {
     }
 }
 
-/// The number 0 for each process, since nobody waited yet, in `O(processes)`. `Err` only where that memory is refused.
+/// Returns the number 0 for each process, since nobody waited yet, in `O(processes)`. `Err` only if that memory is refused.
 fn no_arrivals(alloc: Global, processes: u32) -> Result<Vec<u64>, Memory>
     ensures { IfOk result (λ made. made.items ≡ replicate processes 0) }
 {

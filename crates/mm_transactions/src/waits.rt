@@ -40,7 +40,7 @@ impl Transactions {
         self.waiting -= 1;
     }
 
-    /// The longest waiter for a resource, in constant time. `None` where nobody waits for it.
+    /// Returns the longest waiter for a resource, in constant time. `None` if nobody waits for it.
     #[inline]
     pub fn first_waiter(&self, resource: u32) -> Option<Key>
         requires { resource < self.now.resources }
@@ -52,7 +52,7 @@ impl Transactions {
         self.first_queued(resource)
     }
 
-    /// Whether nobody waits, in constant time.
+    /// Returns whether nobody waits, in constant time.
     #[inline]
     pub fn nobody_waits(&self) -> bool
         ensures { IsTrue result → self.now.waits ≡ [] }
@@ -60,7 +60,7 @@ impl Transactions {
         self.waiting == 0
     }
 
-    /// `first_waiter`, by a look at the queue even where nobody waits for any resource.
+    /// `first_waiter`, by a look at the queue even if nobody waits for any resource.
     #[inline]
     fn first_queued(&self, resource: u32) -> Option<Key>
         requires { resource < self.now.resources }
@@ -77,7 +77,7 @@ impl Transactions {
         let _ = &self.slots;
     }
 
-    /// The processes that wait for a resource, in order of arrival. Constant time; so is each step of the walk.
+    /// Returns the processes that wait for a resource, in order of arrival. Constant time; so is each step of the walk.
     #[inline]
     pub fn waiters(&self, resource: u32) -> Waiters<'_>
         requires { resource < self.now.resources }
@@ -92,7 +92,7 @@ impl Transactions {
         }
     }
 
-    /// The process that waits next after a waiting one for the same resource, in constant time. `None` for the last of a queue.
+    /// Returns the process that waits next after a waiting one for the same resource, in constant time. `None` for the last of a queue.
     #[inline]
     pub(crate) fn next_waiter(&self, process: u32) -> Option<u32>
         requires { waited_for self.now.waits process ≢ None }
@@ -102,7 +102,7 @@ impl Transactions {
     }
 }
 
-/// The process of a key, where there is one.
+/// Returns the process of a key, if there is one.
 #[inline]
 fn process_of(key: Option<Key>) -> Option<u32>
     ensures { result ≡ option_map (λ k. k.process) key }

@@ -1,4 +1,4 @@
-//! Runs of scripts. In a run for a person standard error has the number of each malformed line, and what is wrong with it. Where that cannot
+//! Runs of scripts. In a run for a person standard error has the number of each malformed line, and what is wrong with it. If that cannot
 //! be written, it is left out, and the run goes on.
 
 use arrayvec::ArrayVec;

@@ -15,7 +15,7 @@ use std::thread;
 use std::thread::{Scope, Threads};
 use std::time::{Clock, Duration, Instant};
 
-/// Runs all workers of the workload. Refused as the table is, or as `Memory` where a thread cannot be started.
+/// Runs all workers of the workload. Refused as the table is, or as `Memory` if a thread cannot be started.
 pub fn run<R: Threads + Wait + Sync>(
     rt: &R,
     alloc: Global,
@@ -73,8 +73,8 @@ fn run_watched<R: Clock + Eprint + Threads + Wait + Sync>(
     )
 }
 
-/// A gate for each worker of the workload, and so many more. The numbers of the table are tested first, so it is refused as `Memory` only
-/// where these are in range.
+/// Returns a gate for each worker of the workload, and this many more. The numbers of the table are tested first, so it is refused as `Memory` only
+/// if these are in range.
 fn gates_of<'a, R: Wait>(
     rt: &'a R,
     alloc: Global,
@@ -115,7 +115,7 @@ fn run_beside<'s, 'e, R: Clock + Eprint + Threads + Wait + Sync>(
     ran
 }
 
-/// What a thread prints of a run while it goes on. Where that cannot be written, it is left out, and the run goes on.
+/// What a thread prints of a run while it goes on. If that cannot be written, it is left out, and the run goes on.
 #[derive(Drop)]
 struct Watch<'a, R: Wait> {
     gate: SharedGate<'a, R>,

@@ -30,7 +30,7 @@ impl<'a, N: Name, A: Ledger, V: Ledger, B: Ledger, R: Wait> Model for Desk<'a, N
 }
 
 impl<'a, N: Name, A: Ledger, V: Ledger, B: Ledger, R: Wait> Desk<'a, N, A, V, B, R> {
-    /// A desk at this table, with this pass. Constant time.
+    /// Returns a desk at this table, with this pass. Constant time.
     pub fn new(
         rt: &'a R,
         table: &'a SharedTable<N, A, V, B>,

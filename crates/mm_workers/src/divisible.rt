@@ -17,6 +17,6 @@ pub trait Divisible: Steps {
     fn join(&mut self, other: Self)
         ensures { Self.shares self.new ≡ joined (Self.shares self.old) (Self.shares other) };
 
-    /// How many processes the table has.
+    /// Returns how many processes the table has.
     fn processes(&self) -> u32;
 }

@@ -23,7 +23,7 @@ pub struct ClientJob<S: Steps + Drop, G: Gate + Drop> {
 }
 
 impl<S: Divisible + Drop, G: Gate + Drop> ClientJob<S, G> {
-    /// The job of a client with a part of this table.
+    /// Returns the job of a client with a part of this table.
     pub fn new(
         table: &mut S,
         gate: G,
@@ -77,7 +77,7 @@ pub struct TransmitterJob<S: Steps + Drop, G: Gate + Drop> {
 }
 
 impl<S: Divisible + Drop, G: Gate + Drop> TransmitterJob<S, G> {
-    /// The job of a transmitter with a part of this table.
+    /// Returns the job of a transmitter with a part of this table.
     pub fn new(table: &mut S, gate: G, turns: u64) -> TransmitterJob<S, G>
         requires { 1 < (S.shares table.old).parts }
         ensures { S.shares table.new ≡ less_parts (S.shares table.old) 1 }

@@ -7,7 +7,7 @@ use mm_clients::Gate;
 use mm_workload::{TransactionStream, WorkStep, Workload};
 use std::alloc::{AllocError, Global};
 
-/// A job for each client of the workload, in order, each with a part of the table.
+/// Returns a job for each client of the workload, in order, each with a part of the table.
 pub fn client_jobs<S: Divisible + Drop, G: Gate + Drop>(
     alloc: Global,
     table: &mut S,
@@ -31,7 +31,7 @@ pub fn client_jobs<S: Divisible + Drop, G: Gate + Drop>(
     Ok(jobs)
 }
 
-/// The first transaction of the client at this place, with room for each that follows it, and these.
+/// Returns the first transaction of the client at this place, with room for each that follows it, and these.
 fn transactions_of(
     workload: &Workload,
     place: usize,
@@ -44,7 +44,7 @@ fn transactions_of(
     Ok((work, stream))
 }
 
-/// A job for each transmitter, each with a part of the table.
+/// Returns a job for each transmitter, each with a part of the table.
 pub fn transmitter_jobs<S: Divisible + Drop, G: Gate + Drop>(
     alloc: Global,
     table: &mut S,

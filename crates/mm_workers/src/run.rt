@@ -24,7 +24,7 @@ use std::thread::Threads;
 /// until all have ended. A client makes its transactions one after another. There is one gate for each worker: those of the clients, in
 /// their order, and then those of the transmitters.
 ///
-/// Refused as `BadConfig` or `Memory`, as `Table::open` is; then no worker starts. Also refused as `Memory` where other memory is refused
+/// Refused as `BadConfig` or `Memory`, as `Table::open` is; then no worker starts. Also refused as `Memory` if other memory is refused
 /// or a thread cannot be started; those that run have ended then. Takes memory: `O(processes + resources + steps + workers)`.
 pub fn run_threads<R: Threads + Wait + Sync, G: Gate + Send + Drop>(
     rt: &R,
@@ -132,8 +132,8 @@ fn ends_of<S: Divisible + Send + Drop, R: Threads + Wait + Sync, G: Gate + Send 
     checked_ends(workload, ends, earlier)
 }
 
-/// The ends, and these earlier ones, which are none where each client makes one transaction. A proof knows of what a thread returns its type
-/// alone, so it needs this look; it never refuses.
+/// Returns the ends and these earlier ones. Never fails: the value that a thread returns carries only its type, so the proof needs this check
+/// that there are no earlier ends if each client makes one transaction.
 fn checked_ends(
     workload: &Workload,
     ends: Vec<End>,

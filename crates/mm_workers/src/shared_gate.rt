@@ -27,7 +27,7 @@ pub struct SharedGate<'a, R: Wait> {
 }
 
 impl<'a, R: Wait> SharedGate<'a, R> {
-    /// What all gates have counted so far.
+    /// Returns what all gates have counted so far.
     pub fn counts(&self) -> Counts {
         *self.counts.lock(self.rt)
     }
@@ -53,9 +53,9 @@ impl<'a, R: Wait> Gate for SharedGate<'a, R> {
     }
 }
 
-/// One gate for each worker, all of which count together. They are over once so many clients have left. Takes memory; `O(workers)`.
+/// Returns one gate for each worker, all of which count together. They are over once this many clients have left. Takes memory; `O(workers)`.
 ///
-/// Refused as `Memory` only where a request for memory was refused.
+/// Refused as `Memory` only if a request for memory was refused.
 pub fn shared_gates<R: Wait>(
     rt: &R,
     alloc: Global,

@@ -46,15 +46,15 @@ abbrev pub count : Items → ℕ
 count no_items = 0
 count (item d ds) = 1 + count ds
 
--- the same, if there are so many items
+-- the same, if there are this many items
 abbrev pub all_in : {X : Type 0} → ℕ → ℕ → (Data → Option X) → Items → Option (List X)
 all_in least most f ds = if nat_le least (count ds) && nat_le (count ds) most then all_of f ds else None
 
--- the steps of a client: an array of so many steps at most
+-- the steps of a client: an array of this many steps at most
 abbrev pub steps_of : Data → Option (List WorkStep)
 steps_of d = option_and_then (all_in 0 MAX_STEPS step_of) (as_array d)
 
--- the clients: an array of arrays of steps, one at least and so many at most
+-- the clients: an array of arrays of steps, one at least and this many at most
 abbrev pub clients_of : Data → Option (List (List WorkStep))
 clients_of d = option_and_then (all_in 1 MAX_CLIENTS steps_of) (as_array d)
 
@@ -77,7 +77,7 @@ pub record SaysWork (d : Data) (w : Work) : Type 0 where
   pub clients : clients_in d ≡ Some w.clients
   pub further : w.further ≡ no_further
 
--- so many bytes at most say this workload: they are UTF-8, and the text of a JSON value that says it
+-- this many bytes at most say this workload: they are UTF-8, and the text of a JSON value that says it
 pub record Says (bytes : List ℕ) (w : Work) : Type 0 where
   pub few : length bytes ≤ MAX_BYTES
   pub utf8 : IsUtf8 bytes

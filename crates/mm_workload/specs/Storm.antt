@@ -17,12 +17,12 @@ generator_on seed stream = started 64 multiplier_64 seed (increment_of 64 stream
 abbrev pub generator : ℕ → Lcg
 generator seed = generator_on seed 0
 
--- the next so many words of a generator
+-- the next this many words of a generator
 unfoldable pub words : ℕ → Lcg → List ℕ
 words zero g = []
 words (suc n) g = (pcg32 g).0 ∷ words n (pcg32 g).1
 
--- the generator after so many words
+-- the generator after this many words
 unfoldable pub after : ℕ → Lcg → Lcg
 after zero g = g
 after (suc n) g = after n (pcg32 g).1
@@ -49,7 +49,7 @@ with_resource steps r = if list_any (acquires r) steps then steps else steps ++ 
 abbrev pub client_of : Shape → Lcg → List WorkStep
 client_of shape g = fold with_resource [] (drawn shape g)
 
--- so many transactions, each by the words that follow those of the one before it
+-- this many transactions, each by the words that follow those of the one before it
 unfoldable pub clients_from : Shape → ℕ → Lcg → List (List WorkStep)
 clients_from shape zero g = []
 clients_from shape (suc n) g = client_of shape g ∷ clients_from shape n (after (1 + draws shape g) g)

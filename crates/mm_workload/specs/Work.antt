@@ -25,7 +25,7 @@ pub record Work : Type 0 where
   pub clients : List (List WorkStep)
   pub further : Origin
 
--- a client has so many steps at most
+-- a client has this many steps at most
 abbrev pub IsShort : List WorkStep → Type 0
 IsShort steps = length steps ≤ MAX_STEPS
 

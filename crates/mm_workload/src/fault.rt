@@ -7,7 +7,7 @@ use thiserror::Error;
 pub enum WorkFault {
     #[error("a request for memory was refused")]
     Memory,
-    /// The bytes of a file say no workload. The place is for a person: where more than one is at fault, no clause says which is
+    /// The bytes of a file say no workload. The place is for a person: if more than one is at fault, no clause says which is
     /// given.
     #[error("malformed workload: {0}")]
     Malformed(FaultPlace),

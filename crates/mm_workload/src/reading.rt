@@ -22,7 +22,7 @@ use std::alloc::Global;
 /// The greatest number of 32 bits.
 const MAX_U32: u64 = u32::MAX as u64;
 
-/// The workload that these bytes say.
+/// Returns the workload that these bytes say.
 pub(crate) fn read(alloc: Global, bytes: &[u8]) -> Result<Workload, WorkFault>
     ensures ok { IfOk result (λ w. Says bytes.now w) }
     ensures malformed { IfErr result (λ e. ¬ (e ≡ Memory) → SaysNone bytes.now) }
@@ -48,7 +48,7 @@ fn place_of(error: &Error) -> FaultPlace {
     }
 }
 
-/// The workload that this value says.
+/// Returns the workload that this value says.
 fn work(alloc: Global, value: &Value) -> Result<Workload, WorkFault>
     ensures ok { IfOk result (λ w. SaysWork (view value.now) w) }
     ensures malformed { IfErr result (λ e. ¬ (e ≡ Memory) → (w : Work) → ¬ SaysWork (view value.now) w) }
@@ -66,7 +66,7 @@ fn work(alloc: Global, value: &Value) -> Result<Workload, WorkFault>
     ))
 }
 
-/// The table's numbers.
+/// Returns the table's numbers.
 fn config(value: &Value) -> Result<Config, FaultPlace>
     ensures { MatchResult result (λ c. SaysConfig (view value.now) c) (λ _. (c : Config) → ¬ SaysConfig (view value.now) c) }
 {
@@ -82,7 +82,7 @@ fn config(value: &Value) -> Result<Config, FaultPlace>
     })
 }
 
-/// The number under this key.
+/// Returns the number under this key.
 fn number(value: &Value, key: &'static str, least: u64, most: u64) -> Result<u64, FaultPlace>
     ensures { MatchResult result (λ n. whole_at least most key.now (view value.now) ≡ Some n)
         (λ _. whole_at least most key.now (view value.now) ≡ None) }
@@ -96,7 +96,7 @@ fn number(value: &Value, key: &'static str, least: u64, most: u64) -> Result<u64
     }
 }
 
-/// Why the value has nothing under this key.
+/// Returns why the value has nothing under this key.
 fn missing(value: &Value, key: &'static str) -> FaultPlace {
     if value.is_object() {
         FaultPlace::Missing(key)

@@ -19,7 +19,7 @@ use std::alloc::{AllocError, Global};
 ///
 /// It is the storm of the usual shape (`shaped_storm`): 8 resources, of which a client acquires at most 4 in its one transaction.
 ///
-/// Refused as `Memory` only where a request for memory was refused.
+/// Refused as `Memory` only if a request for memory was refused.
 pub fn storm(
     alloc: Global,
     seed: u64,
@@ -43,14 +43,14 @@ pub fn storm(
 /// and for each client the square of its resources.
 ///
 /// The words are those of the generator PCG-XSH-RR, `rand_pcg`'s `Lcg64Xsh32::new(seed, 0)`, in the order in which it gives
-/// them. For each client in turn one word gives a count of 1 to `acquires`, and then so many words each give one of the
+/// them. For each client in turn one word gives a count of 1 to `acquires`, and then this many words each give one of the
 /// resources, which the client acquires in that order. A resource that the client has already is passed over. There are as many
 /// processes as clients.
 ///
 /// These are the first transactions. A further transaction of a client is drawn in the same way, by words of the stream of the client's
-/// number, where the first client has the number 1 (`Workload::stream_of`).
+/// number; the first client has the number 1 (`Workload::stream_of`).
 ///
-/// Refused as `Memory` only where a request for memory was refused.
+/// Refused as `Memory` only if a request for memory was refused.
 pub fn shaped_storm(alloc: Global, options: &StormOptions) -> Result<Workload, WorkFault>
     ensures { MatchResult result (λ w. w ≡ storm_with (shape_of options.now.shape) options.now.seed options.now.clients options.now.transmitters) (λ e. e ≡ Memory) }
 {
@@ -66,7 +66,7 @@ pub fn shaped_storm(alloc: Global, options: &StormOptions) -> Result<Workload, W
     Ok(Workload::of(config, transmitters, 10_000_000, clients, further))
 }
 
-/// The numbers of the table. Where a client makes several transactions, no limit of keys or labels is in their way.
+/// Returns the numbers of the table. If a client makes several transactions, no limit of keys or labels is in their way.
 fn config_of(shape: &StormShape, clients: u32) -> Config
     ensures { result ≡ storm_config (shape_of shape.now) clients }
 {
@@ -83,7 +83,7 @@ fn config_of(shape: &StormShape, clients: u32) -> Config
     }
 }
 
-/// The steps of each of `count` clients.
+/// Returns the steps of each of `count` clients.
 fn acquiring_clients(
     alloc: Global,
     shape: &StormShape,
@@ -100,7 +100,7 @@ fn acquiring_clients(
     Ok(clients)
 }
 
-/// The steps of a client, by the next words.
+/// Returns the steps of a client, by the next words.
 fn client(
     alloc: Global,
     shape: &StormShape,
@@ -142,7 +142,7 @@ fn acquire(steps: &mut Vec<WorkStep>, resource: u32) -> Result<(), AllocError>
     Ok(())
 }
 
-/// Whether one of the steps acquires the resource.
+/// Returns whether one of the steps acquires the resource.
 fn has(steps: &[WorkStep], resource: u32) -> bool
     ensures { result ≡ list_any (acquires resource) steps.now }
 {

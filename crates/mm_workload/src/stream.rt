@@ -41,7 +41,7 @@ impl StreamOrigin {
         }
     }
 
-    /// What the client of this number makes.
+    /// Returns what the client of this number makes.
     pub(crate) fn of_client(&self, client: u64) -> TransactionStream
         ensures { result ≡ stream_of self.now client }
     {
@@ -74,9 +74,9 @@ impl TransactionStream {
         self.shape.transactions - 1
     }
 
-    /// Makes room in `steps` for those of each that is drawn. Takes memory where there is one.
+    /// Makes room in `steps` for those of each that is drawn. Takes memory if there is one.
     ///
-    /// Refused only where a request for memory was refused.
+    /// Refused only if a request for memory was refused.
     pub fn make_room(&self, steps: &mut Vec<WorkStep>) -> Result<(), AllocError>
         ensures { steps.new.items ≡ steps.old.items }
     {
@@ -86,10 +86,10 @@ impl TransactionStream {
         steps.reserve(self.shape.acquires as usize)
     }
 
-    /// Draws the next one: `steps` are its steps then. `O(acquires)`, and the square of its resources. Takes memory where `steps` have no
+    /// Draws the next one: `steps` are its steps then. `O(acquires)`, and the square of its resources. Takes memory if `steps` have no
     /// room for them (`make_room`).
     ///
-    /// Refused only where a request for memory was refused.
+    /// Refused only if a request for memory was refused.
     pub fn draw(&mut self, steps: &mut Vec<WorkStep>) -> Result<(), AllocError>
         ensures steps { OnOk result (steps.new.items ≡ client_of self.old.shape self.old.words) }
         ensures shape { self.new.shape ≡ self.old.shape }

@@ -49,7 +49,7 @@ impl Workload {
     ghost use Rattle.mm_workload.specs.Json.{Says, SaysNone};
     ghost use Rattle.mm_workload.specs.declared.fault.WorkFault.TheVariants.{Memory};
 
-    /// A workload of numbers that are in their ranges.
+    /// Returns a workload of numbers that are in their ranges.
     pub(crate) fn of(
         config: Config,
         transmitters: u32,
@@ -84,8 +84,8 @@ impl Workload {
     /// Returns the workload that the bytes of a JSON file say. They say one at most. Takes memory, for the JSON value and for the
     /// workload; `O(n log n)` in the number of bytes, since an object's members are kept in the order of their keys.
     ///
-    /// Refused as `Malformed` exactly where the bytes say none, also where there are more than 1,048,576 of them, and as
-    /// `Memory` only where a request for memory was refused.
+    /// Refused as `Malformed` exactly if the bytes say none, also if there are more than 1,048,576 of them, and as
+    /// `Memory` only if a request for memory was refused.
     pub fn read(alloc: Global, bytes: &[u8]) -> Result<Workload, WorkFault>
         ensures ok { IfOk result (λ w. Says bytes.now w) }
         ensures only { IfOk result (λ w. (v : Work) → Says bytes.now v → v ≡ w) }

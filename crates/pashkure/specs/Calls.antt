@@ -18,7 +18,7 @@ use Rattle.pashkure.specs.declared.plain.PlainKey.{PlainKey}
 abbrev pub IsOpen : Handle → Type 0
 IsOpen h = h.state ≡ open_word
 
--- the key that a begin writes: that of the transaction, and nothing where it is refused
+-- the key that a begin writes: that of the transaction, and nothing if it is refused
 abbrev pub begun_key : Result Key Refusal → PlainKey → PlainKey
 begun_key (Ok k) old = plain_key k
 begun_key (Err refusal) old = old

@@ -8,7 +8,7 @@ use Rattle.pashkure.specs.declared.plain.PlainConfig.{PlainConfig}
 abbrev pub is_out : ℕ → ℕ → Bool
 is_out n most = nat_eq n 0 || nat_lt most n
 
--- the number of the first fault, in the order of the members; 0 where there is none. A header is served that has the library's major and minor numbers, 0 and 1
+-- the number of the first fault, in the order of the members; 0 if there is none. A header is served that has the library's major and minor numbers, 0 and 1
 abbrev pub config_fault : PlainConfig → ℕ
 config_fault c =
     if nat_eq (c.header / 1000) 1 then

@@ -39,7 +39,7 @@ HasName m n None = name_of m.names n ≡ None
 abbrev pub filled : List ℕ → List ℕ → List ℕ
 filled name room = if nat_le (length name) (length room) then name ++ drop (length name) room else room
 
--- what is told of a number: the length of its name, its bytes where there is room, and its owner; or 7
+-- what is told of a number: the length of its name, its bytes if there is room, and its owner; or 7
 abbrev pub TellsName : LockState → ℕ → List ℕ → ℕ → PlainKey → ℕ → List ℕ → ℕ → PlainKey → Type 0
 TellsName m n room count written told bytes len owner =
     ((name : List ℕ) × (k : Key) × (name_of m.names n ≡ Some name) × Owns m k name × (told ≡ 0) × (len ≡ length name) × (owner ≡ plain_key k) × (bytes ≡ filled name room))

@@ -1,5 +1,6 @@
 //! The calls that change a manager. Of a closed handle each answers `NOT_OPEN`, and changes nothing.
 ghost use Rattle.std.specs.Prelude.{◌≡◌, ◌≢◌, ◌⊎◌};
+ghost use Rattle.mm_manager.specs.LockState.{HasOwnSlot};
 ghost use Rattle.mm_manager.specs.Opening.{opening_state};
 ghost use Rattle.pashkure.specs.Opening.{config_fault};
 ghost use Rattle.pashkure.specs.Calls.{IsOpen, TellsBegin, TellsLock, TellsTry, TellsUnlock, TellsCommit, TellsAbort, TellsCancel};
@@ -13,7 +14,7 @@ use crate::opening::{VERSION, fault};
 use crate::plain::{PlainConfig, PlainKey};
 use std::alloc::Global;
 
-/// The version of the library: 1,000,000 times the major number, and 1,000 times the minor one, and the patch.
+/// Returns the version of the library: 1,000,000 times the major number, and 1,000 times the minor one, and the patch.
 #[unsafe(no_mangle)]
 pub extern "C" fn pashkure_version() -> u32
     ensures { result ≡ 1000 }
@@ -38,11 +39,11 @@ pub extern "C" fn pashkure_open(alloc: Global, handle: &mut Handle, config: &Pla
         return fault;
     }
     match open(alloc, config.manager_config()) {
-        Ok(opened) => {
+        Some(opened) => {
             *handle = opened;
             OK
         }
-        Err(_) => NO_MEMORY,
+        None => NO_MEMORY,
     }
 }
 
@@ -65,6 +66,7 @@ pub extern "C" fn pashkure_begin(handle: &mut Handle, key: &mut PlainKey) -> u32
     ensures closed { ¬ IsOpen handle.old → (result ≡ 32) × (handle.new ≡ handle.old) × (key.new ≡ key.old) }
     ensures open { handle.new.state ≡ handle.old.state }
     ensures begins { IsOpen handle.old → TellsBegin handle.old.locks key.old result key.new handle.new.locks }
+    ensures slot { IsOpen handle.old → result ≡ 0 → HasOwnSlot handle.new.locks (key_of key.new) }
 {
     if !handle.is_open() {
         return NOT_OPEN;

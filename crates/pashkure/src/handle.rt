@@ -1,12 +1,12 @@
 //! A lock manager as a program in C holds it.
-ghost use Rattle.std.specs.Prelude.{◌≡◌, ◌↔◌, true, nat_eq, IfOk};
+ghost use Rattle.std.specs.Prelude.{◌≡◌, ◌↔◌, true, nat_eq, IfSome};
 ghost use Rattle.std.specs.Borrow.{sem};
 ghost use Rattle.mm_manager.specs.LockState.{LockState};
 ghost use Rattle.mm_manager.specs.Opening.{opening_state};
 ghost use Rattle.pashkure.specs.Owning.{open_word, owned_if, state_coded};
 
 use crate::parts::Parts;
-use mm_manager::{LockManager, ManagerConfig, OpenError};
+use mm_manager::{LockManager, ManagerConfig};
 use std::alloc::Global;
 use std::marker::Model;
 use std::ptr::null_mut;
@@ -69,7 +69,7 @@ impl Handle {
         self.state
     }
 
-    /// Whether there is a manager.
+    /// Returns whether there is a manager.
     pub fn is_open(&mut self) -> bool
         ensures open { (result ≡ true) ↔ (self.old.state ≡ open_word) }
         ensures same { self.new ≡ self.old }
@@ -77,7 +77,7 @@ impl Handle {
         self.word() == OPEN
     }
 
-    /// The manager.
+    /// Returns the manager.
     pub fn manager(&mut self) -> &mut LockManager
         requires { self.old.state ≡ open_word }
         ensures* writes_back { sem 𝓛 (LendsManager self.entry result) }
@@ -89,14 +89,12 @@ impl Handle {
 
 unsafe impl Send for Handle {}
 
-/// A handle of a new manager.
-pub fn open(alloc: Global, config: ManagerConfig) -> Result<Handle, OpenError>
-    ensures open { IfOk result (λ handle. handle.state ≡ open_word) }
-    ensures locks { IfOk result (λ handle. handle.locks ≡ opening_state config) }
+/// Returns a handle of a new manager; `None` if a number is out of its range, or a request for memory was refused.
+pub fn open(alloc: Global, config: ManagerConfig) -> Option<Handle>
+    ensures open { IfSome result (λ handle. handle.state ≡ open_word) }
+    ensures locks { IfSome result (λ handle. handle.locks ≡ opening_state config) }
 {
-    let manager = LockManager::open(alloc, config)?;
-    match Box::new(alloc, manager) {
-        Ok(boxed) => Ok(Handle::of_parts(Parts::of(boxed))),
-        Err(_) => Err(OpenError::Memory),
-    }
+    let manager = LockManager::open(alloc, config).ok()?;
+    let boxed = Box::new(alloc, manager).ok()?;
+    Some(Handle::of_parts(Parts::of(boxed)))
 }

@@ -10,7 +10,7 @@ use mm_settled::Config;
 /// The version of the library: `major * 1_000_000 + minor * 1_000 + patch`.
 pub const VERSION: u32 = 1_000;
 
-/// The number of the first fault of a configuration, in the order of its members; 0 where it has none.
+/// Returns the number of the first fault of a configuration, in the order of its members; 0 if it has none.
 pub fn fault(config: &PlainConfig) -> u32
     ensures { result ≡ config_fault config.now }
 {
@@ -33,7 +33,7 @@ pub fn fault(config: &PlainConfig) -> u32
     OK
 }
 
-/// Whether a number is not from 1 to this one.
+/// Returns whether a number is not from 1 to this one.
 fn is_out(number: u32, most: u32) -> bool
     ensures { result ≡ is_out number most }
 {

@@ -14,7 +14,7 @@ use crate::plain::{PlainCounts, PlainKey, PlainSeen, PlainWake};
 use mm_manager::{Key, LockManager, Status};
 
 /// The wake of this index of those that the last call told of: first who was given a name, and then whose abort came due. False, and nothing
-/// is written, where there are no so many.
+/// is written, if there are fewer.
 #[unsafe(no_mangle)]
 pub extern "C" fn pashkure_woken(handle: &mut Handle, index: usize, woken: &mut PlainWake) -> bool
     ensures closed { ¬ IsOpen handle.old → result ≡ false }
@@ -35,7 +35,7 @@ pub extern "C" fn pashkure_woken(handle: &mut Handle, index: usize, woken: &mut 
     }
 }
 
-/// What is in a slot: 0, 2 or 3 of a transaction that is active, waits or is in a deadlock, or 7 where there is none, and then nothing is
+/// Returns what is in a slot: 0, 2 or 3 of a transaction that is active, waits or is in a deadlock, or 7 if there is none, and then nothing is
 /// written.
 #[unsafe(no_mangle)]
 pub extern "C" fn pashkure_look(handle: &mut Handle, slot: u32, seen: &mut PlainSeen) -> u32
@@ -55,8 +55,8 @@ pub extern "C" fn pashkure_look(handle: &mut Handle, slot: u32, seen: &mut Plain
     }
 }
 
-/// The name of a number, and its owner: 0, or 7 where nobody has the number, and then nothing is written. The length is written, and the
-/// bytes where there is room for them.
+/// The name of a number, and its owner: 0, or 7 if nobody has the number, and then nothing is written. The length is written, and the
+/// bytes if there is room for them.
 #[unsafe(no_mangle)]
 pub extern "C" fn pashkure_name(
     handle: &mut Handle,
@@ -83,7 +83,7 @@ pub extern "C" fn pashkure_name(
     }
 }
 
-/// The owner of a name: 0, or 7 where nobody owns it, and then nothing is written.
+/// Returns the owner of a name: 0, or 7 if nobody owns it, and then nothing is written.
 #[unsafe(no_mangle)]
 pub extern "C" fn pashkure_owner(handle: &mut Handle, name: &[u8], owner: &mut PlainKey) -> u32
     ensures closed { ¬ IsOpen handle.old → (result ≡ 32) × (owner.new ≡ owner.old) }

@@ -6,7 +6,7 @@ use std::io;
 use std::io::{ErrorKind, Write};
 use std::process::Abort;
 
-/// Keeps what is written, and counts the flushes. Each of these fails where `flush_fails`.
+/// Keeps what is written, and counts the flushes. Each of these fails if `flush_fails`.
 #[derive(Drop)]
 struct CountingWriter {
     taken: Vec<u8>,

@@ -1,7 +1,7 @@
 //! The numbers of a table in a test.
 use mm_shared::{Config, Report};
 
-/// So many processes and resources, where labels and keys last for any test.
+/// This many processes and resources, with labels and keys that last for any test.
 pub fn config(processes: u32, resources: u32) -> Config {
     Config {
         processes,
@@ -11,7 +11,7 @@ pub fn config(processes: u32, resources: u32) -> Config {
     }
 }
 
-/// The report of a table that accepted so many calls, no verdict or abort among them.
+/// The report of a table that accepted this many calls, no verdict or abort among them.
 pub fn accepted(calls: u64) -> Report {
     Report {
         accepted: calls,

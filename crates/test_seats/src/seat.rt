@@ -35,7 +35,7 @@ pub trait Calls {
 
     fn processes(&self) -> u32;
 
-    /// Reads the label of a process on the board, and returns its counter; 0 where there is no such process.
+    /// Reads the label of a process on the board, and returns its counter; 0 if there is no such process.
     fn peek(&mut self, process: u32) -> u64;
 
     /// Looks for a hint among all processes, and returns whether there is one.

@@ -45,7 +45,7 @@ module _ {T : Type 0} where
   link_of None = None
   link_of (Some slot) = link_in slot.state
 
-  -- the processes along the links from a first one, so many at most
+  -- the processes along the links from a first one, this many at most
   abbrev pub walk : List (Slot T) → ℕ → Option ℕ → List ℕ
   walk slots zero first = []
   walk slots (suc most) None = []

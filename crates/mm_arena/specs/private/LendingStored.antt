@@ -1,4 +1,4 @@
--- What a `Shelf` ends as, where a `&mut` to what it keeps of a process is returned.
+-- What a `Shelf` ends as when a `&mut` to what it keeps of a process is returned.
 use Rattle.std.specs.Prelude.{ℕ, Some, slice_set}
 use Rattle.std.specs.Borrow.{Lends, Fml, RattleType, MutBor}
 use Rattle.mm_arena.specs.declared.shelf.Stored.{Stored}

@@ -8,7 +8,7 @@ use clap::builder::ValueParser;
 use clap::{Arg, ArgAction, Command};
 use std::alloc::{AllocError, Global};
 
-/// An argument: its name, what it takes, and what help says of it, where it says anything.
+/// An argument: its name, what it takes, and what help says of it, if it says anything.
 #[derive(Clone, Copy)]
 pub struct Argument {
     pub name: &'static str,
@@ -33,7 +33,7 @@ pub enum ArgumentKind {
     NumberOr(u64, u64, &'static str),
 }
 
-/// A subcommand with these arguments more, in their order.
+/// Returns a subcommand with these arguments more, in their order.
 pub fn with_arguments<'a>(
     mut command: Command<'a>,
     alloc: Global,
@@ -47,7 +47,7 @@ pub fn with_arguments<'a>(
     Ok(command)
 }
 
-/// An argument as clap takes it.
+/// Returns an argument as clap takes it.
 fn arg_of<'a>(alloc: Global, argument: &Argument) -> Arg<'a>
     ensures rule { rule_of result ≡ rule_by argument.now }
     ensures local { result.global ≡ false }
@@ -78,7 +78,7 @@ fn without_help<'a>(alloc: Global, name: &'static str, kind: ArgumentKind) -> Ar
     }
 }
 
-/// A flag `--name`.
+/// Returns a flag `--name`.
 fn flag<'a>(alloc: Global, name: &'static str) -> Arg<'a>
     ensures rule { rule_of result ≡ rule_of_kind name.now ArgumentKind.Flag }
     ensures local { result.global ≡ false }
@@ -86,7 +86,7 @@ fn flag<'a>(alloc: Global, name: &'static str) -> Arg<'a>
     Arg::new(alloc, name).long(name).action(ArgAction::SetTrue)
 }
 
-/// An option `--name VALUE`.
+/// Returns an option `--name VALUE`.
 fn option<'a>(alloc: Global, name: &'static str, value: &'static str) -> Arg<'a>
     ensures rule { rule_of result ≡ rule_of_kind name.now ArgumentKind.FileOption }
     ensures local { result.global ≡ false }
@@ -97,7 +97,7 @@ fn option<'a>(alloc: Global, name: &'static str, value: &'static str) -> Arg<'a>
         .action(ArgAction::Set)
 }
 
-/// An option `--name N` with a whole number in this range.
+/// Returns an option `--name N` with a whole number in this range.
 fn number<'a>(alloc: Global, name: &'static str, least: u64, most: u64) -> Arg<'a>
     ensures rule { rule_of result ≡ rule_of_kind name.now (ArgumentKind.Number least most) }
     ensures local { result.global ≡ false }

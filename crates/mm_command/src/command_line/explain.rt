@@ -43,7 +43,7 @@ pub struct ExplainOptions {
     pub at: Option<u64>,
 }
 
-/// What is to be explained, by what clap found, and the script: that of this file, or of standard input if it is none.
+/// Returns what is to be explained, by what clap found, and the script: that of this file, or of standard input if it is none.
 pub fn options_of(own: &ArgMatches<'_>, file: Option<String>) -> ExplainOptions {
     ExplainOptions {
         file,

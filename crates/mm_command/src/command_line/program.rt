@@ -149,7 +149,7 @@ pub fn command<'a>(alloc: Global) -> Result<Command<'a>, AllocError>
     with_subcommands(without_subcommands(alloc)?, alloc, &subcommands())
 }
 
-/// The program's name and version, and what help says of it.
+/// Returns the program's name and version, and what help says of it.
 fn without_subcommands<'a>(alloc: Global) -> Result<Command<'a>, AllocError>
     ensures { IfOk result (λ made. app_of made ≡ versioned_app (codes "mmdetect")) }
 {
@@ -158,7 +158,7 @@ fn without_subcommands<'a>(alloc: Global) -> Result<Command<'a>, AllocError>
         .bin_name("mmdetect")
 }
 
-/// A command without arguments, with what help says of it before its arguments and after them.
+/// Returns a command without arguments, with what help says of it before its arguments and after them.
 fn plain<'a>(
     alloc: Global,
     name: &'static str,
@@ -212,7 +212,7 @@ fn subcommands() -> [Subcommand; 5]
     ]
 }
 
-/// A program with these subcommands more, in their order.
+/// Returns a program with these subcommands more, in their order.
 fn with_subcommands<'a>(
     mut program: Command<'a>,
     alloc: Global,
@@ -226,7 +226,7 @@ fn with_subcommands<'a>(
     Ok(program)
 }
 
-/// A subcommand as clap takes it.
+/// Returns a subcommand as clap takes it.
 fn command_of<'a>(alloc: Global, subcommand: &Subcommand) -> Result<Command<'a>, AllocError>
     ensures { IfOk result (λ made. IsLocal made (app_by subcommand.now)) }
 {

@@ -31,10 +31,10 @@ use Rattle.mm_apart.proofs.Lemmas.Left.{as_it_was, left_left}
 use Rattle.mm_apart.proofs.Lemmas.Requests.{begun, locked, others_are_left}
 use Rattle.mm_connections.specs.Begun.{connection_in, connection_of, IsOf}
 use Rattle.mm_connections.specs.Line.{said_of}
-use Rattle.mm_connections.specs.Permission.{is_of, of_own, of_any, permission_of, plain_permission, read_permission}
+use Rattle.mm_connections.specs.Permission.{is_of, of_own, of_any, permission_of, plain_permission}
 use Rattle.mm_connections.specs.Hub.{Hub, IsLawfulHub}
 use Rattle.mm_connections.specs.Names.{LocksNames}
-use Rattle.mm_connections.specs.Text.{Asks, BeginsAs, BeginsBy, RepliesTo, Makes, ServesBy, Drops, DropsAll, HangsUp, AnswersSaid, is_full}
+use Rattle.mm_connections.specs.Text.{Asks, BeginsAs, BeginsBy, RepliesTo, ServesBy, Drops, DropsAll, HangsUp, AnswersSaid, is_full}
 use Rattle.mm_connections.specs.declared.line.Said.{Said}
 use Rattle.mm_connections.specs.declared.line.Said.TheVariants as said
 use Rattle.mm_connections.specs.declared.permission.Permission.{Permission}

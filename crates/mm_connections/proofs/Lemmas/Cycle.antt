@@ -1,5 +1,5 @@
 -- A cycle, transaction by transaction.
-use Rattle.std.proofs.Common.{◌≡◌, ◌∙◌, ◌++◌, ℕ, suc, Bool, true, false, List, [], Option, Some, if◌then◌else◌, ap, append-nil}
+use Rattle.std.proofs.Common.{◌≡◌, ◌∙◌, ◌++◌, ℕ, suc, Bool, true, false, [], Some, if◌then◌else◌, ap, append-nil}
 use Rattle.mm_arena.specs.declared.key.Key.{Key}
 use Rattle.mm_arena.specs.Shelf.{key_eq}
 use Rattle.mm_manager.specs.LockState.{LockState}

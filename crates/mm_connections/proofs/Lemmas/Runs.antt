@@ -1,13 +1,9 @@
 -- Connections are apart over a run.
-use Rattle.std.proofs.Common.{◌≡◌, ◌⊎◌, ℕ, Bool, true, false, List, [], ◌∷◌, drop, Option, Some, Result, Ok, Err, inl, inr, refl, sym, ap, subst, ◌∙◌}
+use Rattle.std.proofs.Common.{◌≡◌, ℕ, Bool, true, false, List, [], ◌∷◌, drop, Result, Ok, Err, inl, inr, refl, sym, ap, subst, ◌∙◌}
 use Rattle.mm_arena.specs.declared.key.Key.{Key}
-use Rattle.mm_bit_set.specs.BitSet.{has}
-use Rattle.mm_lines.specs.Text.{Text}
 use Rattle.mm_lines.specs.Words.{words_of}
-use Rattle.mm_lists.specs.Members.{Among}
 use Rattle.mm_tagged_lists.specs.TaggedLists.{Listing, list_at}
 use Rattle.mm_rules.specs.TableState.{is_live}
-use Rattle.mm_manager.specs.LockState.{LockState}
 use Rattle.mm_manager.specs.declared.refusal.Refusal.{Refusal}
 use Rattle.mm_service.specs.declared.effect.Effect.{Effect}
 use Rattle.mm_apart.proofs.Lemmas.Left.{as_it_was, left_left}

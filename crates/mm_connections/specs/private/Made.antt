@@ -1,5 +1,5 @@
 -- How the counts change, by whether the abort of the transaction was due before; and what a transaction that began asks for.
-use Rattle.std.specs.Prelude.{◌≡◌, ◌++◌, ℕ, Bool, true, false, List, Option, if◌then◌else◌}
+use Rattle.std.specs.Prelude.{◌≡◌, ◌++◌, ℕ, Bool, false, List, Option, if◌then◌else◌}
 use Rattle.mm_arena.specs.declared.key.Key.{Key}
 use Rattle.mm_tagged_lists.specs.TaggedLists.{Listing}
 use Rattle.mm_manager.specs.LockState.{LockState}

@@ -1,7 +1,7 @@
-//! What the value behind the lock gives out where a transaction owns names.
+//! What the value behind the lock gives out if a transaction owns names.
 //!
 //! `Monitor::granted` alone makes a `Granted`, and it requires that the transaction owns the name. The fields are private to this module, no
-//! token can be copied, and no value keeps one. So whoever has one was given it by a value behind the lock, during the call at hand.
+//! token can be copied, and no value keeps one. So a caller that has one was given it by a value behind the lock, during the call at hand.
 ghost use Rattle.std.specs.Prelude.{◌≡◌, ◌+◌, IsTrue, ◌↔◌, ◌≤◌, length, slice_get, IsSomeAnd};
 ghost use Rattle.mm_manager.specs.LockState.{Owns};
 ghost use Rattle.mm_locks.specs.Granted.{IsFor};
@@ -17,7 +17,7 @@ pub struct Granted<'n> {
 }
 
 impl<'n> Granted<'n> {
-    /// The name.
+    /// Returns the name.
     pub fn name(&self) -> &'n [u8]
         ensures { result.now ≡ self.now.name.now }
     {
@@ -64,14 +64,14 @@ impl<'n> GrantedUpTo<'n> {
         self.key
     }
 
-    /// Whether it says so of all names.
+    /// Returns whether it says so of all names.
     pub fn is_all(&self) -> bool
         ensures { IsTrue result ↔ (length self.now.names.now ≤ self.now.place) }
     {
         self.place >= self.names.len()
     }
 
-    /// The first name of which it does not say so.
+    /// Returns the first name of which it does not say so.
     pub(crate) fn next(&self) -> Option<&'n [u8]>
         ensures { result ≡ slice_get self.now.names.now self.now.place }
     {

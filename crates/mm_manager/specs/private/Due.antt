@@ -40,7 +40,7 @@ pub record IsReady (p : Parts) : Type 0 where
   pub are_granted : AreGranted p.named.table.table p.lists.granted.items
   pub owns : (g : Grant) → Among g p.lists.granted.items → owner_of p.named.table.table g.resource ≡ Some g.key
 
--- whoever loses a number is one of these
+-- a transaction that loses a number is one of these
 abbrev pub IsAmong : List Key → ℕ → Key → Type 0
 IsAmong keys q h = Among h keys
 
@@ -81,6 +81,6 @@ pub record EndsOne (old : Parts) (k : Key) (new : Parts) : Type 0 where
   pub names : KeepOwned old.named.names new.named.table.table new.named.names
   pub sound : AreSound new
 
--- so it is where the abort of k is due, and else nothing is done
+-- so it is if the abort of k is due, and else nothing is done
 abbrev pub EndsIfDue : Parts → Key → Parts → Type 0
 EndsIfDue old k new = MatchBool (has old.lists.due.items k.process) (EndsOne old k new) (new ≡ old)

@@ -39,7 +39,7 @@ pub record AreCleared (p : Parts) : Type 0 where
   pub granted : p.lists.granted.items ≡ []
   pub aborted : p.lists.aborted.items ≡ []
 
--- whoever loses a number loses it by the event, or is aborted
+-- a transaction that loses a number loses it by the event, or is aborted
 abbrev pub LosesOr : (ℕ → Key → Type 0) → List Key → ℕ → Key → Type 0
 LosesOr Loses aborted q h = Loses q h ⊎ Among h aborted
 
@@ -81,7 +81,7 @@ Handed e old answer n Loses new = HandedFrom e old.named.table.table old.named.n
 abbrev pub HandedRelease : Key → ℕ → Parts → Parts → Type 0
 HandedRelease k n old new = (answer : Released) × Handed (Release k n) old answer k.process (IsReleased k n) new
 
--- the transaction of process n can end in this way: by a finish where it waits for nothing, by an abort where it has a verdict
+-- the transaction of process n can end in this way: by a finish if it waits for nothing, by an abort if it has a verdict
 abbrev pub MayEnd : EndKind → TableState → ℕ → Type 0
 MayEnd way.Finish s n = wait_of s n ≡ None
 MayEnd way.Abort s n = has_verdict s n ≡ true

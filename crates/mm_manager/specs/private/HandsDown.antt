@@ -5,7 +5,7 @@ use Rattle.mm_lists.specs.Members.{Among}
 use Rattle.mm_rules.specs.TableState.{TableState, owner_of, wait_of, has_verdict}
 use Rattle.mm_settled.specs.declared.reply.Grant.{Grant}
 
--- from s to u, in a call of process n, which waits no longer, whoever loses a number does not own it, `granted` are the waits that ended, and all else stays
+-- from s to u, in a call of process n, which waits no longer, a transaction that loses a number does not own it, `granted` are the waits that ended, and all else stays
 pub record HandsDown (s : TableState) (n : ℕ) (Loses : ℕ → Key → Type 0) (granted : List Grant) (u : TableState) : Type 0 where
   pub config : u.config ≡ s.config
   pub keeps : (q : ℕ) (h : Key) → owner_of s q ≡ Some h → ¬ Loses q h → owner_of u q ≡ Some h
@@ -19,10 +19,10 @@ pub record HandsDown (s : TableState) (n : ℕ) (Loses : ℕ → Key → Type 0)
   pub lost : (q : ℕ) (h : Key) → Loses q h → ¬ (owner_of u q ≡ Some h)
   pub own : wait_of u n ≡ None
 
--- whoever loses its numbers by an end is the one that ends
+-- a transaction that loses its numbers by an end is the one that ends
 abbrev pub IsEnding : Key → ℕ → Key → Type 0
 IsEnding k q h = h ≡ k
 
--- whoever loses a number by a release is the one that releases it
+-- a transaction that loses a number by a release is the one that releases it
 abbrev pub IsReleased : Key → ℕ → ℕ → Key → Type 0
 IsReleased k r q h = (h ≡ k) × (q ≡ r)

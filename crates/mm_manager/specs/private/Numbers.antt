@@ -12,7 +12,7 @@ pub record AreNumbered (s : TableState) (t : NameTable) : Type 0 where
   pub as_many : length t.names ≡ s.config.resources
   pub named : (n : ℕ) → (name_of t n ≡ None) ↔ (owner_of s n ≡ None)
 
--- the names without that of n, where nobody owns n
+-- the names without that of n, if nobody owns n
 abbrev pub forgotten : TableState → NameTable → ℕ → NameTable
 forgotten s t n = if is_some (owner_of s n) then t else with_name t n None
 

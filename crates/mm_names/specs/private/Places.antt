@@ -3,7 +3,7 @@ use Rattle.std.specs.Prelude.{◌≡◌, ℕ, ◌*◌, ◌≤◌, List, [], ◌�
 use Rattle.mm_names.specs.declared.config.TheConstants.NamesConfig.{MAX_NAMES, MAX_NAME_BYTES}
 use Rattle.mm_names.specs.Names.{NameTable}
 
--- the names of these lengths, each at the head of a place of so many bytes, one place after the other
+-- the names of these lengths, each at the head of a place of this many bytes, one place after the other
 abbrev pub names_in : ℕ → List (Option ℕ) → List ℕ → List (Option (List ℕ))
 names_in width [] bytes = []
 names_in width (l ∷ ls) bytes = option_map (λ length. take length bytes) l ∷ names_in width ls (drop width bytes)

@@ -2,7 +2,7 @@
 use Rattle.std.specs.Prelude.{ℕ, ◌*◌, ◌/◌, ◌%◌, ◌^◌, List}
 use Rattle.mm_tagged_lists.specs.declared.spot.Spot.{Spot}
 use Rattle.mm_names.specs.declared.spots.Spots.{Spots}
-use Rattle.mm_names.specs.private.Hash.{hash_of}
+use Rattle.mm_names.specs.Hash.{hash_of}
 
 -- the spot of a name
 abbrev pub spot_of : Spots → List ℕ → Spot

@@ -37,7 +37,7 @@ tags_of s = map tag_in s
 abbrev pub tag_at : List (Option (Key × ℕ)) → ℕ → Option (Key × ℕ)
 tag_at tags process = slice_index_or tags process None
 
--- the key of a process, where it has one
+-- the key of a process, if it has one
 abbrev pub key_in : ℕ → Option (Key × ℕ) → Key
 key_in process None = record { process = process; generation = 0 }
 key_in process (Some tag) = tag.0

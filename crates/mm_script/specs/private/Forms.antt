@@ -40,6 +40,6 @@ call_before read left = do
   call ← read
   alone call left
 
--- the same where the front was read to the numbers of a table
+-- the same if the front was read to the numbers of a table
 abbrev pub ReadsConfig : List (List ℕ) → Option Config → List (List ℕ) → Type 0
 ReadsConfig words read left = (header : Header) → table_call header words ≡ call_before (option_map (calls.Table header) read) left

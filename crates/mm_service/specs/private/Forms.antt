@@ -8,7 +8,7 @@ use Rattle.mm_service.specs.declared.line.Asked.{Asked}
 abbrev pub asked_for : Asked → AskedFor
 asked_for asked = record { request = asked.request; name = asked.name.now }
 
--- where no words are left, this
+-- if no words are left, this
 abbrev pub where_none_left : AskedFor → List (List ℕ) → Option AskedFor
 where_none_left asked [] = Some asked
 where_none_left asked _ = None

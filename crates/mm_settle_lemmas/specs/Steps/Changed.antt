@@ -1,4 +1,4 @@
--- The changed: whoever may transmit or newly detect is one of them, or its holder is.
+-- The changed: each process that may transmit or newly detect is one of them, or its holder is.
 use Rattle.std.specs.Prelude.{◌≡◌, ◌<◌, ℕ, Bool, true, false, List}
 use Rattle.std.specs.Option.{option_map_or}
 use Rattle.mm_bit_set.specs.BitSet.{has}
@@ -9,7 +9,7 @@ use Rattle.mm_rules.specs.Change.{can_transmit, can_detect}
 abbrev pub holder_in : TableState → List Bool → ℕ → Bool
 holder_in s changed k = option_map_or (has changed) (holder_of s k) false
 
--- whoever may transmit or newly detect is in the set, or its holder is
+-- each process that may transmit or newly detect is in the set, or its holder is
 pub record AreChanged (s : TableState) (changed : List Bool) : Type 0 where
   pub transmits : (k : ℕ) → has changed k ≡ false → holder_in s changed k ≡ false → can_transmit s k ≡ false
   pub detects : (k : ℕ) → has changed k ≡ false → holder_in s changed k ≡ false → can_detect s k ≡ false

@@ -1,4 +1,4 @@
--- The detects of those that are left to check, by rising number. They are the detects of all that wait.
+-- The detects of those that are left to check, in ascending order. They are the detects of all that wait.
 use Rattle.std.specs.Prelude.{◌≡◌, ◌≤◌, ◌<◌, ◌+◌, ℕ, Bool, false, List, length, fold, count_by}
 use Rattle.mm_bit_set.specs.BitSet.{has}
 use Rattle.mm_rules.specs.TableState.{TableState, waiting_processes}
@@ -6,7 +6,7 @@ use Rattle.mm_rules.specs.Change.{can_detect, detect}
 use Rattle.mm_rules.specs.Laws.{Laws}
 use Rattle.mm_settle_lemmas.specs.Steps.Pass.{ahead}
 
--- the detects of s, where each process below this place had its turn, and so many verdicts were given
+-- the detects of s, if each process below this place had its turn, and this many verdicts were given
 pub record IsDetecting (s : TableState) (from verdicts : ℕ) (checks : List Bool) (now : TableState) : Type 0 where
   pub state : fold detect now (ahead from s.config.processes) ≡ fold detect s (waiting_processes s)
   pub counted : verdicts + count_by (can_detect now) (ahead from s.config.processes) ≡ count_by (can_detect s) (waiting_processes s)

@@ -1,4 +1,4 @@
--- What a settle did so far, and to whom.
+-- What a settle did so far, and to which processes.
 use Rattle.std.specs.Prelude.{◌≡◌, ◌⊎◌, ℕ, Bool, true, false, List, length}
 use Rattle.mm_label.specs.Label.{label_lt}
 use Rattle.mm_bit_set.specs.BitSet.{has}

@@ -1,4 +1,4 @@
--- What the end of a transaction did so far, and to whom.
+-- What the end of a transaction did so far, and to which processes.
 use Rattle.std.specs.Prelude.{◌≡◌, ℕ, Bool, List, Some, None}
 use Rattle.mm_rules.specs.TableState.{TableState, holder_of, wait_of}
 use Rattle.mm_settle_lemmas.specs.Touched.{IsUnchanged, Touches}

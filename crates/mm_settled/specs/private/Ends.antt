@@ -23,7 +23,7 @@ pub record ListsOwned (s : TableState) (k : Key) (ended : List ℕ) : Type 0 whe
   pub owned : (r : ℕ) → Among r ended ↔ (owner_of s r ≡ Some k)
   pub once : NoRepeat ended
 
--- a call of process n that hands over, and settles the table where that is needed, leaves it at rest, and the list of grants tells of both
+-- a call of process n that hands over, and settles the table if that is needed, leaves it at rest, and the list of grants tells of both
 pub record Ends (old new : TableState) (n : ℕ) (lists : Lists) : Type 0 where
   pub others : OthersKeepVerdicts old new n
   pub granted : lists.granted.items ≡ grants old new

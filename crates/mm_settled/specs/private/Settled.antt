@@ -6,7 +6,7 @@ use Rattle.mm_settled.specs.private.Lists.{Fits}
 use Rattle.mm_settled.specs.private.Told.{is_told}
 use Rattle.mm_settled.specs.SettledState.{SettledState}
 
--- what a contract sees: where an event has been accepted since the grants were listed, the list means nothing
+-- what a contract sees: if an event has been accepted since the grants were listed, the list means nothing
 abbrev pub state_of : Inside → SettledState
 state_of t = record {
   table = t.parts.table;

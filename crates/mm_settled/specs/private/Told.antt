@@ -14,7 +14,7 @@ use Rattle.mm_settled.specs.declared.reply.Locked.TheVariants.{Waits, Deadlock}
 abbrev pub told_by : Settled → Key → Locked
 told_by answer h = if nat_eq answer.verdicts 0 then Waits h else Deadlock h
 
--- a list that was filled once so many events had been accepted tells of the last call where no event has been accepted since
+-- a list that was filled once this many events had been accepted tells of the last call if no event has been accepted since
 abbrev pub is_told : ℕ → TableState → Bool
 is_told at s = nat_eq at s.totals.accepted
 

@@ -11,7 +11,7 @@ abbrev pub renewed : TableState → Option Renewal → TableState
 renewed s None = s
 renewed s (Some r) = labelled s r.process r.label
 
--- whoever gets it is a process of the table, and has some holder
+-- the process that gets it is a process of the table, and has some holder
 pub record IsRenewal (s : TableState) (r : Renewal) : Type 0 where
   pub within : r.process < s.config.processes
   pub holder : ℕ

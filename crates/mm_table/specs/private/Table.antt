@@ -5,7 +5,7 @@ use Rattle.mm_settle_lemmas.specs.Steps.Changed.{AreChanged}
 use Rattle.mm_settle_lemmas.specs.Steps.Marked.{SetsAreSized, IsNoneMarked}
 use Rattle.mm_table.specs.declared.table.Table.TheInside.{Inside}
 
--- all laws; whoever may transmit or newly detect is among the changed, or its holder is; each set has a place for each process
+-- all laws; each process that may transmit or newly detect is among the changed, or its holder is; each set has a place for each process
 pub record IsLawfulTable (t : Inside) : Type 0 where
   pub laws : Laws t.records
   pub changed : AreChanged t.records t.sets.changed

@@ -20,7 +20,7 @@ impl Records {
         Ok(key)
     }
 
-    /// Gives the first free process a live key. Refused as `Full` where there is none.
+    /// Gives the first free process a live key. Refused as `Full` if there is none.
     fn give_process(&mut self) -> Result<Key, Refusal>
         ensures { MatchResult result
             (λ key. (self.old.free ≢ []) × (key ≡ key_of self.old (slice_index self.old.free 0)) × (self.new ≡ record self.old {

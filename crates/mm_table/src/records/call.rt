@@ -12,11 +12,11 @@ impl Records {
     pub(super) fn counts_exhausted(&self) -> bool
         ensures { result ≡ counts_exhausted self.now }
     {
-        // Not `||`: where both are read, one test serves for both.
+        // Not `||`: if both are read, one test serves for both.
         (self.totals.accepted >= COUNT_LIMIT) | (self.totals.verdicts >= COUNT_LIMIT)
     }
 
-    /// What is known of the transaction of a key, after the tests of every call with a key, in their order.
+    /// Returns what is known of the transaction of a key, after the tests of every call with a key, in their order.
     pub(super) fn may_call(&self, key: Key) -> Result<Transaction, Refusal>
         ensures refused { IfErr result (λ refusal. Err refusal ≡ allowed (key_tests self.now key)) }
         ensures allowed { OnOk result (Ok tt ≡ allowed (key_tests self.now key)) }

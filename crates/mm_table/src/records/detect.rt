@@ -13,7 +13,7 @@ use crate::{Detected, Key, Refusal};
 use mm_bit_set::BitSet;
 
 impl Records {
-    /// The waiting transaction gets a verdict where its own label came round to its holder. Constant time.
+    /// The waiting transaction gets a verdict if its own label came round to its holder. Constant time.
     pub fn detect(&mut self, key: Key) -> Result<Detected, Refusal>
         ensures { Gives (detected self.old key) result self.new }
     {
@@ -31,7 +31,7 @@ impl Records {
         Ok(answer)
     }
 
-    /// Whether a live transaction has no verdict yet, and both its labels and its holder's public one are one label.
+    /// Returns whether a live transaction has no verdict yet, and both its labels and its holder's public one are one label.
     pub(super) fn can_detect(&self, key: Key) -> bool
         requires { IsTrue (is_live self.now key) }
         ensures { result ≡ can_detect self.now key.process }
@@ -57,7 +57,7 @@ impl Records {
         self.totals.verdicts += 1;
     }
 
-    /// `process` gets a verdict where its label came round to its holder, and is then added to the touched. Returns whether it did.
+    /// `process` gets a verdict if its label came round to its holder, and is then added to the touched. Returns whether it did.
     fn detect_at(&mut self, process: u32, touched: &mut BitSet) -> bool
         requires laws { Laws self.old }
         requires count { self.old.totals.verdicts < u64.MAX }
@@ -77,7 +77,7 @@ impl Records {
         can
     }
 
-    /// Each that is left to check detects where it can, by rising number. Returns how many verdicts are new.
+    /// Each that is left to check detects if it can, in ascending order. Returns how many verdicts are new.
     pub(super) fn detect_all(&mut self, checks: &mut BitSet, touched: &mut BitSet) -> u64
         requires laws { Laws self.old }
         requires sized { length checks.old ≡ self.old.config.processes }

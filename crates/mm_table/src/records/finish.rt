@@ -84,7 +84,7 @@ impl Records {
         self.free_slot(key);
     }
 
-    /// Whether the limit allows each label that is made when `process` hands over all that it owns.
+    /// Returns whether the limit allows each label that is made when `process` hands over all that it owns.
     #[inline]
     pub(super) fn vacate_fits(&self, process: u32) -> bool
         requires { process < self.now.config.processes }

@@ -50,7 +50,7 @@ impl Records {
         self.block_queue(resource, first.process, touched);
     }
 
-    /// Whether the limit allows each label that the hand-over of `resource` makes. Constant time while the greatest label
+    /// Returns whether the limit allows each label that the hand-over of `resource` makes. Constant time while the greatest label
     /// is below the limit; `O(waiters of the resource)` from there on.
     pub(super) fn hand_over_fits(&self, resource: u32) -> bool
         requires { resource < self.now.config.resources }

@@ -8,7 +8,7 @@ use super::Records;
 use mm_label::{Label, fresh};
 
 impl Records {
-    /// The public label of a process.
+    /// Returns the public label of a process.
     pub fn public(&self, process: u32) -> Label
         requires { process < self.now.config.processes }
         ensures { result ≡ public_of self.now process }
@@ -16,14 +16,14 @@ impl Records {
         self.labels.public(process)
     }
 
-    /// Whether the limit allows each label that one block can make. Where it does not, some may still fit.
+    /// Returns whether the limit allows each label that one block can make. If it does not, some may still fit.
     pub(super) fn all_labels_fit(&self) -> bool
         ensures { IsTrue result → AllLabelsFit self.now }
     {
         self.labels.are_below(self.config.label_limit)
     }
 
-    /// The label that `process` gets by waiting for `holder`; `None` past the label limit.
+    /// Returns the label that `process` gets by waiting for `holder`; `None` past the label limit.
     pub(super) fn label_against(&self, process: u32, holder: u32) -> Option<Label>
         requires process { process < self.now.config.processes }
         requires holder { holder < self.now.config.processes }

@@ -10,7 +10,7 @@ use crate::{Config, Key, Mode, Refusal, State, Totals};
 use mm_label::Label;
 
 impl Records {
-    /// What the transaction does, and its labels. Constant time.
+    /// Returns what the transaction does, and its labels. Constant time.
     pub fn state(&self, key: Key) -> Result<State, Refusal>
         ensures { result ≡ state_of self.now key }
     {
@@ -30,7 +30,7 @@ impl Records {
         })
     }
 
-    /// Who owns the resource. Constant time.
+    /// Returns who owns the resource. Constant time.
     pub fn owner(&self, resource: u32) -> Result<Option<Key>, Refusal>
         ensures { result ≡ owner_told self.now resource }
     {
@@ -40,7 +40,7 @@ impl Records {
         Ok(self.owner_of(resource))
     }
 
-    /// The owner of a resource that there is.
+    /// Returns the owner of a resource that there is.
     #[inline]
     pub(super) fn owner_of(&self, resource: u32) -> Option<Key>
         requires { resource < self.now.config.resources }
@@ -54,7 +54,7 @@ impl Records {
         })
     }
 
-    /// The live key of the process; a process that has none waits for nothing. Constant time.
+    /// Returns the live key of the process; a process that has none waits for nothing. Constant time.
     pub fn tenant(&self, process: u32) -> Option<Key>
         ensures tenant { result ≡ tenant_of self.now process }
         ensures key { IfSome result (λ key. IsTrue (is_live self.now key) × (key.process ≡ process) × (process < self.now.config.processes)) }
@@ -63,7 +63,7 @@ impl Records {
         self.transactions.tenant(process)
     }
 
-    /// Lists what the key owns, in place of what `resources` held: nothing where the key is not live. `O(its resources)`.
+    /// Lists what the key owns, in place of what `resources` held: nothing if the key is not live. `O(its resources)`.
     pub fn owned_by(&self, key: Key, resources: &mut Vec<u32>)
         requires laws { Laws self.now }
         requires room { self.now.config.resources ≤ vec_capacity resources.old }
@@ -91,14 +91,14 @@ impl Records {
         self.owned.list(key.process, resources);
     }
 
-    /// The numbers that the table was opened with. Constant time.
+    /// Returns the numbers that the table was opened with. Constant time.
     pub fn config(&self) -> Config
         ensures { result ≡ self.now.config }
     {
         self.config
     }
 
-    /// What was counted. Constant time.
+    /// Returns what was counted. Constant time.
     pub fn totals(&self) -> Totals
         ensures { result ≡ self.now.totals }
     {
@@ -119,7 +119,7 @@ impl Records {
         self.transactions.get(key).unwrap().has_verdict
     }
 
-    /// Whether `process` owns a resource.
+    /// Returns whether `process` owns a resource.
     pub(super) fn owns(&self, process: u32, resource: u32) -> bool
         requires { resource < self.now.config.resources }
         ensures { result ≡ owns self.now process resource }
@@ -128,7 +128,7 @@ impl Records {
         owner.is_some_and(|owner| owner.process == process)
     }
 
-    /// The holder of a live transaction; `None` where it does not wait.
+    /// Returns the holder of a live transaction; `None` if it does not wait.
     pub(super) fn holder(&self, key: Key) -> Option<u32>
         requires { IsTrue (is_live self.now key) }
         ensures holder { result ≡ holder_of self.now key.process }
@@ -139,7 +139,7 @@ impl Records {
         Some(holder.process)
     }
 
-    /// The holder of a process; `None` where it does not wait, or is not one of the table's.
+    /// Returns the holder of a process; `None` if it does not wait, or is not one of the table's.
     pub fn holder_at(&self, process: u32) -> Option<u32>
         ensures holder { result ≡ holder_of self.now process }
         ensures in_range { IfSome result (λ holder. (holder < self.now.config.processes) × (process < self.now.config.processes)) }
@@ -148,7 +148,7 @@ impl Records {
         self.holder(key)
     }
 
-    /// The public label of the holder of a live transaction; `None` where it does not wait.
+    /// Returns the public label of the holder of a live transaction; `None` if it does not wait.
     pub(super) fn holder_label(&self, key: Key) -> Option<Label>
         requires { IsTrue (is_live self.now key) }
         ensures { result ≡ option_map (public_of self.now) (holder_of self.now key.process) }

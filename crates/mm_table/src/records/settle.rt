@@ -14,11 +14,11 @@ use mm_bit_set::BitSet;
 
 impl Records {
     /// Sweeps until no label can be transmitted, and then gives each verdict that is due. Only those are looked at that are among
-    /// the changed or wait for one of them, and those that wait for whoever is raised.
+    /// the changed or wait for one of them, and those that wait for each that is raised.
     ///
-    /// Takes all from the changed, and adds whoever it raises or convicts to the touched. What the two other sets have before makes no
+    /// Takes all from the changed, and adds each that it raises or convicts to the touched. What the two other sets have before makes no
     /// difference.
-    // Where a caller settles at one place only, the compiler would copy this into it and then keep the table's counts in memory: a
+    // If a caller settles at one place only, the compiler would copy this into it and then keep the table's counts in memory: a
     // granted lock and a begin beside it then cost a tenth more.
     #[inline(never)]
     pub fn settle(&mut self, sets: &mut Sets) -> Result<Settled, Refusal>
@@ -74,7 +74,7 @@ impl Records {
         self.add_waiters(process, pending);
     }
 
-    /// `settle`, where those that may transmit are pending and those that may newly detect are pending or to be checked.
+    /// `settle`, if those that may transmit are pending and those that may newly detect are pending or to be checked.
     fn settle_pending(
         &mut self,
         pending: &mut BitSet,

@@ -11,7 +11,7 @@ use super::Records;
 use mm_bit_set::BitSet;
 
 impl Records {
-    /// One turn of a sweep: where the process transmits, it is touched and those that wait for it are pending; else it is left to
+    /// One turn of a sweep: if the process transmits, it is touched and those that wait for it are pending; else it is left to
     /// check. Returns whether it did.
     fn turn(
         &mut self,
@@ -40,7 +40,7 @@ impl Records {
         raised
     }
 
-    /// One sweep: each of the pending in turn, by rising number. Returns how many labels were raised.
+    /// One sweep: each of the pending in turn, in ascending order. Returns how many labels were raised.
     fn sweep(&mut self, pending: &mut BitSet, checks: &mut BitSet, touched: &mut BitSet) -> u64
         requires marked { AreMarked self.old pending.old checks.old }
         requires touched { length touched.old ≡ self.old.config.processes }

@@ -12,7 +12,7 @@ use mm_bit_set::BitSet;
 use mm_label::Label;
 
 impl Records {
-    /// The waiting transaction takes over its holder's public label where that is greater, and is then added to the touched.
+    /// The waiting transaction takes over its holder's public label if that is greater, and is then added to the touched.
     /// Constant time.
     pub fn transmit(&mut self, key: Key, touched: &mut BitSet) -> Result<Transmitted, Refusal>
         requires laws { Laws self.old }
@@ -32,7 +32,7 @@ impl Records {
         Ok(answer)
     }
 
-    /// The process takes over its holder's public label where it has a holder and that is greater. Returns whether it did.
+    /// The process takes over its holder's public label if it has a holder and that is greater. Returns whether it did.
     pub(super) fn transmit_at(&mut self, process: u32) -> bool
         ensures raised { result ≡ can_transmit self.old process }
         ensures state { self.new ≡ transmit self.old process }
@@ -43,7 +43,7 @@ impl Records {
         self.raise(key).is_some()
     }
 
-    /// A live transaction takes over its holder's public label where that is greater. Returns the label that it takes over.
+    /// A live transaction takes over its holder's public label if that is greater. Returns the label that it takes over.
     fn raise(&mut self, key: Key) -> Option<Label>
         requires live { IsTrue (is_live self.old key) }
         requires process { key.process < self.old.config.processes }
@@ -55,7 +55,7 @@ impl Records {
         Some(label)
     }
 
-    /// The public label of the holder of a live transaction, where it is greater than its own.
+    /// Returns the public label of the holder of a live transaction, if it is greater than its own.
     fn greater_label(&self, key: Key) -> Option<Label>
         requires { IsTrue (is_live self.now key) }
         ensures { result ≡ greater_label self.now key.process }

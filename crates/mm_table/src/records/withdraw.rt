@@ -74,7 +74,7 @@ impl Records {
         self.renewal(carrier)
     }
 
-    /// The new label of a live transaction that waits. Refused past the label limit.
+    /// Returns the new label of a live transaction that waits. Refused past the label limit.
     fn renewal(&self, key: Key) -> Result<Option<Renewal>, Refusal>
         requires live { IsTrue (is_live self.now key) }
         requires in_range { key.process < self.now.config.processes }
@@ -95,7 +95,7 @@ impl Records {
         }))
     }
 
-    /// The other transaction that waits with the label that a process shows.
+    /// Returns the other transaction that waits with the label that a process shows.
     fn carrier(&self, process: u32) -> Option<Key>
         requires { process < self.now.config.processes }
         ensures none { IfNone result (shows_waiting self.now process ≡ false) }
@@ -111,7 +111,7 @@ impl Records {
         Some(carrier)
     }
 
-    /// Whether a live transaction waits with this private label.
+    /// Returns whether a live transaction waits with this private label.
     fn waits_with(&self, key: Key, label: Label) -> bool
         requires live { IsTrue (is_live self.now key) }
         requires in_range { key.process < self.now.config.processes }

@@ -12,7 +12,7 @@ use crate::step::WorkStep;
 use serde_json::Value;
 use std::alloc::Global;
 
-/// The steps of each client.
+/// Returns the steps of each client.
 pub(crate) fn clients(alloc: Global, value: &Value) -> Result<Vec<Vec<WorkStep>>, WorkFault>
     ensures ok { IfOk result (λ v. clients_in (view value.now) ≡ Some (map (λ c. c.items) v.items)) }
     ensures malformed { IfErr result (λ e. ¬ (e ≡ Memory) → clients_in (view value.now) ≡ None) }
@@ -35,7 +35,7 @@ pub(crate) fn clients(alloc: Global, value: &Value) -> Result<Vec<Vec<WorkStep>>
     Ok(made)
 }
 
-/// The steps of the client of this number, which counts from 1.
+/// Returns the steps of the client of this number, which counts from 1.
 fn steps(alloc: Global, value: &Value, client: usize) -> Result<Vec<WorkStep>, WorkFault>
     ensures ok { IfOk result (λ v. steps_of (view value.now) ≡ Some v.items) }
     ensures malformed { IfErr result (λ e. ¬ (e ≡ Memory) → steps_of (view value.now) ≡ None) }
@@ -64,7 +64,7 @@ fn steps(alloc: Global, value: &Value, client: usize) -> Result<Vec<WorkStep>, W
     Ok(made)
 }
 
-/// The step that this value is.
+/// Returns the step that this value is.
 fn step(value: &Value) -> Result<WorkStep, StepFault>
     ensures { MatchResult result (λ s. step_of (view value.now) ≡ Some s) (λ _. step_of (view value.now) ≡ None) }
 {
@@ -80,7 +80,7 @@ fn step(value: &Value) -> Result<WorkStep, StepFault>
     }
 }
 
-/// The step of this word and this number.
+/// Returns the step of this word and this number.
 fn step_by(word: &str, number: u32) -> Result<WorkStep, StepFault>
     ensures { MatchResult result (λ s. step_by word.now number ≡ Some s) (λ _. step_by word.now number ≡ None) }
 {

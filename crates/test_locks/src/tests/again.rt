@@ -109,7 +109,7 @@ impl Plan {
         }
     }
 
-    /// What comes of it by at most so many attempts, which are counted.
+    /// What comes of it by at most this many attempts, which are counted.
     pub fn run<R: Wait + Abort>(
         self,
         rt: &R,
@@ -157,7 +157,7 @@ pub fn outcomes<R: Wait + Abort>(rt: &R, locks: &Locks, gate: &Barrier) {
     same(rt, locks.events(rt), 12);
 }
 
-/// Meets the other thread so many times, which locks the names in the opposite order. Returns how often this thread was to try again.
+/// Meets the other thread this many times, which locks the names in the opposite order. Returns how often this thread was to try again.
 pub fn cross_often<R: Wait + Abort>(rt: &R, locks: &Locks, gate: &Barrier, number: usize) -> u64 {
     let plan = Plan::Crosses {
         is_first: number == 0,
@@ -170,14 +170,14 @@ pub fn cross_often<R: Wait + Abort>(rt: &R, locks: &Locks, gate: &Barrier, numbe
     again
 }
 
-/// Stands in the way of so many attempts.
+/// Stands in the way of this many attempts.
 fn stand_in_the_way<R: Wait + Clock + Abort>(rt: &R, locks: &Locks, gate: &Barrier, attempts: u32) {
     for _ in 0..attempts {
         take(rt, locks, gate, &STANDS_IN_THE_WAY, 0);
     }
 }
 
-/// One of two stands in the way, and the other one closes a cycle in each of at most so many attempts. Returns how many that one made.
+/// One of two stands in the way, and the other one closes a cycle in each of at most this many attempts. Returns how many that one made.
 pub fn give_up<R: Wait + Clock + Abort>(
     rt: &R,
     locks: &Locks,

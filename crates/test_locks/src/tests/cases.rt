@@ -20,7 +20,7 @@ enum Work {
     Rows(&'static [Row]),
     Outcomes,
     BothCommit,
-    /// One makes so many attempts, and gives up.
+    /// One makes this many attempts, and gives up.
     GiveUp(u32),
     Pause,
     Patience,
@@ -36,7 +36,7 @@ enum Ended {
     Nothing,
     /// What the steps behind the last thread look at.
     Rows(&'static [Row]),
-    /// So many transactions were committed. All others were told of a deadlock and rolled back: as many as the sum of the numbers, which
+    /// This many transactions were committed. All others were told of a deadlock and rolled back: as many as the sum of the numbers, which
     /// is within these bounds.
     Deadlocks {
         committed: u64,
@@ -59,7 +59,7 @@ struct Case {
     ended: Ended,
 }
 
-/// So many names that nobody owns.
+/// This many names that nobody owns.
 fn nobody(alloc: Global, count: usize) -> Result<Vec<AtomicU64>, AllocError> {
     let mut owners = Vec::with_capacity(alloc, count)?;
     for _ in 0..count {
@@ -107,7 +107,7 @@ impl Work {
     }
 }
 
-/// Ends the test unless so many were committed, and all others told of a deadlock and rolled back.
+/// Ends the test unless this many were committed, and all others told of a deadlock and rolled back.
 fn deadlocks_are<R: Wait + Abort>(rt: &R, locks: &Locks, committed: u64, deadlocks: u64) {
     let totals = locks.totals(rt);
     same(rt, totals.committed, committed);
@@ -180,7 +180,7 @@ fn on_locks<R: Threads + Wait + Clock + Abort + Sync>(rt: &R, alloc: Global, cas
 }
 
 /// How often two threads meet crosswise. After a deadlock a thread yields its processor 256 times, for as long as other programs take it: so
-/// each meeting may last a second where these are busy, and a test has 60.
+/// each meeting may last a second if these are busy, and a test has 60.
 pub const ROUNDS: u64 = 6;
 
 /// Two threads over two names.
@@ -194,7 +194,7 @@ const TWO: Case = Case {
     ended: Ended::Nothing,
 };
 
-/// Lets so many threads make their steps at locks for so many transactions and names.
+/// Lets this many threads make their steps at locks for this many transactions and names.
 pub fn on_rows<R: Threads + Wait + Clock + Abort + Sync>(
     rt: &R,
     alloc: Global,
@@ -258,7 +258,7 @@ fn both_commit(rt: HostRuntime) {
     on_locks(&rt, rt.alloc(), &case);
 }
 
-/// Where each attempt meets a deadlock, the last one's error is returned. Each attempt was made, and rolled back.
+/// If each attempt meets a deadlock, the last one's error is returned. Each attempt was made, and rolled back.
 #[test]
 fn ends_after_so_many_attempts(rt: HostRuntime) {
     let case = Case {

@@ -42,7 +42,7 @@ fn ask<R: Wait + Clock>(transaction: &mut Transaction<'_, R>, name: &[u8], way: 
     }
 }
 
-/// Asks for some names, and says of each that it is owned. `false` where that closed a cycle of waits.
+/// Asks for some names, and says of each that it is owned. `false` if that closed a cycle of waits.
 fn lock_some<R: Wait + Clock + Abort>(
     rt: &R,
     transaction: &mut Transaction<'_, R>,
@@ -91,7 +91,7 @@ fn attempt<R: Wait + Clock + Abort>(
     is_done
 }
 
-/// Transactions of one thread, until so many have committed. Returns how many did not.
+/// Transactions of one thread, until this many have committed. Returns how many did not.
 pub fn client<R: Wait + Clock + Abort>(
     rt: &R,
     locks: &Locks,

@@ -31,27 +31,27 @@ pub fn begin<'m, R: Wait + Abort>(rt: &'m R, locks: &'m Locks) -> Transaction<'m
     locks.begin(rt).expect(rt, "there is room")
 }
 
-/// Locks a name. Ends the test where that is refused.
+/// Locks a name. Ends the test if that is refused.
 pub fn takes<R: Wait + Abort>(rt: &R, transaction: &mut Transaction<'_, R>, name: &[u8]) {
     same(rt, owns(transaction.lock(name)), Ok(true));
 }
 
-/// Commits a transaction. Ends the test where that is refused.
+/// Commits a transaction. Ends the test if that is refused.
 pub fn commits<R: Wait + Abort>(rt: &R, transaction: Transaction<'_, R>) {
     same(rt, owns(transaction.commit()), Ok(true));
 }
 
-/// Ends the test where another answer came than was expected.
+/// Ends the test if another answer came than was expected.
 pub fn same<T: PartialEq + Debug + Drop>(rt: &impl Abort, came: T, expected: T) {
     assert_eq!(rt; came, expected);
 }
 
-/// Ends the test where this does not hold.
+/// Ends the test if this does not hold.
 pub fn holds(rt: &impl Abort, what: &str, is_so: bool) {
     assert!(rt; is_so, "{what}");
 }
 
-/// Waits until the manager has counted so many events.
+/// Waits until the manager has counted this many events.
 pub fn await_events<R: Wait>(rt: &R, locks: &Locks, events: u64) {
     for _ in rt.forever() {
         if locks.events(rt) >= events {
@@ -73,7 +73,7 @@ pub fn leaves(rt: &impl Abort, owners: &[AtomicU64], name: usize) {
     same(rt, count.fetch_sub(1, SeqCst), 1);
 }
 
-/// Ends the test unless so many have begun, were committed, were aborted, and were told of a deadlock.
+/// Ends the test unless this many have begun, were committed, were aborted, and were told of a deadlock.
 pub fn totals_are<R: Wait + Abort>(rt: &R, locks: &Locks, expected: [u64; 4]) {
     let totals = locks.totals(rt);
     same(rt, totals.begun, expected[0]);

@@ -31,7 +31,7 @@ impl<'a, R: Wait> Clock for Ticking<'a, R> {
     }
 }
 
-/// Asks for a name that another transaction owns and keeps, and gives up after so many milliseconds. Ends the test unless that time had
+/// Asks for a name that another transaction owns and keeps, and gives up after this many milliseconds. Ends the test unless that time had
 /// passed when the clock was read last.
 fn is_taken_back<R: Wait + Abort>(rt: &R, locks: &Locks, limit: u64) {
     let clock = &Ticking {

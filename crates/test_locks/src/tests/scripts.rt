@@ -14,7 +14,7 @@ const OTHERS_OWN: Answer = Ok(false);
 
 const MEET: Step = Step::Act(Act::Meet);
 
-/// Each refusal of one who does not wait, where there is room for two transactions and one name.
+/// Each refusal of one who does not wait, if there is room for two transactions and one name.
 static REFUSES: [Row; 16] = [
     Row(0, Step::Begin),
     Row(1, Step::Begin),

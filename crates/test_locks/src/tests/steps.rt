@@ -78,7 +78,7 @@ pub enum Call {
     Lock(Name),
     LockAll(List),
     TryLock(Name),
-    /// A lock that gives up after so many milliseconds.
+    /// A lock that gives up after this many milliseconds.
     LockFor(Name, u64),
     Unlock(Name),
 }
@@ -124,7 +124,7 @@ impl Call {
 pub enum Act {
     /// Waits until all threads do so.
     Meet,
-    /// Waits until so many events were counted.
+    /// Waits until this many events were counted.
     Await(u64),
     /// Another transaction tries these three names, and finds which of them are owned by others.
     AreBusy(List, bool, bool, bool),
@@ -132,7 +132,7 @@ pub enum Act {
     IsFull,
     /// A transaction that is to begin with these names is refused so.
     BeginsNot(List, LockError),
-    /// So many have begun, were committed, were aborted, and were told of a deadlock.
+    /// This many have begun, were committed, were aborted, and were told of a deadlock.
     Totals(u64, u64, u64, u64),
 }
 
@@ -198,7 +198,7 @@ pub struct Row(pub usize, pub Step);
 /// Behind the last thread: once all threads have ended.
 pub const END: usize = usize::MAX;
 
-/// Makes a call of the transaction. Ends the test where another answer comes.
+/// Makes a call of the transaction. Ends the test if another answer comes.
 fn make_call<R: Wait + Clock + Abort>(
     rt: &R,
     transaction: &mut Option<Transaction<'_, R>>,

@@ -7,7 +7,7 @@ use std::sync::{Barrier, Wait};
 /// How many threads wait, each for a name of its own.
 pub const WAITERS: usize = 12;
 
-/// Owns all names, and commits once each has a waiter: after so many begins and locks, and a begin and a wait of two events for each.
+/// Owns all names, and commits once each has a waiter: after this many begins and locks, and a begin and a wait of two events for each.
 fn own_all<R: Wait + Abort>(rt: &R, locks: &Locks, gate: &Barrier) {
     let mut owner = begin(rt, locks);
     for name in 0..WAITERS {

@@ -79,7 +79,7 @@ fn answer<N: Name, A: Ledger, V: Ledger, B: Ledger, R: Wait>(
     }
 }
 
-/// Makes the call on a shared table. Where it has a form that lists whom to wake, that one.
+/// Makes the call on a shared table. If it has a form that lists the processes to wake, that one.
 pub fn on_shared_waking<N: Name, A: Ledger, V: Ledger, B: Ledger, R: Wait>(
     rt: &R,
     table: &SharedTable<N, A, V, B>,

@@ -15,7 +15,7 @@ fn key(process: u32, generation: u32) -> Key
     }
 }
 
-// A push, where the process is in no list yet.
+// A push, if the process is in no list yet.
 fn push(lists: &mut Lists, list: u32, key: Key)
     requires list_in_range { list < length lists.old.lists }
     requires process_in_range { key.process < lists.old.processes }

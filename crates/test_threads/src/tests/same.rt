@@ -3,7 +3,7 @@
 use std::fmt::Debug;
 use std::process::Abort;
 
-/// Ends the test where another answer came than was expected.
+/// Ends the test if another answer came than was expected.
 pub fn same<T: PartialEq + Debug + Drop>(rt: &impl Abort, came: T, expected: T) {
     assert_eq!(rt; came, expected);
 }

@@ -23,7 +23,7 @@ struct Case {
     end: End,
 }
 
-/// Whether a client with this work and so many turns makes just the calls of the script, and ends so.
+/// Whether a client with this work and this many turns makes just the calls of the script, and ends so.
 pub fn runs_so(alloc: Global, script: &Script, work: &[WorkStep], turns: u64, end: End) -> bool {
     let Ok(work) = work.to_vec(alloc) else {
         return false;
@@ -75,8 +75,8 @@ const IS_GRANTED: Line = (Call::Transmit, Answer::Refused(Refusal::NotWaiting));
 const IS_GRANTED_LATER: Line = (Call::Detect, Answer::Refused(Refusal::NotWaiting));
 
 /// A turn for the begin, one for each asking at the gate, and one for each round of waiting, a transmit and a detect. A begin that finds no free
-/// slot is tried again, a turn each. A verdict, new or standing, leads to an abort, and what is left of the work is not done. Where a client waits
-/// no longer, the resource is its own, and it goes on with its next step. Where its turns are used up, it makes no further call of the table.
+/// slot is tried again, a turn each. A verdict, new or standing, leads to an abort, and what is left of the work is not done. If a client waits
+/// no longer, the resource is its own, and it goes on with its next step. If its turns are used up, it makes no further call of the table.
 static CASES: [Case; 11] = [
     Case {
         name: "it goes on to its end, past a meeting",

@@ -20,7 +20,7 @@ fn first_leaves<R: Wait>(gates: &mut Vec<SharedGate<'_, R>>) {
 /// What the last gate says, before anybody has left, and then after each look.
 static ARE_OVER: [bool; 4] = [false, false, true, true];
 
-/// Whether the last gate says so, where the client of the first one leaves after each look until it is over.
+/// Whether the last gate says so, if the client of the first one leaves after each look until it is over.
 fn are_over<R: Wait>(gates: &mut Vec<SharedGate<'_, R>>) -> bool {
     for is_over in &ARE_OVER {
         if last_is_over(gates) != Some(*is_over) {

@@ -7,10 +7,10 @@ use mm_workers::{Hint, HintKind, Steps};
 /// A call and its answer, of those that a transmitter makes.
 #[derive(Clone, Copy, PartialEq)]
 pub enum Call {
-    /// From which process it looks, what it sees, and of which process and holder: 0 and 0 where it sees nothing.
+    /// From which process it looks, what it sees, and of which process and holder: 0 and 0 if it sees nothing.
     Scan(u32, Sight, u32, u32),
     Tenant(u32, Option<Key>),
-    /// A transmit or a detect, its reply, and the counter and the process of the label in the reply: 0 and 0 where there is none.
+    /// A transmit or a detect, its reply, and the counter and the process of the label in the reply: 0 and 0 if there is none.
     Event(Key, Reply, u64, u32),
 }
 

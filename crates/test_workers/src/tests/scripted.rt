@@ -37,7 +37,7 @@ impl<'a> ScriptedSteps<'a> {
         }
     }
 
-    /// The answer of an event, which is counted where it is accepted.
+    /// The answer of an event, which is counted if it is accepted.
     fn event(&mut self, call: Call) -> Result<Answer, Refusal>
         ensures first { OnOk result (self.new.accepted ≡ self.old.accepted + 1) }
         ensures others { (self.new.verdicts ≡ self.old.verdicts) × (self.new.aborts ≡ self.old.aborts) }

@@ -155,7 +155,7 @@ fn a_transmitter_without_a_table(rt: HostRuntime) {
     all_pass(&rt, wrong_case());
 }
 
-/// Transactions that own a resource each, and wait for that of the next: first so many begin, and then they acquire these.
+/// Transactions that own a resource each, and wait for that of the next: first this many begin, and then they acquire these.
 struct Waits {
     begins: u32,
     acquires: &'static [(Key, u32)],

@@ -34,7 +34,7 @@ enum Step {
 #[derive(Clone, Copy)]
 pub struct Turn(By, Step);
 
-/// The label of a process on the board; `None` where it is not one of the table's. It has no handle, so it may not wait.
+/// The label of a process on the board; `None` if it is not one of the table's. It has no handle, so it may not wait.
 fn peeked<N: Name, A: Ledger, V: Ledger, B: Ledger>(
     table: &SharedTable<N, A, V, B>,
     pass: &mut Pass<N, A, V, B>,
@@ -58,7 +58,7 @@ fn scanned<N: Name, A: Ledger, V: Ledger, B: Ledger>(
     ]
 }
 
-/// Makes a call. Ends the test where it has another reply.
+/// Makes a call. Ends the test if it has another reply.
 fn calls<N: Name, A: Ledger, V: Ledger, B: Ledger, R: Wait + Abort>(
     rt: &R,
     table: &SharedTable<N, A, V, B>,
@@ -71,7 +71,7 @@ fn calls<N: Name, A: Ledger, V: Ledger, B: Ledger, R: Wait + Abort>(
 }
 
 impl Step {
-    /// Makes the step. Ends the test where something else comes of it.
+    /// Makes the step. Ends the test if something else comes of it.
     fn make<N: Name, A: Ledger, V: Ledger, B: Ledger, R: Wait + Abort>(
         self,
         rt: &R,
@@ -184,7 +184,7 @@ fn the_board_shows_a_deadlock(rt: HostRuntime) -> Result<(), Fail> {
     )
 }
 
-/// A resource that two wait for is handed over twice, and each time the board shows who waits for whom. Then each of three owns one
+/// A resource that two wait for is handed over twice, and each time the board shows the waits. Then each of three owns one
 /// resource and waits for that of the next, and a settle finds the deadlock.
 static QUEUE_AND_SETTLE: [Turn; 26] = [
     Turn(By::First, Step::Calls("begin", "key 0.1")),

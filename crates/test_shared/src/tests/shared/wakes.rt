@@ -40,7 +40,7 @@ const COUNTED: Report = Report {
     aborts: 1,
 };
 
-/// Makes the call of a line. Ends the test where it has another reply, or lists other processes. `wake` has room for each process.
+/// Makes the call of a line. Ends the test if it has another reply, or lists other processes. `wake` has room for each process.
 fn make<N: Name, A: Ledger, V: Ledger, B: Ledger, R: Wait + Abort>(
     rt: &R,
     table: &SharedTable<N, A, V, B>,

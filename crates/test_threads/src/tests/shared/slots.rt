@@ -47,7 +47,7 @@ impl Made {
     }
 }
 
-/// Begins a transaction, asks for its state and finishes it. `false` where no slot is free.
+/// Begins a transaction, asks for its state and finishes it. `false` if no slot is free.
 fn begins_and_finishes<R: Abort>(rt: &R, calls: &mut impl Calls, made: &mut Made) -> bool {
     match calls.begin() {
         Ok(key) => {
@@ -87,7 +87,7 @@ pub fn use_slots<R: Wait + Abort>(rt: &R, calls: &mut impl Calls) -> Made {
     made
 }
 
-/// Uses what the threads left over, where one missed a transaction that began while it looked. Ends the test unless each begin is refused
+/// Uses what the threads left over, if one missed a transaction that began while it looked. Ends the test unless each begin is refused
 /// from then on. Returns what was made.
 pub fn find_no_slot<R: Wait + Abort>(rt: &R, calls: &mut impl Calls) -> Made {
     let made = use_slots(rt, calls);

@@ -88,7 +88,7 @@ static REFUSED: [Refused; 7] = [
 /// How a try at `finish` is answered.
 static FINISHES: [Answer; 2] = [Answer::Done, Answer::Refused(Refusal::Waiting)];
 
-/// Whether the refusal of the call ends the client under its number, where its try at `finish` has this answer.
+/// Whether the refusal of the call ends the client under its number, if its try at `finish` has this answer.
 fn ends_by(alloc: Global, refused: &Refused, refusal: Refusal, finish: Answer) -> bool {
     let call = (refused.call, Answer::Refused(refusal));
     let rest = [call, (Call::Finish, finish), LEAVE];

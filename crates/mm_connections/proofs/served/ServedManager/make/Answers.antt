@@ -1,4 +1,4 @@
-use Rattle.std.proofs.Common.{◌≡◌, ◌∙◌, ap, subst, List, ℕ, [], ◌++◌}
+use Rattle.std.proofs.Common.{◌≡◌, ◌∙◌, ap, subst, [], ◌++◌}
 use Rattle.mm_lines.specs.Output.{Writes}
 use Rattle.mm_service.specs.declared.effect.Effect.{Effect}
 use Rattle.mm_connections.specs.Hub.{Hub}
@@ -10,7 +10,7 @@ use Rattle.mm_connections.proofs.served.ServedManager.make.Goals as goal
 pub returns-in-Ok-clause-makes : goal.returns-in-Ok-clause-makes
 returns-in-Ok-clause-makes g c =
     let did = c.in-Ok.ensures.replies in
-    let n = c.args.connection in
+    let n = c.args.heard.connection in
     let new : Hub = hub_of c.reply-outcome.new.self in
     let caused = events_text new (effect_for n did.1) in
     let written = c.write_events.ensures.written in
@@ -29,7 +29,7 @@ returns-in-Ok-clause-makes g c =
 pub returns-in-Err-clause-makes : goal.returns-in-Err-clause-makes
 returns-in-Err-clause-makes g c =
     let did = c.in-Err.ensures.replies in
-    let n = c.args.connection in
+    let n = c.args.heard.connection in
     let new : Hub = hub_of c.reply-outcome.new.self in
     let caused = events_text new (effect_for n did.1) in
     let none : caused ≡ [] = ap (λ (e : Effect). events_text new (effect_for n e)) did.5 in (

@@ -1,4 +1,4 @@
-use Rattle.std.proofs.Common.{◌≡◌, ◌∙◌, sym, subst, refl, codes, decimal, List, ℕ, ◌++◌, append_assoc}
+use Rattle.std.proofs.Common.{◌∙◌, sym, subst, refl, codes, decimal, List, ℕ, ◌++◌, append_assoc}
 use Rattle.mm_lines.specs.Output.{Writes}
 use Rattle.mm_manager.specs.declared.refusal.Refusal.TheVariants as refusal
 use Rattle.mm_service.specs.Reply.{line_text, refusal_word}
@@ -13,14 +13,14 @@ use Rattle.mm_connections.proofs.served.ServedManager.serve.Goals as goal
 pub returns-in-Make-clause-serves : goal.returns-in-Make-clause-serves
 returns-in-Make-clause-serves g c =
     let becomes = sym c.in-Make.is ∙ c.permission_of.ensures in
-    let n = c.args.connection in
+    let n = c.args.heard.connection in
     let did = c.make.ensures.makes in
     let new : Hub = hub_of c.make.new.self in
     let kept = c.args.output.now.items in
     let head = decimal n ++ codes " " in
     let caused = events_text new (effect_for n did.1) in
     let text = to n did.0 ++ caused in
-    let P = λ (p : Permission). ServesBy p n c.args.request c.args.name.now (hub_of c.args.self.now) text new in
+    let P = λ (p : Permission). ServesBy p n c.args.heard.request c.args.heard.name.now (hub_of c.args.self.now) text new in
     let W = λ (l : List ℕ). Writes (g.W.Write.contents c.args.writer.now) (g.W.Write.contents c.make.new.writer) (kept ++ l) did.2 in
     let written = writes_after _ _ kept head c.print_to.new.output.items (did.0 ++ caused) did.2 c.print_to.ensures.added did.5 in (
       text,
@@ -34,11 +34,11 @@ returns-in-Make-clause-serves g c =
 pub returns-in-NoTransaction-clause-serves : goal.returns-in-NoTransaction-clause-serves
 returns-in-NoTransaction-clause-serves g c =
     let becomes = sym c.in-NoTransaction.is ∙ c.permission_of.ensures in
-    let n = c.args.connection in
+    let n = c.args.heard.connection in
     let h : Hub = hub_of c.args.self.now in
     let kept = c.args.output.now.items in
     let text = to n (line_text (codes "refused " ++ refusal_word refusal.NoTransaction)) in
-    let P = λ (p : Permission). ServesBy p n c.args.request c.args.name.now h text h in (
+    let P = λ (p : Permission). ServesBy p n c.args.heard.request c.args.heard.name.now h text h in (
       text,
       c.print_line.new.output.items,
       record { manager = c.keeps_laws.ensures; lists = c.keeps_laws-2.ensures },

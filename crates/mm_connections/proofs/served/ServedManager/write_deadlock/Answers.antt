@@ -18,5 +18,8 @@ pub returns-clause-written : goal.returns-clause-written
 returns-clause-written g c =
     let room = c.in_ok-make_room.ensures.written in
     let written = c.write_cycle.ensures.written in
-    let line = line_text (codes "* deadlock" ++ cycle_text c.args.self.now.manager c.args.key) in
-    (written.0, writes_reply (to 0 line) room.1 room.2 (writes_after _ _ c.make_room.new.output.items (decimal 0 ++ codes " ") c.print_to.new.output.items line written.0 c.print_to.ensures.added written.1), written.2)
+    let pairs = line_text (cycle_text c.args.self.now.manager c.args.key) in
+    let kept = c.make_room.new.output.items in
+    let head = codes "* deadlock" in
+    let line = writes_after _ _ c.print_to.new.output.items head c.print_text.new.output.items pairs written.0 c.print_text.ensures written.1 in
+    (written.0, writes_reply (to 0 (head ++ pairs)) room.1 room.2 (writes_after _ _ kept (decimal 0 ++ codes " ") c.print_to.new.output.items (head ++ pairs) written.0 c.print_to.ensures.added line), written.2)

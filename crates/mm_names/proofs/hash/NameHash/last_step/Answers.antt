@@ -1,6 +1,6 @@
 use Rattle.std.proofs.Common.{length}
 use borrow.Author.Tests.{lt-ltb, le-ltb}
-use Rattle.mm_names.specs.private.Hash.{last_step}
+use Rattle.mm_names.specs.Hash.{last_step}
 use Rattle.mm_names.proofs.hash.NameHash.last_step.Goals as goal
 
 pub returns-then-rest-gt8 : goal.returns-then-rest-gt8

@@ -1,5 +1,5 @@
 use Rattle.std.proofs.Common.{◌≡◌, ◌-◌, ◌/◌, length, arith}
-use Rattle.mm_names.specs.private.Hash.{after_blocks, hash_of}
+use Rattle.mm_names.specs.Hash.{after_blocks, hash_of}
 use Rattle.mm_names.proofs.hash.NameHash.of.Goals as goal
 
 pub returns-then-name-le-BLOCK : goal.returns-then-name-le-BLOCK

@@ -1,6 +1,6 @@
 use Rattle.std.proofs.Common.{◌≡◌, ◌-◌, ◌*◌, ◌/◌, length, take, drop, ap, ◌∙◌, arith, add-one}
 use Rattle.std.proofs.lemmas.List.{take_all, length-drop}
-use Rattle.mm_names.specs.private.Hash.{after_blocks, last_step, hash_of}
+use Rattle.mm_names.specs.Hash.{after_blocks, last_step, hash_of}
 use Rattle.mm_names.proofs.hash.NameHash.of_long.Goals as goal
 
 pub loop-block-init : goal.loop-block-init

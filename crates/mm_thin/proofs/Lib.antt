@@ -1,0 +1,5 @@
+mod Laws
+mod Seats
+mod Keeps
+mod Calls
+mod Places

@@ -1,0 +1,27 @@
+use Rattle.std.proofs.Common.{◌+◌, ap, ◌∙◌}
+use Rattle.mm_thin.specs.declared.views.DeskView.{DeskView}
+use Rattle.mm_thin.specs.Views.{with_records}
+use Rattle.mm_thin.specs.Parts.{OfficeState}
+use Rattle.mm_thin.proofs.Places.{new_idle, new_length}
+use Rattle.mm_thin.proofs.office.Office.worker_of.Goals as goal
+
+pub returns : goal.returns
+returns c =
+    let made = c.fill.ensures.made in
+    let ps = c.fill.new.places.items in
+    let desk = ap (λ d. d.1) (c.fill.ensures.desk) in
+    let first = ap (λ d. d.1) c.add_record.ensures.desk in
+    let second = ap (λ d. d.1) c.add_record-2.ensures.desk in
+    let old = c.self.view_is in
+    record {
+      of = c.requires.of;
+      at = ap (λ (o : OfficeState). o.workers) old;
+      eight = new_length c.add_record-2.new.self 8 ps made;
+      idle = new_idle c.add_record-2.new.self 8 ps made;
+      office = (
+        ap (λ (o : OfficeState). o.of) old,
+        ap (λ (d : DeskView). d.fat) (desk ∙ (λ i. with_records (second i) (c.add_record-2.new.self.1.records + 8))) ∙ ap (λ (d : DeskView). d.fat) first ∙ ap (λ (o : OfficeState). o.desk.fat) old,
+        ap (λ (d : DeskView). d.lent) (desk ∙ (λ i. with_records (second i) (c.add_record-2.new.self.1.records + 8))) ∙ ap (λ (d : DeskView). d.lent) first ∙ ap (λ (o : OfficeState). o.desk.lent) old,
+      );
+      more = (ap (λ (o : OfficeState). o.workers + 1) old, ap (λ (o : OfficeState). o.max_workers) old);
+    }

@@ -1,0 +1,106 @@
+-- What ties the parts to the words that they are of, and what a contract sees of them.
+use Rattle.std.specs.Prelude.{◌≡◌, Bool, true, false, ℕ, ◌+◌, ◌*◌, ◌/◌, ◌^◌, ◌<◌, ◌≤◌, List, [], ◌∷◌, length, slice_get, slice_index, Some}
+use Rattle.atomic_table.specs.Seated.{TableId}
+use Rattle.mm_lists.specs.Members.{Among}
+use Rattle.mm_names.specs.declared.hash.NameHash.{NameHash}
+use Rattle.mm_names.specs.Hash.{hash_of, hash_by}
+use Rattle.mm_thin.specs.declared.views.Part.{Part}
+use Rattle.mm_thin.specs.declared.views.DeskView.{DeskView}
+use Rattle.mm_thin.specs.declared.views.RecordView.{RecordView}
+use Rattle.mm_thin.specs.declared.views.Part.TheVariants.{Desk, Record}
+use Rattle.mm_thin.specs.Views.{no_desk, new_record}
+use Rattle.mm_thin.specs.Steps.{SeatState, desk_in, record_in, text_in}
+
+-- ---- the buckets
+
+abbrev pub AreFree : List ℕ → Type 0
+AreFree words = (b : ℕ) → b < length words → slice_index words b ≡ 0
+
+-- the words and the texts of one opening, with what names are hashed, and how many bytes a name may have that is locked here
+pub record Opening : Type 0 where
+  pub table : TableId
+  pub hash : NameHash
+  pub bytes : ℕ
+
+-- to which bucket a name belongs
+abbrev pub bucket_of : Opening → List ℕ → ℕ
+bucket_of of name = hash_of of.hash name * of.table.words / 2 ^ 64
+
+-- the key is the number of words, and there is one at least; names fit into texts
+abbrev pub AreBuckets : TableId → ℕ → ℕ → ℕ → Type 0
+AreBuckets table key count bytes = (key ≡ table.words) × (0 < table.words) × (count ≡ table.words) × (bytes ≤ 63)
+
+-- ---- a record
+
+-- a record that has taken nothing has its text in hand; else it has taken one bucket, and the text is not in hand
+abbrev pub InHand : List ℕ → ℕ → List (ℕ × List ℕ) → Type 0
+InHand [] number held = held ≡ (number, text_in held) ∷ []
+InHand (b ∷ bs) number held = (held ≡ []) × (bs ≡ [])
+
+-- the seat is that of a record
+abbrev pub IsRecord : TableId → SeatState → Type 0
+IsRecord table me =
+    (me.0 ≡ Record (record_in me.0) ∷ []) × InHand (record_in me.0).taken (record_in me.0).number me.1 × ((record_in me.0).number < table.slots)
+
+-- what a contract sees of a record
+abbrev pub RecordState : Type 0
+RecordState = TableId × RecordView
+
+-- whether it has taken a bucket, which one, and for which name
+abbrev pub Marks : Bool → ℕ → List ℕ → RecordState → Type 0
+Marks false bucket name p = p.1.taken ≡ []
+Marks true bucket name p = (p.1.taken ≡ bucket ∷ []) × (p.1.name ≡ name) × (bucket < p.0.words)
+
+-- ---- a worker
+
+pub record WorkerState : Type 0 where
+  pub of : Opening
+  pub at : ℕ
+  pub records : List RecordView
+
+-- the bucket is that of the name
+abbrev pub IsPlaced : Opening → RecordView → Type 0
+IsPlaced of r = (b : ℕ) → Among b r.taken → b ≡ bucket_of of r.name
+
+-- a worker has ten records, of which it uses eight
+abbrev pub IsOfWorker : ℕ → ℕ → Type 0
+IsOfWorker at number = (at * 10 ≤ number) × (number < at * 10 + 10)
+
+-- each record is of these words and of this worker, and has taken no bucket but that of its name
+abbrev pub ArePlaced : Opening → ℕ → List RecordState → Type 0
+ArePlaced of at records = (k : ℕ) (p : RecordState) → slice_get records k ≡ Some p → (p.0 ≡ of.table) × IsOfWorker at p.1.number × IsPlaced of p.1
+
+-- ---- the office
+
+-- what a badge knows
+abbrev pub view_in : List (List Part) → List Part
+view_in [] = []
+view_in (v ∷ vs) = v
+
+-- the badge is that of the office, which reads nothing
+abbrev pub IsDesk : List (List Part) → Type 0
+IsDesk views = (views ≡ (Desk (desk_in (view_in views)) ∷ []) ∷ []) × ((desk_in (view_in views)).reading ≡ [])
+
+-- what a contract sees of an office
+pub record OfficeState : Type 0 where
+  pub of : Opening
+  pub desk : DeskView
+  pub workers : ℕ
+  pub max_workers : ℕ
+
+abbrev pub with_desk : OfficeState → DeskView → OfficeState
+with_desk o d = record o { desk = d }
+
+-- so many records that were made one after another, and have taken nothing
+abbrev pub AreNew : TableId × DeskView → ℕ → List RecordState → Type 0
+AreNew before n made = (length made ≡ n) × ((k : ℕ) (p : RecordState) → slice_get made k ≡ Some p → p ≡ (before.0, new_record (before.1.records + k)))
+
+-- the part is of these words, and there are ten records a worker, and texts for all that there can be and two more
+abbrev pub IsOffice : Opening → TableId × DeskView → ℕ → ℕ → Type 0
+IsOffice of desk workers max_workers =
+    (desk.0 ≡ of.table) × (desk.1.records ≡ workers * 10) × (workers ≤ max_workers) × (max_workers ≤ 65536) × (of.table.slots ≡ max_workers * 10 + 2)
+
+-- so many words and texts, and an office that knows of nothing
+abbrev pub IsOpened : ℕ → ℕ → ℕ → ℕ → Opening → TableId × DeskView → Type 0
+IsOpened count texts bytes seed of desk =
+    (of.table.words ≡ count) × (of.table.slots ≡ texts) × (of.bytes ≡ bytes) × (of.hash ≡ hash_by seed) × (desk ≡ (of.table, no_desk))

@@ -1,0 +1,134 @@
+//! A transaction's part of the words.
+ghost use Rattle.std.specs.Prelude.{◌≡◌, ◌≤◌, ℕ, [], Some, length, slice_get, IfSome, IfNone};
+ghost use Rattle.mm_thin.specs.declared.views.RecordView.{RecordView};
+ghost use Rattle.mm_thin.specs.Calls.{IsFor, HasTaken, IsFull, TakesAt, TakesName, LeavesName};
+
+use crate::buckets::Buckets;
+use crate::place::Place;
+use crate::reply::{GiveUp, Take};
+use std::marker::Model;
+
+/// How many names a worker can have taken at once.
+pub const PLACES: usize = 8;
+
+/// A transaction's part of the words: eight records, and the list of what they have taken. A contract sees a `WorkerState`.
+#[derive(Drop)]
+pub struct Worker {
+    pub(crate) buckets: Buckets,
+    pub(crate) at: u32,
+    pub(crate) places: Vec<Place>,
+}
+
+impl Model for Worker {
+    ghost use Rattle.std.specs.Prelude.{map};
+    ghost use Rattle.mm_thin.specs.Parts.{WorkerState, RecordState, ArePlaced};
+
+    ghost Value = { WorkerState };
+
+    ghost view = { λ w. record { of = w.buckets; at = w.at; records = map (λ (p : RecordState). p.1) w.places.items } };
+
+    ghost invariant = { λ w. ArePlaced w.buckets w.at w.places.items };
+}
+
+impl Worker {
+    /// Its number: that of its transaction.
+    pub fn at(&self) -> u32
+        ensures { result ≡ self.now.at }
+    {
+        self.at
+    }
+
+    /// A record that has taken nothing.
+    fn idle(&self) -> Option<usize>
+        ensures some { IfSome result (λ k. (r : RecordView) × (slice_get self.now.records k ≡ Some r) × (r.taken ≡ [])) }
+        ensures none { IfNone result (IsFull self.now.records) }
+    {
+        for k in 0..self.places.len() {
+            if self.places[k].is_idle() {
+                return Some(k);
+            }
+        }
+        None
+    }
+
+    /// The number of the record that has taken this name.
+    pub fn find(&self, name: &[u8]) -> Option<usize>
+        ensures some { IfSome result (λ k. (r : RecordView) × (slice_get self.now.records k ≡ Some r) × IsFor r name.now) }
+        ensures none { IfNone result (HasTaken self.now.records name.now → ⊥) }
+    {
+        for k in 0..self.places.len() {
+            if self.places[k].is_for(name) {
+                return Some(k);
+            }
+        }
+        None
+    }
+
+    /// The name that this record has taken.
+    pub fn taken(&self, k: usize) -> Option<&[u8]>
+        ensures some { IfSome result (λ name. (r : RecordView) × (slice_get self.now.records k ≡ Some r) × IsFor r name.now) }
+        ensures none { IfNone result ((r : RecordView) → slice_get self.now.records k ≡ Some r → r.taken ≡ []) }
+    {
+        if k >= self.places.len() {
+            return None;
+        }
+        self.places[k].taken()
+    }
+
+    /// Takes a name, where its bucket is free. One compare-and-swap.
+    pub fn take(&mut self, name: &[u8]) -> Take
+        ensures { TakesName self.old name.now result self.new }
+    {
+        if name.is_empty() || name.len() > self.buckets.bytes {
+            return Take::NotThin;
+        }
+        let Some(k) = self.idle() else {
+            return if self.find(name).is_some() {
+                Take::Held
+            } else {
+                Take::Full
+            };
+        };
+        if self.take_at(k, name) {
+            return Take::Taken;
+        }
+        if self.find(name).is_some() {
+            Take::Held
+        } else {
+            Take::Busy
+        }
+    }
+
+    /// Takes a name with this record, where its bucket is free.
+    #[inline(always)]
+    fn take_at(&mut self, k: usize, name: &[u8]) -> bool
+        requires idle { (r : RecordView) × (slice_get self.old.records k ≡ Some r) × (r.taken ≡ []) }
+        requires name { length name.now ≤ self.old.of.bytes }
+        ensures { TakesAt self.old k name.now result self.new }
+    {
+        let bucket = self.buckets.of(name);
+        self.places[k].take(self.buckets.steps(), bucket, name)
+    }
+
+    /// Gives back what this record has taken, unless its bucket is fat. One compare-and-swap.
+    pub fn give_back(&mut self, k: usize) -> GiveUp
+        ensures { LeavesName self.old k result self.new }
+    {
+        if k >= self.places.len() {
+            return GiveUp::NotTaken;
+        }
+        self.places[k].give_back(self.buckets.steps())
+    }
+
+    /// Lets go what this record has taken, where the office has made its bucket fat: it stays fat. One compare-and-swap.
+    ///
+    /// `Changed` also while the office is just making it fat.
+    pub fn let_go(&mut self, k: usize) -> GiveUp
+        ensures { LeavesName self.old k result self.new }
+    {
+        if k >= self.places.len() {
+            return GiveUp::NotTaken;
+        }
+        self.places[k].let_go(self.buckets.steps())
+    }
+}
