@@ -4,6 +4,9 @@ use crate::{LockError, Locks, Transaction};
 use std::thread;
 use std::time::Duration;
 
+/// How often the thread of a victim yields its processor first. Often the others come to their ends in that time.
+const YIELDS: u32 = 256;
+
 /// The bound of the first pause, in microseconds.
 const FIRST: u64 = 32;
 
@@ -14,9 +17,10 @@ impl Locks {
     /// Begins a transaction, lends it to the work, commits it, and returns what the work returned.
     ///
     /// If the transaction is told `Deadlock`, it is rolled back, whatever the work made of that error; after a pause all is done again in a new
-    /// transaction, in all at most `attempts` times, and at least once. The length of a pause is random, below 32 microseconds at first, and
-    /// below twice the bound each next time, up to 33 milliseconds. If the work fails otherwise, the transaction is rolled back. The locks do
-    /// not know what the work wrote: it undoes that before it returns an error, or locks all names before it writes.
+    /// transaction, in all at most `attempts` times, and at least once. In a pause the thread yields its processor 256 times, and then sleeps for
+    /// a random time, below 32 microseconds at first, and below twice the bound each next time, up to 33 milliseconds. If the work fails
+    /// otherwise, the transaction is rolled back. The locks do not know what the work wrote: it undoes that before it returns an error, or locks
+    /// all names before it writes.
     ///
     /// ```
     /// # use pashkure::{Config, LockError, Locks};
@@ -46,6 +50,7 @@ impl Locks {
                 return Ok(value);
             }
             drop(transaction);
+            (0..YIELDS).for_each(|_| thread::yield_now());
             thread::sleep(pause(attempt));
         }
         unreachable!("the loop ends by its last attempt")
