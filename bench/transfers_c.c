@@ -1,7 +1,11 @@
-/* What crates/bench_locks does by `lock_all`, from C, over pashkure_threads.h. */
+/* What crates/bench_locks does by `lock_all`, from C, over pashkure_threads.h. After a deadlock a thread yields its processor so often as chance
+   says, as the header advises. */
 #include "transfers_threads.h"
 
 #include <pashkure_threads.h>
+#include <sched.h>
+
+enum { MOST_YIELDS = 512 };
 
 static pashkure_locks *locks;
 
@@ -24,6 +28,13 @@ static void open_locks(void) {
 static uint32_t open_session(void) { return 0; }
 static void close_session(uint32_t session) { (void)session; }
 
+/* A pause whose length differs from key to key. */
+static void pause_after(pashkure_key key) {
+    uint64_t state = seeded((uint64_t)key.slot << 32 | key.generation);
+    for (uint32_t yields = next_word(&state) % MOST_YIELDS; yields > 0; yields--)
+        sched_yield();
+}
+
 static int transfer(uint32_t session, const uint32_t *chosen) {
     pashkure_request requests[4];
     pashkure_key key;
@@ -34,6 +45,7 @@ static int transfer(uint32_t session, const uint32_t *chosen) {
     pashkure_result told = pashkure_locks_lock_all(locks, key, requests, 4, PASHKURE_FOREVER);
     if (told == PASHKURE_DEADLOCK) {
         must(pashkure_locks_abort(locks, key));
+        pause_after(key);
         return 0;
     }
     must(told);

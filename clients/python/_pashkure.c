@@ -243,7 +243,7 @@ static PyObject *manager_commit(PyObject *self, PyObject *words) { return ended(
 static PyObject *manager_abort(PyObject *self, PyObject *words) { return ended(self, words, pashkure_abort); }
 static PyObject *manager_cancel(PyObject *self, PyObject *words) { return ended(self, words, pashkure_cancel); }
 
-/* The name of a number as bytes. */
+/* The name of a number as bytes. NULL without an exception: nobody owns it. */
 static PyObject *name_of(const Manager *manager, uint32_t number, pashkure_key *owner)
 {
     char bytes[1024];
@@ -265,7 +265,7 @@ static PyObject *manager_status(PyObject *self, PyObject *words)
     result = pashkure_look(&manager->core, slot, &seen);
     if (result != PASHKURE_WAITS && result != PASHKURE_DEADLOCK) return Py_BuildValue("iN", (int)result, text_of(seen.key));
     name = name_of(manager, seen.number, &owner);
-    if (name == NULL) return PyErr_NoMemory();
+    if (name == NULL) return NULL; /* of memory: a name that is waited for is owned */
     return Py_BuildValue("iNNN", (int)result, text_of(seen.key), name, text_of(seen.holder));
 }
 
@@ -279,13 +279,11 @@ static PyObject *manager_holds(PyObject *self, PyObject *words)
     names = PyList_New(0);
     for (uint32_t number = 0; names != NULL && number < manager->config.names; number++) {
         pashkure_key owner;
-        size_t length;
-        PyObject *name;
-        if (pashkure_name(&manager->core, number, NULL, 0, &length, &owner) != PASHKURE_OK) continue;
-        if (owner.slot != seat->key.slot || owner.generation != seat->key.generation) continue;
-        name = name_of(manager, number, &owner);
-        if (name == NULL || PyList_Append(names, name) < 0) Py_CLEAR(names);
-        Py_XDECREF(name);
+        PyObject *name = name_of(manager, number, &owner);
+        if (name == NULL && PyErr_Occurred()) Py_CLEAR(names);
+        if (name == NULL) continue;
+        if (owner.slot == seat->key.slot && owner.generation == seat->key.generation && PyList_Append(names, name) < 0) Py_CLEAR(names);
+        Py_DECREF(name);
     }
     return names;
 }

@@ -21,8 +21,8 @@ from lib.world import PACKAGE, Case, each, environment, run
 
 import pashkure
 from pashkure import Aborted, Deadlock, Full, Interrupted, LockError, LocksLost, MustAbort, NotOwner, ProtocolError, Retry, Timeout, aio, flows, wire
-from pashkure.events import Watch
-from pashkure.transaction import Transaction
+from pashkure.calls import Watch
+from pashkure.locks import Transaction
 from pashkure.values import encoded, key_bytes
 from pashkure.wire import Ask, Call, Conversation, Party
 
@@ -95,14 +95,14 @@ class Wire(Case):
             if reply == "granted" and word == "event":
                 talk.feed(b"free\n")
             for number, call in enumerate(calls):
-                call.over = lambda number=number: ended.append(number)
+                call.party.is_told = lambda number=number: ended.append(number)  # type: ignore[method-assign, misc]
             party.is_told = lambda: ended.append(99)  # type: ignore[method-assign]
             try:
                 talk.feed(lines(reply))
             except ProtocolError:
                 ended.clear()
                 talk.lost()
-                same(sorted(ended), [*(number for number, call in enumerate(calls) if call.answer is None), 99], reply)
+                same(sorted({*ended}), [*(number for number, call in enumerate(calls) if call.answer is None), 99], reply)
             else:
                 self.fail(f"{reply!r} was taken")
 

@@ -5,7 +5,6 @@ import asyncio
 import gc
 import os
 import pathlib
-import signal
 import sys
 import sysconfig
 import unittest.mock
@@ -15,10 +14,11 @@ from typing import Any, List
 from lib.clients import Apart, Asyncio, raises, same, waits
 from lib.world import PACKAGE, each, environment, run, until
 from program.test_library import LibraryCase
+from service import test_trouble
 from service.test_python import OPTIONS, Calls
 
 import build_backend
-from pashkure import Aborted, Closed, Deadlock, Locks, LocksLost, Misuse, Status, Timeout, Wait, aio
+from pashkure import Aborted, Closed, Deadlock, Locks, Misuse, Status, Timeout, Wait, aio
 
 HEADERS = sysconfig.get_path("include")
 USE = "import pashkure; locks = pashkure.Locks.in_process(); print(locks.transaction('a').holds())"
@@ -42,20 +42,24 @@ class Looks:
         return Status("active") if self.manager.status(int(key.split(".")[0]))[0] == 0 else Status("waiting")
 
 
-class Inside(Calls):
+class ExtensionCase(LibraryCase):
     """With the extension, built from its source."""
-
-    connected = ()
 
     @classmethod
     def setUpClass(cls) -> None:
-        super().setUpClass()  # type: ignore[misc]
+        super().setUpClass()
         if not os.path.exists(os.path.join(HEADERS, "Python.h")):
             raise unittest.SkipTest(f"there is no Python.h in {HEADERS} (Debian's package python3-dev)")
-        with unittest.mock.patch.dict(os.environ, {"PASHKURE_LIB_DIR": f"{cls.top}/lib"}):  # type: ignore[attr-defined]
-            build_backend.extension(cls.top)  # type: ignore[attr-defined]
-        sys.path.insert(0, cls.top)  # type: ignore[attr-defined]
-        cls.addClassCleanup(sys.path.remove, cls.top)  # type: ignore[attr-defined]
+        with unittest.mock.patch.dict(os.environ, {"PASHKURE_LIB_DIR": f"{cls.top}/lib"}):
+            build_backend.extension(cls.top)
+        sys.path.insert(0, cls.top)
+        cls.addClassCleanup(sys.path.remove, cls.top)
+
+
+class Inside(Calls):
+    """The cases that threads and asyncio have in common."""
+
+    connected = ()
 
     def setUp(self) -> None:
         super(Calls, self).setUp()  # type: ignore[misc]
@@ -148,34 +152,11 @@ class Inside(Calls):
         same(locks.owner("a"), None)
 
 
-class Threads(Inside, LibraryCase):
+class Threads(Inside, ExtensionCase):
     def opened(self, **options: Any) -> Locks:
         locks = Locks.in_process(**options)
         self.addCleanup(locks.close)
         return locks
-
-    def test_signal(self) -> None:
-        """An exception of a signal ends a wait, and the transaction."""
-
-        def alarms(number: int, frame: Any) -> None:
-            raise KeyboardInterrupt
-
-        before = signal.signal(signal.SIGUSR1, alarms)
-        self.addCleanup(signal.signal, signal.SIGUSR1, before)
-        one, two = self.locks.transaction("a"), self.locks.transaction("b")
-
-        def kills() -> None:
-            waits(two)
-            os.kill(os.getpid(), signal.SIGUSR1)
-
-        thread = Apart(kills)
-        with self.assertRaises(KeyboardInterrupt):
-            two.lock("a")
-        thread.ends()
-        same(self.locks.owner("b"), None)
-        raises(LocksLost, two.lock, "c")
-        one.commit()
-        same(self.locks.owner("a"), None)
 
     def test_dropped(self) -> None:
         """A transaction that is dropped alive is aborted, with a warning."""
@@ -185,7 +166,7 @@ class Threads(Inside, LibraryCase):
         same(self.locks.owner("a"), None)
 
 
-class Tasks(Inside, LibraryCase):
+class Tasks(Inside, ExtensionCase):
     """The same with asyncio."""
 
     def test_cancelled_when_granted(self) -> None:
@@ -210,6 +191,16 @@ class Tasks(Inside, LibraryCase):
         locks = Asyncio(**options)
         self.addCleanup(locks.ends)
         return locks
+
+
+class Interrupts(test_trouble.Interrupts, ExtensionCase):
+    """An exception of a signal, at any moment."""
+
+    def setUp(self) -> None:
+        ExtensionCase.setUp(self)
+        self.locks = self.other = Locks.in_process()
+        self.addCleanup(self.locks.close)
+        self.has_hook()
 
 
 class Installed(LibraryCase):

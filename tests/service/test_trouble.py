@@ -53,6 +53,9 @@ class Interrupts(TroubleCase):
         super().setUp()
         self.path_ = self.server().path
         self.locks, self.other = self.opened(Locks.connect, self.path_), self.opened(Locks.connect, self.path_)
+        self.has_hook()
+
+    def has_hook(self) -> None:
         self.holder, self.place = self.other.transaction("held"), "a moment"
         hook, sys.unraisablehook = sys.unraisablehook, lambda told: None  # exceptions may also come where Python ends an object
         self.addCleanup(setattr, sys, "unraisablehook", hook)
@@ -123,20 +126,23 @@ class Interrupts(TroubleCase):
                 done += 1
             return done
 
+        def uses_while_armed() -> None:
+            armed[0] = True
+            signal.setitimer(signal.ITIMER_REAL, chance.uniform(0.00002, 0.002))
+            while armed[0]:
+                self.uses()
+
         before = signal.signal(signal.SIGALRM, handler)
         self.addCleanup(signal.signal, signal.SIGALRM, before)
         thread, stops = Apart(goes_on), 0
         with warnings.catch_warnings():
             warnings.simplefilter("ignore", ResourceWarning)
             while stops < 1000:
+                stops += 1
                 try:
-                    armed[0] = True
-                    signal.setitimer(signal.ITIMER_REAL, chance.uniform(0.00002, 0.002))
-                    while armed[0]:
-                        self.uses()
+                    uses_while_armed()
                 except Stop:
                     pass
-                stops += 1
         over.set()
         self.assertGreater(thread.ends(), 0)
         self.is_whole()
@@ -267,7 +273,8 @@ class Restarts(TroubleCase):
             same(tx.fence("a").epoch, 9)
         second.process.kill()
         second.process.wait()
-        self.assertIn("the service's epoch 6 is below 9", str(raises(CannotConnect, locks.transaction)))
+        error = Apart(locks.transaction).ends()
+        same((type(error), "the service's epoch 6 is below 9" in str(error)), (CannotConnect, True), str(error))
 
     def test_connecting(self) -> None:
         """What cannot be reached is told with its path and the reason, and is connected to as soon as it is there."""
@@ -277,7 +284,7 @@ class Restarts(TroubleCase):
             error = raises(CannotConnect, locks.transaction)
             self.assertIn(path, str(error))
             self.assertIn("No such file", str(error))
-            patient = self.opened(form, path, connect_timeout=LIMIT)
+            patient = self.opened(form, path, connect_timeout=LIMIT, reply_timeout=float("inf"))
             thread = Apart(patient.totals)
             raises(CannotConnect, patient.transaction, timeout=0.02)
             server = self.server(path=path)

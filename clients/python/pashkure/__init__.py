@@ -11,9 +11,8 @@
 """
 from .errors import (Aborted, BadName, CannotConnect, Closed, Deadlock, Full, Interrupted, LockError, LocksLost, Misuse, MustAbort,
                      NameTooLong, NotOwner, NoTransaction, ProtocolError, ServiceRestarted, Timeout, Waiting)  # fmt: skip
-from .locks import Locks
+from .locks import Locks, Transaction
 from .operator import Operator
-from .transaction import Transaction
 from .values import Client, Counts, Event, Fence, Live, Name, Retry, Status, Totals, Wait
 
 __version__ = "0.1.0"

@@ -10,6 +10,7 @@ from .wire import Answer, Ask
 R = TypeVar("R")
 
 
+# fmt: off
 class Session(Protocol):
     """Where one transaction lives. In `pashkure.aio` `ask` and `wait` are awaited."""
 
@@ -18,31 +19,21 @@ class Session(Protocol):
     is_slow: bool
     """Whether it dropped itself because an answer did not come in time. If it is lost otherwise at its first request, another one may do."""
 
-    def ask(self, ask: Ask) -> Answer:
-        """The answer to a request. It waits for no other transaction, and for no longer than the backend allows: then the session drops
-        itself, and this raises `Closed`."""
-
-    def wait(self, deadline: float) -> Optional[Answer]:
-        """How the wait of its transaction ended: granted or aborted. `WOKEN` after `wake`; none at the deadline, a time of `monotonic`."""
-
-    def wake(self) -> None:
-        """Ends a `wait`, or the next one, from any thread."""
-
-    def drop(self) -> None:
-        """Ends the transaction, whatever it does, from any thread. It waits for nothing, and never raises."""
+    def ask(self, ask: Ask) -> Answer: """The answer to a request. It waits for no other transaction, and for no longer than the backend
+        allows: then the session drops itself, and this raises `Closed`."""
+    def wait(self, deadline: float) -> Optional[Answer]: """How the wait of its transaction ended: granted or aborted. `WOKEN` after `wake`;
+        none at the deadline, a time of `monotonic`."""
+    def wake(self) -> None: """Ends a `wait`, or the next one, from any thread."""
+    def drop(self) -> None: """Ends the transaction, whatever it does, from any thread. It waits for nothing, and never raises."""
 
 
 class Backend(Protocol):
     """What lends sessions. In `pashkure.aio` `session` is awaited."""
 
-    def session(self, deadline: float) -> Session:
-        """A session without a transaction. Raises `CannotConnect` if there is none in time."""
-
-    def give_back(self, session: Session) -> None:
-        """The transaction of the session has ended. Never raises."""
-
-    def close(self) -> None:
-        """Drops all sessions. It waits for nothing."""
+    def session(self, deadline: float) -> Session: """A session without a transaction. Raises `CannotConnect` if there is none in time."""
+    def give_back(self, session: Session) -> None: """The transaction of the session has ended. Never raises."""
+    def close(self) -> None: """Drops all sessions. It waits for nothing."""
+# fmt: on
 
 
 def drive(session: Session, flow: Flow[R]) -> R:

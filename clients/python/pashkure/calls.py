@@ -2,17 +2,56 @@
 from __future__ import annotations
 
 import copy
+import logging
 from time import monotonic
-from typing import Any, Callable, Optional, TypeVar
+from typing import Any, Callable, Optional, Sequence, TypeVar
 
 from . import flows
-from .errors import Aborted, NoTransaction
-from .events import Watch
+from .errors import Aborted, Closed, Deadlock, NoTransaction
 from .flows import State
-from .values import Fence, Name, Retry, Totals, all_encoded, decoded, encoded, seconds
+from .values import Event, Fence, Name, Retry, Totals, all_encoded, decoded, encoded, seconds
 from .wire import Ask
 
 L = TypeVar("L", bound="Opened")
+
+
+log = logging.getLogger("pashkure")
+OnEvent = Optional[Callable[[Event], None]]
+
+
+class Watch:
+    """Tells of calls and connections."""
+
+    def __init__(self, on_event: OnEvent, slow_wait: Optional[float]) -> None:
+        self._on_event, self._slow_wait = on_event, seconds(slow_wait, "slow_wait")
+
+    def state(self) -> State:
+        """What is known of a transaction that is to begin."""
+        return State(self._slow_wait, _warn)
+
+    def connection(self, error: Optional[Closed]) -> None:
+        """A connection was made, or it was lost."""
+        log.log(logging.INFO if error is None else logging.WARNING, "%s", "connected" if error is None else error)
+        self._tell(Event("connect") if error is None else Event("lost", error=error))
+
+    def call(self, kind: str, state: State, names: Sequence[bytes], start: float, error: Optional[BaseException]) -> None:
+        """A call of a transaction has ended."""
+        if isinstance(error, Deadlock):
+            log.info("deadlock: %s", error)
+        if kind and self._on_event is not None:
+            waited = state.waited if kind in ("begin", "lock") else 0.0
+            self._tell(Event(kind, state.key.decode("ascii"), tuple(map(decoded, names)), monotonic() - start, waited, error))  # type: ignore[arg-type]
+
+    def _tell(self, event: Event) -> None:
+        if self._on_event is not None:
+            try:
+                self._on_event(event)
+            except Exception:
+                log.exception("on_event raised an exception")
+
+
+def _warn(key: bytes, name: str, holder: str, waited: float) -> None:
+    log.warning("%s has waited for %r of %s for %.1f s", key.decode("ascii"), name, holder, waited)
 
 
 class Calls:

@@ -7,10 +7,10 @@ from __future__ import annotations
 
 import math
 from time import monotonic
-from typing import Any, Callable, Generator, Iterator, List, Optional, Sequence, Tuple, TypeVar, Union
+from typing import Callable, Generator, Optional, Sequence, Tuple, TypeVar, Union
 
-from .errors import Aborted, Deadlock, Interrupted, LockError, NoTransaction, ProtocolError, Timeout, refusal
-from .values import Fence, Status, Totals, Wait, decoded
+from .errors import Aborted, Deadlock, Interrupted, LockError, ProtocolError, Timeout, refusal
+from .values import Status, Wait, decoded
 from .wire import LONGEST, Answer, Ask, cut
 
 R = TypeVar("R")
@@ -91,7 +91,7 @@ def _waited(state: State, name: str, holder: str, deadline: float) -> Flow[None]
 
 def _told(state: State, name: str, holder: str, deadline: float) -> Flow[Answer]:
     """How the wait ended. At the deadline, and if it is interrupted, the request is taken back, and this raises."""
-    start, pauses, is_tried = monotonic(), _pauses(), False
+    start, pause, is_tried = monotonic(), SHORTEST, False
     warns, until = start + state.slow_wait, deadline
     while True:
         told = None if state.is_interrupted and not is_tried else (yield min(until, warns))
@@ -105,37 +105,22 @@ def _told(state: State, name: str, holder: str, deadline: float) -> Flow[Answer]
             continue
         words = yield from _asked(Ask(b"cancel"))
         if words[0] == b"cancelled":
-            raise _why(state, name)
-        is_tried = True
+            is_interrupted, state.is_interrupted = state.is_interrupted, False
+            raise Interrupted(f"the wait for {name!r} was interrupted") if is_interrupted else Timeout(name)
         # What is refused has ended before, which this side was told before this reply.
-        until = monotonic() + next(pauses) if words[0] == b"carried" else math.inf
-
-
-def _why(state: State, name: str) -> LockError:
-    """Why a request was taken back."""
-    if state.is_interrupted:
-        state.is_interrupted = False
-        return Interrupted(f"the wait for {name!r} was interrupted")
-    return Timeout(name)
-
-
-def _pauses() -> Iterator[float]:
-    """Seconds between the tries to take a request back, each longer than the one before, up to a bound."""
-    pause = SHORTEST
-    while True:
-        yield pause
-        pause = min(LONGEST_PAUSE, pause * 2)
+        until = monotonic() + pause if words[0] == b"carried" else math.inf
+        is_tried, pause = True, min(LONGEST_PAUSE, pause * 2)
 
 
 def settle(state: State) -> Flow[None]:
     """After a call that was left: the replies to what it sent first, and what it waits for is taken back."""
-    pauses = _pauses()
+    pause = SHORTEST
     while state.is_unsettled:
         words = yield from _asked(Ask(b"cancel"))
-        if words[0] == b"carried":
-            yield monotonic() + next(pauses)
-        else:
-            state.is_unsettled = False
+        state.is_unsettled = words[0] == b"carried"
+        if state.is_unsettled:
+            yield monotonic() + pause
+            pause = min(LONGEST_PAUSE, pause * 2)
 
 
 def asked(state: State, ask: Ask, read: Callable[[Answer], R]) -> Flow[R]:
@@ -199,8 +184,7 @@ def status_of(words: Sequence[bytes]) -> Status:
     """What a transaction does, by the words of a reply."""
     if words[0] == b"active":
         return Status("active")
-    state: Tuple[str, str] = (decoded(words[1]), words[2].decode("ascii"))
-    return Status("waiting" if words[0] == b"waiting" else "deadlock", *state, aborting=len(words) == 4)
+    return Status("waiting" if words[0] == b"waiting" else "deadlock", decoded(words[1]), words[2].decode("ascii"), len(words) == 4)
 
 
 def cycle_of(words: Sequence[bytes]) -> Tuple[Wait, ...]:

@@ -11,8 +11,7 @@ from typing import Any, Callable, Dict, List, Optional, Sequence
 from . import backend
 from .errors import Closed, Misuse
 from .flows import WOKEN
-from .service import each
-from .ways import BY_CLOSE, BY_FORK, BY_DROP, Why
+from .ways import BY_CLOSE, BY_DROP, BY_FORK, FORGOTTEN, Why, each
 from .wire import Answer, Ask
 
 OK, HELD, WAITS, DEADLOCK, BUSY, LATER, CARRIED, _, ABORTED = range(9)
@@ -62,6 +61,11 @@ class Inside:
             self._why = why
             self._manager.abort(self._seat)
             self._tell()
+
+    def __del__(self) -> None:
+        """Ends the transaction, if an exception of a signal kept it from its end."""
+        if hasattr(self, "_seat"):
+            self._manager.abort(self._seat)
 
     def forget(self) -> None:
         """In the child of a fork."""
@@ -188,7 +192,7 @@ class InProcess:
         self.manager = self.extension.Manager(transactions, names, name_bytes, int.from_bytes(os.urandom(8), "little"))
         self._why: Optional[Why] = None
         self._sessions: "weakref.WeakSet[Inside]" = weakref.WeakSet()
-        _managers.add(self)
+        FORGOTTEN.add(self)
 
     def new(self, kind: Callable[["InProcess"], Any]) -> Any:
         """A session of this kind, for one transaction."""
@@ -228,12 +232,3 @@ def extension() -> Any:
         return importlib.import_module("_pashkure")
     except ModuleNotFoundError as error:
         raise ImportError("the C extension _pashkure is not there: `pip install` of the package builds it") from error
-
-
-def _forget_all() -> None:
-    for manager in each(_managers):
-        manager.forget()
-
-
-_managers: "weakref.WeakSet[InProcess]" = weakref.WeakSet()
-os.register_at_fork(after_in_child=_forget_all)

@@ -5,7 +5,7 @@ import math
 from typing import Iterator, List, Tuple
 
 from .errors import refusal
-from .events import Watch
+from .calls import Watch
 from .flows import cycle_of, status_of
 from .service import Service
 from .values import Client, Counts, Live, Status, Wait, decoded, key_bytes

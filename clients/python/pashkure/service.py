@@ -8,17 +8,15 @@ import socket
 import time
 import weakref
 from time import monotonic
-from typing import Callable, Iterable, List, Optional, Sequence, Tuple, TypeVar, Union
+from typing import Callable, List, Optional, Sequence, Tuple, Union
 
 from . import backend
 from .errors import Closed, Full, LocksLost, ProtocolError, ServiceRestarted
 from .flows import WOKEN
-from .ways import BY_CLOSE, BY_DROP, BY_FORK, LOST, RESTARTED, Path, Ways, Why
+from .ways import BY_CLOSE, BY_DROP, BY_FORK, FORGOTTEN, LONGEST, LOST, RESTARTED, Path, Ways, Why, each
 from .wire import Answer, Ask, Call, Conversation, Party
 
 SIZE = 16384
-LONGEST_POLL = 1e6  # seconds; poll takes no more milliseconds than 31 bits
-T = TypeVar("T")
 
 
 class Socket(socket.socket):
@@ -34,7 +32,6 @@ class Session(Party):
 
     is_slow = False
     _pipe: Tuple[int, ...] = ()  # by which a wait is woken
-    _poll: Optional[select.poll] = None
 
     def __init__(self, service: "Service", connection: Socket) -> None:
         super().__init__()
@@ -42,8 +39,8 @@ class Session(Party):
         self._socket, self._talk = connection, Conversation(self)
         self._why: Optional[Why] = None
         self._is_woken = False
-        self._look = select.poll()
-        self._look.register(connection, select.POLLIN)
+        self._poll = select.poll()
+        self._poll.register(connection, select.POLLIN)
 
     def ask(self, ask: Ask) -> Answer:
         self.check()
@@ -51,23 +48,16 @@ class Session(Party):
         if ask.deadline is not None:
             limit = max(0.001, min(limit, ask.deadline - monotonic()))
             self._socket.settimeout(limit)
-        try:
-            self._socket.sendall(self._talk.send(call))
-            while call.answer is None:
-                self._feed(self._socket.recv(SIZE))
-        except Closed:
-            raise
-        except socket.timeout as error:
-            self.is_slow = True
-            raise self._lost((LocksLost, f"the service did not answer within {limit:g} s")) from error
-        except OSError as error:
-            raise self._lost(LOST) from error
+        line = self._talk.send(call)
+        while call.answer is None:
+            self._take(line, limit)
+            line = b""
         if ask.deadline is not None:
             self._socket.settimeout(self.service.reply_timeout)
         return call.answer
 
     def wait(self, deadline: float) -> Optional[Answer]:
-        poll = self._poll or self._prepared()
+        pipe = self._pipe or self._prepared()
         while True:
             if self.told:
                 return self.told.pop(0)
@@ -76,14 +66,14 @@ class Session(Party):
                 return WOKEN
             self.check()
             left = deadline - monotonic()
-            ready = poll.poll(None if left > LONGEST_POLL else max(0.0, math.ceil(left * 1000)))
+            ready = self._poll.poll(None if left > LONGEST else max(0.0, math.ceil(left * 1000)))
             if not ready and monotonic() >= deadline:
                 return None
             for descriptor, _ in ready:
-                if descriptor == self._pipe[0]:
+                if descriptor == pipe[0]:
                     os.read(descriptor, 64)
                 else:
-                    self._read()
+                    self._take(b"", self.service.reply_timeout)
 
     def wake(self) -> None:
         self._is_woken = True
@@ -112,7 +102,7 @@ class Session(Party):
 
     def is_idle(self) -> bool:
         """Whether it can be lent: nothing is due, and nothing came. What comes to an idle connection is its end."""
-        return self._why is None and self._talk.is_idle() and not self._look.poll(0)
+        return self._why is None and self._talk.is_idle() and not self._poll.poll(0)
 
     def check(self) -> None:
         """Raises if the session is of no use."""
@@ -131,38 +121,37 @@ class Session(Party):
         except BrokenPipeError:
             pass  # a service that has no room says so unasked
         while call.answer is None:
-            self._feed(self._socket.recv(SIZE))
+            self._feed()
         self.epoch = self.service.greet(call.answer)
         self._socket.settimeout(self.service.reply_timeout)
 
-    def _prepared(self) -> select.poll:
-        """For the first wait of the connection: what it waits for."""
-        pipe = os.pipe()
-        for descriptor in pipe:
+    def _prepared(self) -> Tuple[int, ...]:
+        """For the first wait of the connection: a pipe that wakes it."""
+        self._pipe = os.pipe()
+        for descriptor in self._pipe:
             os.set_blocking(descriptor, False)
-        self._pipe = pipe
-        self._poll = select.poll()
-        self._poll.register(self._socket, select.POLLIN)
-        self._poll.register(pipe[0], select.POLLIN)
-        return self._poll
+        self._poll.register(self._pipe[0], select.POLLIN)
+        return self._pipe
 
-    def _read(self) -> None:
-        """Takes what comes while nothing is due."""
+    def _take(self, line: bytes, limit: float) -> None:
+        """Sends a line, if there is one, and takes what comes."""
         try:
-            self._feed(self._socket.recv(SIZE))
-        except Closed:
-            raise
-        except OSError as error:
-            raise self._lost(LOST) from error
-
-    def _feed(self, data: bytes) -> None:
-        if not data:
-            raise ConnectionResetError("it closed the connection")
-        try:
-            self._talk.feed(data)
+            self._socket.sendall(line)
+            self._feed()
         except ProtocolError as error:
             self.end((ProtocolError, str(error)))
             raise
+        except socket.timeout as error:
+            self.is_slow = True
+            raise self._lost((LocksLost, f"the service did not answer within {limit:g} s")) from error
+        except OSError as error:
+            raise self._lost(LOST) from error
+
+    def _feed(self) -> None:
+        data = self._socket.recv(SIZE)
+        if not data:
+            raise ConnectionResetError("it closed the connection")
+        self._talk.feed(data)
 
     def _lost(self, why: Why) -> Closed:
         """What to raise, now that the connection is lost. Whether the service was started anew a new connection says, if there is one."""
@@ -189,7 +178,6 @@ class Service(Ways):
         super().__init__(paths, connect_timeout, reply_timeout, tell)
         self._idle: List[Session] = []
         self._all: "weakref.WeakSet[Session]" = weakref.WeakSet()
-        _services.add(self)
 
     def session(self, deadline: float) -> Session:
         while self._idle:
@@ -221,12 +209,6 @@ class Service(Ways):
         for session in each(self._all):
             session.end(BY_CLOSE)
 
-    def forget(self) -> None:
-        """In the child of a fork, which connects anew."""
-        self._idle.clear()
-        for session in each(self._all):
-            session.forget()
-
     def look(self) -> None:
         """Tries each way once, to learn whether the service was started anew."""
         try:
@@ -257,26 +239,9 @@ class Service(Ways):
             connection.connect(path)
             session = Session(self, connection)
             self._all.add(session)
+            FORGOTTEN.add(session)
             session.greet()
             return session
         except (OSError, Full) as error:
             connection.close()
             return error
-
-
-def each(items: Iterable[T]) -> List[T]:
-    """The items of a set to which other threads may add."""
-    while True:
-        try:
-            return list(items)
-        except RuntimeError:
-            pass  # it changed size
-
-
-def _forget_all() -> None:
-    for service in each(_services):
-        service.forget()
-
-
-_services: "weakref.WeakSet[Service]" = weakref.WeakSet()
-os.register_at_fork(after_in_child=_forget_all)

@@ -2,8 +2,9 @@
 from __future__ import annotations
 
 import os
+import weakref
 from time import monotonic
-from typing import Callable, Generator, Optional, Sequence, Tuple, Type, TypeVar, Union
+from typing import Any, Callable, Generator, Iterable, List, Optional, Sequence, Tuple, Type, TypeVar, Union
 
 from .errors import CannotConnect, Closed, Full, LocksLost, ProtocolError, ServiceRestarted
 from .values import seconds
@@ -17,7 +18,25 @@ BY_CLOSE: Why = (Closed, "it was closed")
 BY_FORK: Why = (Closed, "it belongs to the parent process, before a fork")
 BY_DROP: Why = (LocksLost, "a call of this transaction was broken off, so its connection was closed, and its locks are gone")
 LOST: Why = (LocksLost, "the connection to the service was lost")
+LONGEST = 1e6
+"""Seconds that the calls of the system take; more are as good as for ever."""
 RESTARTED = "the service was started anew, and all locks of before are gone"
+
+
+FORGOTTEN: "weakref.WeakSet[Any]" = weakref.WeakSet()
+"""What the child of a fork forgets, so that only the parent has it: the connections, whose copies it closes, and the managers in process."""
+
+
+def each(items: Iterable[C]) -> List[C]:
+    """The items of a set to which other threads may add."""
+    while True:
+        try:
+            return list(items)
+        except RuntimeError:
+            pass  # it changed size
+
+
+os.register_at_fork(after_in_child=lambda: [connection.forget() for connection in each(FORGOTTEN)])
 
 
 class Ways:
@@ -28,7 +47,7 @@ class Ways:
             raise ValueError("the path of a socket is missing")
         self.paths = [os.fspath(path) for path in paths]
         self.connect_timeout = seconds(connect_timeout, "connect_timeout")
-        self.reply_timeout = seconds(reply_timeout, "reply_timeout")
+        self.reply_timeout = min(seconds(reply_timeout, "reply_timeout"), LONGEST)
         self.tell = tell
         self.epoch = 0  # the greatest that was seen
         self.is_closed = False

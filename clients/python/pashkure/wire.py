@@ -4,7 +4,7 @@ from __future__ import annotations
 import re
 from collections import deque
 from time import monotonic
-from typing import Callable, Deque, Dict, List, NamedTuple, Optional, Sequence, Tuple
+from typing import Deque, Dict, List, NamedTuple, Optional, Sequence, Tuple
 
 from .errors import ProtocolError
 
@@ -74,20 +74,18 @@ class Party:
         self.told: List[Answer] = []  # how its wait ended, until that is read; or each deadlock, to an operator
 
     def is_told(self) -> None:
-        """Called when `told` has got something."""
+        """Called when `told` has got something, and when a request has its answer or never gets one."""
 
 
 class Call:
     """A request that was sent, and its answer once that is there."""
 
-    __slots__ = ("ask", "party", "answer", "is_abandoned", "since", "over")
+    __slots__ = ("ask", "party", "answer", "is_abandoned", "since")
 
-    def __init__(self, ask: Ask, party: Party, over: Optional[Callable[[], None]] = None) -> None:
-        self.ask, self.party = ask, party
+    def __init__(self, ask: Ask, party: Party) -> None:
+        self.ask, self.party, self.since = ask, party, monotonic()
         self.answer: Optional[Answer] = None
         self.is_abandoned = False
-        self.since = monotonic()
-        self.over = over  # called when it has an answer, or never gets one
 
 
 class Conversation:
@@ -144,11 +142,9 @@ class Conversation:
 
     def lost(self) -> None:
         """Tells all calls and parties that nothing comes any more."""
-        over = [*self.pending, *([self._further] if self._further is not None else [])]
+        calls = [*self.pending, *([self._further] if self._further is not None else [])]
         self.pending.clear()
-        for call in over:
-            _end(call)
-        for party in self._live.values():
+        for party in [*self._live.values(), *(call.party for call in calls)]:
             party.is_told()
 
     def is_idle(self) -> bool:
@@ -166,13 +162,7 @@ class Conversation:
         if call.ask.word in LINES and words[0] == call.ask.word and int(words[1]):
             self._further, self._left, self._words = call, int(words[1]), [*words]
             return
-        call.answer = words
-        self._note(call, words)
-        _end(call)
-
-    def _note(self, call: Call, words: Answer) -> None:
-        """Which transactions are live."""
-        party = call.party
+        call.answer, party = words, call.party
         if words[0] == b"begun":
             party.key = words[1]
             self._live[party.key] = party
@@ -181,6 +171,7 @@ class Conversation:
         elif words[0] in (b"committed", b"aborted"):
             self._live.pop(party.key, None)
             party.key = b""
+        party.is_told()
 
     def _take_event(self, line: bytes) -> None:
         if not EVENT.fullmatch(line):
@@ -202,12 +193,7 @@ class Conversation:
         if not self._left:
             self._further = None
             call.answer = tuple(self._words)
-            _end(call)
-
-
-def _end(call: Call) -> None:
-    if call.over is not None:
-        call.over()
+            call.party.is_told()
 
 
 def _shown(line: bytes) -> str:

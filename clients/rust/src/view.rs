@@ -86,12 +86,17 @@ impl<'l> View<'l> {
 
     /// The name of this number, and its owner.
     fn owned(&self, number: u32) -> Option<(Vec<u8>, Key)> {
-        let mut name = vec![0_u8; self.config.name_bytes as usize];
-        let (mut length, mut owner) = (0, Key::default());
-        let bytes = name.as_mut_ptr().cast::<c_void>();
-        // SAFETY: as above, and `name` has room for the longest name.
-        let result = unsafe { sys::pashkure_name(self.core, number, bytes, name.len(), &mut length, &mut owner) };
-        name.truncate(length);
-        (result == sys::OK).then_some((name, owner))
+        let (mut name, mut length, mut owner) = (Vec::new(), 0, Key::default());
+        let mut read = |name: &mut Vec<u8>, length: &mut usize| {
+            let bytes = name.as_mut_ptr().cast::<c_void>();
+            // SAFETY: as above, and no more is written than the vector has.
+            unsafe { sys::pashkure_name(self.core, number, bytes, name.len(), length, &mut owner) == sys::OK }
+        };
+        if !read(&mut name, &mut length) {
+            return None;
+        }
+        name.resize(length, 0_u8);
+        read(&mut name, &mut length);
+        Some((name, owner))
     }
 }

@@ -7,7 +7,6 @@
             ...
         await locks.run(transfer, "accounts/1", "accounts/2")                    # again after Deadlock
 """
-from .locks import Locks
-from .transaction import Transaction
+from .locks import Locks, Transaction
 
 __all__ = ["Locks", "Transaction"]

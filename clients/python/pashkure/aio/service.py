@@ -3,16 +3,14 @@ from __future__ import annotations
 
 import asyncio
 import math
-import os
 import socket
-import weakref
 from time import monotonic
 from typing import Any, Callable, List, Optional, Sequence, Tuple, TypeVar, Union, cast
 
 from ..errors import CannotConnect, Closed, Full, LocksLost, ProtocolError, ServiceRestarted
 from ..flows import WOKEN, Flow
-from ..service import SIZE, each
-from ..ways import BY_CLOSE, BY_FORK, LOST, RESTARTED, Path, Ways, Why
+from ..service import SIZE
+from ..ways import BY_CLOSE, BY_FORK, FORGOTTEN, LOST, RESTARTED, Path, Ways, Why
 from ..wire import Answer, Ask, Call, Conversation, Party
 from .waiter import Waiter
 
@@ -37,7 +35,7 @@ class Connection(asyncio.Protocol):
         """Connects, and asks the service who it is."""
         self.own.setblocking(False)
         self.own.connect(path)
-        _connections.add(self)
+        FORGOTTEN.add(self)
         hello = Call(Ask(b"hello"), Party())
         try:
             await self.loop.sock_sendall(self.own, self.talk.send(hello))
@@ -103,6 +101,11 @@ class Connection(asyncio.Protocol):
         self.can_write.set()
         self.talk.lost()
 
+    def forget(self) -> None:
+        """In the child of a fork: closes its copy."""
+        self.why = BY_FORK
+        self.own.close()
+
     async def lost(self) -> Closed:
         """What to raise, now that the connection is lost. Whether the service was started anew a new connection says, if there is one."""
         why = self.why or LOST
@@ -143,7 +146,7 @@ class Session(Waiter, Party):
             await connection.can_write.wait()
         if not connection.is_good():
             raise await connection.lost()
-        call = self._last = Call(ask, self, self.is_told)
+        call = self._last = Call(ask, self)
         connection.send(call)
         while call.answer is None:
             await self._woken(math.inf if ask.deadline is None else ask.deadline)
@@ -283,14 +286,3 @@ class Service(Ways):
             if isinstance(error, (OSError, Full)):
                 return error
             raise
-
-
-def _forget_all() -> None:
-    """In the child of a fork: closes its copies, so that only the parent has the connections."""
-    for connection in each(_connections):
-        connection.why = BY_FORK
-        connection.own.close()
-
-
-_connections: "weakref.WeakSet[Connection]" = weakref.WeakSet()
-os.register_at_fork(after_in_child=_forget_all)
