@@ -6,12 +6,11 @@ import os
 import pathlib
 import re
 import shlex
-import shutil
 import signal
 import subprocess
 import sys
 
-from lib.world import LIMIT, PROGRAM, TOP, Case, each, run
+from lib.world import LIMIT, PROGRAM, TOP, Case, each, run, slow
 
 
 def text_of(name: str) -> str:
@@ -108,17 +107,22 @@ class Copied(Case):
         self.ends(run(f"{TOP}/examples/copy_crate", crate, self.folder), status, out, err)
 
     def test_crate(self) -> None:
-        """A program that was copied finds all that it rests on, and runs. To copy the crate again changes nothing."""
-        if not shutil.which("rt"):
-            self.skipTest("the command rt of the Rattle toolchain is not on the PATH")
+        """All is copied that the crate rests on, but what the toolchain has. To copy a part again changes nothing."""
         folder = pathlib.Path(self.folder)
         self.assertEqual(run(f"{TOP}/examples/copy_crate", "example_embedded", self.folder)[::2], (0, b""))
-        told = run("rt", "try", cwd=f"{folder}/crates/example_embedded")
-        self.assertEqual((told.status, told.out), (0, pathlib.Path(TOP, "crates/example_embedded/stdout").read_bytes()))
         lines = (folder / "crates.txt").read_text(encoding="ascii")
+        below = {word for line in lines.splitlines() for word in line.partition(":")[2].split()} - {"thiserror"}
+        self.assertEqual({*below, "example_embedded"}, {path.name for path in folder.glob("crates/*")})
         self.copies("mm_arena", 0, "copied: mm_lists mm_arena\n")
         self.assertEqual((folder / "crates.txt").read_text(encoding="ascii"), lines)
         self.assertEqual([path for name in ("out", "must-fail") for path in folder.glob(f"crates/*/{name}")], [])
+
+    @slow
+    def test_program(self) -> None:
+        """A program that was copied runs."""
+        self.assertEqual(run(f"{TOP}/examples/copy_crate", "example_embedded", self.folder)[::2], (0, b""))
+        told = run("rt", "try", cwd=f"{self.folder}/crates/example_embedded")
+        self.assertEqual((told.status, told.out), (0, pathlib.Path(TOP, "crates/example_embedded/stdout").read_bytes()))
 
     def test_handles(self) -> None:
         self.copies("mm_mutex", 0, "copied: mm_mutex\nHANDLES has to allow: Wait\n")
