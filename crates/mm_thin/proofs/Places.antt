@@ -1,5 +1,5 @@
 -- The places of a worker, after one of them changes.
-use Rattle.std.proofs.Common.{◌≡◌, ◌≢◌, ℕ, ◌<◌, Bool, true, false, ◌+◌, ◌≤◌, List, [], length, get_or, set, map, Some, refl, sym, ap, ◌∙◌, subst, inl, inr, arith}
+use Rattle.std.proofs.Common.{◌*◌, ◌≡◌, ◌≢◌, ℕ, ◌<◌, Bool, true, false, ◌+◌, ◌≤◌, List, [], length, get_or, set, map, Some, refl, sym, ap, ◌∙◌, subst, inl, inr, arith}
 use Rattle.std.specs.Prelude.{slice_get}
 use Rattle.std.proofs.lemmas.Bool.{cases_eq}
 use Rattle.std.proofs.lemmas.List.{length-map, map-set, set-get_or}
@@ -133,3 +133,12 @@ still_placed of at ps k old new below is same placed j p at_j = placed j p (ap (
 -- records of two workers have other numbers
 pub other_numbers : (at at' m n : ℕ) → IsOfWorker at m → IsOfWorker at' n → at ≢ at' → m ≢ n
 other_numbers at at' m n one other differ same = differ (let l = one.0 in let h = one.1 in let l' = other.0 in let h' = other.1 in omega arith)
+
+-- eight new records after the first two of ten are placed
+pub new_placed : (of : Opening) (at : ℕ) (before : TableId × DeskView) (ps : List RecordState) → AreNew before 8 ps → before.0 ≡ of.table → before.1.records ≡ at * 10 + 2 → ArePlaced of at ps
+new_placed of at before ps new table first k p is =
+    let low : k < length ps = slice_get_within ps k p is in
+    let size = new.0 in
+    let same = new.1 k p is in
+    let number : p.1.number ≡ before.1.records + k = ap (λ (x : RecordState). x.1.number) same in
+    (ap (λ (x : RecordState). x.0) same ∙ table, (omega arith, omega arith), λ b among. absurd (subst (λ (x : RecordState). Among b x.1.taken) same among))

@@ -3,7 +3,7 @@ ghost use Rattle.std.specs.Prelude.{◌≡◌, ◌<◌, ◌≤◌, ◌+◌, ◌^
 ghost use Rattle.mm_lists.specs.Members.{Among};
 ghost use Rattle.mm_thin.specs.declared.views.Lent.{Lent};
 ghost use Rattle.mm_thin.specs.Views.{loan, with_records, without_fat};
-ghost use Rattle.mm_thin.specs.Parts.{bucket_of, with_desk, AreNew};
+ghost use Rattle.mm_thin.specs.Parts.{with_desk, AreNew};
 ghost use Rattle.mm_thin.specs.Calls.{GetsBucket, LooksAt, ThinsBucket, AddsWorker};
 
 use crate::buckets::Buckets;
@@ -12,6 +12,7 @@ use crate::desk_part::DeskPart;
 use crate::place::Place;
 use crate::reply::{Got, Look};
 use crate::rule::Steps;
+use crate::spread::Spread;
 use crate::worker::{PLACES, Worker};
 use std::alloc::Global;
 use std::marker::Model;
@@ -36,12 +37,12 @@ impl Model for Office {
 }
 
 impl Office {
-    /// The bucket of a name. `O(length)`.
-    pub fn bucket_of(&self, name: &[u8]) -> usize
-        ensures bucket { result ≡ bucket_of self.now.of name.now }
-        ensures low { result < self.now.of.table.words }
+    /// To which bucket a name belongs.
+    pub fn spread(&self) -> Spread
+        ensures spread { result ≡ self.now.of.spread }
+        ensures words { result.buckets ≡ self.now.of.table.words }
     {
-        self.buckets.of(name)
+        self.buckets.spread()
     }
 
     /// Looks whether a bucket is fat, and whether a record has it. One load.
