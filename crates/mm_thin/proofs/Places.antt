@@ -142,3 +142,14 @@ new_placed of at before ps new table first k p is =
     let same = new.1 k p is in
     let number : p.1.number ≡ before.1.records + k = ap (λ (x : RecordState). x.1.number) same in
     (ap (λ (x : RecordState). x.0) same ∙ table, (omega arith, omega arith), λ b among. absurd (subst (λ (x : RecordState). Among b x.1.taken) same among))
+
+-- what holds of each record of a worker, as a contract sees it
+pub placed_seen : (of : Opening) (at : ℕ) (ps : List RecordState) (k : ℕ) (r : RecordView) → ArePlaced of at ps → slice_get (seen ps) k ≡ Some r → IsOfWorker at r.number × IsPlaced of r
+placed_seen of at ps k r placed is =
+    let low : k < length (seen ps) = slice_get_within (seen ps) k r is in
+    let size : length (seen ps) ≡ length ps = length-map ps (λ (p : RecordState). p.1) in
+    let p = get_or ps k (of.table, r) in
+    let there = slice_get-get_or ps k (of.table, r) (omega arith) in
+    let same : p.1 ≡ r = seen_only ps k p r there is in
+    let holds = placed k p there in
+    subst (λ (x : RecordView). IsOfWorker at x.number × IsPlaced of x) same (holds.1, holds.2)

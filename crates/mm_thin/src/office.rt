@@ -1,5 +1,5 @@
 //! The part that makes buckets fat.
-ghost use Rattle.std.specs.Prelude.{◌≡◌, ◌<◌, ◌≤◌, ◌+◌, ◌^◌, ℕ, List, [], IfOk, OnErr, vec_capacity};
+ghost use Rattle.std.specs.Prelude.{◌≡◌, ◌↔◌, ◌<◌, ◌≤◌, ◌+◌, ◌^◌, ℕ, List, [], Err, IfOk, OnErr, vec_capacity};
 ghost use Rattle.mm_lists.specs.Members.{Among};
 ghost use Rattle.mm_thin.specs.declared.views.Lent.{Lent};
 ghost use Rattle.mm_thin.specs.Views.{loan, with_records, without_fat};
@@ -66,7 +66,7 @@ impl Office {
         self.desk.fatten(self.buckets.steps(), bucket)
     }
 
-    /// Makes a bucket thin again that was lent to this record. `false` if the record has let it go, and nothing changes. One compare-and-swap.
+    /// Makes a bucket thin again that was lent to this record. `false` if the record has let it go: it stays fat. One compare-and-swap.
     pub fn thin_again(&mut self, bucket: usize, number: u32) -> bool
         requires bucket { bucket < self.old.of.table.words }
         requires lent { (name : List ℕ) × Among (loan bucket number name) self.old.desk.lent }
@@ -92,6 +92,7 @@ impl Office {
     /// request for memory was refused.
     pub fn add_worker(&mut self, alloc: Global) -> Result<Worker, WorkerError>
         ensures added { IfOk result (λ worker. AddsWorker self.old worker self.new) }
+        ensures full { (result ≡ Err WorkerError.Full) ↔ (self.old.workers ≡ self.old.max_workers) }
         ensures refused { OnErr result (self.new ≡ self.old) }
     {
         if self.workers >= self.max_workers {
