@@ -16,6 +16,6 @@ AreWorkersOut config = (config.workers ≡ 0) ⊎ (65536 < config.workers)
 pub record Opens (config : ThinConfig) (o : OfficeState) : Type 0 where
   pub buckets : o.of.table.words ≡ config.buckets
   pub bytes : o.of.bytes ≡ min config.name_bytes 63
-  pub hash : o.of.hash ≡ hash_by config.seed
+  pub hash : o.of.spread.hash ≡ hash_by config.seed
   pub desk : o.desk ≡ no_desk
   pub workers : (o.workers ≡ 0) × (o.max_workers ≡ config.workers)

@@ -1,10 +1,11 @@
 -- What ties the parts to the words that they are of, and what a contract sees of them.
-use Rattle.std.specs.Prelude.{◌≡◌, Bool, true, false, ℕ, ◌+◌, ◌*◌, ◌/◌, ◌^◌, ◌<◌, ◌≤◌, List, [], ◌∷◌, length, slice_get, slice_index, Some}
+use Rattle.std.specs.Prelude.{◌≡◌, Bool, true, false, ℕ, ◌+◌, ◌*◌, ◌<◌, ◌≤◌, List, [], ◌∷◌, length, slice_get, slice_index, Some}
 use Rattle.atomic_table.specs.Seated.{TableId}
 use Rattle.mm_lists.specs.Members.{Among}
-use Rattle.mm_names.specs.declared.hash.NameHash.{NameHash}
-use Rattle.mm_names.specs.Hash.{hash_of, hash_by}
+use Rattle.mm_names.specs.Hash.{hash_by}
 use Rattle.mm_thin.specs.declared.views.Part.{Part}
+use Rattle.mm_thin.specs.declared.spread.Spread.{Spread}
+use Rattle.mm_thin.specs.Spread.{bucket_by}
 use Rattle.mm_thin.specs.declared.views.DeskView.{DeskView}
 use Rattle.mm_thin.specs.declared.views.RecordView.{RecordView}
 use Rattle.mm_thin.specs.declared.views.Part.TheVariants.{Desk, Record}
@@ -16,19 +17,19 @@ use Rattle.mm_thin.specs.Steps.{SeatState, desk_in, record_in, text_in}
 abbrev pub AreFree : List ℕ → Type 0
 AreFree words = (b : ℕ) → b < length words → slice_index words b ≡ 0
 
--- the words and the texts of one opening, with what names are hashed, and how many bytes a name may have that is locked here
+-- the words and the texts of one opening, to which bucket a name belongs, and how many bytes a name may have that is locked here
 pub record Opening : Type 0 where
   pub table : TableId
-  pub hash : NameHash
+  pub spread : Spread
   pub bytes : ℕ
 
 -- to which bucket a name belongs
 abbrev pub bucket_of : Opening → List ℕ → ℕ
-bucket_of of name = hash_of of.hash name * of.table.words / 2 ^ 64
+bucket_of of name = bucket_by of.spread name
 
 -- the key is the number of words, and there is one at least; names fit into texts
-abbrev pub AreBuckets : TableId → ℕ → ℕ → ℕ → Type 0
-AreBuckets table key count bytes = (key ≡ table.words) × (0 < table.words) × (count ≡ table.words) × (bytes ≤ 63)
+abbrev pub AreBuckets : TableId → ℕ → Spread → ℕ → Type 0
+AreBuckets table key spread bytes = (key ≡ table.words) × (0 < table.words) × (spread.buckets ≡ table.words) × (bytes ≤ 63)
 
 -- ---- a record
 
@@ -103,4 +104,4 @@ IsOffice of desk workers max_workers =
 -- so many words and texts, and an office that knows of nothing
 abbrev pub IsOpened : ℕ → ℕ → ℕ → ℕ → Opening → TableId × DeskView → Type 0
 IsOpened count texts bytes seed of desk =
-    (of.table.words ≡ count) × (of.table.slots ≡ texts) × (of.bytes ≡ bytes) × (of.hash ≡ hash_by seed) × (desk ≡ (of.table, no_desk))
+    (of.table.words ≡ count) × (of.table.slots ≡ texts) × (of.bytes ≡ bytes) × (of.spread.hash ≡ hash_by seed) × (desk ≡ (of.table, no_desk))

@@ -97,10 +97,10 @@ Borrowed step before found after =
 abbrev pub HasRead : StepOf → SeatState → ℕ → SeatState → Type 0
 HasRead step before found after = after ≡ (Desk (done_reading (desk_in before.0)) ∷ [], [])
 
--- the bucket is thin again where its word was found lent
+-- the bucket is thin again where its word was found lent; else its record has let it go
 abbrev pub Thinned : StepOf → SeatState → ℕ → SeatState → Type 0
 Thinned step before found after =
-    (found ≡ 3 → after ≡ (Desk (thinned (desk_in before.0) step.word) ∷ [], [])) × (found ≢ 3 → after ≡ before)
+    (found ≡ 3 → after ≡ (Desk (thinned (desk_in before.0) step.word) ∷ [], [])) × (found ≢ 3 → after ≡ (Desk (without_lent (desk_in before.0) step.word) ∷ [], []))
 
 abbrev pub Freed : StepOf → SeatState → ℕ → SeatState → Type 0
 Freed step before found after = after ≡ (Desk (without_fat (desk_in before.0) step.word) ∷ [], [])

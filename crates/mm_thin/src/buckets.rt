@@ -4,6 +4,7 @@ ghost use Rattle.mm_thin.specs.Parts.{bucket_of, IsOpened};
 
 use crate::desk_part::DeskPart;
 use crate::rule::{Steps, Words};
+use crate::spread::Spread;
 use crate::text::Text;
 use atomic_table::Table;
 use mm_names::NameHash;
@@ -11,12 +12,11 @@ use std::alloc::{AllocError, Global};
 use std::marker::Model;
 use std::sync::Arc;
 
-/// An owner of the words and the texts, and with what names are hashed. A contract sees an `Opening`.
+/// An owner of the words and the texts, and to which bucket a name belongs. A contract sees an `Opening`.
 #[derive(Drop)]
 pub(crate) struct Buckets {
     words: Arc<Words, Global>,
-    count: u64,
-    hash: NameHash,
+    spread: Spread,
     /// How many bytes a name may have that is locked here.
     pub(crate) bytes: usize,
 }
@@ -27,9 +27,9 @@ impl Model for Buckets {
 
     ghost Value = { Opening };
 
-    ghost view = { λ b. record { table = (arc_value b.words).shared.table_id; hash = b.hash; bytes = b.bytes } };
+    ghost view = { λ b. record { table = (arc_value b.words).shared.table_id; spread = b.spread; bytes = b.bytes } };
 
-    ghost invariant = { λ b. AreBuckets (arc_value b.words).shared.table_id (arc_value b.words).shared.key b.count b.bytes };
+    ghost invariant = { λ b. AreBuckets (arc_value b.words).shared.table_id (arc_value b.words).shared.key b.spread b.bytes };
 }
 
 impl Buckets {
@@ -53,8 +53,10 @@ impl Buckets {
         let words = Arc::new(alloc, words)?;
         let buckets = Buckets {
             words,
-            count: count as u64,
-            hash: NameHash::new(seed),
+            spread: Spread {
+                hash: NameHash::new(seed),
+                buckets: count as u64,
+            },
             bytes,
         };
         let desk = DeskPart {
@@ -70,8 +72,7 @@ impl Buckets {
     {
         Ok(Buckets {
             words: Arc::try_clone(&self.words)?,
-            count: self.count,
-            hash: self.hash,
+            spread: self.spread,
             bytes: self.bytes,
         })
     }
@@ -93,8 +94,15 @@ impl Buckets {
         ensures low { result < self.now.table.words }
         ensures bytes { self.now.bytes ≤ 63 }
     {
-        let hash = self.hash.of(name);
-        (hash as u128 * self.count as u128 >> 64) as usize
+        self.spread.of(name)
+    }
+
+    /// To which bucket a name belongs.
+    pub(crate) fn spread(&self) -> Spread
+        ensures spread { result ≡ self.now.spread }
+        ensures words { result.buckets ≡ self.now.table.words }
+    {
+        self.spread
     }
 }
 

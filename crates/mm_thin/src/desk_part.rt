@@ -140,7 +140,7 @@ impl DeskPart {
         }
     }
 
-    /// Makes a bucket thin again that was lent to this record, unless the record let it go. One compare-and-swap.
+    /// Makes a bucket thin again that was lent to this record. `false` if the record has let it go: it stays fat. One compare-and-swap.
     pub(crate) fn thin_again(&mut self, steps: &Steps, bucket: usize, number: u32) -> bool
         requires table { self.old.0 ≡ steps.now.table_id }
         requires key { steps.now.key ≡ steps.now.table_id.words }

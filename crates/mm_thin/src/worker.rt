@@ -38,6 +38,13 @@ impl Worker {
         self.at
     }
 
+    /// How many records it has: eight.
+    pub fn places(&self) -> usize
+        ensures { result ≡ length self.now.records }
+    {
+        self.places.len()
+    }
+
     /// A record that has taken nothing.
     fn idle(&self) -> Option<usize>
         ensures some { IfSome result (λ k. (r : RecordView) × (slice_get self.now.records k ≡ Some r) × (r.taken ≡ [])) }
