@@ -25,7 +25,7 @@ abbrev pub GivesUp : RecordView → Bool → RecordView → Type 0
 GivesUp r true after = after ≡ idle r
 GivesUp r false after = after ≡ r
 
--- it gives up what it has taken, where it has taken something
+-- it gives up what it has taken, if it has taken something
 abbrev pub LeavesBucket : RecordView → GiveUp → RecordView → Type 0
 LeavesBucket r Done after = (r.taken ≢ []) × (after ≡ idle r)
 LeavesBucket r given.Changed after = (r.taken ≢ []) × (after ≡ r)

@@ -2,7 +2,6 @@
 use Rattle.std.specs.Prelude.{◌≡◌, Bool, true, false, ℕ, ◌+◌, ◌*◌, ◌<◌, ◌≤◌, List, [], ◌∷◌, length, slice_get, slice_index, Some}
 use Rattle.atomic_table.specs.Seated.{TableId}
 use Rattle.mm_lists.specs.Members.{Among}
-use Rattle.mm_names.specs.Hash.{hash_by}
 use Rattle.mm_thin.specs.declared.views.Part.{Part}
 use Rattle.mm_thin.specs.declared.spread.Spread.{Spread}
 use Rattle.mm_thin.specs.Spread.{bucket_by}
@@ -92,7 +91,7 @@ pub record OfficeState : Type 0 where
 abbrev pub with_desk : OfficeState → DeskView → OfficeState
 with_desk o d = record o { desk = d }
 
--- so many records that were made one after another, and have taken nothing
+-- this many records that were made one after another, and have taken nothing
 abbrev pub AreNew : TableId × DeskView → ℕ → List RecordState → Type 0
 AreNew before n made = (length made ≡ n) × ((k : ℕ) (p : RecordState) → slice_get made k ≡ Some p → p ≡ (before.0, new_record (before.1.records + k)))
 
@@ -101,7 +100,7 @@ abbrev pub IsOffice : Opening → TableId × DeskView → ℕ → ℕ → Type 0
 IsOffice of desk workers max_workers =
     (desk.0 ≡ of.table) × (desk.1.records ≡ workers * 10) × (workers ≤ max_workers) × (max_workers ≤ 65536) × (of.table.slots ≡ max_workers * 10 + 2)
 
--- so many words and texts, and an office that knows of nothing
-abbrev pub IsOpened : ℕ → ℕ → ℕ → ℕ → Opening → TableId × DeskView → Type 0
-IsOpened count texts bytes seed of desk =
-    (of.table.words ≡ count) × (of.table.slots ≡ texts) × (of.bytes ≡ bytes) × (of.spread.hash ≡ hash_by seed) × (desk ≡ (of.table, no_desk))
+-- this many words and texts, and an office that knows of nothing
+abbrev pub IsOpened : Spread → ℕ → ℕ → Opening → TableId × DeskView → Type 0
+IsOpened spread texts bytes of desk =
+    (of.table.words ≡ spread.buckets) × (of.table.slots ≡ texts) × (of.bytes ≡ bytes) × (of.spread ≡ spread) × (desk ≡ (of.table, no_desk))

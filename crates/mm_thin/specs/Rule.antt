@@ -35,7 +35,7 @@ abbrev pub Told : Type 0
 Told = List ℕ × List ℕ
 
 -- of one bucket with this word: one record at most has taken it; its word is thin, of that record, or lent to it, for its name; a thin word's record has
--- taken it; the office has the bucket exactly where the word is fat; and what the office has lent is fat, and, where the word says so, is that record's
+-- taken it; the office has the bucket exactly if the word is fat; and what the office has lent is fat, and, if the word says so, is that record's
 pub record Fits (word : ℕ) (d : DeskView) (told_of : ℕ → Told) (b : ℕ) : Type 0 where
   pub one : (i j : ℕ) → Among b (told_of i).0 → Among b (told_of j).0 → i ≡ j
   pub taken : (i : ℕ) → Among b (told_of i).0 → (word ≡ thin i) ⊎ (IsLent word × Among (loan b i (told_of i).1) d.lent)
@@ -80,7 +80,7 @@ AllKnow views d told_of seat_of =
 abbrev pub WordsState : Type 0
 WordsState = State (List ℕ) (List Part)
 
--- the rule of so many words: there is what the office knows, what each record has taken and for which name, and by place which seat has the part
+-- the rule of this many words: there is what the office knows, what each record has taken and for which name, and by place which seat has the part
 pub record IsKept (count : ℕ) (s : WordsState) : Type 0 where
   pub sized : length s.words ≡ count
   pub desk : DeskView

@@ -7,7 +7,6 @@ use crate::rule::{Steps, Words};
 use crate::spread::Spread;
 use crate::text::Text;
 use atomic_table::Table;
-use mm_names::NameHash;
 use std::alloc::{AllocError, Global};
 use std::marker::Model;
 use std::sync::Arc;
@@ -33,18 +32,17 @@ impl Model for Buckets {
 }
 
 impl Buckets {
-    /// So many buckets, all free, so many texts, and the part of an office that knows of nothing.
+    /// This many buckets, all free, this many texts, and the part of an office that knows of nothing.
     pub(crate) fn open(
         alloc: Global,
-        count: usize,
+        spread: Spread,
         texts: usize,
         bytes: usize,
-        seed: u64,
     ) -> Result<(Buckets, DeskPart), AllocError>
-        requires some { 0 < count }
         requires small { bytes ≤ 63 }
-        ensures { IfOk result (λ made. IsOpened count texts bytes seed made.0 made.1) }
+        ensures { IfOk result (λ made. IsOpened spread texts bytes made.0 made.1) }
     {
+        let count = spread.buckets();
         let zeros = vec![in alloc; 0u64; count]?;
         let blanks = blank_texts(alloc, texts)?;
         let Ok((words, seat)) = Table::new(alloc, zeros.as_slice(), blanks, &(count as u64)) else {
@@ -53,10 +51,7 @@ impl Buckets {
         let words = Arc::new(alloc, words)?;
         let buckets = Buckets {
             words,
-            spread: Spread {
-                hash: NameHash::new(seed),
-                buckets: count as u64,
-            },
+            spread,
             bytes,
         };
         let desk = DeskPart {
@@ -77,7 +72,7 @@ impl Buckets {
         })
     }
 
-    /// The words as threads see them.
+    /// Returns the words as threads see them.
     #[inline(always)]
     pub(crate) fn steps(&self) -> &Steps
         ensures table { result.now.table_id ≡ self.now.table }
@@ -87,7 +82,7 @@ impl Buckets {
         &self.words.shared
     }
 
-    /// The bucket of a name.
+    /// Returns the bucket of a name.
     #[inline(always)]
     pub(crate) fn of(&self, name: &[u8]) -> usize
         ensures bucket { result ≡ bucket_of self.now name.now }
@@ -106,7 +101,7 @@ impl Buckets {
     }
 }
 
-/// So many texts of no bytes.
+/// This many texts of no bytes.
 fn blank_texts(alloc: Global, count: usize) -> Result<Vec<Text>, AllocError>
     ensures { IfOk result (λ texts. length texts.items ≡ count) }
 {

@@ -86,9 +86,9 @@ impl Office {
         self.desk.free(self.buckets.steps(), bucket);
     }
 
-    /// A worker more. It takes memory: for its eight records, and for one place behind them, so that no other worker's part lies near.
+    /// Returns a worker more. It takes memory: for its eight records, and for one place behind them, so that no other worker's part lies near.
     ///
-    /// Refused as `Full` exactly where there are as many workers as there can be, and then nothing changes, and as `Memory` only where a
+    /// Refused as `Full` exactly if there are as many workers as there can be, and then nothing changes, and as `Memory` only if a
     /// request for memory was refused.
     pub fn add_worker(&mut self, alloc: Global) -> Result<Worker, WorkerError>
         ensures added { IfOk result (λ worker. AddsWorker self.old worker self.new) }
@@ -103,7 +103,7 @@ impl Office {
         Ok(self.worker_of(buckets, places))
     }
 
-    /// The next worker, with these places. Two records before its own are never used.
+    /// Returns the next worker, with these places. Two records before its own are never used.
     fn worker_of(&mut self, buckets: Buckets, mut places: Vec<Place>) -> Worker
         requires of { buckets ≡ self.old.of }
         requires empty { places.items ≡ [] }

@@ -14,14 +14,14 @@ pub struct Spread {
 impl Spread {
     ghost use Rattle.mm_thin.specs.Spread.{bucket_by};
 
-    /// How many buckets there are.
+    /// Returns how many buckets there are.
     pub fn buckets(&self) -> usize
         ensures { result ≡ self.now.buckets }
     {
         self.buckets as usize
     }
 
-    /// The bucket of a name. `O(length)`.
+    /// Returns the bucket of a name. `O(length)`.
     #[inline(always)]
     pub fn of(&self, name: &[u8]) -> usize
         ensures bucket { result ≡ bucket_by self.now name.now }
