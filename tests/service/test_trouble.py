@@ -415,6 +415,7 @@ class Tasks(TroubleCase):
                 await asyncio.Event().wait()
 
         async def main(locks: aio.Locks) -> None:
+            await asyncio.gather(*(locks.totals() for _ in range(3)))  # all are connected, so a task sends its begin at once
             for turns in range(60):
                 task = asyncio.ensure_future(begins(locks))
                 for _ in range(turns % 20):

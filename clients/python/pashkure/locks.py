@@ -103,23 +103,20 @@ class Transaction(Calls):
     def _known(self, status: Status) -> Status:
         return status
 
+    def _take(self) -> List[Session]:
+        """The session, if this call is the one that ends the transaction."""
+        try:
+            return [self._right.pop()]
+        except IndexError:
+            return []
+
     def _give_back(self) -> None:
-        """The transaction has ended: the next one may have its session, unless another thread has just dropped it."""
-        if self._take():
-            self._backend.give_back(self._session)
+        for session in self._take():
+            self._backend.give_back(session)
 
     def _drop(self) -> None:
-        """Ends the transaction without waiting for anything."""
-        if self._take():
-            self._session.drop()
-
-    def _take(self) -> bool:
-        """Whether this call is the one that ends the transaction."""
-        try:
-            self._right.pop()
-        except IndexError:
-            return False
-        return True
+        for session in self._take():
+            session.drop()
 
     def __enter__(self) -> "Transaction":
         self._thread = threading.get_ident()

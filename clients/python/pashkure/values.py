@@ -15,7 +15,6 @@ Name = Union[str, bytes, bytearray, memoryview]
 LONGEST_NAME = 1024
 _NAME = re.compile(rb"[!-~\x80-\xff]+\Z")
 _KEY = re.compile(r"([0-9]{1,20})\.([0-9]{1,20})\Z")
-_LARGEST = 4_294_967_295
 
 
 def encoded(name: Name) -> bytes:
@@ -47,8 +46,8 @@ def key_bytes(key: str) -> bytes:
     if not isinstance(key, str):
         raise TypeError(f"a key is text, not {type(key).__name__}")
     numbers = _KEY.match(key)
-    if numbers is None or any(int(number) > _LARGEST for number in numbers.groups()):
-        raise ValueError(f"{key!r} is no key: a key is two numbers of at most {_LARGEST}, such as 0.1")
+    if numbers is None or max(map(int, numbers.groups())) > 4_294_967_295:
+        raise ValueError(f"{key!r} is no key: a key is two numbers, such as 0.1")
     return key.encode("ascii")
 
 
@@ -66,7 +65,6 @@ def seconds(value: Optional[float], what: str = "a timeout") -> float:
 @dataclass(frozen=True)
 class Status:
     """What a transaction does: the name that it asked for, who owned that, and whether it is aborted as soon as its wait ends."""
-
     state: Literal["active", "waiting", "deadlock"]
     name: Optional[str] = None
     holder: Optional[str] = None
@@ -76,7 +74,6 @@ class Status:
 @dataclass(frozen=True)
 class Wait:
     """The transaction `key` waits for `name`, which `holder` owns. Behind the last wait of a cycle that was cut, the holder is ".."."""
-
     key: str
     name: str
     holder: str
@@ -85,7 +82,6 @@ class Wait:
 @dataclass(frozen=True)
 class Totals:
     """What the service has counted since its start. `deadlocks` are the requests that were told of one."""
-
     begun: int
     committed: int
     aborted: int
@@ -95,7 +91,6 @@ class Totals:
 @dataclass(frozen=True)
 class Counts(Totals):
     """The same, and more for an operator: how many events are left until the service has to be started again."""
-
     waits: int
     withdrawn: int
     events: int
@@ -106,7 +101,6 @@ class Counts(Totals):
 @dataclass(frozen=True)
 class Live:
     """A live transaction: its key, the number of its client, if that is still connected, and what it does."""
-
     key: str
     client: Optional[int]
     status: Status
@@ -115,7 +109,6 @@ class Live:
 @dataclass(frozen=True)
 class Client:
     """A client: its number, its process and user, and for how many seconds it has been connected."""
-
     number: int
     pid: int
     uid: int
@@ -125,7 +118,6 @@ class Client:
 @dataclass(frozen=True, order=True)
 class Fence:
     """A number that rises: greater than what any earlier owner of the name was told. As text it sorts in the same order."""
-
     epoch: int
     count: int
 
@@ -136,7 +128,6 @@ class Fence:
 @dataclass(frozen=True)
 class Event:
     """What a call of a transaction did, how long it took, and how long of that it waited for others; or a connection was made or lost."""
-
     kind: Literal["begin", "lock", "commit", "abort", "connect", "lost"]
     key: str = ""
     names: Tuple[str, ...] = ()
@@ -149,16 +140,13 @@ class Event:
 class Retry:
     """How often `run` tries. After a deadlock it pauses by chance for up to as long as the attempt took, twice as long after each further
     one, but for up to `longest` seconds at most, and up to `shortest` at least."""
-
     attempts: int = 10
     shortest: float = 0.001
     longest: float = 2.0
 
     def __post_init__(self) -> None:
-        if isinstance(self.attempts, bool) or not isinstance(self.attempts, int):
-            raise TypeError(f"attempts is a whole number, not {type(self.attempts).__name__}")
-        if self.attempts < 1:
-            raise ValueError(f"attempts is at least 1, not {self.attempts}")
+        if type(self.attempts) is not int or self.attempts < 1:
+            raise ValueError(f"attempts is a whole number from 1, not {self.attempts!r}")
         seconds(self.shortest, "shortest")
         seconds(self.longest, "longest")
 

@@ -35,26 +35,13 @@ def _pattern(text: bytes) -> "re.Pattern[bytes]":
 REPLIES = {
     word: _pattern(text + rb"|refused(?: #)? [a-z]+(?:-[a-z]+)*")
     for word, text in {
-        b"begin": rb"begun KEY(?: (?:waits|deadlock) # KEY| refused # [a-z-]+)?",
-        b"lock": rb"granted|held|(?:waits|deadlock)(?: #)? KEY",
-        b"try": rb"granted|held|busy KEY",
-        b"unlock": rb"unlocked",
-        b"commit": rb"committed",
-        b"abort": rb"aborted|later",
-        b"cancel": rb"cancelled|carried",
-        b"owner": rb"owner KEY|free",
-        b"status": rb"active|(?:waiting|deadlock) NAME KEY(?: aborting)?",
-        b"holds": rb"holds(?: NAME)*",
-        b"cycle": rb"cyclePAIRS",
-        b"fence": rb"fence # #",
-        b"totals": rb"totals(?: #){4}",
-        b"hello": rb"hello(?: #){5}",
-        b"counts": rb"counts(?: #){9}",
-        b"graph": rb"graph #",
-        b"list": rb"list #",
-        b"clients": rb"clients #",
+        b"begin": rb"begun KEY(?: (?:waits|deadlock) # KEY| refused # [a-z-]+)?", b"lock": rb"granted|held|(?:waits|deadlock)(?: #)? KEY",
+        b"try": rb"granted|held|busy KEY", b"unlock": rb"unlocked", b"commit": rb"committed", b"abort": rb"aborted|later",
+        b"cancel": rb"cancelled|carried", b"owner": rb"owner KEY|free", b"status": rb"active|(?:waiting|deadlock) NAME KEY(?: aborting)?",
+        b"holds": rb"holds(?: NAME)*", b"cycle": rb"cyclePAIRS", b"fence": rb"fence # #", b"totals": rb"totals(?: #){4}",
+        b"hello": rb"hello(?: #){5}", b"counts": rb"counts(?: #){9}", b"graph": rb"graph #", b"list": rb"list #", b"clients": rb"clients #",
     }.items()
-}
+}  # fmt: skip
 EVENT = _pattern(rb"\* (?:granted KEY NAME|aborted KEY|deadlockPAIRS)")
 LINES = {
     b"graph": _pattern(rb"\* KEY NAME KEY"),

@@ -16,7 +16,7 @@ pub enum LineFault {
     #[error("no call has this word")]
     Word,
     /// Behind the word of the call stand more or fewer words than it wants.
-    #[error("{word} wants {wanted} behind it, but has {given}")]
+    #[error("{word} wants {wanted} after it, but has {given}")]
     Count {
         word: &'static str,
         wanted: &'static str,

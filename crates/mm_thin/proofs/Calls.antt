@@ -17,7 +17,7 @@ use Rattle.mm_thin.specs.Views.{new_record, more_records, loan, with_taken, idle
 use Rattle.mm_thin.specs.Rule.{thin, WordsState, IsKept}
 use Rattle.mm_thin.specs.Steps.{SeatState, StepOf, desk_in, record_in, text_in, meeting, first_of, others_of, Taken, GivenUp, Tells, Seen, Looked, Fattened, Borrowed, HasRead, Freed, Thinned, IsMade, Met, RecordsMet}
 use Rattle.mm_thin.specs.Parts.{view_in, InHand}
-use Rattle.mm_thin.proofs.Keeps.{stays, record_takes, gives_thin, lets_go, text_at_home, desk_lawful, desk_gets_free, desk_looks, desk_thins, desk_frees, desk_borrows, its_text, desk_reads, record_made, its_blank, have_met, records_met, parts_again}
+use Rattle.mm_thin.proofs.Keeps.{stays, record_takes, gives_thin, lets_go, text_at_home, desk_lawful, desk_gets_free, desk_looks, desk_thins, desk_missed, desk_frees, desk_borrows, its_text, desk_reads, record_made, its_blank, have_met, records_met, parts_again}
 
 -- ---- a compare-and-swap
 
@@ -118,10 +118,10 @@ module _ (count slots seat b : ℕ) (d : DeskView) (below : b < count) where
   reads : (i : ℕ) (name : List ℕ) → d.reading ≡ loan b i name ∷ [] → Allows (IsKept count) slots seat (Desk d ∷ [], (i, name) ∷ []) b (λ k. 3) (λ k. HasRead (step slots b 3 0 none) (Desk d ∷ [], (i, name) ∷ []) 3)
   reads i name reading s t sized at small = (Desk (done_reading d) ∷ [], gives, tt, desk_reads count s t seat d at b (inside s t) i name reading, refl)
 
-  thins : (i : ℕ) (name : List ℕ) → Among (loan b i name) d.lent → Allows (IsKept count) slots seat at_desk b (λ k. either (eqb k 3) (thin i) k) (Thinned (step slots b 3 (thin i) none) at_desk)
-  thins i name lent = swaps Thinned count slots seat b 3 (thin i) at_desk
+  thins : (i : ℕ) (name : List ℕ) → Among (loan b i name) d.lent → d.reading ≡ [] → Allows (IsKept count) slots seat at_desk b (λ k. either (eqb k 3) (thin i) k) (Thinned (step slots b 3 (thin i) none) at_desk)
+  thins i name lent idle = swaps Thinned count slots seat b 3 (thin i) at_desk
       (λ s t sized at e. (Desk (thinned d b) ∷ [], keeps, tt, desk_thins count s t seat d at b (inside s t) i name lent e, (λ z. refl, λ nz. absurd (nz e))))
-      (λ s t sized at ne. (Desk d ∷ [], keeps, tt, stays count s t seat b (Desk d ∷ []) at, (λ z. absurd (ne z), λ nz. refl)))
+      (λ s t sized at ne. (Desk (without_lent d b) ∷ [], keeps, tt, desk_looks count s t seat d at b (inside s t) (desk_missed count s t seat d at b (inside s t) i name lent idle ne), (λ z. absurd (ne z), λ nz. refl)))
 
   frees : Among b d.fat → ((l : Lent) → Among l d.lent → l.bucket ≡ b → ⊥) → d.reading ≡ [] → Allows (IsKept count) slots seat at_desk b (λ k. 0) (λ k. Freed (step slots b 0 0 none) at_desk 0)
   frees has not_lent idle s t sized at small = (Desk (without_fat d b) ∷ [], keeps, tt, desk_frees count s t seat d at b (inside s t) has not_lent idle, refl)
@@ -172,9 +172,9 @@ module _ (count slots seat b : ℕ) (me : SeatState) where
     may_borrow i old thin_is idle =
         subst (λ (x : ℕ × SeatState). Allows (IsKept count) slots seat x.1 b (λ k. either (eqb k x.0) 2 k) (Borrowed (step slots b x.0 2 none) x.1)) (λ k. (sym thin_is k, sym is k)) (borrows count slots seat b d below i idle)
 
-    pub may_thin : (i : ℕ) (name : List ℕ) (new : ℕ) → new ≡ thin i → Among (loan b i name) d.lent → Allows (IsKept count) slots seat me b (λ k. either (eqb k 3) new k) (Thinned (step slots b 3 new none) me)
-    may_thin i name new thin_is lent =
-        subst (λ (x : ℕ × SeatState). Allows (IsKept count) slots seat x.1 b (λ k. either (eqb k 3) x.0 k) (Thinned (step slots b 3 x.0 none) x.1)) (λ k. (sym thin_is k, sym is k)) (thins count slots seat b d below i name lent)
+    pub may_thin : (i : ℕ) (name : List ℕ) (new : ℕ) → new ≡ thin i → Among (loan b i name) d.lent → d.reading ≡ [] → Allows (IsKept count) slots seat me b (λ k. either (eqb k 3) new k) (Thinned (step slots b 3 new none) me)
+    may_thin i name new thin_is lent idle =
+        subst (λ (x : ℕ × SeatState). Allows (IsKept count) slots seat x.1 b (λ k. either (eqb k 3) x.0 k) (Thinned (step slots b 3 x.0 none) x.1)) (λ k. (sym thin_is k, sym is k)) (thins count slots seat b d below i name lent idle)
 
     pub may_free : Among b d.fat → ((l : Lent) → Among l d.lent → l.bucket ≡ b → ⊥) → d.reading ≡ [] → Allows (IsKept count) slots seat me b (λ k. 0) (λ k. Freed (step slots b 0 0 none) me 0)
     may_free has not_lent idle = subst (λ (x : SeatState). Allows (IsKept count) slots seat x b (λ k. 0) (λ k. Freed (step slots b 0 0 none) x 0)) (sym is) (frees count slots seat b d below has not_lent idle)

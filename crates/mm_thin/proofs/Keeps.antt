@@ -1,5 +1,5 @@
 -- Each kind of step keeps the rule, and tells what it says.
-use Rattle.std.proofs.Common.{◌≡◌, ◌≢◌, ◌⊎◌, ℕ, zero, suc, ◌+◌, ◌<◌, ◌≤◌, nat_eq, if◌then◌else◌, List, [], ◌∷◌, map, length, set, refl, sym, ap, ◌∙◌, inl, inr, arith, subst, length-set, get_or-set_same}
+use Rattle.std.proofs.Common.{◌≡◌, ◌≢◌, ◌⊎◌, ℕ, zero, suc, ◌+◌, ◌<◌, ◌≤◌, nat_eq, if◌then◌else◌, List, [], ◌∷◌, map, length, set, refl, sym, ap, ◌∙◌, inl, inr, arith, subst, length-set, get_or-set_same, get_or-set_other}
 use Rattle.std.specs.Prelude.{slice_index}
 use Rattle.std.proofs.lemmas.Bool.{cases_eq}
 use Rattle.std.proofs.lemmas.List.{set-get_or}
@@ -17,7 +17,7 @@ use Rattle.mm_thin.specs.Views.{no_desk, new_record, more_records, loan, with_ta
 use Rattle.mm_thin.specs.Rule.{thin, IsRead, place_of, Told, Fits, IsLawful, KnowsRecord, Knows, AllKnow, WordsState, IsKept}
 use Rattle.mm_thin.specs.Steps.{meeting}
 use Rattle.mm_thin.specs.Parts.{AreFree}
-use Rattle.mm_thin.proofs.Laws.{with_told, at_told, at_other, told_apart, AsBefore, same_as_before, more_apart, less_apart, same_apart, same_lent, more_lent, less_lent, lawful_changed, reads_apart, only, fits_taken, none_left, fits_given, fits_let_go, fits_fat, fits_reading, fits_read, fits_freed, fits_thinned, fits_looked, thin_fat}
+use Rattle.mm_thin.proofs.Laws.{with_told, at_told, at_other, told_apart, AsBefore, same_as_before, more_apart, less_apart, same_apart, same_lent, more_lent, less_lent, lawful_changed, reads_apart, read_still, only, fits_taken, none_left, fits_given, fits_let_go, fits_fat, fits_reading, fits_read, fits_freed, fits_thinned, fits_looked, thin_fat}
 use Rattle.mm_thin.proofs.Seats.{joined, split_off, added, changed_alone, moved, blank_off}
 
 -- the state after a step
@@ -31,6 +31,9 @@ stays count s t seat b view at =
 
 none_among : {X : Type 0} (xs : List X) (x : X) → xs ≡ [] → Among x xs → ⊥
 none_among xs x empty among = subst (λ ys. Among x ys) empty among
+
+three_two : (n : ℕ) → n ≡ 3 → n ≡ 2 → ⊥
+three_two n three two = omega arith
 
 abbrev suc_of : ℕ → ℕ
 suc_of n = n + 1
@@ -118,6 +121,7 @@ module _ (count : ℕ) (s : WordsState) (t : IsKept count s) (seat : ℕ) where
           (fits_taken (slice_index s.words b) t.desk t.told_of b (t.lawful.each b inside) r.number taking free (inl refl))
           taken_single
           (λ l reading. reads_apart s.words b (thin r.number) t.told_of (h taking) taking_apart (λ two. (let never : 0 ≡ 2 = sym free ∙ two in omega arith)) l (t.lawful.reads l reading))
+          (read_still s.words b (thin r.number) t.desk.reading inside (λ two. omega arith) t.lawful.read_at)
           taken_fresh taken_home t.lawful)
 
     -- it gives up a bucket that is thin, or lent
@@ -166,18 +170,19 @@ module _ (count : ℕ) (s : WordsState) (t : IsKept count s) (seat : ℕ) where
           let was = t.lawful.fresh i (omega (arith, length-set s.homes r.number none)) late in
           (was.0, set_else s.homes r.number i none apart ∙ was.1)
 
-      pub record_gives : (left : ℕ) → Fits left t.desk (h given) b → IsKept count (next s b left given_homes seat (Record (idle r) ∷ []))
-      record_gives left fits = record_changes given b left given_homes
+      pub record_gives : (left : ℕ) → left ≢ 2 → Fits left t.desk (h given) b → IsKept count (next s b left given_homes seat (Record (idle r) ∷ []))
+      record_gives left away fits = record_changes given b left given_homes
           (lawful_changed s.words s.homes given_homes t.desk t.desk t.told_of (h given) b left (record_low b has) refl (length-set s.homes r.number none)
           given_apart (same_apart b t.desk.fat) (same_lent b t.desk.lent) (λ i among. absurd (none_now i among)) fits (λ c i apart first second. none_now i first)
           (λ l reading. reads_apart s.words b left t.told_of (h given) given_apart unread l (t.lawful.reads l reading))
+          (read_still s.words b left t.desk.reading (record_low b has) away t.lawful.read_at)
           given_fresh given_home t.lawful)
 
       pub gives_thin : slice_index s.words b ≡ thin r.number → IsKept count (next s b 0 given_homes seat (Record (idle r) ∷ []))
-      gives_thin is = record_gives 0 (fits_given (slice_index s.words b) t.desk t.told_of b (t.lawful.each b (record_low b has)) r.number given (record_had b has) gone is)
+      gives_thin is = record_gives 0 (λ two. omega arith) (fits_given (slice_index s.words b) t.desk t.told_of b (t.lawful.each b (record_low b has)) r.number given (record_had b has) gone is)
 
       pub lets_go : slice_index s.words b ≡ 3 → IsKept count (next s b 1 given_homes seat (Record (idle r) ∷ []))
-      lets_go is = record_gives 1 (fits_let_go (slice_index s.words b) t.desk t.told_of b (t.lawful.each b (record_low b has)) r.number given (record_had b has) gone is)
+      lets_go is = record_gives 1 (λ two. omega arith) (fits_let_go (slice_index s.words b) t.desk t.told_of b (t.lawful.each b (record_low b has)) r.number given (record_had b has) gone is)
 
   -- ---- the office alone
 
@@ -223,22 +228,35 @@ module _ (count : ℕ) (s : WordsState) (t : IsKept count s) (seat : ℕ) where
       pub desk_gets_free : slice_index s.words b ≡ 0 → IsKept count (next s b 1 s.homes seat (Desk (with_fat d b) ∷ []))
       desk_gets_free free = desk_changes (with_fat d b) b 1 s.homes refl
           (lawful_changed s.words s.homes s.homes d (with_fat d b) t.told_of t.told_of b 1 inside refl refl (λ c away. same_as_before t.told_of c) (more_apart b d.fat) (same_lent b d.lent) lows
-          (fits_fat (slice_index s.words b) d t.told_of b fits_now free) single_now (reads_still 1 (λ two. (let never : 0 ≡ 2 = sym free ∙ two in omega arith))) desk_lawful.fresh desk_lawful.home desk_lawful)
+          (fits_fat (slice_index s.words b) d t.told_of b fits_now free) single_now (reads_still 1 (λ two. (let never : 0 ≡ 2 = sym free ∙ two in omega arith)))
+          (read_still s.words b 1 d.reading inside (λ two. omega arith) desk_lawful.read_at) desk_lawful.fresh desk_lawful.home desk_lawful)
 
       pub desk_looks : slice_index s.words b ≡ 1 → IsKept count (next s b (slice_index s.words b) s.homes seat (Desk (without_lent d b) ∷ []))
       desk_looks is = desk_changes (without_lent d b) b (slice_index s.words b) s.homes refl
           (lawful_changed s.words s.homes s.homes d (without_lent d b) t.told_of t.told_of b (slice_index s.words b) inside refl refl (λ c away. same_as_before t.told_of c) (same_apart b d.fat) (less_lent b d.lent) lows
-          (fits_looked (slice_index s.words b) d t.told_of b fits_now is) single_now (reads_still (slice_index s.words b) (λ two. (let never : 1 ≡ 2 = sym is ∙ two in omega arith))) desk_lawful.fresh desk_lawful.home desk_lawful)
+          (fits_looked (slice_index s.words b) d t.told_of b fits_now is) single_now (reads_still (slice_index s.words b) (λ two. (let never : 1 ≡ 2 = sym is ∙ two in omega arith)))
+          (read_still s.words b (slice_index s.words b) d.reading inside (λ two. (let never : 1 ≡ 2 = sym is ∙ two in omega arith)) desk_lawful.read_at) desk_lawful.fresh desk_lawful.home desk_lawful)
 
       pub desk_thins : (i : ℕ) (name : List ℕ) → Among (loan b i name) d.lent → slice_index s.words b ≡ 3 → IsKept count (next s b (thin i) s.homes seat (Desk (thinned d b) ∷ []))
       desk_thins i name lent is = desk_changes (thinned d b) b (thin i) s.homes refl
           (lawful_changed s.words s.homes s.homes d (thinned d b) t.told_of t.told_of b (thin i) inside refl refl (λ c away. same_as_before t.told_of c) (less_apart b d.fat) (less_lent b d.lent) lows
-          (fits_thinned (slice_index s.words b) d t.told_of b fits_now i name lent is) single_now (reads_still (thin i) (λ two. (let never : 3 ≡ 2 = sym is ∙ two in omega arith))) desk_lawful.fresh desk_lawful.home desk_lawful)
+          (fits_thinned (slice_index s.words b) d t.told_of b fits_now i name lent is) single_now (reads_still (thin i) (λ two. (let never : 3 ≡ 2 = sym is ∙ two in omega arith)))
+          (read_still s.words b (thin i) d.reading inside (λ two. omega arith) desk_lawful.read_at) desk_lawful.fresh desk_lawful.home desk_lawful)
+
+      -- a bucket that is lent, or was, is let go where its word does not say that it is lent
+      pub desk_missed : (i : ℕ) (name : List ℕ) → Among (loan b i name) d.lent → d.reading ≡ [] → slice_index s.words b ≢ 3 → slice_index s.words b ≡ 1
+      desk_missed i name lent none_read away =
+          let fat = fits_now.is_fat (fits_now.lent (loan b i name) lent refl).0 in
+          let low = fat.0 in
+          let high = fat.1 in
+          let unread : slice_index s.words b ≢ 2 = λ two. (let l = desk_lawful.read_at b inside two in none_among d.reading l.0 none_read l.1) in
+          omega arith
 
       pub desk_frees : Among b d.fat → ((l : Lent) → Among l d.lent → l.bucket ≡ b → ⊥) → d.reading ≡ [] → IsKept count (next s b 0 s.homes seat (Desk (without_fat d b) ∷ []))
       desk_frees has not_lent idle = desk_changes (without_fat d b) b 0 s.homes refl
           (lawful_changed s.words s.homes s.homes d (without_fat d b) t.told_of t.told_of b 0 inside refl refl (λ c away. same_as_before t.told_of c) (less_apart b d.fat) (same_lent b d.lent) lows
-          (fits_freed (slice_index s.words b) d t.told_of b fits_now has not_lent) single_now (λ l reading. absurd (none_among d.reading l idle reading)) desk_lawful.fresh desk_lawful.home desk_lawful)
+          (fits_freed (slice_index s.words b) d t.told_of b fits_now has not_lent) single_now (λ l reading. absurd (none_among d.reading l idle reading))
+          (read_still s.words b 0 d.reading inside (λ two. omega arith) desk_lawful.read_at) desk_lawful.fresh desk_lawful.home desk_lawful)
 
       -- it borrows the text of the record that has taken the bucket, where it reads none
       module _ (i : ℕ) (is : slice_index s.words b ≡ thin i) (none_read : d.reading ≡ []) where
@@ -268,10 +286,16 @@ module _ (count : ℕ) (s : WordsState) (t : IsKept count s) (seat : ℕ) where
             (get_or-set_same s.words b 2 0 inside, fits_now.thin_of i is, refl)
         reads_it l (inr never) = absurd never
 
+        read_it_alone : (c : ℕ) → c < length s.words → slice_index (set s.words b 2) c ≡ 2 → (l : Lent) × Among l (loan b i its_name ∷ []) × (l.bucket ≡ c)
+        read_it_alone c below two = elim (cases_eq c b) [
+          | inl same ↦ (loan b i its_name, inl refl, sym same)
+          | inr apart ↦ (let was = desk_lawful.read_at c below (sym (get_or-set_other s.words b c 2 0 apart) ∙ two) in absurd (none_among d.reading was.0 none_read was.1))
+        ]
+
         pub desk_borrows : IsKept count (next s b 2 (set s.homes i none) seat (Desk (with_reading d b i its_name) ∷ []))
         desk_borrows = desk_changes (with_reading d b i its_name) b 2 (set s.homes i none) refl
             (lawful_changed s.words s.homes (set s.homes i none) d (with_reading d b i its_name) t.told_of t.told_of b 2 inside refl (length-set s.homes i none) (λ c away. same_as_before t.told_of c) (more_apart b d.fat)
-            (more_lent b i its_name d.lent) lows (fits_reading (slice_index s.words b) d t.told_of b fits_now i is) single_now reads_it read_fresh read_home desk_lawful)
+            (more_lent b i its_name d.lent) lows (fits_reading (slice_index s.words b) d t.told_of b fits_now i is) single_now reads_it read_it_alone read_fresh read_home desk_lawful)
 
       -- the text that it has read goes home
       module _ (i : ℕ) (name : List ℕ) (reading : d.reading ≡ loan b i name ∷ []) where
@@ -293,10 +317,18 @@ module _ (count : ℕ) (s : WordsState) (t : IsKept count s) (seat : ℕ) where
           | inr apart ↦ (let was = desk_lawful.fresh j (omega (arith, length-set s.homes i (some name))) late in (was.0, set_else s.homes i j (some name) apart ∙ was.1))
         ]
 
+        back_alone : (c : ℕ) → c < length s.words → slice_index (set s.words b 3) c ≡ 2 → (l : Lent) × Among l [] × (l.bucket ≡ c)
+        back_alone c below two = elim (cases_eq c b) [
+          | inl same ↦ absurd (three_two (slice_index (set s.words b 3) c) (ap (slice_index (set s.words b 3)) same ∙ get_or-set_same s.words b 3 0 inside) two)
+          | inr apart ↦
+              let was = desk_lawful.read_at c below (sym (get_or-set_other s.words b c 3 0 apart) ∙ two) in
+              elim (subst (λ xs. Among was.0 xs) reading was.1) [ inl same ↦ absurd (apart (sym was.2 ∙ ap (λ (l : Lent). l.bucket) same)) | inr never ↦ absurd never ]
+        ]
+
         pub desk_reads : IsKept count (next s b 3 (set s.homes i (some name)) seat (Desk (done_reading d) ∷ []))
         desk_reads = desk_changes (done_reading d) b 3 (set s.homes i (some name)) refl
             (lawful_changed s.words s.homes (set s.homes i (some name)) d (done_reading d) t.told_of t.told_of b 3 inside refl (length-set s.homes i (some name)) (λ c away. same_as_before t.told_of c) (same_apart b d.fat)
-            (same_lent b d.lent) lows (fits_read (slice_index s.words b) d t.told_of b fits_now told.0) single_now (λ l never. absurd never) back_fresh back_home desk_lawful)
+            (same_lent b d.lent) lows (fits_read (slice_index s.words b) d t.told_of b fits_now told.0) single_now (λ l never. absurd never) back_alone back_fresh back_home desk_lawful)
 
     -- ---- a record is made
 
@@ -358,6 +390,7 @@ module _ (count : ℕ) (s : WordsState) (t : IsKept count s) (seat : ℕ) where
         single = λ b c i first second. desk_lawful.single b c i (old_of b i first) (old_of c i second);
         reads = λ l reading. (let was = desk_lawful.reads l reading in
             (was.0, subst (λ (x : Told). Among l.bucket x.0) (sym (new_of l.bucket l.number was.1)) was.1, was.2 ∙ ap (λ (x : Told). x.1) (sym (new_of l.bucket l.number was.1))));
+        read_at = desk_lawful.read_at;
         fresh = λ i below late.
             let apart : i ≢ d.records = λ same. omega arith in
             let was = desk_lawful.fresh i (omega (arith, length-set s.homes d.records none)) (omega arith) in
@@ -460,6 +493,7 @@ opens words texts free = record {
     low_lent = λ l among. absurd among;
     single = λ b c i first second. absurd first;
     reads = λ l among. absurd among;
+    read_at = λ b inside two. (let never : 0 ≡ 2 = sym (free b inside) ∙ two in absurd (omega arith));
     fresh = λ i below late. map_home texts i below;
     home = λ b i among. absurd among;
   };

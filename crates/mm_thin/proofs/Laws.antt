@@ -98,11 +98,20 @@ reads_apart words b now g h told away l was =
     let before = told l.bucket apart l.number in
     (get_or-set_other words b l.bucket now 0 apart ∙ was.0, before.0.1 was.1, was.2 ∙ sym (before.1 was.1))
 
+-- and no other is, where the word that changes does not say that it is read
+pub read_still : (words : List ℕ) (b now : ℕ) (reading : List Lent) → b < length words → now ≢ 2 → ((c : ℕ) → c < length words → slice_index words c ≡ 2 → (l : Lent) × Among l reading × (l.bucket ≡ c))
+    → (c : ℕ) → c < length words → slice_index (set words b now) c ≡ 2 → (l : Lent) × Among l reading × (l.bucket ≡ c)
+read_still words b now reading inside away before c below two = elim (cases_eq c b) [
+  | inl same ↦ absurd (away (sym (get_or-set_same words b now 0 inside) ∙ ap (slice_index (set words b now)) (sym same) ∙ two))
+  | inr apart ↦ before c below (sym (get_or-set_other words b c now 0 apart) ∙ two)
+]
+
 module _ (words : List ℕ) (homes homes' : List (Option (List ℕ))) (d e : DeskView) (g h : ℕ → Told) (b now : ℕ) (inside : b < length words) (records : e.records ≡ d.records) (sized : length homes' ≡ length homes)
     (told : (c : ℕ) → c ≢ b → AsBefore g h c) (fats : (c : ℕ) → c ≢ b → Among c e.fat ↔ Among c d.fat) (lents : LentApart b d.lent e.lent)
     (low : (i : ℕ) → Among b (h i).0 → (i < d.records) × (i < length homes)) (here : Fits now e h b)
     (single : (c i : ℕ) → c ≢ b → Among b (h i).0 → Among c (h i).0 → ⊥)
     (reads : (l : Lent) → Among l e.reading → (slice_index (set words b now) l.bucket ≡ 2) × Among l.bucket (h l.number).0 × (l.name ≡ (h l.number).1))
+    (read_at : (c : ℕ) → c < length words → slice_index (set words b now) c ≡ 2 → (l : Lent) × Among l e.reading × (l.bucket ≡ c))
     (fresh : (i : ℕ) → i < length homes' → e.records ≤ i → (name : List ℕ) × (get_elem? homes' i ≡ some (some name)))
     (home : (c i : ℕ) → Among c (h i).0 → (get_elem? homes' i ≡ some (some (h i).1)) ⊎ IsRead e i)
     (is : IsLawful words homes d g) where
@@ -139,6 +148,7 @@ module _ (words : List ℕ) (homes homes' : List (Option (List ℕ))) (d e : Des
       ]
     ];
     reads = reads;
+    read_at = λ c below two. read_at c (omega (arith, length-set words b now)) two;
     fresh = fresh;
     home = home;
   }

@@ -1,5 +1,5 @@
 -- The places of a worker, after one of them changes.
-use Rattle.std.proofs.Common.{◌≡◌, ◌≢◌, ℕ, ◌<◌, Bool, true, false, ◌+◌, ◌≤◌, List, [], length, get_or, set, map, Some, refl, sym, ap, ◌∙◌, subst, inl, inr, arith}
+use Rattle.std.proofs.Common.{◌*◌, ◌≡◌, ◌≢◌, ℕ, ◌<◌, Bool, true, false, ◌+◌, ◌≤◌, List, [], length, get_or, set, map, Some, refl, sym, ap, ◌∙◌, subst, inl, inr, arith}
 use Rattle.std.specs.Prelude.{slice_get}
 use Rattle.std.proofs.lemmas.Bool.{cases_eq}
 use Rattle.std.proofs.lemmas.List.{length-map, map-set, set-get_or}
@@ -133,3 +133,23 @@ still_placed of at ps k old new below is same placed j p at_j = placed j p (ap (
 -- records of two workers have other numbers
 pub other_numbers : (at at' m n : ℕ) → IsOfWorker at m → IsOfWorker at' n → at ≢ at' → m ≢ n
 other_numbers at at' m n one other differ same = differ (let l = one.0 in let h = one.1 in let l' = other.0 in let h' = other.1 in omega arith)
+
+-- eight new records after the first two of ten are placed
+pub new_placed : (of : Opening) (at : ℕ) (before : TableId × DeskView) (ps : List RecordState) → AreNew before 8 ps → before.0 ≡ of.table → before.1.records ≡ at * 10 + 2 → ArePlaced of at ps
+new_placed of at before ps new table first k p is =
+    let low : k < length ps = slice_get_within ps k p is in
+    let size = new.0 in
+    let same = new.1 k p is in
+    let number : p.1.number ≡ before.1.records + k = ap (λ (x : RecordState). x.1.number) same in
+    (ap (λ (x : RecordState). x.0) same ∙ table, (omega arith, omega arith), λ b among. absurd (subst (λ (x : RecordState). Among b x.1.taken) same among))
+
+-- what holds of each record of a worker, as a contract sees it
+pub placed_seen : (of : Opening) (at : ℕ) (ps : List RecordState) (k : ℕ) (r : RecordView) → ArePlaced of at ps → slice_get (seen ps) k ≡ Some r → IsOfWorker at r.number × IsPlaced of r
+placed_seen of at ps k r placed is =
+    let low : k < length (seen ps) = slice_get_within (seen ps) k r is in
+    let size : length (seen ps) ≡ length ps = length-map ps (λ (p : RecordState). p.1) in
+    let p = get_or ps k (of.table, r) in
+    let there = slice_get-get_or ps k (of.table, r) (omega arith) in
+    let same : p.1 ≡ r = seen_only ps k p r there is in
+    let holds = placed k p there in
+    subst (λ (x : RecordView). IsOfWorker at x.number × IsPlaced of x) same (holds.1, holds.2)

@@ -25,7 +25,7 @@ abbrev pub GivesUp : RecordView → Bool → RecordView → Type 0
 GivesUp r true after = after ≡ idle r
 GivesUp r false after = after ≡ r
 
--- it gives up what it has taken, where it has taken something
+-- it gives up what it has taken, if it has taken something
 abbrev pub LeavesBucket : RecordView → GiveUp → RecordView → Type 0
 LeavesBucket r Done after = (r.taken ≢ []) × (after ≡ idle r)
 LeavesBucket r given.Changed after = (r.taken ≢ []) × (after ≡ r)
@@ -65,7 +65,7 @@ LooksAt d bucket IsLent after = (after ≡ d) × Among bucket d.fat
 -- the office makes a bucket thin again, that it has lent
 abbrev pub ThinsBucket : DeskView → ℕ → Bool → DeskView → Type 0
 ThinsBucket d bucket true after = after ≡ thinned d bucket
-ThinsBucket d bucket false after = after ≡ d
+ThinsBucket d bucket false after = after ≡ without_lent d bucket
 
 -- a bucket that a record has taken and that is fat is lent to this record, for its name
 abbrev pub AreLent : RecordView → DeskView → Type 0

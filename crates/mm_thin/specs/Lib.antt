@@ -1,5 +1,7 @@
 pub use Rattle.mm_lists.specs.Members
 pub use Rattle.mm_names.specs.Hash
+-- to which bucket a name belongs
+pub mod Spread
 -- what the parts know, and how it changes
 pub mod Views
 -- the rule

@@ -12,10 +12,10 @@ AreBucketsOut config = (config.buckets ≡ 0) ⊎ (16777216 < config.buckets)
 abbrev pub AreWorkersOut : ThinConfig → Type 0
 AreWorkersOut config = (config.workers ≡ 0) ⊎ (65536 < config.workers)
 
--- an office of so many buckets, which knows of nothing, and has no worker
+-- an office of this many buckets, which knows of nothing, and has no worker
 pub record Opens (config : ThinConfig) (o : OfficeState) : Type 0 where
   pub buckets : o.of.table.words ≡ config.buckets
   pub bytes : o.of.bytes ≡ min config.name_bytes 63
-  pub hash : o.of.hash ≡ hash_by config.seed
+  pub hash : o.of.spread.hash ≡ hash_by config.seed
   pub desk : o.desk ≡ no_desk
   pub workers : (o.workers ≡ 0) × (o.max_workers ≡ config.workers)

@@ -1,10 +1,10 @@
 -- What ties the parts to the words that they are of, and what a contract sees of them.
-use Rattle.std.specs.Prelude.{◌≡◌, Bool, true, false, ℕ, ◌+◌, ◌*◌, ◌/◌, ◌^◌, ◌<◌, ◌≤◌, List, [], ◌∷◌, length, slice_get, slice_index, Some}
+use Rattle.std.specs.Prelude.{◌≡◌, Bool, true, false, ℕ, ◌+◌, ◌*◌, ◌<◌, ◌≤◌, List, [], ◌∷◌, length, slice_get, slice_index, Some}
 use Rattle.atomic_table.specs.Seated.{TableId}
 use Rattle.mm_lists.specs.Members.{Among}
-use Rattle.mm_names.specs.declared.hash.NameHash.{NameHash}
-use Rattle.mm_names.specs.Hash.{hash_of, hash_by}
 use Rattle.mm_thin.specs.declared.views.Part.{Part}
+use Rattle.mm_thin.specs.declared.spread.Spread.{Spread}
+use Rattle.mm_thin.specs.Spread.{bucket_by}
 use Rattle.mm_thin.specs.declared.views.DeskView.{DeskView}
 use Rattle.mm_thin.specs.declared.views.RecordView.{RecordView}
 use Rattle.mm_thin.specs.declared.views.Part.TheVariants.{Desk, Record}
@@ -16,19 +16,19 @@ use Rattle.mm_thin.specs.Steps.{SeatState, desk_in, record_in, text_in}
 abbrev pub AreFree : List ℕ → Type 0
 AreFree words = (b : ℕ) → b < length words → slice_index words b ≡ 0
 
--- the words and the texts of one opening, with what names are hashed, and how many bytes a name may have that is locked here
+-- the words and the texts of one opening, to which bucket a name belongs, and how many bytes a name may have that is locked here
 pub record Opening : Type 0 where
   pub table : TableId
-  pub hash : NameHash
+  pub spread : Spread
   pub bytes : ℕ
 
 -- to which bucket a name belongs
 abbrev pub bucket_of : Opening → List ℕ → ℕ
-bucket_of of name = hash_of of.hash name * of.table.words / 2 ^ 64
+bucket_of of name = bucket_by of.spread name
 
 -- the key is the number of words, and there is one at least; names fit into texts
-abbrev pub AreBuckets : TableId → ℕ → ℕ → ℕ → Type 0
-AreBuckets table key count bytes = (key ≡ table.words) × (0 < table.words) × (count ≡ table.words) × (bytes ≤ 63)
+abbrev pub AreBuckets : TableId → ℕ → Spread → ℕ → Type 0
+AreBuckets table key spread bytes = (key ≡ table.words) × (0 < table.words) × (spread.buckets ≡ table.words) × (bytes ≤ 63)
 
 -- ---- a record
 
@@ -91,7 +91,7 @@ pub record OfficeState : Type 0 where
 abbrev pub with_desk : OfficeState → DeskView → OfficeState
 with_desk o d = record o { desk = d }
 
--- so many records that were made one after another, and have taken nothing
+-- this many records that were made one after another, and have taken nothing
 abbrev pub AreNew : TableId × DeskView → ℕ → List RecordState → Type 0
 AreNew before n made = (length made ≡ n) × ((k : ℕ) (p : RecordState) → slice_get made k ≡ Some p → p ≡ (before.0, new_record (before.1.records + k)))
 
@@ -100,7 +100,7 @@ abbrev pub IsOffice : Opening → TableId × DeskView → ℕ → ℕ → Type 0
 IsOffice of desk workers max_workers =
     (desk.0 ≡ of.table) × (desk.1.records ≡ workers * 10) × (workers ≤ max_workers) × (max_workers ≤ 65536) × (of.table.slots ≡ max_workers * 10 + 2)
 
--- so many words and texts, and an office that knows of nothing
-abbrev pub IsOpened : ℕ → ℕ → ℕ → ℕ → Opening → TableId × DeskView → Type 0
-IsOpened count texts bytes seed of desk =
-    (of.table.words ≡ count) × (of.table.slots ≡ texts) × (of.bytes ≡ bytes) × (of.hash ≡ hash_by seed) × (desk ≡ (of.table, no_desk))
+-- this many words and texts, and an office that knows of nothing
+abbrev pub IsOpened : Spread → ℕ → ℕ → Opening → TableId × DeskView → Type 0
+IsOpened spread texts bytes of desk =
+    (of.table.words ≡ spread.buckets) × (of.table.slots ≡ texts) × (of.bytes ≡ bytes) × (of.spread ≡ spread) × (desk ≡ (of.table, no_desk))

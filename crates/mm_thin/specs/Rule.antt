@@ -35,7 +35,7 @@ abbrev pub Told : Type 0
 Told = List ℕ × List ℕ
 
 -- of one bucket with this word: one record at most has taken it; its word is thin, of that record, or lent to it, for its name; a thin word's record has
--- taken it; the office has the bucket exactly where the word is fat; and what the office has lent is fat, and, where the word says so, is that record's
+-- taken it; the office has the bucket exactly if the word is fat; and what the office has lent is fat, and, if the word says so, is that record's
 pub record Fits (word : ℕ) (d : DeskView) (told_of : ℕ → Told) (b : ℕ) : Type 0 where
   pub one : (i j : ℕ) → Among b (told_of i).0 → Among b (told_of j).0 → i ≡ j
   pub taken : (i : ℕ) → Among b (told_of i).0 → (word ≡ thin i) ⊎ (IsLent word × Among (loan b i (told_of i).1) d.lent)
@@ -48,7 +48,7 @@ pub record Fits (word : ℕ) (d : DeskView) (told_of : ℕ → Told) (b : ℕ) :
 abbrev pub IsRead : DeskView → ℕ → Type 0
 IsRead d i = (l : Lent) × Among l d.reading × (l.number ≡ i)
 
--- each bucket fits, and there are no others; a record has taken one at most; the word of the bucket that is read says so; the text of a record that is not
+-- each bucket fits, and there are no others; a record has taken one at most; the word of the bucket that is read says so, and no other does; the text of a record that is not
 -- made yet is at home; and so is, with its name, that of a record that has taken a bucket, unless it is read
 pub record IsLawful (words : List ℕ) (homes : List (Option (List ℕ))) (d : DeskView) (told_of : ℕ → Told) : Type 0 where
   pub each : (b : ℕ) → b < length words → Fits (slice_index words b) d told_of b
@@ -57,6 +57,7 @@ pub record IsLawful (words : List ℕ) (homes : List (Option (List ℕ))) (d : D
   pub low_lent : (l : Lent) → Among l d.lent → l.bucket < length words
   pub single : (b c i : ℕ) → Among b (told_of i).0 → Among c (told_of i).0 → b ≡ c
   pub reads : (l : Lent) → Among l d.reading → (slice_index words l.bucket ≡ 2) × Among l.bucket (told_of l.number).0 × (l.name ≡ (told_of l.number).1)
+  pub read_at : (b : ℕ) → b < length words → slice_index words b ≡ 2 → (l : Lent) × Among l d.reading × (l.bucket ≡ b)
   pub fresh : (i : ℕ) → i < length homes → d.records ≤ i → (name : List ℕ) × (get_elem? homes i ≡ some (some name))
   pub home : (b i : ℕ) → Among b (told_of i).0 → (get_elem? homes i ≡ some (some (told_of i).1)) ⊎ IsRead d i
 
@@ -79,7 +80,7 @@ AllKnow views d told_of seat_of =
 abbrev pub WordsState : Type 0
 WordsState = State (List ℕ) (List Part)
 
--- the rule of so many words: there is what the office knows, what each record has taken and for which name, and by place which seat has the part
+-- the rule of this many words: there is what the office knows, what each record has taken and for which name, and by place which seat has the part
 pub record IsKept (count : ℕ) (s : WordsState) : Type 0 where
   pub sized : length s.words ≡ count
   pub desk : DeskView

@@ -54,13 +54,13 @@ IsMade step before found after =
 
 -- ---- a record alone
 
--- the bucket is taken, for the name in hand, where its word was found free; the text goes home
+-- the bucket is taken, for the name in hand, if its word was found free; the text goes home
 abbrev pub Taken : StepOf → SeatState → ℕ → SeatState → Type 0
 Taken step before found after =
     (found ≡ 0 → after ≡ (Record (with_taken (record_in before.0) step.word (text_in before.1)) ∷ [], []))
     × (found ≢ 0 → after ≡ before)
 
--- the bucket is not the record's any more where its word was found as it was thought to be, and the text is in hand again
+-- the bucket is not the record's any more if its word was found as it was thought to be, and the text is in hand again
 abbrev pub GivenUp : StepOf → SeatState → ℕ → SeatState → Type 0
 GivenUp step before found after =
     let r = record_in before.0 in
@@ -76,17 +76,17 @@ Tells d bucket found = (IsFat found → Among bucket d.fat) × (Among bucket d.f
 abbrev pub Seen : StepOf → SeatState → ℕ → SeatState → Type 0
 Seen step before found after = (after ≡ before) × Tells (desk_in before.0) step.word found
 
--- where the bucket is fat and not lent, no loan of it is left
+-- if the bucket is fat and not lent, no loan of it is left
 abbrev pub Looked : StepOf → SeatState → ℕ → SeatState → Type 0
 Looked step before found after =
     (found ≡ 1 → after ≡ (Desk (without_lent (desk_in before.0) step.word) ∷ [], [])) × (found ≢ 1 → after ≡ before) × Tells (desk_in before.0) step.word found
 
--- the bucket is fat where its word was found free
+-- the bucket is fat if its word was found free
 abbrev pub Fattened : StepOf → SeatState → ℕ → SeatState → Type 0
 Fattened step before found after =
     (found ≡ 0 → after ≡ (Desk (with_fat (desk_in before.0) step.word) ∷ [], [])) × (found ≢ 0 → after ≡ before)
 
--- the bucket is fat where its word was found thin, of the record that it was thought to be of, and the record's text is in hand
+-- the bucket is fat if its word was found thin, of the record that it was thought to be of, and the record's text is in hand
 abbrev pub Borrowed : StepOf → SeatState → ℕ → SeatState → Type 0
 Borrowed step before found after =
     let d = desk_in before.0 in
@@ -97,10 +97,10 @@ Borrowed step before found after =
 abbrev pub HasRead : StepOf → SeatState → ℕ → SeatState → Type 0
 HasRead step before found after = after ≡ (Desk (done_reading (desk_in before.0)) ∷ [], [])
 
--- the bucket is thin again where its word was found lent
+-- the bucket is thin again if its word was found lent; else its record has let it go
 abbrev pub Thinned : StepOf → SeatState → ℕ → SeatState → Type 0
 Thinned step before found after =
-    (found ≡ 3 → after ≡ (Desk (thinned (desk_in before.0) step.word) ∷ [], [])) × (found ≢ 3 → after ≡ before)
+    (found ≡ 3 → after ≡ (Desk (thinned (desk_in before.0) step.word) ∷ [], [])) × (found ≢ 3 → after ≡ (Desk (without_lent (desk_in before.0) step.word) ∷ [], []))
 
 abbrev pub Freed : StepOf → SeatState → ℕ → SeatState → Type 0
 Freed step before found after = after ≡ (Desk (without_fat (desk_in before.0) step.word) ∷ [], [])

@@ -4,19 +4,18 @@ ghost use Rattle.mm_thin.specs.Parts.{bucket_of, IsOpened};
 
 use crate::desk_part::DeskPart;
 use crate::rule::{Steps, Words};
+use crate::spread::Spread;
 use crate::text::Text;
 use atomic_table::Table;
-use mm_names::NameHash;
 use std::alloc::{AllocError, Global};
 use std::marker::Model;
 use std::sync::Arc;
 
-/// An owner of the words and the texts, and with what names are hashed. A contract sees an `Opening`.
+/// An owner of the words and the texts, and to which bucket a name belongs. A contract sees an `Opening`.
 #[derive(Drop)]
 pub(crate) struct Buckets {
     words: Arc<Words, Global>,
-    count: u64,
-    hash: NameHash,
+    spread: Spread,
     /// How many bytes a name may have that is locked here.
     pub(crate) bytes: usize,
 }
@@ -27,24 +26,23 @@ impl Model for Buckets {
 
     ghost Value = { Opening };
 
-    ghost view = { λ b. record { table = (arc_value b.words).shared.table_id; hash = b.hash; bytes = b.bytes } };
+    ghost view = { λ b. record { table = (arc_value b.words).shared.table_id; spread = b.spread; bytes = b.bytes } };
 
-    ghost invariant = { λ b. AreBuckets (arc_value b.words).shared.table_id (arc_value b.words).shared.key b.count b.bytes };
+    ghost invariant = { λ b. AreBuckets (arc_value b.words).shared.table_id (arc_value b.words).shared.key b.spread b.bytes };
 }
 
 impl Buckets {
-    /// So many buckets, all free, so many texts, and the part of an office that knows of nothing.
+    /// This many buckets, all free, this many texts, and the part of an office that knows of nothing.
     pub(crate) fn open(
         alloc: Global,
-        count: usize,
+        spread: Spread,
         texts: usize,
         bytes: usize,
-        seed: u64,
     ) -> Result<(Buckets, DeskPart), AllocError>
-        requires some { 0 < count }
         requires small { bytes ≤ 63 }
-        ensures { IfOk result (λ made. IsOpened count texts bytes seed made.0 made.1) }
+        ensures { IfOk result (λ made. IsOpened spread texts bytes made.0 made.1) }
     {
+        let count = spread.buckets();
         let zeros = vec![in alloc; 0u64; count]?;
         let blanks = blank_texts(alloc, texts)?;
         let Ok((words, seat)) = Table::new(alloc, zeros.as_slice(), blanks, &(count as u64)) else {
@@ -53,8 +51,7 @@ impl Buckets {
         let words = Arc::new(alloc, words)?;
         let buckets = Buckets {
             words,
-            count: count as u64,
-            hash: NameHash::new(seed),
+            spread,
             bytes,
         };
         let desk = DeskPart {
@@ -70,13 +67,12 @@ impl Buckets {
     {
         Ok(Buckets {
             words: Arc::try_clone(&self.words)?,
-            count: self.count,
-            hash: self.hash,
+            spread: self.spread,
             bytes: self.bytes,
         })
     }
 
-    /// The words as threads see them.
+    /// Returns the words as threads see them.
     #[inline(always)]
     pub(crate) fn steps(&self) -> &Steps
         ensures table { result.now.table_id ≡ self.now.table }
@@ -86,19 +82,26 @@ impl Buckets {
         &self.words.shared
     }
 
-    /// The bucket of a name.
+    /// Returns the bucket of a name.
     #[inline(always)]
     pub(crate) fn of(&self, name: &[u8]) -> usize
         ensures bucket { result ≡ bucket_of self.now name.now }
         ensures low { result < self.now.table.words }
         ensures bytes { self.now.bytes ≤ 63 }
     {
-        let hash = self.hash.of(name);
-        (hash as u128 * self.count as u128 >> 64) as usize
+        self.spread.of(name)
+    }
+
+    /// To which bucket a name belongs.
+    pub(crate) fn spread(&self) -> Spread
+        ensures spread { result ≡ self.now.spread }
+        ensures words { result.buckets ≡ self.now.table.words }
+    {
+        self.spread
     }
 }
 
-/// So many texts of no bytes.
+/// This many texts of no bytes.
 fn blank_texts(alloc: Global, count: usize) -> Result<Vec<Text>, AllocError>
     ensures { IfOk result (λ texts. length texts.items ≡ count) }
 {

@@ -43,7 +43,7 @@ impl Model for DeskPart {
 }
 
 impl DeskPart {
-    /// The word of a bucket. One load.
+    /// Returns the word of a bucket. One load.
     fn word(&mut self, steps: &Steps, bucket: usize) -> u64
         requires table { self.old.0 ≡ steps.now.table_id }
         requires key { steps.now.key ≡ steps.now.table_id.words }
@@ -74,7 +74,7 @@ impl DeskPart {
         look_of(word)
     }
 
-    /// Makes a bucket fat, where it is free. One compare-and-swap.
+    /// Makes a bucket fat, if it is free. One compare-and-swap.
     fn take_free(&mut self, steps: &Steps, bucket: usize) -> bool
         requires table { self.old.0 ≡ steps.now.table_id }
         requires key { steps.now.key ≡ steps.now.table_id.words }
@@ -89,7 +89,7 @@ impl DeskPart {
         word == 0
     }
 
-    /// Makes a bucket fat, where it is thin of this record, and reads the name. A compare-and-swap, two plain reads and writes, a store.
+    /// Makes a bucket fat, if it is thin of this record, and reads the name. A compare-and-swap, two plain reads and writes, a store.
     fn borrow(&mut self, steps: &Steps, bucket: usize, number: u32) -> Option<Text>
         requires table { self.old.0 ≡ steps.now.table_id }
         requires key { steps.now.key ≡ steps.now.table_id.words }
@@ -140,7 +140,7 @@ impl DeskPart {
         }
     }
 
-    /// Makes a bucket thin again that was lent to this record, unless the record let it go. One compare-and-swap.
+    /// Makes a bucket thin again that was lent to this record. `false` if the record has let it go: it stays fat. One compare-and-swap.
     pub(crate) fn thin_again(&mut self, steps: &Steps, bucket: usize, number: u32) -> bool
         requires table { self.old.0 ≡ steps.now.table_id }
         requires key { steps.now.key ≡ steps.now.table_id.words }
@@ -172,7 +172,7 @@ impl DeskPart {
         self.badge = seat.into_badge();
     }
 
-    /// A record more, which has taken nothing. Two loads.
+    /// Returns a record more, which has taken nothing. Two loads.
     pub(crate) fn add_record(&mut self, steps: &Steps) -> Record
         requires table { self.old.0 ≡ steps.now.table_id }
         requires key { steps.now.key ≡ steps.now.table_id.words }
@@ -192,7 +192,7 @@ impl DeskPart {
     }
 }
 
-/// What a word says.
+/// Returns what a word says.
 fn look_of(word: u64) -> Look
     ensures fat { (result ≡ Look.Fat) ↔ (word ≡ 1) }
     ensures lent { (result ≡ Look.IsLent) ↔ ((1 < word) × (word < 4)) }

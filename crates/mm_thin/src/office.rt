@@ -1,9 +1,9 @@
 //! The part that makes buckets fat.
-ghost use Rattle.std.specs.Prelude.{◌≡◌, ◌<◌, ◌≤◌, ◌+◌, ◌^◌, ℕ, List, [], IfOk, OnErr, vec_capacity};
+ghost use Rattle.std.specs.Prelude.{◌≡◌, ◌↔◌, ◌<◌, ◌≤◌, ◌+◌, ◌^◌, ℕ, List, [], Err, IfOk, OnErr, vec_capacity};
 ghost use Rattle.mm_lists.specs.Members.{Among};
 ghost use Rattle.mm_thin.specs.declared.views.Lent.{Lent};
 ghost use Rattle.mm_thin.specs.Views.{loan, with_records, without_fat};
-ghost use Rattle.mm_thin.specs.Parts.{bucket_of, with_desk, AreNew};
+ghost use Rattle.mm_thin.specs.Parts.{with_desk, AreNew};
 ghost use Rattle.mm_thin.specs.Calls.{GetsBucket, LooksAt, ThinsBucket, AddsWorker};
 
 use crate::buckets::Buckets;
@@ -12,6 +12,7 @@ use crate::desk_part::DeskPart;
 use crate::place::Place;
 use crate::reply::{Got, Look};
 use crate::rule::Steps;
+use crate::spread::Spread;
 use crate::worker::{PLACES, Worker};
 use std::alloc::Global;
 use std::marker::Model;
@@ -36,12 +37,12 @@ impl Model for Office {
 }
 
 impl Office {
-    /// The bucket of a name. `O(length)`.
-    pub fn bucket_of(&self, name: &[u8]) -> usize
-        ensures bucket { result ≡ bucket_of self.now.of name.now }
-        ensures low { result < self.now.of.table.words }
+    /// To which bucket a name belongs.
+    pub fn spread(&self) -> Spread
+        ensures spread { result ≡ self.now.of.spread }
+        ensures words { result.buckets ≡ self.now.of.table.words }
     {
-        self.buckets.of(name)
+        self.buckets.spread()
     }
 
     /// Looks whether a bucket is fat, and whether a record has it. One load.
@@ -65,7 +66,7 @@ impl Office {
         self.desk.fatten(self.buckets.steps(), bucket)
     }
 
-    /// Makes a bucket thin again that was lent to this record. `false` if the record has let it go, and nothing changes. One compare-and-swap.
+    /// Makes a bucket thin again that was lent to this record. `false` if the record has let it go: it stays fat. One compare-and-swap.
     pub fn thin_again(&mut self, bucket: usize, number: u32) -> bool
         requires bucket { bucket < self.old.of.table.words }
         requires lent { (name : List ℕ) × Among (loan bucket number name) self.old.desk.lent }
@@ -85,12 +86,13 @@ impl Office {
         self.desk.free(self.buckets.steps(), bucket);
     }
 
-    /// A worker more. It takes memory: for its eight records, and for one place behind them, so that no other worker's part lies near.
+    /// Returns a worker more. It takes memory: for its eight records, and for one place behind them, so that no other worker's part lies near.
     ///
-    /// Refused as `Full` exactly where there are as many workers as there can be, and then nothing changes, and as `Memory` only where a
+    /// Refused as `Full` exactly if there are as many workers as there can be, and then nothing changes, and as `Memory` only if a
     /// request for memory was refused.
     pub fn add_worker(&mut self, alloc: Global) -> Result<Worker, WorkerError>
         ensures added { IfOk result (λ worker. AddsWorker self.old worker self.new) }
+        ensures full { (result ≡ Err WorkerError.Full) ↔ (self.old.workers ≡ self.old.max_workers) }
         ensures refused { OnErr result (self.new ≡ self.old) }
     {
         if self.workers >= self.max_workers {
@@ -101,7 +103,7 @@ impl Office {
         Ok(self.worker_of(buckets, places))
     }
 
-    /// The next worker, with these places. Two records before its own are never used.
+    /// Returns the next worker, with these places. Two records before its own are never used.
     fn worker_of(&mut self, buckets: Buckets, mut places: Vec<Place>) -> Worker
         requires of { buckets ≡ self.old.of }
         requires empty { places.items ≡ [] }

@@ -5,14 +5,16 @@ ghost use Rattle.mm_thin.specs.Opening.{Opens, AreBucketsOut, AreWorkersOut};
 use crate::buckets::Buckets;
 use crate::config::{OpenError, ThinConfig};
 use crate::office::Office;
+use crate::spread::Spread;
 use crate::text::MAX_THIN_BYTES;
+use mm_names::NameHash;
 use std::alloc::Global;
 
 impl Office {
-    /// An office of this configuration, with no worker: all buckets are free.
+    /// Returns an office of this configuration, with no worker: all buckets are free.
     ///
-    /// Refused as `Buckets` or else as `Workers` exactly where that number of the configuration is out of its range, and as `Memory` only
-    /// where a request for memory was refused. It takes 8 bytes a bucket, and 640 a worker and 128 more. While it is opened it takes as
+    /// Refused as `Buckets` or else as `Workers` exactly if that number of the configuration is out of its range, and as `Memory` only
+    /// if a request for memory was refused. It takes 8 bytes a bucket, and 640 a worker and 128 more. While it is opened it takes as
     /// much again.
     pub fn open(alloc: Global, config: ThinConfig) -> Result<Office, OpenError>
         ensures opened { IfOk result (λ office. Opens config office) }
@@ -27,13 +29,11 @@ impl Office {
         }
         let bytes = (config.name_bytes as usize).min(MAX_THIN_BYTES);
         let texts = config.workers as usize * 10 + 2;
-        let (buckets, desk) = Buckets::open(
-            alloc,
-            config.buckets as usize,
-            texts,
-            bytes,
-            config.seed,
-        )?;
+        let spread = Spread {
+            hash: NameHash::new(config.seed),
+            buckets: u64::from(config.buckets),
+        };
+        let (buckets, desk) = Buckets::open(alloc, spread, texts, bytes)?;
         Ok(Office {
             buckets,
             desk,

@@ -36,7 +36,7 @@ impl Model for Place {
 }
 
 impl Place {
-    /// A record that has taken nothing.
+    /// Returns a record that has taken nothing.
     pub(crate) fn of(idle: Record) -> Place
         requires { idle.1.taken ≡ [] }
         ensures { result ≡ idle }
@@ -49,7 +49,7 @@ impl Place {
         }
     }
 
-    /// Whether it has taken nothing.
+    /// Returns whether it has taken nothing.
     #[inline(always)]
     pub(crate) fn is_idle(&self) -> bool
         ensures { IsTrue result ↔ (self.now.1.taken ≡ []) }
@@ -57,14 +57,14 @@ impl Place {
         !self.is_taken
     }
 
-    /// Whether it has taken this name.
+    /// Returns whether it has taken this name.
     pub(crate) fn is_for(&self, name: &[u8]) -> bool
         ensures { IsTrue result ↔ IsFor self.now.1 name.now }
     {
         self.is_taken && self.name.as_slice() == name
     }
 
-    /// The name that it has taken.
+    /// Returns the name that it has taken.
     pub(crate) fn taken(&self) -> Option<&[u8]>
         ensures some { IfSome result (λ name. IsFor self.now.1 name.now) }
         ensures none { IfNone result (self.now.1.taken ≡ []) }
@@ -76,7 +76,7 @@ impl Place {
         }
     }
 
-    /// Takes a bucket for this name, where it is free.
+    /// Takes a bucket for this name, if it is free.
     #[inline(always)]
     pub(crate) fn take(&mut self, steps: &Steps, bucket: usize, name: &[u8]) -> bool
         requires table { self.old.0 ≡ steps.now.table_id }
@@ -96,7 +96,7 @@ impl Place {
         is_taken
     }
 
-    /// Gives back what it has taken, where that is thin.
+    /// Gives back what it has taken, if that is thin.
     #[inline(always)]
     pub(crate) fn give_back(&mut self, steps: &Steps) -> GiveUp
         requires table { self.old.0 ≡ steps.now.table_id }
@@ -114,7 +114,7 @@ impl Place {
         GiveUp::Done
     }
 
-    /// Lets go what it has taken, where that is lent.
+    /// Lets go what it has taken, if that is lent.
     pub(crate) fn let_go(&mut self, steps: &Steps) -> GiveUp
         requires table { self.old.0 ≡ steps.now.table_id }
         requires key { steps.now.key ≡ steps.now.table_id.words }

@@ -37,7 +37,7 @@ impl Model for Record {
 }
 
 impl Record {
-    /// Takes a bucket for this name, where it is free. One plain write of a text, and one compare-and-swap.
+    /// Takes a bucket for this name, if it is free. One plain write of a text, and one compare-and-swap.
     #[inline(always)]
     pub(crate) fn take(&mut self, steps: &Steps, bucket: usize, name: &[u8]) -> bool
         requires table { self.old.0 ≡ steps.now.table_id }
@@ -54,7 +54,7 @@ impl Record {
         word == 0
     }
 
-    /// Gives back the bucket that it has taken, where it is thin. One compare-and-swap.
+    /// Gives back the bucket that it has taken, if it is thin. One compare-and-swap.
     #[inline(always)]
     pub(crate) fn give_back(&mut self, steps: &Steps, bucket: usize) -> bool
         requires table { self.old.0 ≡ steps.now.table_id }
@@ -69,7 +69,7 @@ impl Record {
         word == thin
     }
 
-    /// Lets go the bucket that it has taken, where it is lent: it stays fat. One compare-and-swap.
+    /// Lets go the bucket that it has taken, if it is lent: it stays fat. One compare-and-swap.
     pub(crate) fn let_go(&mut self, steps: &Steps, bucket: usize) -> bool
         requires table { self.old.0 ≡ steps.now.table_id }
         requires key { steps.now.key ≡ steps.now.table_id.words }

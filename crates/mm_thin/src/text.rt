@@ -1,5 +1,5 @@
 //! The bytes of a name, in place.
-ghost use Rattle.std.specs.Prelude.{◌≡◌, ◌≤◌, length};
+ghost use Rattle.std.specs.Prelude.{◌≡◌, ◌≤◌, [], length};
 
 use std::marker::Model;
 
@@ -51,7 +51,9 @@ impl Text {
     }
 
     /// No bytes.
-    pub fn none() -> Text {
+    pub fn none() -> Text
+        ensures { result ≡ [] }
+    {
         Text {
             bytes: [0u8; 63],
             size: 0,

@@ -36,5 +36,5 @@ pub enum Part {
     Record(RecordView),
 }
 
-/// What a seat knows: a part, or two while they meet, or none where its part was joined to another seat.
+/// What a seat knows: a part, or two while they meet, or none if its part was joined to another seat.
 pub type View = LinkedList<Part>;

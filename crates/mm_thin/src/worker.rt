@@ -38,7 +38,14 @@ impl Worker {
         self.at
     }
 
-    /// A record that has taken nothing.
+    /// Returns how many records it has: eight.
+    pub fn places(&self) -> usize
+        ensures { result ≡ length self.now.records }
+    {
+        self.places.len()
+    }
+
+    /// Returns a record that has taken nothing.
     fn idle(&self) -> Option<usize>
         ensures some { IfSome result (λ k. (r : RecordView) × (slice_get self.now.records k ≡ Some r) × (r.taken ≡ [])) }
         ensures none { IfNone result (IsFull self.now.records) }
@@ -51,7 +58,7 @@ impl Worker {
         None
     }
 
-    /// The number of the record that has taken this name.
+    /// Returns the number of the record that has taken this name.
     pub fn find(&self, name: &[u8]) -> Option<usize>
         ensures some { IfSome result (λ k. (r : RecordView) × (slice_get self.now.records k ≡ Some r) × IsFor r name.now) }
         ensures none { IfNone result (HasTaken self.now.records name.now → ⊥) }
@@ -64,7 +71,7 @@ impl Worker {
         None
     }
 
-    /// The name that this record has taken.
+    /// Returns the name that this record has taken.
     pub fn taken(&self, k: usize) -> Option<&[u8]>
         ensures some { IfSome result (λ name. (r : RecordView) × (slice_get self.now.records k ≡ Some r) × IsFor r name.now) }
         ensures none { IfNone result ((r : RecordView) → slice_get self.now.records k ≡ Some r → r.taken ≡ []) }
@@ -75,7 +82,7 @@ impl Worker {
         self.places[k].taken()
     }
 
-    /// Takes a name, where its bucket is free. One compare-and-swap.
+    /// Takes a name, if its bucket is free. One compare-and-swap.
     pub fn take(&mut self, name: &[u8]) -> Take
         ensures { TakesName self.old name.now result self.new }
     {
@@ -99,7 +106,7 @@ impl Worker {
         }
     }
 
-    /// Takes a name with this record, where its bucket is free.
+    /// Takes a name with this record, if its bucket is free.
     #[inline(always)]
     fn take_at(&mut self, k: usize, name: &[u8]) -> bool
         requires idle { (r : RecordView) × (slice_get self.old.records k ≡ Some r) × (r.taken ≡ []) }
@@ -120,7 +127,7 @@ impl Worker {
         self.places[k].give_back(self.buckets.steps())
     }
 
-    /// Lets go what this record has taken, where the office has made its bucket fat: it stays fat. One compare-and-swap.
+    /// Lets go what this record has taken, if the office has made its bucket fat: it stays fat. One compare-and-swap.
     ///
     /// `Changed` also while the office is just making it fat.
     pub fn let_go(&mut self, k: usize) -> GiveUp

@@ -115,7 +115,12 @@ class Transaction(Calls):
             return await drive(self._session, flow)
         except BaseException as told:
             error = told
-            self._clean_up(kind, told)
+            if isinstance(told, Closed) or kind == "commit" and not isinstance(told, LockError):
+                self._is_live, self._state.is_over = False, not isinstance(told, Closed)
+                self._session.drop()  # a commit was sent; if it is refused, the transaction is aborted
+            elif not isinstance(told, LockError):
+                self._state.is_unsettled = True
+                self._session.abandon()  # so that nothing waits on that nobody wants
             raise
         finally:
             self._task = None
@@ -125,18 +130,6 @@ class Transaction(Calls):
 
     async def _known(self, status: Status) -> Status:
         return status
-
-    def _clean_up(self, kind: str, error: BaseException) -> None:
-        """After an exception: nothing waits on that nobody wants."""
-        if isinstance(error, Closed):
-            self._is_live = False
-            self._session.drop()
-        elif kind == "commit" and not isinstance(error, LockError):
-            self._state.is_over = True
-            self._session.drop()  # it was sent; if it is refused, the transaction is aborted
-        elif not isinstance(error, LockError):
-            self._state.is_unsettled = True
-            self._session.abandon()
 
     def __await__(self) -> Generator[Any, None, "Transaction"]:
         return self._begin().__await__()

@@ -26,7 +26,7 @@ abbrev pub call_of_key_and_resource : ResourceCall → Key → ℕ → Call
 call_of_key_and_resource resource_calls.Acquire = calls.Acquire
 call_of_key_and_resource resource_calls.Release = calls.Release
 
--- the call that a form makes of the words behind its word
+-- the call that a form makes of the words after its word
 abbrev pub call_by : Form → List (List ℕ) → Option Call
 call_by (forms.Table header) = table_call header
 call_by (forms.Alone call) = alone call

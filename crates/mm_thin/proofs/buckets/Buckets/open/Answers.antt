@@ -18,4 +18,4 @@ new-requires c =
     let words = c.as_slice.result.now in
     let zeros = c.as_slice.ensures.value ∙ z.items_if_clones_equal (λ y is. is) in
     let size = c.as_slice.ensures.len ∙ z.len in
-    subst (λ n. IsKept n (opening {V = List Part} words c.in_ok-blanks.blanks.items _)) size (opens words c.in_ok-blanks.blanks.items (zeros_free c.args.count words zeros size))
+    subst (λ n. IsKept n (opening {V = List Part} words c.in_ok-blanks.blanks.items _)) size (opens words c.in_ok-blanks.blanks.items (zeros_free c.buckets-count.result words zeros size))

@@ -20,5 +20,5 @@ compare_exchange-word-requires c =
       i.0 ∙ ap (λ b. b.table_id) c.replace-badge.ensures.value ∙ ap (λ v. v.0) c.self.view_is ∙ c.requires.table,
       below,
       (let from = c.from.ensures in
-          may_thin c.args.steps.now.key c.args.steps.now.table_id.slots c.into_seat-seat.result.id c.args.bucket me d seat (omega arith) c.args.number c.requires.lent.0 _ (omega arith) (subst (λ (x : DeskView). Among (loan c.args.bucket c.args.number c.requires.lent.0) x.lent) (sym known) c.requires.lent.1)),
+          may_thin c.args.steps.now.key c.args.steps.now.table_id.slots c.into_seat-seat.result.id c.args.bucket me d seat (omega arith) c.args.number c.requires.lent.0 _ (omega arith) (subst (λ (x : DeskView). Among (loan c.args.bucket c.args.number c.requires.lent.0) x.lent) (sym known) c.requires.lent.1) c.self.invariant.0.1),
     )

@@ -1,8 +1,8 @@
-use Rattle.std.proofs.Common.{◌+◌, ap, ◌∙◌}
+use Rattle.std.proofs.Common.{◌+◌, sym, ap, ◌∙◌, arith}
 use Rattle.mm_thin.specs.declared.views.DeskView.{DeskView}
 use Rattle.mm_thin.specs.Views.{with_records}
 use Rattle.mm_thin.specs.Parts.{OfficeState}
-use Rattle.mm_thin.proofs.Places.{new_idle, new_length}
+use Rattle.mm_thin.proofs.Places.{new_idle, new_length, new_placed}
 use Rattle.mm_thin.proofs.office.Office.worker_of.Goals as goal
 
 pub returns : goal.returns
@@ -25,3 +25,12 @@ returns c =
       );
       more = (ap (λ (o : OfficeState). o.workers + 1) old, ap (λ (o : OfficeState). o.max_workers) old);
     }
+
+pub invariant_of-result : goal.invariant_of-result
+invariant_of-result c =
+    let before = c.add_record-2.new.self in
+    let first = ap (λ d. d.1.records) c.add_record.ensures.desk in
+    let second = ap (λ d. d.1.records) c.add_record-2.ensures.desk in
+    let tables = ap (λ d. d.0) c.add_record-2.ensures.desk ∙ ap (λ d. d.0) c.add_record.ensures.desk ∙ c.self.invariant.0 ∙ sym (ap (λ b. b.table) (c.requires.of ∙ sym (ap (λ (o : OfficeState). o.of) c.self.view_is))) in
+    let records = c.self.invariant.1 in
+    new_placed c.args.buckets c.self.inside.workers before c.fill.new.places.items c.fill.ensures.made tables (omega arith)
