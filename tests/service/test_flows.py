@@ -249,6 +249,8 @@ class Left(Case):
             process = service.keys[state.key]
             self.assertTrue(process not in service.table.wait or process in service.table.verdicts, f"it waits: {moment} {is_delivered}")
             if process in service.table.verdicts:
+                error = raises(Deadlock, place.runs, flows.lock(state, [b"last"], math.inf))
+                same((error.name, error.holder, len(error.cycle)), ("three", "1.1", 2))
                 raises(MustAbort, place.runs, flows.lock(state, [b"last"], math.inf))
             else:
                 held = place.runs(flows.asked(state, Ask(b"holds"), lambda words: words[1:]))

@@ -132,7 +132,7 @@ class Session(Party):
         self.connection, self.epoch = connection, connection.epoch
         self._last: Optional[Call] = None  # the last request
         self._waiter: "Optional[asyncio.Future[None]]" = None  # that it, or a wait, is over
-        self._is_woken = False
+        self._is_woken = self._is_aborted = False
 
     async def ask(self, ask: Ask) -> Answer:
         connection = self.connection
@@ -140,10 +140,12 @@ class Session(Party):
             await connection.can_write.wait()
         if not connection.is_good():
             raise await connection.lost()
+        self._check(ask.word)
         call = self._last = Call(ask, self)
         connection.send(call)
         while call.answer is None:
             await self._woken(math.inf if ask.deadline is None else ask.deadline)
+            self._check(ask.word)
             if call.answer is None and connection.why is not None:
                 raise await connection.lost()
             if call.answer is None and ask.deadline is not None and monotonic() >= ask.deadline:
@@ -152,6 +154,7 @@ class Session(Party):
 
     async def wait(self, deadline: float) -> Optional[Answer]:
         while True:
+            self._check(b"")
             if self.told:
                 return self.told.pop(0)
             if self._is_woken:
@@ -193,8 +196,12 @@ class Session(Party):
 
     def break_off(self) -> None:
         """The call of another task raises `Aborted`."""
-        if self._waiter is not None and not self._waiter.done():
-            self._waiter.set_exception(Aborted("another task aborted the transaction"))
+        self._is_aborted = True
+        self.is_told()
+
+    def _check(self, word: bytes) -> None:
+        if self._is_aborted and word != b"abort":
+            raise Aborted("another task aborted the transaction")
 
 
 async def drive(session: Session, flow: Flow[R]) -> R:
