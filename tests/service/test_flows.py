@@ -106,6 +106,13 @@ class Wire(Case):
             else:
                 self.fail(f"{reply!r} was taken")
 
+    def test_after_the_end(self) -> None:
+        """A request of a transaction that has just ended still has its key."""
+        talk, _, party = self.talk()
+        talk.send(Call(Ask(b"commit"), party))
+        talk.feed(b"committed\n")
+        same((talk.is_idle(), talk.send(Call(Ask(b"abort"), party))), (True, b"abort 9.9\n"))
+
     def test_lines_are_cut(self) -> None:
         """A request of many names is cut into lines that are as long as a line may be, and each name is asked for once."""
         for size in 1, 100, 1023, 1024:
