@@ -106,6 +106,13 @@ class Wire(Case):
             else:
                 self.fail(f"{reply!r} was taken")
 
+    def test_after_the_end(self) -> None:
+        """A request of a transaction that has just ended still has its key."""
+        talk, _, party = self.talk()
+        talk.send(Call(Ask(b"commit"), party))
+        talk.feed(b"committed\n")
+        same((talk.is_idle(), talk.send(Call(Ask(b"abort"), party))), (True, b"abort 9.9\n"))
+
     def test_lines_are_cut(self) -> None:
         """A request of many names is cut into lines that are as long as a line may be, and each name is asked for once."""
         for size in 1, 100, 1023, 1024:
@@ -249,6 +256,8 @@ class Left(Case):
             process = service.keys[state.key]
             self.assertTrue(process not in service.table.wait or process in service.table.verdicts, f"it waits: {moment} {is_delivered}")
             if process in service.table.verdicts:
+                error = raises(Deadlock, place.runs, flows.lock(state, [b"last"], math.inf))
+                same((error.name, error.holder, len(error.cycle)), ("three", "1.1", 2))
                 raises(MustAbort, place.runs, flows.lock(state, [b"last"], math.inf))
             else:
                 held = place.runs(flows.asked(state, Ask(b"holds"), lambda words: words[1:]))

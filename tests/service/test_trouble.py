@@ -20,7 +20,7 @@ from lib.faults import FaultCase, variables
 from lib.world import LIMIT, PROGRAM, SEED, Case, Server, each, environment, run, stop, until
 
 import pashkure
-from pashkure import (Aborted, CannotConnect, Closed, Deadlock, Fence, Locks, LocksLost, NoTransaction, ProtocolError, Retry, ServiceRestarted, Timeout,
+from pashkure import (Aborted, CannotConnect, Closed, Deadlock, Interrupted, Locks, LocksLost, NoTransaction, ProtocolError, ServiceRestarted, Timeout,
                       Waiting, aio)  # fmt: skip
 
 FORMS = [("threads", Locks.connect), ("tasks", Asyncio)]
@@ -181,6 +181,35 @@ class Interrupts(TroubleCase):
         raises(LocksLost, tx.lock, "b")
         raises(LocksLost, tx.commit)
         tx.abort()
+
+
+class Crowd(TroubleCase):
+    @each(FORMS)
+    def test_aborts_and_interrupts(self, name: str, form: Any) -> None:
+        """Transactions are aborted and interrupted by others at any moment: each is told so and nothing else, and none is left."""
+        locks, current, over = self.opened(form, self.server().path), {}, threading.Event()
+
+        def works(number: int) -> None:
+            chance = random.Random(number)
+            for _ in range(50):
+                try:
+                    with locks.transaction() as tx:
+                        current[number] = tx
+                        tx.lock(*chance.sample("abcd", 2), timeout=chance.choice([None, 0.001, 0.02]))
+                except (Aborted, Deadlock, Interrupted, Timeout):
+                    pass
+
+        def kills() -> None:
+            chance = random.Random(SEED)
+            while not over.is_set():
+                for tx in list(current.values()):
+                    chance.choice([tx.abort, tx.interrupt, tx.interrupt])()
+
+        killer, threads = Apart(kills), [Apart(works, number) for number in range(8)]
+        same([thread.ends() for thread in threads], [None] * 8)
+        over.set()
+        same(killer.ends(), None)
+        self.none_is_left(locks)
 
 
 class Restarts(TroubleCase):

@@ -66,14 +66,18 @@ def _owned(state: State, names: Sequence[bytes], words: Answer, deadline: float)
     place = int(words[1]) if len(words) == 3 else 0
     if place >= len(names):
         raise ProtocolError(f"the service told of name {place} of {len(names)}")
-    name, told = decoded(names[place]), words[-1].decode("ascii")
     if words[0] == b"waits":
-        yield from _waited(state, name, told, deadline)
+        yield from _waited(state, decoded(names[place]), words[-1].decode("ascii"), deadline)
         return place + 1
     if words[0] == b"deadlock":
-        answer = yield from _asked(Ask(b"cycle"))
-        raise Deadlock(name, told, cycle_of(answer[1:]) if answer[0] == b"cycle" else ())
+        raise (yield from _deadlock(names[place], words[-1]))
     raise _refused(state, words)
+
+
+def _deadlock(name: bytes, holder: bytes) -> Flow[Deadlock]:
+    """What to raise after a deadlock, once the cycle was read."""
+    words = yield from _asked(Ask(b"cycle"))
+    return Deadlock(decoded(name), holder.decode("ascii"), cycle_of(words[1:]) if words[0] == b"cycle" else ())
 
 
 def _waited(state: State, name: str, holder: str, deadline: float) -> Flow[None]:
@@ -118,6 +122,9 @@ def settle(state: State) -> Flow[None]:
     while state.is_unsettled:
         words = yield from _asked(Ask(b"cancel"))
         state.is_unsettled = words[0] == b"carried"
+        if words[-1] == b"must-abort":  # the request that was left closed a cycle
+            told = yield from _asked(Ask(b"status"))
+            raise (yield from _deadlock(*told[1:3])) if told[0] == b"deadlock" else refusal(words[-1])
         if state.is_unsettled:
             yield monotonic() + pause
             pause = min(LONGEST_PAUSE, pause * 2)

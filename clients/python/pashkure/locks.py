@@ -63,8 +63,9 @@ class Transaction(Calls):
         """
         if self._state.is_over:
             return
+        self._is_aborted = threading.get_ident() != self._thread
         is_free, start = self._busy.acquire(False), monotonic()
-        self._is_aborted = not is_free or threading.get_ident() != self._thread
+        self._is_aborted = self._is_aborted or not is_free
         try:
             if is_free and len(self._right) > 0 and drive(self._session, flows.abort(self._state)):
                 self._give_back()
@@ -80,11 +81,13 @@ class Transaction(Calls):
     def _call(self, kind: str, flow: Flow[R], names: Sequence[bytes] = ()) -> R:
         self._check()
         if not self._busy.acquire(False):
-            raise Waiting("another thread is inside a call of this transaction")
+            raise Aborted("another thread aborts it") if self._is_aborted else Waiting("another thread is inside a call of this transaction")
         start = monotonic()
         error: Optional[BaseException] = None
         try:
-            return drive(self._session, flow)
+            result = drive(self._session, flow)
+            self._is_aborted = self._is_aborted and not self._state.is_over  # a commit that was made counts
+            return result
         except BaseException as told:
             error = told
             if isinstance(told, Closed) or not isinstance(told, LockError):

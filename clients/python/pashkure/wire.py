@@ -42,6 +42,8 @@ REPLIES = {
         b"hello": rb"hello(?: #){5}", b"counts": rb"counts(?: #){9}", b"graph": rb"graph #", b"list": rb"list #", b"clients": rb"clients #",
     }.items()
 }  # fmt: skip
+PLAIN = (b"begin", b"owner", b"totals", b"hello")
+"""The requests without a key."""
 EVENT = _pattern(rb"\* (?:granted KEY NAME|aborted KEY|deadlockPAIRS)")
 LINES = {
     b"graph": _pattern(rb"\* KEY NAME KEY"),
@@ -55,7 +57,7 @@ class Party:
     """Whose requests they are: at most one live transaction."""
 
     key = b""
-    """Of the transaction, from its begin to its end."""
+    """Of the transaction, from its begin."""
 
     def __init__(self) -> None:
         self.told: List[Answer] = []  # how its wait ended, until that is read; or each deadlock, to an operator
@@ -94,7 +96,7 @@ class Conversation:
         if ask.word == b"lock":
             call.party.told.clear()
         self.pending.append(call)
-        words = (ask.word, key, *ask.names) if key and ask.word != b"owner" else (ask.word, *ask.names)
+        words = (ask.word, key, *ask.names) if key and ask.word not in PLAIN else (ask.word, *ask.names)
         return b" ".join(words) + b"\n"
 
     def feed(self, data: bytes) -> bytes:
@@ -157,7 +159,6 @@ class Conversation:
                 self._owed += self.send(Call(Ask(b"abort"), party))
         elif words[0] in (b"committed", b"aborted"):
             self._live.pop(party.key, None)
-            party.key = b""
         party.is_told()
 
     def _take_event(self, line: bytes) -> None:

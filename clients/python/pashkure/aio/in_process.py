@@ -18,10 +18,12 @@ class Session(in_process.Inside, Waiter):
         super().__init__(owner, self.is_told)
 
     async def ask(self, ask: Ask) -> Answer:
+        self._check(ask.word)
         return self.answer(ask)
 
     async def wait(self, deadline: float) -> Optional[Answer]:
         while True:
+            self._check(b"")
             told = self.told()
             if told is not None:
                 return told

@@ -146,10 +146,12 @@ class Session(Waiter, Party):
             await connection.can_write.wait()
         if not connection.is_good():
             raise await connection.lost()
+        self._check(ask.word)
         call = self._last = Call(ask, self)
         connection.send(call)
         while call.answer is None:
             await self._woken(math.inf if ask.deadline is None else ask.deadline)
+            self._check(ask.word)
             if call.answer is None and connection.why is not None:
                 raise await connection.lost()
             if call.answer is None and ask.deadline is not None and monotonic() >= ask.deadline:
@@ -158,6 +160,7 @@ class Session(Waiter, Party):
 
     async def wait(self, deadline: float) -> Optional[Answer]:
         while True:
+            self._check(b"")
             if self.told:
                 return self.told.pop(0)
             if self._is_woken:

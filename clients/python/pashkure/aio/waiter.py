@@ -15,6 +15,7 @@ class Waiter:
     def __init__(self, loop: asyncio.AbstractEventLoop) -> None:
         self.loop = loop
         self._waiter: "Optional[asyncio.Future[None]]" = None
+        self._is_aborted = False
 
     def is_told(self) -> None:
         """Wakes the task."""
@@ -23,8 +24,12 @@ class Waiter:
 
     def break_off(self) -> None:
         """The call of another task raises `Aborted`."""
-        if self._waiter is not None and not self._waiter.done():
-            self._waiter.set_exception(Aborted("another task aborted the transaction"))
+        self._is_aborted = True
+        self.is_told()
+
+    def _check(self, word: bytes) -> None:
+        if self._is_aborted and word != b"abort":
+            raise Aborted("another task aborted the transaction")
 
     async def _woken(self, deadline: float) -> None:
         """Returns when it is told something, and at the deadline."""
