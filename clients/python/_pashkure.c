@@ -269,23 +269,22 @@ static PyObject *manager_status(PyObject *self, PyObject *words)
     return Py_BuildValue("iNNN", (int)result, text_of(seen.key), name, text_of(seen.holder));
 }
 
-/* The names that the transaction owns. */
-static PyObject *manager_holds(PyObject *self, PyObject *words)
+/* The names that are owned, each with the key of its owner. */
+static PyObject *manager_owned(PyObject *self, PyObject *unused)
 {
     Manager *manager = (Manager *)self;
-    Seat *seat;
-    PyObject *names;
-    if (!PyArg_ParseTuple(words, "O!", &seat_type, &seat)) return NULL;
-    names = PyList_New(0);
-    for (uint32_t number = 0; names != NULL && number < manager->config.names; number++) {
+    PyObject *owned = PyList_New(0);
+    (void)unused;
+    for (uint32_t number = 0; owned != NULL && number < manager->config.names; number++) {
         pashkure_key owner;
-        PyObject *name = name_of(manager, number, &owner);
-        if (name == NULL && PyErr_Occurred()) Py_CLEAR(names);
+        PyObject *name = name_of(manager, number, &owner), *pair;
+        if (name == NULL && PyErr_Occurred()) Py_CLEAR(owned);
         if (name == NULL) continue;
-        if (owner.slot == seat->key.slot && owner.generation == seat->key.generation && PyList_Append(names, name) < 0) Py_CLEAR(names);
-        Py_DECREF(name);
+        pair = Py_BuildValue("NN", name, text_of(owner));
+        if (pair == NULL || PyList_Append(owned, pair) < 0) Py_CLEAR(owned);
+        Py_XDECREF(pair);
     }
-    return names;
+    return owned;
 }
 
 static PyObject *manager_owner(PyObject *self, PyObject *words)
@@ -303,8 +302,9 @@ static PyObject *manager_totals(PyObject *self, PyObject *unused)
     pashkure_counts counts;
     (void)unused;
     pashkure_totals(&((Manager *)self)->core, &counts);
-    return Py_BuildValue("KKKK", (unsigned long long)counts.begun, (unsigned long long)counts.committed, (unsigned long long)counts.aborted,
-                         (unsigned long long)counts.deadlocks);
+    return Py_BuildValue("KKKKKKK", (unsigned long long)counts.begun, (unsigned long long)counts.committed, (unsigned long long)counts.aborted,
+                         (unsigned long long)counts.deadlocks, (unsigned long long)counts.waits, (unsigned long long)counts.withdrawn,
+                         (unsigned long long)counts.events);
 }
 
 static PyMethodDef seat_methods[] = {{"told", seat_told, METH_NOARGS, NULL}, {NULL, NULL, 0, NULL}};
@@ -316,7 +316,7 @@ static PyMethodDef manager_methods[] = {
     {"try_lock", manager_try_lock, METH_VARARGS, NULL}, {"unlock", manager_unlock, METH_VARARGS, NULL},
     {"commit", manager_commit, METH_VARARGS, NULL},   {"abort", manager_abort, METH_VARARGS, NULL},
     {"cancel", manager_cancel, METH_VARARGS, NULL},   {"status", manager_status, METH_VARARGS, NULL},
-    {"holds", manager_holds, METH_VARARGS, NULL},     {"owner", manager_owner, METH_VARARGS, NULL},
+    {"owned", manager_owned, METH_NOARGS, NULL},      {"owner", manager_owner, METH_VARARGS, NULL},
     {"totals", manager_totals, METH_NOARGS, NULL},    {NULL, NULL, 0, NULL},
 };
 

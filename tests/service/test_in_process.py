@@ -18,25 +18,22 @@ from service import test_trouble
 from service.test_python import OPTIONS, Calls
 
 import build_backend
-from pashkure import Aborted, Closed, Deadlock, Locks, Misuse, Status, Timeout, Wait, aio
+from pashkure import Aborted, Closed, Counts, Deadlock, Locks, Misuse, Status, Timeout, Wait, aio
 
 HEADERS = sysconfig.get_path("include")
+LABELS, EVENTS = 8_796_093_022_207, 4_611_686_018_426_339_328  # of pashkure.h
 USE = "import pashkure; locks = pashkure.Locks.in_process(); print(locks.transaction('a').holds())"
 
 
 class Looks:
-    """Reads a manager, as the operator of a service does."""
+    """What the operator of a service asks, asked of the locks."""
 
-    def __init__(self, backend: Any) -> None:
-        self.backend, self.manager = backend, backend.manager
-
-    def graph(self) -> List[Wait]:
-        told = [self.manager.status(slot) for slot in range(1024)]
-        return [Wait(key.decode(), name.decode(), holder.decode()) for _, key, name, holder in (each for each in told if len(each) == 4)]
+    def __init__(self, locks: Any) -> None:
+        self.locks, self.backend = locks, getattr(locks, "_locks", locks)._backend
+        self.manager, self.graph = self.backend.manager, locks.graph
 
     def holds(self, key: str) -> List[str]:
-        seats = [session._seat for session in self.backend._sessions if session._seat.key == key.encode()]
-        return sorted(name.decode() for name in self.manager.holds(*seats))
+        return sorted(name for name, owner in self.locks.locks().items() if owner == key)
 
     def status(self, key: str) -> Status:
         return Status("active") if self.manager.status(int(key.split(".")[0]))[0] == 0 else Status("waiting")
@@ -64,7 +61,7 @@ class Inside(Calls):
     def setUp(self) -> None:
         super(Calls, self).setUp()  # type: ignore[misc]
         self.locks = self.opened(**OPTIONS.get(self._testMethodName, {}))  # type: ignore[attr-defined]
-        self.operator: Any = Looks(getattr(self.locks, "_locks", self.locks)._backend)
+        self.operator: Any = Looks(self.locks)
 
     test_operator = None  # type: ignore[assignment]
 
@@ -73,6 +70,24 @@ class Inside(Calls):
         with self.locks.transaction("a") as tx:
             raises(Misuse, tx.fence, "a")
             tx.lock("b")
+
+    def test_reads(self) -> None:
+        """All waits, all owners and all counts, of a manager in each state."""
+        same((self.locks.graph(), self.locks.locks(), self.locks.counts()), ([], {}, Counts(0, 0, 0, 0, 0, 0, 0, LABELS, EVENTS)))
+        one, two = self.locks.transaction("b", "a"), self.locks.transaction("\udcff")
+        thread = Apart(two.lock, "a")
+        waits(two)
+        same(self.locks.graph(), [Wait(two.key, "a", one.key)])
+        raises(Deadlock, one.lock, "\udcff")
+        same(set(self.locks.graph()), {Wait(two.key, "a", one.key), Wait(one.key, "\udcff", two.key)})
+        same(self.locks.locks(), {"a": one.key, "b": one.key, "\udcff": two.key})
+        one.abort()
+        same(thread.ends(), None)
+        same((self.locks.graph(), self.locks.locks()), ([], {"a": two.key, "\udcff": two.key}))
+        two.commit()
+        counts = self.locks.counts()
+        same((counts.begun, counts.committed, counts.aborted, counts.deadlocks, counts.waits, counts.withdrawn), (2, 1, 1, 1, 1, 0))
+        same((counts.events > 0, counts.labels_left, counts.counts_left), (True, LABELS - counts.events, EVENTS - counts.events))
 
     def test_ranges(self) -> None:
         """What is out of range is named."""

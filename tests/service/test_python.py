@@ -12,7 +12,7 @@ from typing import Any, List
 from lib.clients import Apart, Asyncio, raises, same, waits
 from lib.world import PROGRAM, Case, until
 
-from pashkure import (Aborted, Closed, Counts, Deadlock, Event, Full, Interrupted, LockError, Locks, MustAbort, NameTooLong, NotOwner, NoTransaction,
+from pashkure import (Aborted, Closed, Counts, Deadlock, Event, Full, Interrupted, LockError, Locks, Misuse, MustAbort, NameTooLong, NotOwner, NoTransaction,
                       Operator, Retry, Status, Timeout, Totals, Wait, Waiting, testing)  # fmt: skip
 
 OPTIONS = {"test_names": {"name_bytes": 20}, "test_full": {"transactions": 4, "names": 4}}
@@ -237,6 +237,8 @@ class Calls:
         counts = operator.counts()
         same((type(counts), counts.deadlocks, counts.waits), (Counts, 1, 2))
         deadlocks.close()
+        for call in locks.locks, locks.graph, locks.counts:
+            self.assertIn("pashkure.Operator", str(raises(Misuse, call)))  # type: ignore[attr-defined]
 
     def test_runs(self) -> None:
         """`run` tries again after a deadlock, at most so many times, and raises every other exception"""

@@ -7,10 +7,11 @@ from time import monotonic
 from typing import Any, Callable, Optional, Sequence, TypeVar
 
 from . import flows
-from .errors import Aborted, Closed, Deadlock, NoTransaction
+from .errors import Aborted, Closed, Deadlock, Misuse, NoTransaction
 from .flows import State
-from .values import Event, Fence, Name, Retry, Totals, all_encoded, decoded, encoded, seconds
-from .wire import Ask
+from .in_process import InProcess
+from .values import Counts, Event, Fence, Name, Retry, Totals, all_encoded, decoded, encoded, seconds
+from .wire import Answer, Ask
 
 L = TypeVar("L", bound="Opened")
 
@@ -150,6 +151,23 @@ class Opened:
     def totals(self) -> Any:
         """How many transactions began, were committed and were aborted, and how many requests were told of a deadlock."""
         return self._ask(lambda: flows.plain(Ask(b"totals"), lambda words: Totals(*map(int, words[1:]))))
+
+    def locks(self) -> Any:
+        """The names that are owned, each with the key of its owner. Of `in_process` alone, as `graph` and `counts`: else it raises `Misuse`."""
+        return self._inside(b"locks", lambda words: {decoded(name): key.decode("ascii") for name, key in zip(words[1::2], words[2::2])})
+
+    def graph(self) -> Any:
+        """All waits."""
+        return self._inside(b"graph", flows.waits_of)
+
+    def counts(self) -> Any:
+        """What was counted, and how many events are left until the locks have to be opened again."""
+        return self._inside(b"counts", lambda words: Counts(*map(int, words[1:])))
+
+    def _inside(self, word: bytes, read: Callable[[Answer], Any]) -> Any:
+        if not isinstance(self._backend, InProcess):
+            raise Misuse(f"{word.decode()} of a service is its operator's: pashkure.Operator")
+        return self._ask(lambda: flows.plain(Ask(word), read))
 
     def __repr__(self) -> str:
         return f"<Locks {self._backend}>"

@@ -7,7 +7,7 @@ from __future__ import annotations
 
 import math
 from time import monotonic
-from typing import Callable, Generator, Optional, Sequence, Tuple, TypeVar, Union
+from typing import Callable, Generator, List, Optional, Sequence, Tuple, TypeVar, Union
 
 from .errors import Aborted, Deadlock, Interrupted, LockError, ProtocolError, Timeout, refusal
 from .values import Status, Wait, decoded
@@ -192,6 +192,11 @@ def status_of(words: Sequence[bytes]) -> Status:
     if words[0] == b"active":
         return Status("active")
     return Status("waiting" if words[0] == b"waiting" else "deadlock", decoded(words[1]), words[2].decode("ascii"), len(words) == 4)
+
+
+def waits_of(words: Answer) -> List[Wait]:
+    """All waits."""
+    return [cycle_of(line.split(b" ")[1:])[0] for line in words[2:]]
 
 
 def cycle_of(words: Sequence[bytes]) -> Tuple[Wait, ...]:

@@ -19,6 +19,8 @@ OK, HELD, WAITS, DEADLOCK, BUSY, LATER, CARRIED, _, ABORTED = range(9)
 REFUSALS = dict(enumerate((b"no-transaction", b"must-abort", b"waiting", b"not-waiting", b"name-empty", b"name-too-long", b"not-owner",
                            b"transactions-full", b"names-full", b"labels-full", b"counts-full"), 16))  # fmt: skip
 TOLD: Dict[int, Answer] = {OK: (b"granted",), ABORTED: (b"aborted",)}
+LIMITS = (8_796_093_022_207, 4_611_686_018_426_339_328)
+"""The numbers of events at which `PASHKURE_LABELS_FULL` and `PASHKURE_COUNTS_FULL` begin."""
 LONGEST_CYCLE = 16
 """Waits of a cycle that a deadlock is told with."""
 
@@ -29,7 +31,7 @@ class Inside:
     epoch, is_slow = 0, False
 
     def __init__(self, owner: "InProcess", news: Callable[[], None]) -> None:
-        self._manager, self._news = owner.manager, news
+        self._manager, self._slots, self._news = owner.manager, owner.transactions, news
         self._seat = owner.extension.Seat(news)
         self._why: Optional[Why] = None
         self._is_woken = False
@@ -129,7 +131,10 @@ class Inside:
         return (b"waiting" if result == WAITS else b"deadlock", *wait) if wait else (b"active",)
 
     def _holds(self, names: Sequence[bytes]) -> Answer:
-        return (b"holds", *sorted(self._manager.holds(self._seat)))
+        return (b"holds", *sorted(name for name, key in self._manager.owned() if key == self._seat.key))
+
+    def _locks(self, names: Sequence[bytes]) -> Answer:
+        return (b"locks", *(word for pair in sorted(self._manager.owned()) for word in pair))
 
     def _cycle(self, names: Sequence[bytes]) -> Answer:
         """The waits from the victim on, until it is the holder. They stay until it is aborted."""
@@ -149,8 +154,17 @@ class Inside:
         key = self._manager.owner(*names)
         return (b"free",) if key is None else (b"owner", key)
 
+    def _graph(self, names: Sequence[bytes]) -> Answer:
+        told = [self._manager.status(slot)[1:] for slot in range(self._slots)]
+        lines = [b"* %s %s %s" % (key, *wait) for key, *wait in told if wait]
+        return (b"graph", b"%d" % len(lines), *lines)
+
     def _totals(self, names: Sequence[bytes]) -> Answer:
-        return (b"totals", *(b"%d" % number for number in self._manager.totals()))
+        return (b"totals", *(b"%d" % number for number in self._manager.totals()[:4]))
+
+    def _counts(self, names: Sequence[bytes]) -> Answer:
+        *counted, events = self._manager.totals()
+        return (b"counts", *(b"%d" % number for number in (*counted, events, *(max(0, limit - events) for limit in LIMITS))))
 
     def _fence(self, names: Sequence[bytes]) -> Answer:
         raise Misuse("in process there are no fences: whoever loses its locks there is this process, and has ended with them")
@@ -159,7 +173,8 @@ class Inside:
 _ANSWERS: Dict[bytes, Callable[[Inside, Sequence[bytes]], Answer]] = {
     b"begin": Inside._begin, b"lock": Inside._lock, b"try": Inside._try, b"unlock": Inside._unlock, b"commit": Inside._commit,
     b"abort": Inside._abort, b"cancel": Inside._cancel, b"status": Inside._status, b"holds": Inside._holds, b"cycle": Inside._cycle,
-    b"owner": Inside._owner, b"totals": Inside._totals, b"fence": Inside._fence,
+    b"owner": Inside._owner, b"totals": Inside._totals, b"fence": Inside._fence, b"locks": Inside._locks, b"graph": Inside._graph,
+    b"counts": Inside._counts,
 }  # fmt: skip
 
 
@@ -188,7 +203,7 @@ class InProcess:
     """The manager, and its sessions."""
 
     def __init__(self, transactions: int, names: int, name_bytes: int) -> None:
-        self.extension = extension()
+        self.extension, self.transactions = extension(), transactions
         self.manager = self.extension.Manager(transactions, names, name_bytes, int.from_bytes(os.urandom(8), "little"))
         self._why: Optional[Why] = None
         self._sessions: "weakref.WeakSet[Inside]" = weakref.WeakSet()

@@ -7,7 +7,7 @@ import threading
 import time
 import warnings
 from time import monotonic
-from typing import TYPE_CHECKING, Callable, List, Optional, Sequence, TypeVar
+from typing import TYPE_CHECKING, Callable, Dict, List, Optional, Sequence, TypeVar
 
 from . import flows
 from .backend import Backend, Session, drive
@@ -16,7 +16,7 @@ from .errors import Aborted, CannotConnect, Closed, Deadlock, LockError, LocksLo
 from .flows import Flow, State
 from .in_process import InProcess
 from .service import Service
-from .values import Fence, Name, Retry, Status, Totals, all_encoded, seconds
+from .values import Counts, Fence, Name, Retry, Status, Totals, Wait, all_encoded, seconds
 from .ways import Path
 
 if TYPE_CHECKING:
@@ -232,6 +232,9 @@ class Locks(Opened):
     if TYPE_CHECKING:  # what `Opened` does
         def owner(self, name: Name) -> Optional[str]: ...
         def totals(self) -> Totals: ...
+        def locks(self) -> Dict[str, str]: ...
+        def graph(self) -> List[Wait]: ...
+        def counts(self) -> Counts: ...
     # fmt: on
 
     def close(self) -> None:

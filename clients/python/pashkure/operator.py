@@ -6,7 +6,7 @@ from typing import Iterator, List, Tuple
 
 from .errors import refusal
 from .calls import Watch
-from .flows import cycle_of, status_of
+from .flows import cycle_of, status_of, waits_of
 from .service import Service
 from .values import Client, Counts, Live, Status, Wait, decoded, key_bytes
 from .ways import Path
@@ -39,7 +39,7 @@ class Operator:
 
     def graph(self) -> List[Wait]:
         """All waits."""
-        return [cycle_of(line.split(b" ")[1:])[0] for line in self._ask(b"graph")[2:]]
+        return waits_of(self._ask(b"graph"))
 
     def counts(self) -> Counts:
         """What the service has counted."""

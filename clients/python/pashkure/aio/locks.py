@@ -6,14 +6,14 @@ import inspect
 import math
 import warnings
 from time import monotonic
-from typing import TYPE_CHECKING, Any, Awaitable, Callable, Generator, List, Optional, Sequence, Tuple, TypeVar
+from typing import TYPE_CHECKING, Any, Awaitable, Callable, Dict, Generator, List, Optional, Sequence, Tuple, TypeVar
 
 from .. import flows
 from ..calls import Calls, OnEvent, Opened, Watch
 from ..errors import CannotConnect, Closed, LockError, LocksLost, NoTransaction, Waiting
 from ..flows import Flow
 from ..locks import is_deadlock
-from ..values import Fence, Name, Retry, Status, Totals, all_encoded, seconds
+from ..values import Counts, Fence, Name, Retry, Status, Totals, Wait, all_encoded, seconds
 from ..ways import Path
 from .in_process import InProcess
 from .service import Service, drive
@@ -214,6 +214,9 @@ class Locks(Opened):
     if TYPE_CHECKING:  # what `Opened` does
         async def owner(self, name: Name) -> Optional[str]: ...
         async def totals(self) -> Totals: ...
+        async def locks(self) -> Dict[str, str]: ...
+        async def graph(self) -> List[Wait]: ...
+        async def counts(self) -> Counts: ...
     # fmt: on
 
     async def close(self) -> None:
