@@ -303,6 +303,39 @@ TEST(deadlock)
     shut();
 }
 
+/* A time that is over behind a victim: the wait is taken back at the abort, or the name is granted by it, and then nothing is left of that time. */
+TEST(behind_a_victim)
+{
+    struct sleeper given, timed;
+    int before = carried;
+    opened(4, 8);
+    has_time = true;
+    starts(&timed, c, "x", SHORT);
+    starts(&given, a, "y", PASHKURE_FOREVER);
+    GIVES(lock(b, "x", PASHKURE_FOREVER), PASHKURE_DEADLOCK);
+    has_time = false;
+    while (carried == before) sched_yield();
+    GIVES(pashkure_locks_abort(locks, b), PASHKURE_OK);
+    GIVES(result_of(&timed), PASHKURE_TIMED_OUT);
+    GIVES(result_of(&given), PASHKURE_OK);
+    GIVES(lock(d, "w", 0), PASHKURE_OK);
+    has_time = true;
+    starts(&timed, c, "w", SHORT);
+    starts(&given, a, "w", PASHKURE_FOREVER);
+    GIVES(lock(d, "x", PASHKURE_FOREVER), PASHKURE_DEADLOCK);
+    before = carried;
+    has_time = false;
+    while (carried == before) sched_yield();
+    GIVES(pashkure_locks_abort(locks, d), PASHKURE_OK);
+    GIVES(result_of(&timed), PASHKURE_OK);
+    GIVES(lock(c, "z", 0), PASHKURE_OK);
+    ends(c);
+    GIVES(result_of(&given), PASHKURE_OK);
+    c = begun();
+    GIVES(lock(c, "x", SHORT), PASHKURE_TIMED_OUT);
+    shut();
+}
+
 TEST(interrupt)
 {
     struct sleeper sleeper;
@@ -493,8 +526,8 @@ TEST(crowd)
 
 static const struct { const char *name; void (*run)(void); } TESTS[] = {
 #define ROW(name) {#name, name}
-    ROW(memory), ROW(refusals), ROW(order_of_sleepers), ROW(time_out), ROW(deadlock), ROW(interrupt), ROW(several_names),
-    ROW(wake_calls), ROW(one_request_at_a_time), ROW(hold), ROW(crowd),
+    ROW(memory), ROW(refusals), ROW(order_of_sleepers), ROW(time_out), ROW(deadlock), ROW(behind_a_victim), ROW(interrupt),
+    ROW(several_names), ROW(wake_calls), ROW(one_request_at_a_time), ROW(hold), ROW(crowd),
 };
 
 int main(int count, char **words)
