@@ -9,9 +9,9 @@ use Rattle.mm_arena.specs.declared.key.Key.{Key}
 use Rattle.mm_names.specs.Names.{NameTable, name_of, Interns}
 use Rattle.mm_rules.specs.TableState.{owner_of}
 use Rattle.mm_manager.specs.LockState.{LockState, Owns, IsUnowned, KeepOwned, IsLawful, untold}
-use Rattle.mm_manager.specs.Calls.{Gets, TriesName, Tries, LocksName, Requests, Unlocks, UnlocksName, LosesName, Passes, AbortsDue, TakesBack, Cancels, Begins}
+use Rattle.mm_manager.specs.Calls.{Gets, TriesName, Tries, LocksName, Requests, Unlocks, UnlocksName, EndsBy, IsEnded, HandsOver, LosesName, Passes, AbortsDue, TakesBack, Cancels, Begins}
 use Rattle.mm_rules.specs.TableState.{TableState}
-use Rattle.mm_rules.specs.Event.{allowed, decided, begin_tests}
+use Rattle.mm_rules.specs.Event.{Event, Answer, Finish, Abort as AbortEvent, allowed, decided, begin_tests}
 use Rattle.mm_rules.specs.declared.refusal.Refusal as rules
 use Rattle.mm_manager.specs.declared.config.ManagerConfig.{ManagerConfig}
 use Rattle.mm_manager.specs.Opening.{opening_state}
@@ -158,7 +158,7 @@ lock_granted old k name (Err refusal) new locks step is = absurd (cc)
 
 -- ---- names that are handed over, or free
 
-names_ext : (xs ys : List (Option (List ℕ))) → length xs ≡ length ys → ((k : ℕ) → slice_index_or xs k None ≡ slice_index_or ys k None) → xs ≡ ys
+pub names_ext : (xs ys : List (Option (List ℕ))) → length xs ≡ length ys → ((k : ℕ) → slice_index_or xs k None ≡ slice_index_or ys k None) → xs ≡ ys
 names_ext xs ys size same = same_lists xs ys size (λ k d low. same_Some (slice_index_or xs k d) (slice_index_or ys k d)
     (sym (slice_get-get_or xs k d low) ∙ slice_get-get_or xs k None low ∙ ap Some (same k) ∙ sym (slice_get-get_or ys k None (omega arith)) ∙ slice_get-get_or ys k d (omega arith)))
 
@@ -343,3 +343,47 @@ opened_books c spread m counts opened zeros size = (
   },
   λ n name is. (let none : name_of m.names n ≡ None = ap (λ (x : LockState). name_of x.names n) opened ∙ read_replicate None c.names n in absurd (cc)),
 )
+
+-- ---- a transaction ends
+
+-- what an end leaves
+pub record IsOver (old : LockState) (k : Key) (new : LockState) : Type 0 where
+  pub size : length new.names.names ≡ length old.names.names
+  pub fade : NamesFade old new
+  pub stay : (h : Key) (x : List ℕ) → Owns old h x → h ≢ k → Owns new h x
+  pub due : NoneDue new
+
+due_after : (old new : LockState) → NoneDue old → AbortsDue old new → NoneDue new
+due_after old new none due p = elim (cases_Bool (has new.due p)) [
+  | inl marked ↦ (let was = ((due.stay p).0 marked).0 in let never : true ≡ false = sym was ∙ none p in absurd (cc))
+  | inr clear ↦ clear
+]
+
+over_by : (e : Event) (old mid : LockState) (answer : Answer e) (k : Key) (new : LockState) → mid.names ≡ old.names → OwnersStay old mid → NoneDue mid → EndsBy e mid answer k new → IsOver old k new
+over_by e old mid answer k new names owners none ends = record {
+  size = ends.over.names.numbers ∙ ap (λ (t : NameTable). length t.names) names;
+  fade = λ n x is. ap (λ (t : NameTable). name_of t n) (sym names) ∙ fades mid new ends.over.names n x is;
+  stay = λ h x owns apart. ends.passes.keeps h x (owners h x owns) (λ loses. elim loses [ inl same ↦ apart same | inr among ↦ none_aborted mid new none ends.due h among ]);
+  due = due_after mid new none ends.due;
+}
+
+cleared : (due : List Bool) (q : ℕ) → ((p : ℕ) → has due p ≡ false) → (p : ℕ) → has (set due q false) p ≡ false
+cleared due q none p = elim (cases_eq p q) [
+  | inl same ↦ elim (cases_lt q (length due)) [
+    | inl low ↦ ap (has (set due q false)) same ∙ get_or-set_same due q false false low
+    | inr high ↦ read_past (set due q false) p (let size = length-set due q false in omega arith)
+  ]
+  | inr apart ↦ get_or-set_other due q p false false apart ∙ none p
+] where
+  cases_lt : (a b : ℕ) → (a < b) ⊎ (b ≤ a)
+  cases_lt a b = grind arith
+  read_past : (xs : List Bool) (p : ℕ) → length xs ≤ p → slice_index_or xs p false ≡ false
+  read_past [] p high = refl
+  read_past (x ∷ xs) zero high = absurd (omega arith)
+  read_past (x ∷ xs) (suc p) high = read_past xs p (omega arith)
+
+pub ended_over : (old new : LockState) (k : Key) → NoneDue old → IsEnded old k new → IsOver old k new
+ended_over old new k none (inl ends) = over_by (Finish k) old old tt k new refl (λ h x owns. owns) none ends
+ended_over old new k none (inr (inl ends)) = over_by (AbortEvent k) old old tt k new refl (λ h x owns. owns) none ends
+ended_over old new k none (inr (inr back)) = over_by (Finish k) old back.0 tt k new (ap (λ (m : LockState). m.names) back.1.state) (λ h x owns. (back.1.owners h x).1 owns)
+    (λ p. ap (λ (m : LockState). has m.due p) back.1.state ∙ cleared old.due k.process none p) back.2

@@ -10,6 +10,7 @@ mod error;
 mod opening;
 mod reads;
 mod reply;
+mod tally;
 mod unlock;
 
 pub use desk::Desk;
