@@ -16,7 +16,7 @@ use Rattle.mm_thin.specs.declared.reply.Look.{Look}
 use Rattle.mm_thin.specs.declared.reply.Look.TheVariants.{NotFat, Fat, IsLent}
 use Rattle.mm_desk.specs.Books.{BooksState, names_in}
 use Rattle.mm_desk.specs.Desk.{DeskState, AreFat, IsAdopted, IsDesk}
-use Rattle.mm_desk.specs.Calls.{GrowsBy, NamesFade, OwnersStay, OthersStay, IsTakenOver, KeepsFat, OwnAreFat, FattensOwn, HasNoNames}
+use Rattle.mm_desk.specs.Calls.{GrowsBy, NamesFade, OwnersStay, OthersStay, IsTakenOver, KeepsFat, OwnAreFat, FattensOwn, HasNoNames, IsOver}
 use Rattle.std.specs.Prelude.{Result, Ok, Err, IfOk, OnErr}
 use Rattle.mm_thin.specs.declared.config.WorkerError.{WorkerError}
 use Rattle.mm_thin.specs.Calls.{AddsWorker}
@@ -187,6 +187,17 @@ pub desk_more : (books : BooksState) (o o' : OfficeState) (keys : List Key) (len
 desk_more books o o' keys lent_to is (Ok w) added refused = remade books o keys lent_to is books refl o' added.office.0 lent_to refl
     (λ n x named. subst (λ xs. Among (bucket_by books.spread x) xs) (sym added.office.1) (is.fat n x named)) (λ l among. is.adopted l (subst (λ xs. Among l xs) added.office.2 among))
 desk_more books o o' keys lent_to is (Err error) added refused = subst (λ (x : OfficeState). IsDesk books x keys lent_to) (sym refused) is
+
+module _ (books : BooksState) (o : OfficeState) (keys : List Key) (lent_to : List ℕ) (is : IsDesk books o keys lent_to) where
+  -- a transaction ends to whose worker nothing is lent
+  pub desk_ended : (books' : BooksState) → books'.spread ≡ books.spread → (k : Key) → IsOver books.manager k books'.manager → ((l : Lent) → Among l o.desk.lent → slice_get keys (l.number / 10) ≡ Some k → ⊥) → IsDesk books' o keys lent_to
+  desk_ended books' spread k over loans = remade books o keys lent_to is books' spread o refl lent_to refl (λ n x named. fat_before books o keys lent_to is books' spread o refl n x (over.fade n x named)) (λ l among.
+      let a = is.adopted l among in
+      record {
+        bucket = a.bucket ∙ ap (λ (s : Spread). bucket_by s l.name) (sym spread);
+        listed = a.listed;
+        owned = (a.owned.0, a.owned.1, over.stay a.owned.0 l.name a.owned.2 (λ same. loans l among (a.owned.1 ∙ ap Some same)));
+      })
 
 -- ---- what stays fat
 

@@ -9,8 +9,15 @@ use Rattle.mm_arena.specs.declared.key.Key.{Key}
 use Rattle.mm_names.specs.Names.{NameTable, name_of, Interns}
 use Rattle.mm_rules.specs.TableState.{owner_of}
 use Rattle.mm_manager.specs.LockState.{LockState, Owns, IsUnowned, KeepOwned, IsLawful, untold}
-use Rattle.mm_manager.specs.Calls.{Gets, TriesName, Tries, LocksName, Requests, Unlocks, UnlocksName, EndsBy, IsEnded, HandsOver, LosesName, Passes, AbortsDue, TakesBack, Cancels, Begins}
-use Rattle.mm_rules.specs.TableState.{TableState}
+use Rattle.mm_manager.specs.Calls.{Gets, TriesName, Tries, LocksName, Requests, Unlocks, UnlocksName, EndsBy, IsEnded, HandsOver, LosesName, Passes, AbortsDue, TakesBack, Cancels, Begins, Aborts}
+use Rattle.mm_manager.specs.Permit.{may_cancel, may_cancel_in}
+use Rattle.mm_manager.specs.Reads.{HasStatus}
+use Rattle.mm_manager.specs.declared.refusal.Refusal.TheVariants.{NoTransaction}
+use Rattle.mm_manager.specs.declared.reply.Status.{Status}
+use Rattle.mm_manager.specs.declared.reply.Status.TheVariants as status
+use Rattle.mm_manager.specs.declared.reply.Abort as aborted
+use Rattle.mm_manager.specs.declared.reply.Abort.TheVariants as aborts
+use Rattle.mm_rules.specs.TableState.{TableState, is_live, wait_of, has_verdict}
 use Rattle.mm_rules.specs.Event.{Event, Answer, Finish, Abort as AbortEvent, allowed, decided, begin_tests}
 use Rattle.mm_rules.specs.declared.refusal.Refusal as rules
 use Rattle.mm_manager.specs.declared.config.ManagerConfig.{ManagerConfig}
@@ -29,7 +36,7 @@ use Rattle.mm_manager.specs.declared.reply.TryLock.TheVariants as tried
 use Rattle.mm_thin.specs.declared.spread.Spread.{Spread}
 use Rattle.mm_thin.specs.Spread.{bucket_by}
 use Rattle.mm_desk.specs.Books.{in_bucket, names_in, AreCounted, NoneDue, AreBooks}
-use Rattle.mm_desk.specs.Calls.{GrowsBy, NamesFade, OwnersStay, OthersStay, HasNoNames}
+use Rattle.mm_desk.specs.Calls.{GrowsBy, NamesFade, OwnersStay, OthersStay, HasNoNames, IsOver, is_wait}
 use Rattle.mm_desk.proofs.Counts.{count_more, count_less, counted_name, few}
 
 module _ (m : LockState) (lawful : IsLawful m) where
@@ -346,13 +353,6 @@ opened_books c spread m counts opened zeros size = (
 
 -- ---- a transaction ends
 
--- what an end leaves
-pub record IsOver (old : LockState) (k : Key) (new : LockState) : Type 0 where
-  pub size : length new.names.names ≡ length old.names.names
-  pub fade : NamesFade old new
-  pub stay : (h : Key) (x : List ℕ) → Owns old h x → h ≢ k → Owns new h x
-  pub due : NoneDue new
-
 due_after : (old new : LockState) → NoneDue old → AbortsDue old new → NoneDue new
 due_after old new none due p = elim (cases_Bool (has new.due p)) [
   | inl marked ↦ (let was = ((due.stay p).0 marked).0 in let never : true ≡ false = sym was ∙ none p in absurd (cc))
@@ -387,3 +387,54 @@ ended_over old new k none (inl ends) = over_by (Finish k) old old tt k new refl 
 ended_over old new k none (inr (inl ends)) = over_by (AbortEvent k) old old tt k new refl (λ h x owns. owns) none ends
 ended_over old new k none (inr (inr back)) = over_by (Finish k) old back.0 tt k new (ap (λ (m : LockState). m.names) back.1.state) (λ h x owns. (back.1.owners h x).1 owns)
     (λ p. ap (λ (m : LockState). has m.due p) back.1.state ∙ cleared old.due k.process none p) back.2
+
+pub aborts_over : (old new : LockState) (k : Key) → NoneDue old → (may_cancel old.table k ≡ Ok tt → ⊥) → (answer : Result aborted.Abort Refusal) → Aborts old k answer new → IsOver old k new
+aborts_over old new k none active (Ok aborts.Done) done = ended_over old new k none done
+aborts_over old new k none active (Ok aborts.Later) done = absurd (active done.0)
+aborts_over old new k none active (Err refusal) done = record {
+  size = ap (λ (m : LockState). length m.names.names) done.0;
+  fade = λ n x is. ap (λ (m : LockState). name_of m.names n) (sym done.0) ∙ is;
+  stay = λ h x owns apart. stays_told old new done.0 h x owns;
+  due = λ p. ap (λ (m : LockState). has m.due p) done.0 ∙ none p;
+}
+
+module _ (old : LockState) (lawful : IsLawful old) (k : Key) (numbers : List ℕ) (owned : (n : ℕ) → Among n numbers ↔ (owner_of old.table n ≡ Some k)) where
+  pub held_inside : (n : ℕ) → Among n numbers → n < length old.names.names
+  held_inside n among = go (name_of old.names n) refl where
+    go : (o : Option (List ℕ)) → name_of old.names n ≡ o → n < length old.names.names
+    go None is = (let none : owner_of old.table n ≡ None = (lawful.numbered n).0 is in let some = (owned n).0 among in absurd (cc))
+    go (Some x) is = inside old lawful n x is
+
+  module _ (new : LockState) (over : IsOver old k new) where
+    pub others_same : (n : ℕ) → (Among n numbers → ⊥) → name_of new.names n ≡ name_of old.names n
+    others_same n away = go (name_of old.names n) refl where
+      new_none : (o : Option (List ℕ)) → name_of new.names n ≡ o → name_of old.names n ≡ None → o ≡ None
+      new_none None is none = refl
+      new_none (Some y) is none = (let some = over.fade n y is in absurd (cc))
+      go : (o : Option (List ℕ)) → name_of old.names n ≡ o → name_of new.names n ≡ name_of old.names n
+      go None is = new_none (name_of new.names n) refl is ∙ sym is
+      go (Some x) is =
+          let h = has_owner old lawful n x is in
+          let at : h.1.0 ≡ n = lawful.names.distinct h.1.0 n x h.1.1 is in
+          let other : h.0 ≢ k = λ same. away ((owned n).1 (ap (owner_of old.table) (sym at) ∙ h.1.2 ∙ ap Some same)) in
+          let now = over.stay h.0 x h.1 other in
+          let there : now.0 ≡ n = lawful.names.distinct now.0 n x (over.fade now.0 x now.1) is in
+          ap (name_of new.names) (sym there) ∙ now.1 ∙ sym is
+
+-- ---- who waits in no deadlock
+
+may_not : (w : Option ℕ) (v : Bool) → (w ≡ None) ⊎ (v ≡ true) → may_cancel_in w v ≡ Ok tt → ⊥
+may_not None v idle is = absurd (cc)
+may_not (Some n) true idle is = absurd (cc)
+may_not (Some n) false (inl none) is = absurd (cc)
+may_not (Some n) false (inr verdict) is = absurd (cc)
+
+may_not_live : (live : Bool) (r : Result (Unit {0}) Refusal) → (r ≡ Ok tt → ⊥) → (if live then r else Err NoTransaction) ≡ Ok tt → ⊥
+may_not_live true r not_ok is = not_ok is
+may_not_live false r not_ok is = absurd (cc)
+
+pub no_wait : (m : LockState) (k : Key) (told : Result Status Refusal) → HasStatus m k told → is_wait told ≡ false → may_cancel m.table k ≡ Ok tt → ⊥
+no_wait m k (Ok status.Active) has_status none may = may_not_live (is_live m.table k) (may_cancel_in (wait_of m.table k.process) (has_verdict m.table k.process)) (may_not (wait_of m.table k.process) (has_verdict m.table k.process) (inl has_status.1)) may
+no_wait m k (Ok (status.Waiting n h aborting)) has_status none may = absurd (cc)
+no_wait m k (Ok (status.Deadlock n h)) has_status none may = may_not_live (is_live m.table k) (may_cancel_in (wait_of m.table k.process) (has_verdict m.table k.process)) (may_not (wait_of m.table k.process) (has_verdict m.table k.process) (inr has_status.1.1)) may
+no_wait m k (Err refusal) has_status none may = (let dead : (if is_live m.table k then may_cancel_in (wait_of m.table k.process) (has_verdict m.table k.process) else Err NoTransaction) ≡ Err NoTransaction = rw has_status.0 refl in absurd (cc))

@@ -1,11 +1,13 @@
 -- What calls of the books and the desk do.
-use Rattle.std.specs.Prelude.{◌≡◌, ◌≢◌, ◌⊎◌, ◌/◌, ℕ, List, [], Some, None, Result, Ok, Err, slice_get}
+use Rattle.std.specs.Prelude.{◌≡◌, ◌≢◌, ◌⊎◌, ◌/◌, ℕ, Bool, true, false, List, [], length, Some, None, Result, Ok, Err, slice_get}
 use Rattle.mm_arena.specs.declared.key.Key.{Key}
 use Rattle.mm_names.specs.Names.{name_of}
 use Rattle.mm_lists.specs.Members.{Among}
 use Rattle.mm_manager.specs.LockState.{LockState, Owns}
 use Rattle.mm_manager.specs.Calls.{LocksName, UnlocksName, Cancels}
 use Rattle.mm_manager.specs.declared.reply.Cancel as cancel
+use Rattle.mm_manager.specs.declared.reply.Status.{Status}
+use Rattle.mm_manager.specs.declared.reply.Status.TheVariants as status
 use Rattle.mm_manager.specs.declared.reply.Lock.{Lock}
 use Rattle.mm_manager.specs.declared.reply.Lock.TheVariants as lock
 use Rattle.mm_thin.specs.declared.views.RecordView.{RecordView}
@@ -16,7 +18,7 @@ use Rattle.mm_manager.specs.declared.refusal.Refusal.{Refusal}
 use Rattle.mm_manager.specs.declared.refusal.Refusal.TheVariants.{NoTransaction}
 use Rattle.mm_thin.specs.declared.views.Lent.{Lent}
 use Rattle.mm_thin.specs.Spread.{bucket_by}
-use Rattle.mm_desk.specs.Books.{BooksState}
+use Rattle.mm_desk.specs.Books.{BooksState, NoneDue}
 use Rattle.mm_desk.specs.Desk.{DeskState}
 use Rattle.mm_desk.specs.declared.reply.Adopted.{Adopted}
 use Rattle.mm_desk.specs.declared.reply.Adopted.TheVariants.{Fat, Changed, Refused}
@@ -131,3 +133,23 @@ CancelsAt old at answer new =
 -- no name has a number, so nobody owns one
 abbrev pub HasNoNames : LockState → Type 0
 HasNoNames m = (n : ℕ) (name : List ℕ) → name_of m.names n ≡ Some name → ⊥
+
+-- ---- a transaction ends
+
+-- all names of others stay with them, no name gets a number, and no abort is due
+pub record IsOver (old : LockState) (k : Key) (new : LockState) : Type 0 where
+  pub size : length new.names.names ≡ length old.names.names
+  pub fade : NamesFade old new
+  pub stay : (h : Key) (x : List ℕ) → Owns old h x → h ≢ k → Owns new h x
+  pub due : NoneDue new
+
+-- no bucket is lent to a worker whose transaction has this key
+abbrev pub NoLoansOf : DeskState → Key → Type 0
+NoLoansOf d k = (l : Lent) → Among l d.office.desk.lent → slice_get d.keys (l.number / 10) ≡ Some k → ⊥
+
+-- the status of a transaction that waits, in no deadlock
+abbrev pub is_wait : Result Status Refusal → Bool
+is_wait (Ok status.Active) = false
+is_wait (Ok (status.Waiting n h aborting)) = true
+is_wait (Ok (status.Deadlock n h)) = false
+is_wait (Err refusal) = false

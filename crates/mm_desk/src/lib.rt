@@ -1,6 +1,7 @@
 //! The lock manager behind its lock, beside the words of mm_thin.
 #![tactic(auto)]
 
+mod abort;
 mod adopt;
 mod ask;
 mod books;
