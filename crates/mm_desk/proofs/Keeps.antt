@@ -1,10 +1,11 @@
 -- What holds of a desk holds after a bucket, a name or a loan changes.
-use Rattle.std.proofs.Common.{◌≡◌, ◌≢◌, ℕ, ◌<◌, ◌/◌, Bool, true, false, not, nat_eq, List, ◌∷◌, length, set, filter, Some, refl, sym, ap, ◌∙◌, subst, inl, inr, arith, eq-eqb, length-set, get_or-set_same, get_or-set_other}
+use Rattle.std.proofs.Common.{◌↔◌, ◌≡◌, ◌≢◌, ℕ, ◌<◌, ◌/◌, Bool, true, false, not, nat_eq, List, ◌∷◌, length, set, filter, Some, refl, sym, ap, ◌∙◌, subst, inl, inr, arith, eq-eqb, length-set, get_or-set_same, get_or-set_other}
 use Rattle.std.specs.Prelude.{slice_get, slice_index}
 use Rattle.mm_arena.specs.declared.key.Key.{Key}
 use Rattle.mm_lists.specs.Members.{Among}
 use Rattle.mm_lists.proofs.Lemmas.Filter.{filter_gives, Among-without_other}
 use Rattle.mm_names.specs.Names.{name_of}
+use Rattle.mm_manager.specs.LockState.{LockState}
 use Rattle.mm_thin.specs.declared.views.Lent.{Lent}
 use Rattle.mm_thin.specs.declared.views.DeskView.{DeskView}
 use Rattle.mm_thin.specs.declared.spread.Spread.{Spread}
@@ -16,7 +17,9 @@ use Rattle.mm_thin.specs.declared.reply.Look.{Look}
 use Rattle.mm_thin.specs.declared.reply.Look.TheVariants.{NotFat, Fat, IsLent}
 use Rattle.mm_desk.specs.Books.{BooksState, names_in}
 use Rattle.mm_desk.specs.Desk.{DeskState, AreFat, IsAdopted, IsDesk}
-use Rattle.mm_desk.specs.Calls.{GrowsBy, NamesFade, OwnersStay, OthersStay, IsTakenOver, KeepsFat, OwnAreFat, FattensOwn, HasNoNames, IsOver}
+use Rattle.mm_desk.specs.Calls.{GrowsBy, NamesFade, OwnersStay, OthersStay, IsTakenOver, KeepsFat, OwnAreFat, FattensOwn, HasNoNames, IsOver, KeepsManager, LoansEnd, NumberIsFree, NoLoansOf}
+use Rattle.mm_rules.specs.TableState.{owner_of}
+use Rattle.std.proofs.lemmas.Option.{same_Some}
 use Rattle.std.specs.Prelude.{Result, Ok, Err, IfOk, OnErr}
 use Rattle.mm_thin.specs.declared.config.WorkerError.{WorkerError}
 use Rattle.mm_thin.specs.Calls.{AddsWorker}
@@ -211,3 +214,19 @@ pub fattens_still : (w : WorkerState) (a : Adopted) (mid new : DeskState) → Ow
 fattens_still w adopted.Fat mid new own keeps = λ k r at taken. fat_still mid new r.name keeps (own k r at taken)
 fattens_still w adopted.Changed mid new own keeps = tt
 fattens_still w (adopted.Refused refusal) mid new own keeps = tt
+
+pub same_both : (a b c : DeskState) → KeepsManager a b → KeepsManager b c → KeepsManager a c
+same_both a b c first second = record { of = second.of ∙ first.of; keys = second.keys ∙ first.keys; manager = second.manager ∙ first.manager }
+
+pub free_still : (a b : DeskState) (k : Key) (n : ℕ) → KeepsManager a b → LoansEnd a b → NumberIsFree a k n → NumberIsFree b k n
+free_still a b k n keeps fewer free name named l among at is =
+    free name (ap (λ (m : LockState). name_of m.names n) (sym keeps.manager) ∙ named) l (fewer l among) (at ∙ ap (λ (x : Opening). bucket_by x.spread name) keeps.of) (ap (λ ks. slice_get ks (l.number / 10)) (sym keeps.keys) ∙ is)
+
+-- nothing is lent to the worker of a transaction if no bucket of its names is
+pub no_loans : (books : BooksState) (o : OfficeState) (keys : List Key) (lent_to : List ℕ) → IsDesk books o keys lent_to → (k : Key) (numbers : List ℕ) → ((n : ℕ) → Among n numbers ↔ (owner_of books.manager.table n ≡ Some k))
+    → ((n : ℕ) → Among n numbers → NumberIsFree (record { manager = books.manager; office = o; keys = keys }) k n) → NoLoansOf (record { manager = books.manager; office = o; keys = keys }) k
+no_loans books o keys lent_to is k numbers owned free l among at =
+    let a = is.adopted l among in
+    let same : a.owned.0 ≡ k = same_Some a.owned.0 k (sym a.owned.1 ∙ at) in
+    let owns = a.owned.2 in
+    free owns.0 ((owned owns.0).1 (owns.2 ∙ ap Some same)) l.name owns.1 l among (a.bucket ∙ ap (λ (s : Spread). bucket_by s l.name) is.spread) at

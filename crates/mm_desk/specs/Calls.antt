@@ -153,3 +153,17 @@ is_wait (Ok status.Active) = false
 is_wait (Ok (status.Waiting n h aborting)) = true
 is_wait (Ok (status.Deadlock n h)) = false
 is_wait (Err refusal) = false
+
+-- what is lent was lent
+abbrev pub LoansEnd : DeskState → DeskState → Type 0
+LoansEnd old new = (l : Lent) → Among l new.office.desk.lent → Among l old.office.desk.lent
+
+-- no bucket of this number's name is lent to a worker whose transaction has this key
+abbrev pub NumberIsFree : DeskState → Key → ℕ → Type 0
+NumberIsFree d k n = (name : List ℕ) → name_of d.manager.names n ≡ Some name → LoansAreOthers d (bucket_by d.office.of.spread name) k
+
+-- the abort of a worker's transaction
+abbrev pub AbortsAt : DeskState → ℕ → Result Unlocked Refusal → DeskState → Type 0
+AbortsAt old at (Ok Done) new = (k : Key) × (slice_get old.keys at ≡ Some k) × IsOver old.manager k new.manager × (new.keys ≡ old.keys)
+AbortsAt old at (Ok NotLetGo) new = KeepsManager old new
+AbortsAt old at (Err refusal) new = NamesFade old.manager new.manager × (new.keys ≡ old.keys)

@@ -3,7 +3,7 @@ ghost use Rattle.std.specs.Prelude.{◌≡◌, ◌<◌, ◌/◌, ◌↔◌, Some
 ghost use Rattle.std.specs.Bool.{OnFalse};
 ghost use Rattle.mm_manager.specs.Calls.{UnlocksName};
 ghost use Rattle.mm_thin.specs.Spread.{bucket_by};
-ghost use Rattle.mm_desk.specs.Calls.{LoansAreOthers, KeepsManager, UnlocksAt};
+ghost use Rattle.mm_desk.specs.Calls.{LoansAreOthers, LoansEnd, KeepsManager, UnlocksAt};
 
 use crate::desk::Desk;
 use crate::reply::Unlocked;
@@ -42,9 +42,10 @@ impl Desk {
     }
 
     /// Whether a bucket is lent to a worker whose transaction has this key.
-    fn has_lent(&mut self, bucket: usize, key: Key) -> bool
+    pub(crate) fn has_lent(&mut self, bucket: usize, key: Key) -> bool
         requires { bucket < self.old.office.of.table.words }
         ensures others { OnFalse result (LoansAreOthers self.new bucket key) }
+        ensures fewer { LoansEnd self.old self.new }
         ensures keeps { KeepsManager self.old self.new }
     {
         match self.office.look(bucket) {
