@@ -20,6 +20,7 @@ use Rattle.mm_desk.specs.Desk.{DeskState, AreFat, IsAdopted, IsDesk}
 use Rattle.mm_desk.specs.Calls.{GrowsBy, NamesFade, OwnersStay, OthersStay, IsTakenOver, KeepsFat, OwnAreFat, FattensOwn, HasNoNames, IsOver, KeepsManager, LoansEnd, NumberIsFree, NoLoansOf}
 use Rattle.mm_rules.specs.TableState.{owner_of}
 use Rattle.std.proofs.lemmas.Option.{same_Some}
+use Rattle.mm_lists.proofs.Lemmas.Set.{slice_get-set_other}
 use Rattle.std.specs.Prelude.{Result, Ok, Err, IfOk, OnErr}
 use Rattle.mm_thin.specs.declared.config.WorkerError.{WorkerError}
 use Rattle.mm_thin.specs.Calls.{AddsWorker}
@@ -230,3 +231,19 @@ no_loans books o keys lent_to is k numbers owned free l among at =
     let same : a.owned.0 ≡ k = same_Some a.owned.0 k (sym a.owned.1 ∙ at) in
     let owns = a.owned.2 in
     free owns.0 ((owned owns.0).1 (owns.2 ∙ ap Some same)) l.name owns.1 l among (a.bucket ∙ ap (λ (s : Spread). bucket_by s l.name) is.spread) at
+
+-- a worker to whom nothing is lent gets another transaction
+pub desk_renewed : (books books' : BooksState) (o : OfficeState) (keys : List Key) (lent_to : List ℕ) → IsDesk books o keys lent_to → books'.spread ≡ books.spread → NamesFade books.manager books'.manager → OwnersStay books.manager books'.manager
+    → (at : ℕ) (key next : Key) → slice_get keys at ≡ Some key → ((l : Lent) → Among l o.desk.lent → slice_get keys (l.number / 10) ≡ Some key → ⊥) → IsDesk books' o (set keys at next) lent_to
+desk_renewed books books' o keys lent_to is spread fade stay at key next ended loans =
+    let mid = desk_cancelled books o keys lent_to is books' spread fade stay in
+    record {
+      spread = mid.spread;
+      words = mid.words;
+      sized = mid.sized;
+      fat = mid.fat;
+      adopted = λ l among.
+          let a = mid.adopted l among in
+          let apart : l.number / 10 ≢ at = λ same. loans l among (ap (slice_get keys) same ∙ ended) in
+          record { bucket = a.bucket; listed = a.listed; owned = (a.owned.0, slice_get-set_other keys (l.number / 10) at next apart ∙ a.owned.1, a.owned.2) };
+    }

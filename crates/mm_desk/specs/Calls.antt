@@ -162,8 +162,12 @@ LoansEnd old new = (l : Lent) → Among l new.office.desk.lent → Among l old.o
 abbrev pub NumberIsFree : DeskState → Key → ℕ → Type 0
 NumberIsFree d k n = (name : List ℕ) → name_of d.manager.names n ≡ Some name → LoansAreOthers d (bucket_by d.office.of.spread name) k
 
+-- the transaction of each other worker stays
+abbrev pub OtherKeysStay : DeskState → ℕ → DeskState → Type 0
+OtherKeysStay old at new = (a : ℕ) → a ≢ at → slice_get new.keys a ≡ slice_get old.keys a
+
 -- the abort of a worker's transaction
 abbrev pub AbortsAt : DeskState → ℕ → Result Unlocked Refusal → DeskState → Type 0
-AbortsAt old at (Ok Done) new = (k : Key) × (slice_get old.keys at ≡ Some k) × IsOver old.manager k new.manager × (new.keys ≡ old.keys)
+AbortsAt old at (Ok Done) new = (k : Key) × (mid : LockState) × (slice_get old.keys at ≡ Some k) × IsOver old.manager k mid × NamesFade mid new.manager × OwnersStay mid new.manager × OtherKeysStay old at new
 AbortsAt old at (Ok NotLetGo) new = KeepsManager old new
 AbortsAt old at (Err refusal) new = NamesFade old.manager new.manager × (new.keys ≡ old.keys)

@@ -1,11 +1,11 @@
 //! A transaction ends that is a victim.
-ghost use Rattle.std.specs.Prelude.{◌≡◌, ◌<◌, ◌≤◌, ℕ, List, Some, None, Ok, IfSome, IfNone, vec_capacity};
+ghost use Rattle.std.specs.Prelude.{◌≡◌, ◌<◌, ◌≤◌, ℕ, List, Some, None, Ok, IfSome, IfNone, slice_get, vec_capacity};
 ghost use Rattle.std.specs.Bool.{OnFalse, OnTrue};
 ghost use Rattle.mm_manager.specs.Permit.{may_cancel};
 ghost use Rattle.mm_manager.specs.Calls.{Aborts};
 ghost use Rattle.mm_names.specs.Names.{name_of};
 ghost use Rattle.mm_thin.specs.Spread.{bucket_by};
-ghost use Rattle.mm_desk.specs.Calls.{IsOver, NoLoansOf, LoansEnd, KeepsManager, NumberIsFree, AbortsAt, is_wait};
+ghost use Rattle.mm_desk.specs.Calls.{IsOver, NamesFade, OwnersStay, OtherKeysStay, NoLoansOf, LoansEnd, KeepsManager, NumberIsFree, AbortsAt, is_wait};
 
 use crate::desk::Desk;
 use crate::reply::Unlocked;
@@ -19,7 +19,7 @@ impl Desk {
         is_wait(self.books.manager.status(key))
     }
 
-    /// Ends the transaction of a worker that is in a deadlock, or waits for nothing: hands over all that it owns. The worker has to let go
+    /// Ends the transaction of a worker that is in a deadlock, or waits for nothing, and begins another one: hands over all that it owns. The worker has to let go
     /// all that it has taken before. `numbers` has room for as many numbers as there can be names; else it is refused as `NamesFull`.
     pub fn abort(&mut self, at: u32, numbers: &mut Vec<u32>) -> Result<Unlocked, Refusal>
         ensures { AbortsAt self.old at result self.new }
@@ -37,9 +37,24 @@ impl Desk {
             return Ok(Unlocked::NotLetGo);
         }
         match self.end(key, numbers) {
-            Ok(Abort::Done) => Ok(Unlocked::Done),
+            Ok(Abort::Done) => {
+                self.renew(at, key);
+                Ok(Unlocked::Done)
+            }
             Ok(Abort::Later) => Err(Refusal::Waiting),
             Err(refusal) => Err(refusal),
+        }
+    }
+
+    /// Begins another transaction for a worker whose transaction ended. If the manager begins none, all later calls for it are refused.
+    fn renew(&mut self, at: u32, key: Key)
+        requires ended { slice_get self.old.keys at ≡ Some key }
+        requires loans { NoLoansOf self.old key }
+        ensures owners { NamesFade self.old.manager self.new.manager × OwnersStay self.old.manager self.new.manager }
+        ensures others { OtherKeysStay self.old at self.new }
+    {
+        if let Ok(next) = self.books.begin() {
+            self.keys[at as usize] = next;
         }
     }
 
