@@ -377,6 +377,7 @@ cleared due q none p = elim (cases_eq p q) [
 ] where
   cases_lt : (a b : ℕ) → (a < b) ⊎ (b ≤ a)
   cases_lt a b = grind arith
+
   read_past : (xs : List Bool) (p : ℕ) → length xs ≤ p → slice_index_or xs p false ≡ false
   read_past [] p high = refl
   read_past (x ∷ xs) zero high = absurd (omega arith)
@@ -411,6 +412,7 @@ module _ (old : LockState) (lawful : IsLawful old) (k : Key) (numbers : List ℕ
       new_none : (o : Option (List ℕ)) → name_of new.names n ≡ o → name_of old.names n ≡ None → o ≡ None
       new_none None is none = refl
       new_none (Some y) is none = (let some = over.fade n y is in absurd (cc))
+
       go : (o : Option (List ℕ)) → name_of old.names n ≡ o → name_of new.names n ≡ name_of old.names n
       go None is = new_none (name_of new.names n) refl is ∙ sym is
       go (Some x) is =

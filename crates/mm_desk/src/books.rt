@@ -6,8 +6,8 @@ ghost use Rattle.mm_manager.specs.Calls.{Aborts, Begins, LocksName, TriesName, U
 ghost use Rattle.mm_desk.specs.Books.{names_in};
 ghost use Rattle.mm_desk.specs.Calls.{GrowsBy, NamesFade, OwnersStay, OthersStay, IsOver};
 
-use mm_manager::{Abort, Cancel, Key, Lock, LockManager, Refusal, TryLock};
 use crate::tally::{recount, uncount};
+use mm_manager::{Abort, Cancel, Key, Lock, LockManager, Refusal, TryLock};
 use mm_thin::Spread;
 use std::marker::Model;
 

@@ -31,7 +31,12 @@ fn recount_one(manager: &LockManager, spread: Spread, number: u32, counts: &mut 
 }
 
 /// Takes the names of these numbers from the counts.
-pub(crate) fn uncount(manager: &LockManager, spread: Spread, numbers: &Vec<u32>, counts: &mut Vec<u32>)
+pub(crate) fn uncount(
+    manager: &LockManager,
+    spread: Spread,
+    numbers: &Vec<u32>,
+    counts: &mut Vec<u32>,
+)
     requires counted { AreCounted spread manager.now.names.names counts.old.items }
     requires once { NoRepeat numbers.now.items }
     requires inside { (n : ℕ) → Among n numbers.now.items → n < length manager.now.names.names }
@@ -43,7 +48,12 @@ pub(crate) fn uncount(manager: &LockManager, spread: Spread, numbers: &Vec<u32>,
 }
 
 /// Adds the names of these numbers to the counts, as far as they have names.
-pub(crate) fn recount(manager: &LockManager, spread: Spread, numbers: &Vec<u32>, counts: &mut Vec<u32>)
+pub(crate) fn recount(
+    manager: &LockManager,
+    spread: Spread,
+    numbers: &Vec<u32>,
+    counts: &mut Vec<u32>,
+)
     requires mended { (mid : List (Option (List ℕ))) × IsMended manager.now.names.names numbers.now.items 0 mid × AreCounted spread mid counts.old.items }
     requires once { NoRepeat numbers.now.items }
     requires inside { (n : ℕ) → Among n numbers.now.items → n < length manager.now.names.names }

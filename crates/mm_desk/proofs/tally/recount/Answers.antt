@@ -36,4 +36,4 @@ returns c =
     let all : c.loop-k.k ≡ length c.args.numbers.now.items = omega arith in
     let inv = c.loop-k.invariant in
     subst (λ names. AreCounted c.args.spread names c.loop-k.counts.items)
-        (mended_all c.args.manager.now.names.names c.args.numbers.now.items inv.0 (subst (λ k. IsMended c.args.manager.now.names.names c.args.numbers.now.items k inv.0) all inv.1)) inv.2
+    (mended_all c.args.manager.now.names.names c.args.numbers.now.items inv.0 (subst (λ k. IsMended c.args.manager.now.names.names c.args.numbers.now.items k inv.0) all inv.1)) inv.2

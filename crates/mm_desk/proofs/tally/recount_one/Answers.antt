@@ -22,4 +22,4 @@ returns-in-Some c mid counted low none =
     let size = counted.0 in
     let v = count_is c.args.counts.now.items c.of-bucket.result c.index_mut.result.now (omega arith) c.index_mut.ensures.value in
     subst (λ (x : ℕ × Option (List ℕ)). AreCounted c.args.spread (set mid c.args.number x.1) (set c.args.counts.now.items c.of-bucket.result (x.0 + 1))) (λ i. (sym v i, c.in-Some.ensures i))
-        (count_more c.args.spread mid c.args.counts.now.items counted c.args.number low c.in-Some.name.now c.of-bucket.result c.of-bucket.ensures.bucket blow none)
+    (count_more c.args.spread mid c.args.counts.now.items counted c.args.number low c.in-Some.name.now c.of-bucket.result c.of-bucket.ensures.bucket blow none)

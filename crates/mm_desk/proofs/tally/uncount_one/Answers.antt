@@ -20,4 +20,4 @@ returns-in-Some c mid counted low is =
     let size = counted.0 in
     let v = count_is c.args.counts.now.items c.of-bucket.result c.index_mut.result.now (omega arith) c.index_mut.ensures.value in
     subst (λ n. AreCounted c.args.spread (set mid c.args.number None) (set c.args.counts.now.items c.of-bucket.result (n - 1))) (sym v)
-        (count_less c.args.spread mid c.args.counts.now.items counted c.args.number low c.in-Some.name.now c.of-bucket.result c.of-bucket.ensures.bucket blow (is ∙ sym c.in-Some.ensures))
+    (count_less c.args.spread mid c.args.counts.now.items counted c.args.number low c.in-Some.name.now c.of-bucket.result c.of-bucket.ensures.bucket blow (is ∙ sym c.in-Some.ensures))

@@ -34,7 +34,7 @@ returns-clause-none c =
     let managers = ap (λ x. x.books.manager) c.self-inside.view_is ∙ ap (λ (d : DeskState). d.manager) c.self.view_is ∙ sym c.loop-k.invariant.0.manager ∙ sym here in
     let owned = subst (λ (m : LockState). (n : ℕ) → Among n numbers ↔ (owner_of m.table n ≡ Some c.args.key)) managers c.holds.ensures.owned in
     let free : (n : ℕ) → Among n numbers → NumberIsFree c.loop-k.self c.args.key n = λ n among.
-        (let at = index_of n numbers among in let below = at.1 in subst (λ k. NumberIsFree c.loop-k.self c.args.key k) at.2 (c.loop-k.invariant.1 at.0 (omega arith) at.1)) in
+    (let at = index_of n numbers among in let below = at.1 in subst (λ k. NumberIsFree c.loop-k.self c.args.key k) at.2 (c.loop-k.invariant.1 at.0 (omega arith) at.1)) in
     subst (λ (d : DeskState). NoLoansOf d c.args.key) c.self-2.view_is
-        (no_loans c.self-2.inside.books c.self-2.inside.office c.self-2.inside.keys.items c.self-2.inside.lent_to.items c.self-2.invariant c.args.key numbers owned
-            (subst (λ (d : DeskState). (n : ℕ) → Among n numbers → NumberIsFree d c.args.key n) (sym c.self-2.view_is) free))
+    (no_loans c.self-2.inside.books c.self-2.inside.office c.self-2.inside.keys.items c.self-2.inside.lent_to.items c.self-2.invariant c.args.key numbers owned
+    (subst (λ (d : DeskState). (n : ℕ) → Among n numbers → NumberIsFree d c.args.key n) (sym c.self-2.view_is) free))

@@ -9,8 +9,8 @@ use Rattle.mm_desk.proofs.desk.Desk.renew.Goals as goal
 pub invariant_of-self : goal.invariant_of-self
 invariant_of-self c =
     desk_renewed c.self.inside.books c.begin.new.self c.self.inside.office c.self.inside.keys.items c.self.inside.lent_to.items c.self.invariant c.begin.ensures.spread c.begin.ensures.fade c.begin.ensures.stay
-        c.args.at c.args.key c.in-Ok.next (subst (λ (d : DeskState). slice_get d.keys c.args.at ≡ Some c.args.key) (sym c.self.view_is) c.requires.ended)
-        (subst (λ (d : DeskState). NoLoansOf d c.args.key) (sym c.self.view_is) c.requires.loans)
+    c.args.at c.args.key c.in-Ok.next (subst (λ (d : DeskState). slice_get d.keys c.args.at ≡ Some c.args.key) (sym c.self.view_is) c.requires.ended)
+    (subst (λ (d : DeskState). NoLoansOf d c.args.key) (sym c.self.view_is) c.requires.loans)
 
 pub invariant_of-self-in_default : goal.invariant_of-self-in_default
 invariant_of-self-in_default c =

@@ -14,4 +14,4 @@ on_false false P holds = holds refl
 pub returns : goal.returns
 returns c = on_false c.is_wait.result (may_cancel c.args.self.now.manager.table c.args.key ≡ Ok tt → ⊥) (λ no.
     no_wait c.args.self.now.manager c.args.key c.status.result
-        (subst (λ (m : LockState). HasStatus m c.args.key c.status.result) (ap (λ x. x.books.manager) c.self-inside.view_is ∙ ap (λ (d : DeskState). d.manager) c.self.view_is) c.status.ensures) (sym c.is_wait.ensures ∙ no))
+    (subst (λ (m : LockState). HasStatus m c.args.key c.status.result) (ap (λ x. x.books.manager) c.self-inside.view_is ∙ ap (λ (d : DeskState). d.manager) c.self.view_is) c.status.ensures) (sym c.is_wait.ensures ∙ no))
