@@ -9,7 +9,7 @@ use Rattle.mm_arena.specs.declared.key.Key.{Key}
 use Rattle.mm_names.specs.Names.{NameTable, name_of, Interns}
 use Rattle.mm_rules.specs.TableState.{owner_of}
 use Rattle.mm_manager.specs.LockState.{LockState, Owns, IsUnowned, KeepOwned, IsLawful, untold}
-use Rattle.mm_manager.specs.Calls.{Gets, TriesName, Tries, LocksName, Requests, Unlocks, UnlocksName, EndsBy, IsEnded, HandsOver, LosesName, Passes, AbortsDue, TakesBack, Cancels, Begins, Aborts}
+use Rattle.mm_manager.specs.Calls.{Gets, TriesName, Tries, LocksName, Requests, Unlocks, UnlocksName, EndsBy, IsEnded, LosesName, Passes, AbortsDue, TakesBack, Cancels, Begins, Aborts}
 use Rattle.mm_manager.specs.Permit.{may_cancel, may_cancel_in}
 use Rattle.mm_manager.specs.Reads.{HasStatus}
 use Rattle.mm_manager.specs.declared.refusal.Refusal.TheVariants.{NoTransaction}

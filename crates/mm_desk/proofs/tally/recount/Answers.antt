@@ -1,6 +1,6 @@
-use Rattle.std.proofs.Common.{◌≡◌, ◌<◌, ◌≤◌, ◌+◌, ℕ, List, Option, None, length, set, refl, sym, ap, ◌∙◌, subst, arith}
+use Rattle.std.proofs.Common.{◌≡◌, ◌<◌, length, set, subst, arith}
 use Rattle.mm_desk.specs.Books.{AreCounted}
-use Rattle.mm_desk.specs.Tally.{IsCut, IsMended}
+use Rattle.mm_desk.specs.Tally.{IsMended}
 use Rattle.mm_desk.proofs.Counts.{count_is}
 use Rattle.mm_desk.specs.Tally.{name_at}
 use Rattle.mm_desk.proofs.Cuts.{mend_ready, mend_next, mended_all}

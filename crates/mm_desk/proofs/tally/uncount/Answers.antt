@@ -1,6 +1,5 @@
-use Rattle.std.proofs.Common.{◌≡◌, ◌<◌, ◌≤◌, ◌+◌, ℕ, List, Option, None, length, set, refl, sym, ap, ◌∙◌, subst, arith}
-use Rattle.mm_desk.specs.Books.{AreCounted}
-use Rattle.mm_desk.specs.Tally.{IsCut, IsMended}
+use Rattle.std.proofs.Common.{◌≡◌, ◌<◌, None, length, set, subst, arith}
+use Rattle.mm_desk.specs.Tally.{IsCut}
 use Rattle.mm_desk.proofs.Counts.{count_is}
 use Rattle.mm_desk.proofs.Cuts.{cut_none, cut_ready, cut_next}
 use Rattle.mm_desk.proofs.tally.uncount.Goals as goal

@@ -1,4 +1,4 @@
-use Rattle.std.proofs.Common.{◌≡◌, ℕ, List, Option}
+use Rattle.std.proofs.Common.{ℕ, List, Option}
 use Rattle.mm_desk.specs.Books.{AreCounted}
 use Rattle.mm_desk.specs.Tally.{IsCut}
 use Rattle.mm_desk.proofs.tally.uncount.Given as goal

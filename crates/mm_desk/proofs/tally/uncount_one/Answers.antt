@@ -1,5 +1,4 @@
-use Rattle.std.proofs.Common.{◌≡◌, ◌<◌, ◌≤◌, ◌+◌, ◌-◌, ℕ, List, Option, Some, None, length, set, sym, ap, ◌∙◌, subst, arith}
-use Rattle.std.specs.Prelude.{slice_index}
+use Rattle.std.proofs.Common.{◌-◌, None, set, sym, ◌∙◌, subst, arith}
 use Rattle.mm_desk.specs.Books.{AreCounted}
 use Rattle.mm_desk.proofs.Counts.{count_is, count_less, counted_name}
 use Rattle.mm_desk.proofs.tally.uncount_one.Goals as goal

@@ -1,5 +1,4 @@
-use Rattle.std.proofs.Common.{◌≡◌, ◌<◌, ◌≤◌, ℕ, List, Ok, length, sym, ap, ◌∙◌, subst, arith}
-use Rattle.mm_lists.specs.Members.{Among}
+use Rattle.std.proofs.Common.{◌≡◌, Ok, subst, arith}
 use Rattle.mm_manager.specs.Permit.{may_cancel}
 use Rattle.mm_desk.specs.Books.{BooksState}
 use Rattle.mm_desk.specs.Calls.{IsOver}

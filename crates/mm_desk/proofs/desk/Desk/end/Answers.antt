@@ -1,4 +1,4 @@
-use Rattle.std.proofs.Common.{◌≡◌, sym, subst}
+use Rattle.std.proofs.Common.{sym, subst}
 use Rattle.mm_desk.specs.Desk.{DeskState}
 use Rattle.mm_desk.specs.Calls.{NoLoansOf}
 use Rattle.mm_desk.proofs.Keeps.{desk_ended}

@@ -1,4 +1,4 @@
-use Rattle.std.proofs.Common.{◌≡◌, ◌<◌, ℕ, length}
+use Rattle.std.proofs.Common.{◌<◌, ℕ, length}
 use Rattle.std.specs.Prelude.{slice_index}
 use Rattle.mm_desk.specs.Calls.{KeepsManager, NumberIsFree}
 use Rattle.mm_desk.proofs.desk.Desk.has_loans.Given as goal
