@@ -26,11 +26,16 @@ worker_of at n is = (let low = is.0 in let high = is.1 in omega arith)
 
 module _ (books : BooksState) (o : OfficeState) (keys : List Key) (lent_to : List ℕ) (is : IsDesk books o keys lent_to) (lawful : IsLawful books.manager) (at : ℕ) (r : RecordView)
     (placed : IsOfWorker at r.number × IsPlaced o.of r) (lent : AreLent r o.desk) where
+  pub is_owned : (b : ℕ) → Among b r.taken → Among b o.desk.fat → (k : Key) × (slice_get keys at ≡ Some k) × Owns books.manager k r.name
+  is_owned b taken fat =
+      let owned = (is.adopted (loan b r.number r.name) (lent b taken fat)).owned in
+      (owned.0, (ap (slice_get keys) (sym (worker_of at r.number placed.0)) ∙ owned.1), owned.2)
+
   taken_alone : (b : ℕ) → Among b r.taken → (h : Key) → Owns books.manager h r.name → slice_get keys at ≡ Some h
   taken_alone b taken h owns =
       let fat : Among b o.desk.fat = subst (λ c. Among c o.desk.fat) (ap (λ (s : Spread). bucket_by s r.name) is.spread ∙ sym (placed.1 b taken)) (is.fat owns.0 r.name owns.1) in
-      let adopted = is.adopted (loan b r.number r.name) (lent b taken fat) in
-      ap (slice_get keys) (sym (worker_of at r.number placed.0)) ∙ adopted.owned.1 ∙ ap Some (owns_once books.manager lawful r.name adopted.owned.0 h adopted.owned.2 owns)
+      let owned = is_owned b taken fat in
+      owned.1 ∙ ap Some (owns_once books.manager lawful r.name owned.0 h owned.2 owns)
 
   pub owns_alone : r.taken ≢ [] → (h : Key) → Owns books.manager h r.name → slice_get keys at ≡ Some h
   owns_alone some h owns = go r.taken refl where

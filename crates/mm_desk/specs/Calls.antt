@@ -122,6 +122,10 @@ AsksAt old w name answer new =
 abbrev pub OwnsAlone : DeskState → ℕ → RecordView → Type 0
 OwnsAlone d at r = r.taken ≢ [] → (h : Key) → Owns d.manager h r.name → slice_get d.keys at ≡ Some h
 
+-- if the bucket that the record has taken is fat, the transaction of its worker owns the name in the manager
+abbrev pub IsOwned : DeskState → ℕ → RecordView → Type 0
+IsOwned d at r = (b : ℕ) → Among b r.taken → Among b d.office.desk.fat → (k : Key) × (slice_get d.keys at ≡ Some k) × Owns d.manager k r.name
+
 -- ---- a wait is taken back
 
 abbrev pub CancelsAt : DeskState → ℕ → Result cancel.Cancel Refusal → DeskState → Type 0
