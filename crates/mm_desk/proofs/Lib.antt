@@ -1,0 +1,5 @@
+pub mod Counts
+pub mod Names
+pub mod Cuts
+pub mod Keeps
+pub mod Ties

@@ -1,0 +1,43 @@
+use Rattle.std.proofs.Common.{◌<◌, ℕ, List, sym, ap, ◌∙◌, subst}
+use Rattle.mm_lists.specs.Members.{Among}
+use Rattle.mm_thin.specs.Parts.{OfficeState}
+use Rattle.mm_desk.specs.Desk.{DeskState}
+use Rattle.mm_desk.specs.Calls.{GrowsBy, IsTakenOver, OwnersStay}
+use Rattle.mm_desk.proofs.Keeps.{desk_same, desk_free, desk_lent, desk_refused, still_fat}
+use Rattle.mm_desk.proofs.desk.Desk.adopt.Goals as goal
+
+pub invariant_of-self : goal.invariant_of-self
+invariant_of-self c = desk_same c.self.inside.books c.self.inside.office c.self.inside.keys.items c.self.inside.lent_to.items c.self.invariant c.fatten.new.self (ap (λ (o : OfficeState). o.of) c.fatten.ensures.rest) c.in-WasFat.ensures.gets.0
+
+pub invariant_of-self-in-WasFree : goal.invariant_of-self-in-WasFree
+invariant_of-self-in-WasFree c =
+    desk_free c.self.inside.books c.self.inside.office c.self.inside.keys.items c.self.inside.lent_to.items c.self.invariant c.fatten.new.self (ap (λ (o : OfficeState). o.of) c.fatten.ensures.rest) c.args.bucket c.in-WasFree.ensures.gets.0
+
+pub invariant_of-self-in-Changed : goal.invariant_of-self-in-Changed
+invariant_of-self-in-Changed c = desk_same c.self.inside.books c.self.inside.office c.self.inside.keys.items c.self.inside.lent_to.items c.self.invariant c.fatten.new.self (ap (λ (o : OfficeState). o.of) c.fatten.ensures.rest) c.in-Changed.ensures.gets.0
+
+pub invariant_of-self-in-Ok : goal.invariant_of-self-in-Ok
+invariant_of-self-in-Ok c =
+    let low = subst (λ (s : DeskState). c.args.bucket < s.office.of.table.words) (sym c.self.view_is) c.requires in
+    desk_lent c.self.inside.books c.self.inside.office c.self.inside.keys.items c.self.inside.lent_to.items c.self.invariant c.offer.new.books c.offer.ensures.spread c.fatten.new.self (ap (λ (o : OfficeState). o.of) c.fatten.ensures.rest)
+    c.args.bucket c.in-WasThin.number c.in-WasThin.name c.offer.ensures.stay c.in-WasThin.ensures.gets.1 c.in-WasThin.ensures.gets.0 low
+    (subst (λ (name : List ℕ). GrowsBy c.self.inside.books.manager name c.offer.new.books.manager) c.as_slice.ensures c.offer.ensures.grows)
+    (subst (λ (name : List ℕ). IsTakenOver c.offer.new.books c.self.inside.keys.items c.args.bucket c.in-WasThin.number name) c.as_slice.ensures c.in-Ok.ensures.ok)
+
+pub invariant_of-self-in-Err : goal.invariant_of-self-in-Err
+invariant_of-self-in-Err c =
+    desk_refused c.self.inside.books c.self.inside.office c.self.inside.keys.items c.self.inside.lent_to.items c.self.invariant c.offer.new.books c.offer.ensures.spread c.thin_again.new.self
+    (ap (λ (o : OfficeState). o.of) c.thin_again.ensures.rest ∙ ap (λ (o : OfficeState). o.of) c.fatten.ensures.rest)
+    c.args.bucket c.in-WasThin.number c.in-WasThin.name c.offer.ensures.stay c.in-WasThin.ensures.gets.1 c.fatten.new.self.desk c.in-WasThin.ensures.gets.0 c.thin_again.result c.thin_again.ensures.thins c.in-Err.ensures.err
+
+pub returns-in-Err-clause-keeps : goal.returns-in-Err-clause-keeps
+returns-in-Err-clause-keeps c =
+    let of = ap (λ (o : OfficeState). o.of) c.thin_again.ensures.rest ∙ ap (λ (o : OfficeState). o.of) c.fatten.ensures.rest in
+    record {
+      of = of ∙ ap (λ (s : DeskState). s.office.of) c.self.view_is;
+      keys = ap (λ (s : DeskState). s.keys) c.self.view_is;
+      fat = subst (λ (s : DeskState). (b : ℕ) → Among b s.office.desk.fat → Among b c.thin_again.new.self.desk.fat) c.self.view_is
+          (still_fat c.self.inside.books c.self.inside.office c.self.inside.keys.items c.self.inside.lent_to.items c.self.invariant c.offer.new.books c.offer.ensures.spread c.thin_again.new.self of
+          c.args.bucket c.in-WasThin.number c.in-WasThin.name c.offer.ensures.stay c.in-WasThin.ensures.gets.1 c.fatten.new.self.desk c.in-WasThin.ensures.gets.0 c.thin_again.result c.thin_again.ensures.thins);
+      stay = subst (λ (s : DeskState). OwnersStay s.manager c.offer.new.books.manager) c.self.view_is c.offer.ensures.stay;
+    }

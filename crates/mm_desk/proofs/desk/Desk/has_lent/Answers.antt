@@ -1,0 +1,43 @@
+use Rattle.std.proofs.Common.{ℕ}
+use Rattle.std.proofs.Common.{ap, subst}
+use Rattle.mm_lists.specs.Members.{Among}
+use Rattle.mm_thin.specs.declared.views.DeskView.{DeskView}
+use Rattle.mm_thin.specs.Parts.{OfficeState}
+use Rattle.mm_thin.specs.declared.views.Lent.{Lent}
+use Rattle.mm_thin.specs.declared.reply.Look.{Look}
+use Rattle.mm_thin.specs.declared.reply.Look.TheVariants as look
+use Rattle.mm_thin.specs.Calls.{LooksAt}
+use Rattle.mm_desk.specs.Desk.{DeskState}
+use Rattle.mm_desk.proofs.Keeps.{none_lent, was_lent, not_fat_unlent, desk_any_look}
+use Rattle.mm_desk.proofs.desk.Desk.has_lent.Goals as goal
+
+pub invariant_of-self : goal.invariant_of-self
+invariant_of-self c = desk_any_look c.self.inside.books c.self.inside.office c.self.inside.keys.items c.self.inside.lent_to.items c.self.invariant c.args.bucket c.look.result c.look.new.self (ap (λ (o : OfficeState). o.of) c.look.ensures.rest) c.look.ensures.looks
+
+pub invariant_of-self-in-Fat : goal.invariant_of-self-in-Fat
+invariant_of-self-in-Fat c = desk_any_look c.self.inside.books c.self.inside.office c.self.inside.keys.items c.self.inside.lent_to.items c.self.invariant c.args.bucket c.look.result c.look.new.self (ap (λ (o : OfficeState). o.of) c.look.ensures.rest) c.look.ensures.looks
+
+pub invariant_of-self-2 : goal.invariant_of-self-2
+invariant_of-self-2 c = desk_any_look c.self.inside.books c.self.inside.office c.self.inside.keys.items c.self.inside.lent_to.items c.self.invariant c.args.bucket c.look.result c.look.new.self (ap (λ (o : OfficeState). o.of) c.look.ensures.rest) c.look.ensures.looks
+
+pub returns-in-NotFat-clause-others : goal.returns-in-NotFat-clause-others
+returns-in-NotFat-clause-others c l among at key =
+    let looks = c.in-NotFat.ensures.looks in
+    not_fat_unlent c.self.inside.books c.self.inside.office c.self.inside.keys.items c.self.inside.lent_to.items c.self.invariant c.args.bucket looks.1 l (subst (λ (d : DeskView). Among l d.lent) looks.0 among) at
+
+pub returns-in-Fat-clause-others : goal.returns-in-Fat-clause-others
+returns-in-Fat-clause-others c l among at key = none_lent c.args.bucket c.self.inside.office.desk.lent l (subst (λ (d : DeskView). Among l d.lent) c.in-Fat.ensures.looks.0 among) at
+
+any_look : (d : DeskView) (b : ℕ) (look : Look) (d' : DeskView) → LooksAt d b look d' → (l : Lent) → Among l d'.lent → Among l d.lent
+any_look d b look.NotFat d' looks l among = subst (λ (x : DeskView). Among l x.lent) looks.0 among
+any_look d b look.Fat d' looks l among = was_lent b d.lent l (subst (λ (x : DeskView). Among l x.lent) looks.0 among)
+any_look d b look.IsLent d' looks l among = subst (λ (x : DeskView). Among l x.lent) looks.0 among
+
+pub returns-in-NotFat-clause-fewer : goal.returns-in-NotFat-clause-fewer
+returns-in-NotFat-clause-fewer c = subst (λ (s : DeskState). (l : Lent) → Among l c.look.new.self.desk.lent → Among l s.office.desk.lent) c.self.view_is (any_look c.self.inside.office.desk c.args.bucket c.look.result c.look.new.self.desk c.look.ensures.looks)
+
+pub returns-in-Fat-clause-fewer : goal.returns-in-Fat-clause-fewer
+returns-in-Fat-clause-fewer c = subst (λ (s : DeskState). (l : Lent) → Among l c.look.new.self.desk.lent → Among l s.office.desk.lent) c.self.view_is (any_look c.self.inside.office.desk c.args.bucket c.look.result c.look.new.self.desk c.look.ensures.looks)
+
+pub returns-clause-fewer : goal.returns-clause-fewer
+returns-clause-fewer c = subst (λ (s : DeskState). (l : Lent) → Among l c.look.new.self.desk.lent → Among l s.office.desk.lent) c.self.view_is (any_look c.self.inside.office.desk c.args.bucket c.look.result c.look.new.self.desk c.look.ensures.looks)

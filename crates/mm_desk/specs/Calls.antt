@@ -1,0 +1,177 @@
+-- What calls of the books and the desk do.
+use Rattle.std.specs.Prelude.{◌≡◌, ◌≢◌, ◌⊎◌, ◌/◌, ℕ, Bool, true, false, List, [], length, Some, None, Result, Ok, Err, slice_get}
+use Rattle.mm_arena.specs.declared.key.Key.{Key}
+use Rattle.mm_names.specs.Names.{name_of}
+use Rattle.mm_lists.specs.Members.{Among}
+use Rattle.mm_manager.specs.LockState.{LockState, Owns}
+use Rattle.mm_manager.specs.Calls.{LocksName, UnlocksName, Cancels}
+use Rattle.mm_manager.specs.declared.reply.Cancel as cancel
+use Rattle.mm_manager.specs.declared.reply.Status.{Status}
+use Rattle.mm_manager.specs.declared.reply.Status.TheVariants as status
+use Rattle.mm_manager.specs.declared.reply.Lock.{Lock}
+use Rattle.mm_manager.specs.declared.reply.Lock.TheVariants as lock
+use Rattle.mm_thin.specs.declared.views.RecordView.{RecordView}
+use Rattle.mm_thin.specs.Parts.{WorkerState}
+use Rattle.mm_desk.specs.declared.reply.Asked.{Asked}
+use Rattle.mm_desk.specs.declared.reply.Asked.TheVariants.{Granted, Held, Waits, Deadlock, Again}
+use Rattle.mm_manager.specs.declared.refusal.Refusal.{Refusal}
+use Rattle.mm_manager.specs.declared.refusal.Refusal.TheVariants.{NoTransaction}
+use Rattle.mm_thin.specs.declared.views.Lent.{Lent}
+use Rattle.mm_thin.specs.Spread.{bucket_by}
+use Rattle.mm_desk.specs.Books.{BooksState, NoneDue}
+use Rattle.mm_desk.specs.Desk.{DeskState}
+use Rattle.mm_desk.specs.declared.reply.Adopted.{Adopted}
+use Rattle.mm_desk.specs.declared.reply.Adopted.TheVariants.{Fat, Changed, Refused}
+use Rattle.mm_desk.specs.declared.reply.Unlocked.{Unlocked}
+use Rattle.mm_desk.specs.declared.reply.Unlocked.TheVariants.{Done, NotLetGo}
+
+-- no name but this one gets a number
+abbrev pub GrowsBy : LockState → List ℕ → LockState → Type 0
+GrowsBy old name new = (n : ℕ) (x : List ℕ) → name_of new.names n ≡ Some x → (x ≡ name) ⊎ (name_of old.names n ≡ Some x)
+
+-- no name gets a number
+abbrev pub NamesFade : LockState → LockState → Type 0
+NamesFade old new = (n : ℕ) (x : List ℕ) → name_of new.names n ≡ Some x → name_of old.names n ≡ Some x
+
+-- each owner owns what it owned
+abbrev pub OwnersStay : LockState → LockState → Type 0
+OwnersStay old new = (h : Key) (x : List ℕ) → Owns old h x → Owns new h x
+
+-- the same of all but this owner of this name
+abbrev pub OthersStay : LockState → Key → List ℕ → LockState → Type 0
+OthersStay old k name new = (h : Key) (x : List ℕ) → Owns old h x → ((h ≡ k) × (x ≡ name) → ⊥) → Owns new h x
+
+-- ---- a thin name is handed to the manager
+
+-- the name is of this bucket, and the transaction of the record's worker owns it
+abbrev pub IsTakenOver : BooksState → List Key → ℕ → ℕ → List ℕ → Type 0
+IsTakenOver books keys bucket number name = (bucket ≡ bucket_by books.spread name) × ((k : Key) × (slice_get keys (number / 10) ≡ Some k) × Owns books.manager k name)
+
+-- what is fat stays fat, and owners stay; nothing else that a caller sees changes but the manager
+pub record KeepsFat (old new : DeskState) : Type 0 where
+  pub of : new.office.of ≡ old.office.of
+  pub keys : new.keys ≡ old.keys
+  pub fat : (b : ℕ) → Among b old.office.desk.fat → Among b new.office.desk.fat
+  pub stay : OwnersStay old.manager new.manager
+
+-- what became of a bucket
+abbrev pub AdoptsBucket : ℕ → Adopted → DeskState → Type 0
+AdoptsBucket bucket Fat new = Among bucket new.office.desk.fat
+AdoptsBucket bucket Changed new = Unit {0}
+AdoptsBucket bucket (Refused refusal) new = Unit {0}
+
+-- ---- a name is handed over
+
+-- no loan of a bucket is to a worker whose transaction has this key
+abbrev pub LoansAreOthers : DeskState → ℕ → Key → Type 0
+LoansAreOthers d bucket k = (l : Lent) → Among l d.office.desk.lent → l.bucket ≡ bucket → slice_get d.keys (l.number / 10) ≡ Some k → ⊥
+
+-- the manager and the keys stay
+pub record KeepsManager (old new : DeskState) : Type 0 where
+  pub of : new.office.of ≡ old.office.of
+  pub keys : new.keys ≡ old.keys
+  pub manager : new.manager ≡ old.manager
+
+-- an unlock by the transaction of a worker
+abbrev pub UnlocksAt : DeskState → ℕ → List ℕ → Result Unlocked Refusal → DeskState → Type 0
+UnlocksAt old at name (Ok Done) new = (k : Key) × (slice_get old.keys at ≡ Some k) × UnlocksName old.manager k name (Ok tt) new.manager × (new.keys ≡ old.keys)
+UnlocksAt old at name (Ok NotLetGo) new = KeepsManager old new
+UnlocksAt old at name (Err refusal) new =
+    ((slice_get old.keys at ≡ None) × (refusal ≡ NoTransaction) × (new ≡ old))
+    ⊎ ((k : Key) × (slice_get old.keys at ≡ Some k) × UnlocksName old.manager k name (Err refusal) new.manager × (new.keys ≡ old.keys))
+
+-- ---- a request
+
+-- the bucket of each name that the worker has taken is fat
+abbrev pub OwnAreFat : WorkerState → DeskState → Type 0
+OwnAreFat w d = (k : ℕ) (r : RecordView) → slice_get w.records k ≡ Some r → r.taken ≢ [] → Among (bucket_by d.office.of.spread r.name) d.office.desk.fat
+
+abbrev pub FattensOwn : WorkerState → Adopted → DeskState → Type 0
+FattensOwn w Fat new = OwnAreFat w new
+FattensOwn w Changed new = Unit {0}
+FattensOwn w (Refused refusal) new = Unit {0}
+
+abbrev pub FattensOne : WorkerState → ℕ → Adopted → DeskState → Type 0
+FattensOne w k Fat new = (r : RecordView) → slice_get w.records k ≡ Some r → r.taken ≢ [] → Among (bucket_by new.office.of.spread r.name) new.office.desk.fat
+FattensOne w k Changed new = Unit {0}
+FattensOne w k (Refused refusal) new = Unit {0}
+
+-- the same answer as the manager's
+abbrev pub asked_of : Result Lock Refusal → Result Asked Refusal
+asked_of (Ok lock.Granted) = Ok Granted
+asked_of (Ok lock.Held) = Ok Held
+asked_of (Ok (lock.Waits h)) = Ok (Waits h)
+asked_of (Ok (lock.Deadlock h)) = Ok (Deadlock h)
+asked_of (Err refusal) = Err refusal
+
+-- the manager is asked for a name by the transaction of a worker, if there is one
+abbrev pub RequestsAt : DeskState → ℕ → List ℕ → Result Asked Refusal → DeskState → Type 0
+RequestsAt old at name answer new =
+    ((slice_get old.keys at ≡ None) × (answer ≡ Err NoTransaction) × (new ≡ old))
+    ⊎ ((k : Key) × (told : Result Lock Refusal) × (slice_get old.keys at ≡ Some k) × LocksName old.manager k name told new.manager × (answer ≡ asked_of told))
+
+-- the request comes after all that the worker had taken was made fat, so who waits then owns nothing thinly; or a bucket could not be made fat, and nothing is asked for
+abbrev pub AsksAt : DeskState → WorkerState → List ℕ → Result Asked Refusal → DeskState → Type 0
+AsksAt old w name answer new =
+    ((mid : DeskState) × KeepsFat old mid × OwnAreFat w mid × RequestsAt mid w.at name answer new × (new.office ≡ mid.office) × (new.keys ≡ mid.keys))
+    ⊎ (KeepsFat old new × ((answer ≡ Ok Again) ⊎ ((refusal : Refusal) × (answer ≡ Err refusal))))
+
+-- ---- what holds of any worker and the desk
+
+-- who owns the name in the manager that the record has taken is the transaction of the record's worker
+abbrev pub OwnsAlone : DeskState → ℕ → RecordView → Type 0
+OwnsAlone d at r = r.taken ≢ [] → (h : Key) → Owns d.manager h r.name → slice_get d.keys at ≡ Some h
+
+-- if the bucket that the record has taken is fat, the transaction of its worker owns the name in the manager
+abbrev pub IsOwned : DeskState → ℕ → RecordView → Type 0
+IsOwned d at r = (b : ℕ) → Among b r.taken → Among b d.office.desk.fat → (k : Key) × (slice_get d.keys at ≡ Some k) × Owns d.manager k r.name
+
+-- ---- a wait is taken back
+
+abbrev pub CancelsAt : DeskState → ℕ → Result cancel.Cancel Refusal → DeskState → Type 0
+CancelsAt old at answer new =
+    ((slice_get old.keys at ≡ None) × (answer ≡ Err NoTransaction) × (new ≡ old)) ⊎ ((k : Key) × (slice_get old.keys at ≡ Some k) × Cancels old.manager k answer new.manager)
+
+-- ---- the opening
+
+-- no name has a number, so nobody owns one
+abbrev pub HasNoNames : LockState → Type 0
+HasNoNames m = (n : ℕ) (name : List ℕ) → name_of m.names n ≡ Some name → ⊥
+
+-- ---- a transaction ends
+
+-- all names of others stay with them, no name gets a number, and no abort is due
+pub record IsOver (old : LockState) (k : Key) (new : LockState) : Type 0 where
+  pub size : length new.names.names ≡ length old.names.names
+  pub fade : NamesFade old new
+  pub stay : (h : Key) (x : List ℕ) → Owns old h x → h ≢ k → Owns new h x
+  pub due : NoneDue new
+
+-- no bucket is lent to a worker whose transaction has this key
+abbrev pub NoLoansOf : DeskState → Key → Type 0
+NoLoansOf d k = (l : Lent) → Among l d.office.desk.lent → slice_get d.keys (l.number / 10) ≡ Some k → ⊥
+
+-- the status of a transaction that waits, in no deadlock
+abbrev pub is_wait : Result Status Refusal → Bool
+is_wait (Ok status.Active) = false
+is_wait (Ok (status.Waiting n h aborting)) = true
+is_wait (Ok (status.Deadlock n h)) = false
+is_wait (Err refusal) = false
+
+-- what is lent was lent
+abbrev pub LoansEnd : DeskState → DeskState → Type 0
+LoansEnd old new = (l : Lent) → Among l new.office.desk.lent → Among l old.office.desk.lent
+
+-- no bucket of this number's name is lent to a worker whose transaction has this key
+abbrev pub NumberIsFree : DeskState → Key → ℕ → Type 0
+NumberIsFree d k n = (name : List ℕ) → name_of d.manager.names n ≡ Some name → LoansAreOthers d (bucket_by d.office.of.spread name) k
+
+-- the transaction of each other worker stays
+abbrev pub OtherKeysStay : DeskState → ℕ → DeskState → Type 0
+OtherKeysStay old at new = (a : ℕ) → a ≢ at → slice_get new.keys a ≡ slice_get old.keys a
+
+-- the abort of a worker's transaction
+abbrev pub AbortsAt : DeskState → ℕ → Result Unlocked Refusal → DeskState → Type 0
+AbortsAt old at (Ok Done) new = (k : Key) × (mid : LockState) × (slice_get old.keys at ≡ Some k) × IsOver old.manager k mid × NamesFade mid new.manager × OwnersStay mid new.manager × OtherKeysStay old at new
+AbortsAt old at (Ok NotLetGo) new = KeepsManager old new
+AbortsAt old at (Err refusal) new = NamesFade old.manager new.manager × (new.keys ≡ old.keys)

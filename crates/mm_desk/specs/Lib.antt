@@ -1,0 +1,8 @@
+-- how many names of each bucket a lock manager has
+pub mod Books
+-- how the counts are kept while several names change at once
+pub mod Tally
+-- what a contract sees of a desk
+pub mod Desk
+-- what calls do
+pub mod Calls

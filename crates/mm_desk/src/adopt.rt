@@ -1,0 +1,67 @@
+//! A thin name is handed to the manager.
+ghost use Rattle.std.specs.Prelude.{◌≡◌, ◌<◌, ◌/◌, OnOk, OnErr, IsTrue};
+ghost use Rattle.mm_lists.specs.Members.{Among};
+ghost use Rattle.mm_desk.specs.Calls.{GrowsBy, NamesFade, OwnersStay, IsTakenOver, KeepsFat, AdoptsBucket};
+
+use crate::books::Books;
+use crate::desk::Desk;
+use crate::reply::Adopted;
+use mm_manager::{Key, Refusal, TryLock};
+use mm_thin::Got;
+
+impl Desk {
+    /// Makes a bucket fat. If it was thin, its name is owned from now on in the manager, by the transaction of the worker that had taken it.
+    pub(crate) fn adopt(&mut self, bucket: usize) -> Adopted
+        requires { bucket < self.old.office.of.table.words }
+        ensures adopts { AdoptsBucket bucket result self.new }
+        ensures keeps { KeepsFat self.old self.new }
+    {
+        match self.office.fatten(bucket) {
+            Got::WasFat => Adopted::Fat,
+            Got::WasFree => Adopted::Fat,
+            Got::Changed => Adopted::Changed,
+            Got::WasThin(number, name) => {
+                match offer(&mut self.books, &self.keys, bucket, number, name.as_slice()) {
+                    Ok(()) => {
+                        self.lent_to[bucket] = number;
+                        Adopted::Fat
+                    }
+                    Err(refusal) => {
+                        self.office.thin_again(bucket, number);
+                        Adopted::Refused(refusal)
+                    }
+                }
+            }
+        }
+    }
+}
+
+/// Asks the manager for the name of a bucket that was thin, for the worker of its record.
+///
+/// Refused as the manager refuses; as `NotOwner` also if the name is of another bucket or is owned by another, which does not happen.
+fn offer(
+    books: &mut Books,
+    keys: &Vec<Key>,
+    bucket: usize,
+    number: u32,
+    name: &[u8],
+) -> Result<(), Refusal>
+    ensures ok { OnOk result (IsTakenOver books.new keys.now.items bucket number name.now) }
+    ensures err { OnErr result (NamesFade books.old.manager books.new.manager) }
+    ensures grows { GrowsBy books.old.manager name.now books.new.manager }
+    ensures stay { OwnersStay books.old.manager books.new.manager }
+    ensures spread { books.new.spread ≡ books.old.spread }
+{
+    if books.spread.of(name) != bucket {
+        return Err(Refusal::NotOwner);
+    }
+    let Some(key) = keys.get(number as usize / 10) else {
+        return Err(Refusal::NoTransaction);
+    };
+    match books.try_lock(*key, name) {
+        Ok(TryLock::Granted) => Ok(()),
+        Ok(TryLock::Held) => Ok(()),
+        Ok(TryLock::Busy { .. }) => Err(Refusal::NotOwner),
+        Err(refusal) => Err(refusal),
+    }
+}

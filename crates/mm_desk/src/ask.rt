@@ -1,0 +1,107 @@
+//! A request for a name.
+ghost use Rattle.std.specs.Prelude.{◌≡◌};
+ghost use Rattle.mm_lists.specs.Members.{Among};
+ghost use Rattle.mm_manager.specs.Calls.{LocksName};
+ghost use Rattle.mm_thin.specs.Spread.{bucket_by};
+ghost use Rattle.mm_desk.specs.Calls.{AdoptsBucket, KeepsFat, FattensOne, FattensOwn, asked_of, RequestsAt, AsksAt};
+
+use crate::desk::Desk;
+use crate::reply::{Adopted, Asked};
+use mm_manager::{Key, Lock, Refusal};
+use mm_thin::Worker;
+
+impl Desk {
+    /// Asks for a name, for the transaction of a worker. First all that the worker has taken is made fat, and the name's bucket too: who
+    /// waits owns nothing thinly.
+    pub fn ask(&mut self, worker: &Worker, name: &[u8]) -> Result<Asked, Refusal>
+        ensures { AsksAt self.old worker.now name.now result self.new }
+    {
+        match self.fatten_all(worker, name) {
+            Adopted::Fat => self.request_at(worker.at(), name),
+            Adopted::Changed => Ok(Asked::Again),
+            Adopted::Refused(refusal) => Err(refusal),
+        }
+    }
+
+    /// Makes all fat that a worker has taken, and the bucket of the name that it asks for.
+    fn fatten_all(&mut self, worker: &Worker, name: &[u8]) -> Adopted
+        ensures own { FattensOwn worker.now result self.new }
+        ensures adopts { AdoptsBucket (bucket_by self.old.office.of.spread name.now) result self.new }
+        ensures keeps { KeepsFat self.old self.new }
+    {
+        match self.fatten_own(worker) {
+            Adopted::Fat => self.adopt_name(name),
+            Adopted::Changed => Adopted::Changed,
+            Adopted::Refused(refusal) => Adopted::Refused(refusal),
+        }
+    }
+
+    /// Makes all fat that a worker has taken.
+    pub fn fatten_own(&mut self, worker: &Worker) -> Adopted
+        ensures own { FattensOwn worker.now result self.new }
+        ensures keeps { KeepsFat self.old self.new }
+    {
+        for k in 0..worker.places() {
+            match self.fatten_one(worker, k) {
+                Adopted::Fat => {}
+                Adopted::Changed => return Adopted::Changed,
+                Adopted::Refused(refusal) => return Adopted::Refused(refusal),
+            }
+        }
+        Adopted::Fat
+    }
+
+    /// Makes fat what one record of a worker has taken.
+    fn fatten_one(&mut self, worker: &Worker, k: usize) -> Adopted
+        ensures one { FattensOne worker.now k result self.new }
+        ensures keeps { KeepsFat self.old self.new }
+    {
+        match worker.taken(k) {
+            Some(name) => self.adopt_name(name),
+            None => Adopted::Fat,
+        }
+    }
+
+    /// Makes the bucket of a name fat.
+    fn adopt_name(&mut self, name: &[u8]) -> Adopted
+        ensures adopts { AdoptsBucket (bucket_by self.old.office.of.spread name.now) result self.new }
+        ensures keeps { KeepsFat self.old self.new }
+    {
+        let bucket = self.books.spread.of(name);
+        self.adopt(bucket)
+    }
+
+    /// Asks for a name whose bucket is fat.
+    fn request(&mut self, key: Key, name: &[u8]) -> Result<Lock, Refusal>
+        requires { Among (bucket_by self.old.office.of.spread name.now) self.old.office.desk.fat }
+        ensures locks { LocksName self.old.manager key name.now result self.new.manager }
+        ensures rest { (self.new.office ≡ self.old.office) × (self.new.keys ≡ self.old.keys) }
+    {
+        self.books.lock(key, name)
+    }
+
+    /// Asks for a name whose bucket is fat, for the transaction of a worker.
+    fn request_at(&mut self, at: u32, name: &[u8]) -> Result<Asked, Refusal>
+        requires { Among (bucket_by self.old.office.of.spread name.now) self.old.office.desk.fat }
+        ensures asks { RequestsAt self.old at name.now result self.new }
+        ensures rest { (self.new.office ≡ self.old.office) × (self.new.keys ≡ self.old.keys) }
+    {
+        match self.key_of(at) {
+            Some(key) => asked(self.request(key, name)),
+            None => Err(Refusal::NoTransaction),
+        }
+    }
+}
+
+/// The same answer as a request is told.
+fn asked(answer: Result<Lock, Refusal>) -> Result<Asked, Refusal>
+    ensures { result ≡ asked_of answer }
+{
+    match answer {
+        Ok(Lock::Granted) => Ok(Asked::Granted),
+        Ok(Lock::Held) => Ok(Asked::Held),
+        Ok(Lock::Waits { holder }) => Ok(Asked::Waits { holder }),
+        Ok(Lock::Deadlock { holder }) => Ok(Asked::Deadlock { holder }),
+        Err(refusal) => Err(refusal),
+    }
+}
