@@ -84,7 +84,7 @@ module _ (books : BooksState) (o : OfficeState) (keys : List Key) (lent_to : Lis
   -- ---- a thin name comes to the manager
 
   module _ (books' : BooksState) (spread : books'.spread ≡ books.spread) (o' : OfficeState) (of : o'.of ≡ o.of) (b number : ℕ) (name : List ℕ) (stay : OwnersStay books.manager books'.manager) (not_fat : Among b o.desk.fat → ⊥) where
-    pub desk_lent : o'.desk ≡ with_lent o.desk b number name → b < o.of.table.words → GrowsBy books.manager name books'.manager → IsTakenOver books' keys b number name → IsDesk books' o' keys (set lent_to b number)
+    pub desk_lent : o'.desk ≡ with_lent o.desk b number name → b < o.of.table.words → GrowsBy books.manager name books'.manager → IsTakenOver books' (slice_get keys (number / 10)) b name → IsDesk books' o' keys (set lent_to b number)
     desk_lent same low grows taken = remade books' spread o' of (set lent_to b number) (length-set lent_to b number)
         (λ n x named. subst (λ (d : DeskView). Among (bucket_by books'.spread x) d.fat) (sym same) (elim (grows n x named) [
           | inl it ↦ inl (ap (bucket_by books'.spread) it ∙ sym taken.0)

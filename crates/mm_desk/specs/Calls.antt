@@ -1,5 +1,5 @@
 -- What calls of the books and the desk do.
-use Rattle.std.specs.Prelude.{◌≡◌, ◌≢◌, ◌⊎◌, ◌/◌, ℕ, Bool, true, false, List, [], length, Some, None, Result, Ok, Err, slice_get}
+use Rattle.std.specs.Prelude.{◌≡◌, ◌≢◌, ◌⊎◌, ◌/◌, ℕ, Bool, true, false, List, [], length, Option, Some, None, Result, Ok, Err, slice_get}
 use Rattle.mm_arena.specs.declared.key.Key.{Key}
 use Rattle.mm_names.specs.Names.{name_of}
 use Rattle.mm_lists.specs.Members.{Among}
@@ -43,9 +43,9 @@ OthersStay old k name new = (h : Key) (x : List ℕ) → Owns old h x → ((h �
 
 -- ---- a thin name is handed to the manager
 
--- the name is of this bucket, and the transaction of the record's worker owns it
-abbrev pub IsTakenOver : BooksState → List Key → ℕ → ℕ → List ℕ → Type 0
-IsTakenOver books keys bucket number name = (bucket ≡ bucket_by books.spread name) × ((k : Key) × (slice_get keys (number / 10) ≡ Some k) × Owns books.manager k name)
+-- the name is of this bucket, and the transaction of this key owns it
+abbrev pub IsTakenOver : BooksState → Option Key → ℕ → List ℕ → Type 0
+IsTakenOver books key bucket name = (bucket ≡ bucket_by books.spread name) × ((k : Key) × (key ≡ Some k) × Owns books.manager k name)
 
 -- what is fat stays fat, and owners stay; nothing else that a caller sees changes but the manager
 pub record KeepsFat (old new : DeskState) : Type 0 where

@@ -1,5 +1,5 @@
 //! A thin name is handed to the manager.
-ghost use Rattle.std.specs.Prelude.{◌≡◌, ◌<◌, ◌/◌, OnOk, OnErr, IsTrue};
+ghost use Rattle.std.specs.Prelude.{◌≡◌, ◌<◌, ◌/◌, OnOk, OnErr, IsTrue, slice_get};
 ghost use Rattle.mm_lists.specs.Members.{Among};
 ghost use Rattle.mm_desk.specs.Calls.{GrowsBy, NamesFade, OwnersStay, IsTakenOver, KeepsFat, AdoptsBucket};
 
@@ -21,7 +21,12 @@ impl Desk {
             Got::WasFree => Adopted::Fat,
             Got::Changed => Adopted::Changed,
             Got::WasThin(number, name) => {
-                match offer(&mut self.books, &self.keys, bucket, number, name.as_slice()) {
+                match offer(
+                    &mut self.books,
+                    key_of_record(&self.keys, number),
+                    bucket,
+                    name.as_slice(),
+                ) {
                     Ok(()) => {
                         self.lent_to[bucket] = number;
                         Adopted::Fat
@@ -36,17 +41,18 @@ impl Desk {
     }
 }
 
-/// Asks the manager for the name of a bucket that was thin, for the worker of its record.
+/// The key of the transaction of the worker that has this record.
+fn key_of_record(keys: &Vec<Key>, number: u32) -> Option<Key>
+    ensures { result ≡ slice_get keys.now.items (number / 10) }
+{
+    keys.get(number as usize / 10).copied()
+}
+
+/// Asks the manager for the name of a bucket that was thin, for the transaction of the worker that had taken it.
 ///
 /// Refused as the manager refuses; as `NotOwner` also if the name is of another bucket or is owned by another, which does not happen.
-fn offer(
-    books: &mut Books,
-    keys: &Vec<Key>,
-    bucket: usize,
-    number: u32,
-    name: &[u8],
-) -> Result<(), Refusal>
-    ensures ok { OnOk result (IsTakenOver books.new keys.now.items bucket number name.now) }
+fn offer(books: &mut Books, key: Option<Key>, bucket: usize, name: &[u8]) -> Result<(), Refusal>
+    ensures ok { OnOk result (IsTakenOver books.new key bucket name.now) }
     ensures err { OnErr result (NamesFade books.old.manager books.new.manager) }
     ensures grows { GrowsBy books.old.manager name.now books.new.manager }
     ensures stay { OwnersStay books.old.manager books.new.manager }
@@ -55,10 +61,10 @@ fn offer(
     if books.spread.of(name) != bucket {
         return Err(Refusal::NotOwner);
     }
-    let Some(key) = keys.get(number as usize / 10) else {
+    let Some(key) = key else {
         return Err(Refusal::NoTransaction);
     };
-    match books.try_lock(*key, name) {
+    match books.try_lock(key, name) {
         Ok(TryLock::Granted) => Ok(()),
         Ok(TryLock::Held) => Ok(()),
         Ok(TryLock::Busy { .. }) => Err(Refusal::NotOwner),

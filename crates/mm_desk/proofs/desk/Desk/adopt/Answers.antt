@@ -1,4 +1,6 @@
 use Rattle.std.proofs.Common.{◌<◌, ℕ, List, sym, ap, ◌∙◌, subst}
+use Rattle.std.specs.Prelude.{Option, slice_get, ◌/◌}
+use Rattle.mm_arena.specs.declared.key.Key.{Key}
 use Rattle.mm_lists.specs.Members.{Among}
 use Rattle.mm_thin.specs.Parts.{OfficeState}
 use Rattle.mm_desk.specs.Desk.{DeskState}
@@ -22,7 +24,8 @@ invariant_of-self-in-Ok c =
     desk_lent c.self.inside.books c.self.inside.office c.self.inside.keys.items c.self.inside.lent_to.items c.self.invariant c.offer.new.books c.offer.ensures.spread c.fatten.new.self (ap (λ (o : OfficeState). o.of) c.fatten.ensures.rest)
     c.args.bucket c.in-WasThin.number c.in-WasThin.name c.offer.ensures.stay c.in-WasThin.ensures.gets.1 c.in-WasThin.ensures.gets.0 low
     (subst (λ (name : List ℕ). GrowsBy c.self.inside.books.manager name c.offer.new.books.manager) c.as_slice.ensures c.offer.ensures.grows)
-    (subst (λ (name : List ℕ). IsTakenOver c.offer.new.books c.self.inside.keys.items c.args.bucket c.in-WasThin.number name) c.as_slice.ensures c.in-Ok.ensures.ok)
+    (subst (λ (name : List ℕ). IsTakenOver c.offer.new.books (slice_get c.self.inside.keys.items (c.in-WasThin.number / 10)) c.args.bucket name) c.as_slice.ensures
+    (subst (λ (key : Option Key). IsTakenOver c.offer.new.books key c.args.bucket c.as_slice.result.now) c.key_of_record.ensures c.in-Ok.ensures.ok))
 
 pub invariant_of-self-in-Err : goal.invariant_of-self-in-Err
 invariant_of-self-in-Err c =
