@@ -6,6 +6,7 @@
 #include "systemd.h"
 
 #include <errno.h>
+#include <sched.h>
 #include <signal.h>
 #include <stdlib.h>
 #include <string.h>
@@ -16,6 +17,7 @@
 #include <unistd.h>
 
 enum {
+    LOOKS = 100,
     PASSES = 16, /* lines of each ready client that are passed on before the system is asked what has come */
     EVENTS = 512,
     SIZE = 262144,
@@ -188,11 +190,22 @@ static int patience(const struct front *front)
     return most;
 }
 
+/* Waits until something has come. That is so after some microseconds mostly, and to be woken takes longer: so it looks some times before it sleeps. */
+static int waits(const struct front *front, struct epoll_event *events)
+{
+    int most = patience(front), count = epoll_wait(front->events, events, EVENTS, 0);
+    for (int look = 0; look < LOOKS && count == 0 && most != 0; look++) {
+        sched_yield();
+        count = epoll_wait(front->events, events, EVENTS, 0);
+    }
+    return count == 0 && most != 0 ? epoll_wait(front->events, events, EVENTS, most) : count;
+}
+
 /* Waits until something has come, and takes it. */
 static void listens(struct front *front)
 {
     struct epoll_event events[EVENTS];
-    int count = epoll_wait(front->events, events, EVENTS, patience(front));
+    int count = waits(front, events);
     for (int place = 0; place < count && front->end == GOES_ON; place++)
         takes_event(front, &events[place], false);
     for (int place = 0; place < count && front->end == GOES_ON; place++)
