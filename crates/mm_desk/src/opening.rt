@@ -1,5 +1,5 @@
 //! The opening of a desk, and its workers.
-ghost use Rattle.std.specs.Prelude.{◌≡◌, IfOk, OnErr};
+ghost use Rattle.std.specs.Prelude.{◌≡◌, ◌↔◌, Err, IfOk, OnErr};
 ghost use Rattle.mm_thin.specs.Views.{no_desk};
 ghost use Rattle.mm_thin.specs.Calls.{AddsWorker};
 ghost use Rattle.mm_desk.specs.Calls.{HasNoNames};
@@ -36,9 +36,11 @@ impl Desk {
         })
     }
 
-    /// A worker more.
+    /// A worker more. Refused as `Full` exactly if there are as many workers as transactions, and as `Memory` only if a request for memory was
+    /// refused; then nothing changes.
     pub fn add_worker(&mut self, alloc: Global) -> Result<Worker, WorkerError>
         ensures added { IfOk result (λ worker. AddsWorker self.old.office worker self.new.office) }
+        ensures full { (result ≡ Err WorkerError.Full) ↔ (self.old.office.workers ≡ self.old.office.max_workers) }
         ensures rest { (self.new.manager ≡ self.old.manager) × (self.new.keys ≡ self.old.keys) }
         ensures refused { OnErr result (self.new ≡ self.old) }
     {
