@@ -4,7 +4,7 @@ use Rattle.mm_arena.specs.declared.key.Key.{Key}
 use Rattle.mm_names.specs.Names.{name_of}
 use Rattle.mm_lists.specs.Members.{Among}
 use Rattle.mm_manager.specs.LockState.{LockState, Owns}
-use Rattle.mm_manager.specs.Calls.{LocksName, UnlocksName, Cancels}
+use Rattle.mm_manager.specs.Calls.{Aborts, LocksName, UnlocksName, Cancels}
 use Rattle.mm_manager.specs.declared.reply.Cancel as cancel
 use Rattle.mm_manager.specs.declared.reply.Status.{Status}
 use Rattle.mm_manager.specs.declared.reply.Status.TheVariants as status
@@ -170,8 +170,12 @@ NumberIsFree d k n = (name : List ℕ) → name_of d.manager.names n ≡ Some na
 abbrev pub OtherKeysStay : DeskState → ℕ → DeskState → Type 0
 OtherKeysStay old at new = (a : ℕ) → a ≢ at → slice_get new.keys a ≡ slice_get old.keys a
 
+-- the worker has no transaction, or the manager knows none of its key
+abbrev pub IsUnknown : DeskState → ℕ → DeskState → Type 0
+IsUnknown old at new = (slice_get old.keys at ≡ None) ⊎ ((k : Key) × (slice_get old.keys at ≡ Some k) × Aborts old.manager k (Err NoTransaction) new.manager)
+
 -- the abort of a worker's transaction
 abbrev pub AbortsAt : DeskState → ℕ → Result Unlocked Refusal → DeskState → Type 0
 AbortsAt old at (Ok Done) new = (k : Key) × (mid : LockState) × (slice_get old.keys at ≡ Some k) × IsOver old.manager k mid × NamesFade mid new.manager × OwnersStay mid new.manager × OtherKeysStay old at new
 AbortsAt old at (Ok NotLetGo) new = KeepsManager old new
-AbortsAt old at (Err refusal) new = NamesFade old.manager new.manager × (new.keys ≡ old.keys)
+AbortsAt old at (Err refusal) new = NamesFade old.manager new.manager × (new.keys ≡ old.keys) × (refusal ≡ NoTransaction → IsUnknown old at new)
