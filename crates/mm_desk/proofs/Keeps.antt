@@ -5,7 +5,7 @@ use Rattle.mm_arena.specs.declared.key.Key.{Key}
 use Rattle.mm_lists.specs.Members.{Among}
 use Rattle.mm_lists.proofs.Lemmas.Filter.{filter_gives, Among-without_other}
 use Rattle.mm_names.specs.Names.{name_of}
-use Rattle.mm_manager.specs.LockState.{LockState}
+use Rattle.mm_manager.specs.LockState.{LockState, IsLawful}
 use Rattle.mm_thin.specs.declared.views.Lent.{Lent}
 use Rattle.mm_thin.specs.declared.views.DeskView.{DeskView}
 use Rattle.mm_thin.specs.declared.spread.Spread.{Spread}
@@ -18,7 +18,7 @@ use Rattle.mm_thin.specs.declared.reply.Look.TheVariants.{NotFat, Fat, IsLent}
 use Rattle.mm_desk.specs.Books.{BooksState, names_in}
 use Rattle.mm_desk.specs.Desk.{DeskState, AreFat, IsAdopted, IsDesk}
 use Rattle.mm_desk.specs.Calls.{GrowsBy, NamesFade, OwnersStay, OthersStay, IsTakenOver, KeepsFat, OwnAreFat, FattensOwn, HasNoNames, IsOver, KeepsManager, LoansEnd, NumberIsFree, NoLoansOf}
-use Rattle.mm_rules.specs.TableState.{owner_of}
+use Rattle.mm_rules.specs.TableState.{is_live, owner_of}
 use Rattle.std.proofs.lemmas.Option.{same_Some}
 use Rattle.mm_lists.proofs.Lemmas.Set.{slice_get-set_other}
 use Rattle.std.specs.Prelude.{Result, Ok, Err, IfOk, OnErr}
@@ -247,3 +247,12 @@ desk_renewed books books' o keys lent_to is spread fade stay at key next ended l
           let apart : l.number / 10 ≢ at = λ same. loans l among (ap (slice_get keys) same ∙ ended) in
           record { bucket = a.bucket; listed = a.listed; owned = (a.owned.0, slice_get-set_other keys (l.number / 10) at next apart ∙ a.owned.1, a.owned.2) };
     }
+
+-- nothing is lent to the worker of a transaction that is not live
+pub dead_unlent : (books : BooksState) (o : OfficeState) (keys : List Key) (lent_to : List ℕ) → IsDesk books o keys lent_to → IsLawful books.manager → (key : Key) → is_live books.manager.table key ≡ false
+    → (l : Lent) → Among l o.desk.lent → slice_get keys (l.number / 10) ≡ Some key → ⊥
+dead_unlent books o keys lent_to is lawful key dead l among at =
+    let a = is.adopted l among in
+    let owner = a.owned.2.2 ∙ ap Some (same_Some a.owned.0 key (sym a.owned.1 ∙ at)) in
+    let live : is_live books.manager.table key ≡ true = lawful.laws.lawful.well_formed.owners a.owned.2.0 key owner in
+    absurd (cc)

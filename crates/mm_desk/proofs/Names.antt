@@ -1,6 +1,6 @@
 -- Which names have numbers after a call of the manager, and what that does to the counts.
 use Rattle.std.proofs.Common.{◌≡◌, ◌≢◌, ◌⊎◌, ◌↔◌, ℕ, ◌+◌, ◌-◌, ◌<◌, ◌≤◌, zero, suc, ◌∷◌, Bool, true, false, if◌then◌else◌, List, [], length, set, Option, Some, None, Result, Ok, Err, IfOk, refl, sym, ap, ◌∙◌, subst, inl, inr, arith, get_or-set_same, get_or-set_other, length-set}
-use Rattle.std.specs.Prelude.{slice_index, slice_index_or, is_some, is_err}
+use Rattle.std.specs.Prelude.{slice_index, slice_index_or, is_some, is_err, is_ok}
 use Rattle.mm_bit_set.specs.BitSet.{has}
 use Rattle.std.proofs.lemmas.Bool.{cases_eq, cases_Bool}
 use Rattle.std.proofs.lemmas.Option.{same_Some, slice_get-get_or}
@@ -9,7 +9,7 @@ use Rattle.mm_arena.specs.declared.key.Key.{Key}
 use Rattle.mm_names.specs.Names.{NameTable, name_of, Interns}
 use Rattle.mm_rules.specs.TableState.{owner_of}
 use Rattle.mm_manager.specs.LockState.{LockState, Owns, IsUnowned, KeepOwned, IsLawful, untold}
-use Rattle.mm_manager.specs.Calls.{Gets, TriesName, Tries, LocksName, Requests, Unlocks, UnlocksName, EndsBy, IsEnded, LosesName, Passes, AbortsDue, TakesBack, Cancels, Begins, Aborts}
+use Rattle.mm_manager.specs.Calls.{Gets, TriesName, Tries, LocksName, Requests, Unlocks, UnlocksName, EndsBy, IsEnded, LosesName, Passes, AbortsDue, TakesBack, Cancels, Begins, Commits, Aborts}
 use Rattle.mm_manager.specs.Permit.{may_cancel, may_cancel_in}
 use Rattle.mm_manager.specs.Reads.{HasStatus}
 use Rattle.mm_manager.specs.declared.refusal.Refusal.TheVariants.{NoTransaction}
@@ -389,15 +389,23 @@ ended_over old new k none (inr (inl ends)) = over_by (AbortEvent k) old old tt k
 ended_over old new k none (inr (inr back)) = over_by (Finish k) old back.0 tt k new (ap (λ (m : LockState). m.names) back.1.state) (λ h x owns. (back.1.owners h x).1 owns)
     (λ p. ap (λ (m : LockState). has m.due p) back.1.state ∙ cleared old.due k.process none p) back.2
 
+-- a refused end ends nothing
+untold_over : (old new : LockState) (k : Key) → NoneDue old → new ≡ untold old → IsOver old k new
+untold_over old new k none same = record {
+  size = ap (λ (m : LockState). length m.names.names) same;
+  fade = λ n x is. ap (λ (m : LockState). name_of m.names n) (sym same) ∙ is;
+  stay = λ h x owns apart. stays_told old new same h x owns;
+  due = λ p. ap (λ (m : LockState). has m.due p) same ∙ none p;
+}
+
+pub commits_over : (old new : LockState) (k : Key) → NoneDue old → (answer : Result (Unit {0}) Refusal) → Commits old k answer new → IsOver old k new
+commits_over old new k none (Ok done) commits = over_by (Finish k) old old tt k new refl (λ h x owns. owns) none commits
+commits_over old new k none (Err refusal) commits = untold_over old new k none commits.0
+
 pub aborts_over : (old new : LockState) (k : Key) → NoneDue old → (may_cancel old.table k ≡ Ok tt → ⊥) → (answer : Result aborted.Abort Refusal) → Aborts old k answer new → IsOver old k new
 aborts_over old new k none active (Ok aborts.Done) done = ended_over old new k none done
 aborts_over old new k none active (Ok aborts.Later) done = absurd (active done.0)
-aborts_over old new k none active (Err refusal) done = record {
-  size = ap (λ (m : LockState). length m.names.names) done.0;
-  fade = λ n x is. ap (λ (m : LockState). name_of m.names n) (sym done.0) ∙ is;
-  stay = λ h x owns apart. stays_told old new done.0 h x owns;
-  due = λ p. ap (λ (m : LockState). has m.due p) done.0 ∙ none p;
-}
+aborts_over old new k none active (Err refusal) done = untold_over old new k none done.0
 
 module _ (old : LockState) (lawful : IsLawful old) (k : Key) (numbers : List ℕ) (owned : (n : ℕ) → Among n numbers ↔ (owner_of old.table n ≡ Some k)) where
   pub held_inside : (n : ℕ) → Among n numbers → n < length old.names.names
@@ -423,7 +431,15 @@ module _ (old : LockState) (lawful : IsLawful old) (k : Key) (numbers : List ℕ
           let there : now.0 ≡ n = lawful.names.distinct now.0 n x (over.fade now.0 x now.1) is in
           ap (name_of new.names) (sym there) ∙ now.1 ∙ sym is
 
--- ---- who waits in no deadlock
+-- ---- who waits in no deadlock, and who is live
+
+pub live_told : (m : LockState) (k : Key) (told : Result Status Refusal) → HasStatus m k told → is_ok told ≡ true → is_live m.table k ≡ true
+live_told m k (Ok status) has_status ok = has_status.0
+live_told m k (Err refusal) has_status ok = absurd (cc)
+
+pub dead_told : (m : LockState) (k : Key) (told : Result Status Refusal) → HasStatus m k told → is_ok told ≡ false → is_live m.table k ≡ false
+dead_told m k (Ok status) has_status ok = absurd (cc)
+dead_told m k (Err refusal) has_status ok = has_status.0
 
 may_not : (w : Option ℕ) (v : Bool) → (w ≡ None) ⊎ (v ≡ true) → may_cancel_in w v ≡ Ok tt → ⊥
 may_not None v idle is = absurd (cc)
@@ -440,3 +456,9 @@ no_wait m k (Ok status.Active) has_status none may = may_not_live (is_live m.tab
 no_wait m k (Ok (status.Waiting n h aborting)) has_status none may = absurd (cc)
 no_wait m k (Ok (status.Deadlock n h)) has_status none may = may_not_live (is_live m.table k) (may_cancel_in (wait_of m.table k.process) (has_verdict m.table k.process)) (may_not (wait_of m.table k.process) (has_verdict m.table k.process) (inr has_status.1.1)) may
 no_wait m k (Err refusal) has_status none may = (let dead : (if is_live m.table k then may_cancel_in (wait_of m.table k.process) (has_verdict m.table k.process) else Err NoTransaction) ≡ Err NoTransaction = rw has_status.0 refl in absurd (cc))
+
+pub waits_told : (m : LockState) (k : Key) (told : Result Status Refusal) → HasStatus m k told → is_wait told ≡ true → may_cancel m.table k ≡ Ok tt
+waits_told m k (Ok status.Active) has_status waits = absurd (cc)
+waits_told m k (Ok (status.Waiting n h aborting)) has_status waits = rw has_status.0 (rw has_status.1.0.waits (rw has_status.1.1 refl))
+waits_told m k (Ok (status.Deadlock n h)) has_status waits = absurd (cc)
+waits_told m k (Err refusal) has_status waits = absurd (cc)

@@ -1,21 +1,28 @@
 -- What calls of the books and the desk do.
-use Rattle.std.specs.Prelude.{◌≡◌, ◌≢◌, ◌⊎◌, ◌/◌, ℕ, Bool, true, false, List, [], length, Option, Some, None, Result, Ok, Err, slice_get}
+use Rattle.std.specs.Prelude.{◌≡◌, ◌≢◌, ◌⊎◌, ◌/◌, ℕ, Bool, true, false, List, [], length, Option, Some, None, Result, Ok, Err, slice_get, slice_set, ◌<◌}
 use Rattle.mm_arena.specs.declared.key.Key.{Key}
 use Rattle.mm_names.specs.Names.{name_of}
 use Rattle.mm_lists.specs.Members.{Among}
 use Rattle.mm_manager.specs.LockState.{LockState, Owns}
-use Rattle.mm_manager.specs.Calls.{Aborts, LocksName, UnlocksName, Cancels}
+use Rattle.mm_rules.specs.TableState.{is_live}
+use Rattle.mm_manager.specs.Permit.{may_cancel}
+use Rattle.mm_manager.specs.Calls.{Aborts, Begins, Commits, LocksName, TriesName, UnlocksName, Cancels}
+use Rattle.mm_manager.specs.declared.reply.Abort.TheVariants as aborts
 use Rattle.mm_manager.specs.declared.reply.Cancel as cancel
 use Rattle.mm_manager.specs.declared.reply.Status.{Status}
 use Rattle.mm_manager.specs.declared.reply.Status.TheVariants as status
 use Rattle.mm_manager.specs.declared.reply.Lock.{Lock}
 use Rattle.mm_manager.specs.declared.reply.Lock.TheVariants as lock
+use Rattle.mm_manager.specs.declared.reply.TryLock.{TryLock}
+use Rattle.mm_manager.specs.declared.reply.TryLock.TheVariants as trylock
+use Rattle.mm_desk.specs.declared.reply.Tried.{Tried}
+use Rattle.mm_desk.specs.declared.reply.Tried.TheVariants as tries
 use Rattle.mm_thin.specs.declared.views.RecordView.{RecordView}
 use Rattle.mm_thin.specs.Parts.{WorkerState}
 use Rattle.mm_desk.specs.declared.reply.Asked.{Asked}
 use Rattle.mm_desk.specs.declared.reply.Asked.TheVariants.{Granted, Held, Waits, Deadlock, Again}
 use Rattle.mm_manager.specs.declared.refusal.Refusal.{Refusal}
-use Rattle.mm_manager.specs.declared.refusal.Refusal.TheVariants.{NoTransaction}
+use Rattle.mm_manager.specs.declared.refusal.Refusal.TheVariants.{NoTransaction, NamesFull, Waiting}
 use Rattle.mm_thin.specs.declared.views.Lent.{Lent}
 use Rattle.mm_thin.specs.Spread.{bucket_by}
 use Rattle.mm_desk.specs.Books.{BooksState, NoneDue}
@@ -116,6 +123,27 @@ AsksAt old w name answer new =
     ((mid : DeskState) × KeepsFat old mid × OwnAreFat w mid × RequestsAt mid w.at name answer new × (new.office ≡ mid.office) × (new.keys ≡ mid.keys))
     ⊎ (KeepsFat old new × ((answer ≡ Ok Again) ⊎ ((refusal : Refusal) × (answer ≡ Err refusal))))
 
+-- ---- a try
+
+-- the same answer as the manager's
+abbrev pub tried_of : Result TryLock Refusal → Result Tried Refusal
+tried_of (Ok trylock.Granted) = Ok tries.Granted
+tried_of (Ok trylock.Held) = Ok tries.Held
+tried_of (Ok (trylock.Busy h)) = Ok (tries.Busy h)
+tried_of (Err refusal) = Err refusal
+
+-- the manager is asked for a name that is not to be waited for, by the transaction of a worker, if there is one
+abbrev pub AttemptsAt : DeskState → ℕ → List ℕ → Result Tried Refusal → DeskState → Type 0
+AttemptsAt old at name answer new =
+    ((slice_get old.keys at ≡ None) × (answer ≡ Err NoTransaction) × (new ≡ old))
+    ⊎ ((k : Key) × (told : Result TryLock Refusal) × (slice_get old.keys at ≡ Some k) × TriesName old.manager k name told new.manager × (answer ≡ tried_of told))
+
+-- the try comes after the name's bucket was made fat; or that could not be done, and nothing is asked for
+abbrev pub TriesAt : DeskState → ℕ → List ℕ → Result Tried Refusal → DeskState → Type 0
+TriesAt old at name answer new =
+    ((mid : DeskState) × KeepsFat old mid × AttemptsAt mid at name answer new × (new.office ≡ mid.office) × (new.keys ≡ mid.keys))
+    ⊎ (KeepsFat old new × ((answer ≡ Ok tries.Again) ⊎ ((refusal : Refusal) × (answer ≡ Err refusal))))
+
 -- ---- what holds of any worker and the desk
 
 -- who owns the name in the manager that the record has taken is the transaction of the record's worker
@@ -166,16 +194,34 @@ LoansEnd old new = (l : Lent) → Among l new.office.desk.lent → Among l old.o
 abbrev pub NumberIsFree : DeskState → Key → ℕ → Type 0
 NumberIsFree d k n = (name : List ℕ) → name_of d.manager.names n ≡ Some name → LoansAreOthers d (bucket_by d.office.of.spread name) k
 
--- the transaction of each other worker stays
-abbrev pub OtherKeysStay : DeskState → ℕ → DeskState → Type 0
-OtherKeysStay old at new = (a : ℕ) → a ≢ at → slice_get new.keys a ≡ slice_get old.keys a
+-- the end of a worker's transaction is refused before the manager is asked: it has none, or there is room for this many names and there can be more
+abbrev pub IsUnasked : DeskState → ℕ → ℕ → Refusal → DeskState → Type 0
+IsUnasked old at room refusal new =
+    ((slice_get old.keys at ≡ None) × (refusal ≡ NoTransaction) × (new ≡ old)) ⊎ ((room < old.manager.table.config.resources) × (refusal ≡ NamesFull) × (new ≡ old))
 
--- the worker has no transaction, or the manager knows none of its key
-abbrev pub IsUnknown : DeskState → ℕ → DeskState → Type 0
-IsUnknown old at new = (slice_get old.keys at ≡ None) ⊎ ((k : Key) × (slice_get old.keys at ≡ Some k) × Aborts old.manager k (Err NoTransaction) new.manager)
+-- the commit of a worker's transaction, with room for this many names
+abbrev pub CommitsAt : DeskState → ℕ → ℕ → Result Unlocked Refusal → DeskState → Type 0
+CommitsAt old at room (Ok Done) new = (k : Key) × (slice_get old.keys at ≡ Some k) × Commits old.manager k (Ok tt) new.manager × (new.keys ≡ old.keys)
+CommitsAt old at room (Ok NotLetGo) new = KeepsManager old new
+CommitsAt old at room (Err refusal) new =
+    IsUnasked old at room refusal new ⊎ ((k : Key) × (slice_get old.keys at ≡ Some k) × Commits old.manager k (Err refusal) new.manager × (new.keys ≡ old.keys))
 
--- the abort of a worker's transaction
-abbrev pub AbortsAt : DeskState → ℕ → Result Unlocked Refusal → DeskState → Type 0
-AbortsAt old at (Ok Done) new = (k : Key) × (mid : LockState) × (slice_get old.keys at ≡ Some k) × IsOver old.manager k mid × NamesFade mid new.manager × OwnersStay mid new.manager × OtherKeysStay old at new
-AbortsAt old at (Ok NotLetGo) new = KeepsManager old new
-AbortsAt old at (Err refusal) new = NamesFade old.manager new.manager × (new.keys ≡ old.keys) × (refusal ≡ NoTransaction → IsUnknown old at new)
+-- its abort
+abbrev pub AbortsAt : DeskState → ℕ → ℕ → Result Unlocked Refusal → DeskState → Type 0
+AbortsAt old at room (Ok Done) new = (k : Key) × (slice_get old.keys at ≡ Some k) × Aborts old.manager k (Ok aborts.Done) new.manager × (new.keys ≡ old.keys)
+AbortsAt old at room (Ok NotLetGo) new = KeepsManager old new
+AbortsAt old at room (Err refusal) new =
+    IsUnasked old at room refusal new
+    ⊎ ((k : Key) × (slice_get old.keys at ≡ Some k) × (may_cancel old.manager.table k ≡ Ok tt) × (refusal ≡ Waiting) × (new ≡ old))
+    ⊎ ((k : Key) × (slice_get old.keys at ≡ Some k) × Aborts old.manager k (Err refusal) new.manager × (new.keys ≡ old.keys))
+
+-- ---- a worker's next transaction
+
+-- the transaction of the worker is live, and has this key; or it has ended, and the next one has this key
+abbrev pub BeginsAt : DeskState → ℕ → Result Key Refusal → DeskState → Type 0
+BeginsAt old at (Ok next) new =
+    ((slice_get old.keys at ≡ Some next) × (is_live old.manager.table next ≡ true) × (new ≡ old))
+    ⊎ ((k : Key) × (slice_get old.keys at ≡ Some k) × (is_live old.manager.table k ≡ false) × Begins old.manager (Ok next) new.manager × (new.keys ≡ slice_set old.keys at next) × (new.office ≡ old.office))
+BeginsAt old at (Err refusal) new =
+    ((slice_get old.keys at ≡ None) × (refusal ≡ NoTransaction) × (new ≡ old))
+    ⊎ ((k : Key) × (slice_get old.keys at ≡ Some k) × (is_live old.manager.table k ≡ false) × Begins old.manager (Err refusal) new.manager × (new.keys ≡ old.keys) × (new.office ≡ old.office))

@@ -1,13 +1,13 @@
 //! A request for a name.
 ghost use Rattle.std.specs.Prelude.{◌≡◌};
 ghost use Rattle.mm_lists.specs.Members.{Among};
-ghost use Rattle.mm_manager.specs.Calls.{LocksName};
+ghost use Rattle.mm_manager.specs.Calls.{LocksName, TriesName};
 ghost use Rattle.mm_thin.specs.Spread.{bucket_by};
-ghost use Rattle.mm_desk.specs.Calls.{AdoptsBucket, KeepsFat, FattensOne, FattensOwn, asked_of, RequestsAt, AsksAt};
+ghost use Rattle.mm_desk.specs.Calls.{AdoptsBucket, KeepsFat, FattensOne, FattensOwn, asked_of, tried_of, RequestsAt, AsksAt, AttemptsAt, TriesAt};
 
 use crate::desk::Desk;
-use crate::reply::{Adopted, Asked};
-use mm_manager::{Key, Lock, Refusal};
+use crate::reply::{Adopted, Asked, Tried};
+use mm_manager::{Key, Lock, Refusal, TryLock};
 use mm_thin::Worker;
 
 impl Desk {
@@ -19,6 +19,17 @@ impl Desk {
         match self.fatten_all(worker, name) {
             Adopted::Fat => self.request_at(worker.at(), name),
             Adopted::Changed => Ok(Asked::Again),
+            Adopted::Refused(refusal) => Err(refusal),
+        }
+    }
+
+    /// Asks for a name, for the transaction of a worker, and never waits. The name's bucket is made fat; what the worker has taken stays thin.
+    pub fn try_lock(&mut self, at: u32, name: &[u8]) -> Result<Tried, Refusal>
+        ensures { TriesAt self.old at name.now result self.new }
+    {
+        match self.adopt_name(name) {
+            Adopted::Fat => self.attempt_at(at, name),
+            Adopted::Changed => Ok(Tried::Again),
             Adopted::Refused(refusal) => Err(refusal),
         }
     }
@@ -91,6 +102,27 @@ impl Desk {
             None => Err(Refusal::NoTransaction),
         }
     }
+
+    /// Asks for a name whose bucket is fat, and never waits.
+    fn attempt(&mut self, key: Key, name: &[u8]) -> Result<TryLock, Refusal>
+        requires { Among (bucket_by self.old.office.of.spread name.now) self.old.office.desk.fat }
+        ensures tries { TriesName self.old.manager key name.now result self.new.manager }
+        ensures rest { (self.new.office ≡ self.old.office) × (self.new.keys ≡ self.old.keys) }
+    {
+        self.books.try_lock(key, name)
+    }
+
+    /// Asks for a name whose bucket is fat, for the transaction of a worker, and never waits.
+    fn attempt_at(&mut self, at: u32, name: &[u8]) -> Result<Tried, Refusal>
+        requires { Among (bucket_by self.old.office.of.spread name.now) self.old.office.desk.fat }
+        ensures tries { AttemptsAt self.old at name.now result self.new }
+        ensures rest { (self.new.office ≡ self.old.office) × (self.new.keys ≡ self.old.keys) }
+    {
+        match self.key_of(at) {
+            Some(key) => tried(self.attempt(key, name)),
+            None => Err(Refusal::NoTransaction),
+        }
+    }
 }
 
 /// The same answer as a request is told.
@@ -102,6 +134,18 @@ fn asked(answer: Result<Lock, Refusal>) -> Result<Asked, Refusal>
         Ok(Lock::Held) => Ok(Asked::Held),
         Ok(Lock::Waits { holder }) => Ok(Asked::Waits { holder }),
         Ok(Lock::Deadlock { holder }) => Ok(Asked::Deadlock { holder }),
+        Err(refusal) => Err(refusal),
+    }
+}
+
+/// The same answer as a try is told.
+fn tried(answer: Result<TryLock, Refusal>) -> Result<Tried, Refusal>
+    ensures { result ≡ tried_of answer }
+{
+    match answer {
+        Ok(TryLock::Granted) => Ok(Tried::Granted),
+        Ok(TryLock::Held) => Ok(Tried::Held),
+        Ok(TryLock::Busy { holder }) => Ok(Tried::Busy { holder }),
         Err(refusal) => Err(refusal),
     }
 }

@@ -2,7 +2,7 @@
 ghost use Rattle.std.specs.Prelude.{◌≡◌, ◌<◌, ◌≤◌, ◌↔◌, Ok, IsTrue, vec_capacity};
 ghost use Rattle.mm_manager.specs.Permit.{may_cancel};
 ghost use Rattle.mm_manager.specs.LockState.{IsLawful};
-ghost use Rattle.mm_manager.specs.Calls.{Aborts, Begins, LocksName, TriesName, UnlocksName, Cancels};
+ghost use Rattle.mm_manager.specs.Calls.{Aborts, Begins, Commits, LocksName, TriesName, UnlocksName, Cancels};
 ghost use Rattle.mm_desk.specs.Books.{names_in};
 ghost use Rattle.mm_desk.specs.Calls.{GrowsBy, NamesFade, OwnersStay, OthersStay, IsOver};
 
@@ -115,8 +115,24 @@ impl Books {
         answer
     }
 
+    /// Ends a transaction that does not wait: hands over all that it owns. `numbers` has room for each number.
+    pub(crate) fn commit(&mut self, key: Key, numbers: &mut Vec<u32>) -> Result<(), Refusal>
+        requires room { self.old.manager.table.config.resources ≤ vec_capacity numbers.old }
+        ensures commits { Commits self.old.manager key result self.new.manager }
+        ensures over { IsOver self.old.manager key self.new.manager }
+        ensures spread { self.new.spread ≡ self.old.spread }
+    {
+        self.manager.keeps_laws();
+        self.manager.holds(key, numbers);
+        uncount(&self.manager, self.spread, numbers, &mut self.counts);
+        let answer = self.manager.commit(key);
+        self.manager.keeps_laws();
+        recount(&self.manager, self.spread, numbers, &mut self.counts);
+        answer
+    }
+
     /// Ends a transaction that does not wait, or waits in a deadlock: hands over all that it owns. `numbers` has room for each number.
-    pub(crate) fn end(&mut self, key: Key, numbers: &mut Vec<u32>) -> Result<Abort, Refusal>
+    pub(crate) fn abort(&mut self, key: Key, numbers: &mut Vec<u32>) -> Result<Abort, Refusal>
         requires room { self.old.manager.table.config.resources ≤ vec_capacity numbers.old }
         requires active { may_cancel self.old.manager.table key ≡ Ok tt → ⊥ }
         ensures aborts { Aborts self.old.manager key result self.new.manager }

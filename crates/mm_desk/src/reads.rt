@@ -1,20 +1,19 @@
 //! What the desk tells, and what holds of any worker and the desk.
-ghost use Rattle.std.specs.Prelude.{◌≡◌, ◌↔◌, Some, slice_get};
-ghost use Rattle.mm_arena.specs.declared.key.Key.{Key as KeyValue};
-ghost use Rattle.mm_manager.specs.LockState.{Owns};
+ghost use Rattle.std.specs.Prelude.{◌≡◌, Some, slice_get};
 ghost use Rattle.mm_desk.specs.Calls.{OwnsAlone, IsOwned};
 ghost use Rattle.mm_thin.specs.declared.views.RecordView.{RecordView};
 
 use crate::desk::Desk;
-use mm_manager::Key;
+use mm_manager::LockManager;
 use mm_thin::Worker;
 
 impl Desk {
-    /// The owner of a name in the manager. A worker may have taken the name thinly if there is none.
-    pub fn owner(&self, name: &[u8]) -> Option<Key>
-        ensures { (k : KeyValue) → (result ≡ Some k) ↔ Owns self.now.manager k name.now }
+    /// Returns the manager, for its reading calls: who owns a name that somebody asked for, what a transaction does, and whom the last call
+    /// told something. A worker may have taken a name that nobody owns there.
+    pub fn manager(&self) -> &LockManager
+        ensures { result.now ≡ self.now.manager }
     {
-        self.books.manager.owner(name)
+        &self.books.manager
     }
 
     /// Changes nothing. Who owns a name in the manager that a record of a worker has taken is the worker's own transaction; and it owns the

@@ -27,6 +27,19 @@ pub enum Asked {
     Again,
 }
 
+/// What a try is told.
+#[derive(Clone, Copy, Debug, PartialEq, Eq)]
+pub enum Tried {
+    /// Nobody owned the name, and the transaction owns it now.
+    Granted,
+    /// The transaction owns the name already.
+    Held,
+    /// Another transaction owns the name.
+    Busy { holder: Key },
+    /// Another thread changed the bucket meanwhile, and nothing is asked for: try again.
+    Again,
+}
+
 /// What an unlock is told.
 #[derive(Clone, Copy, Debug, PartialEq, Eq)]
 pub enum Unlocked {

@@ -37,7 +37,7 @@ impl LockError {
 
     /// Returns what a refusal of the manager means.
     #[inline(never)]
-    pub(crate) fn of_refusal(refusal: Refusal) -> LockError
+    pub fn of_refusal(refusal: Refusal) -> LockError
         ensures error { result ≡ error_of refusal }
         ensures in_time { result ≢ LockError.TimedOut }
     {

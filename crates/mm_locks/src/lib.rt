@@ -5,6 +5,7 @@
 //! - `run`: work that is done again after a deadlock, and `backoff`: the pauses before that.
 //! - `error`: why a call is refused.
 //! - `monitor`: the manager behind the lock, with the processes that it is to wake.
+//! - `told`: who is to be woken after a call of the manager.
 //! - `wakes`: the processes that a call is to wake once the lock is free.
 //! - `parkers`: where the thread of each transaction sleeps.
 //! - `patience`: how long a thread is to wait.
@@ -17,11 +18,15 @@ mod monitor;
 mod parkers;
 mod patience;
 mod run;
+mod told;
 mod transaction;
 mod wakes;
 
 pub use error::LockError;
 pub use locks::Locks;
 pub use mm_manager::{ManagerConfig, OpenError, Totals};
-pub use monitor::{Granted, GrantedUpTo};
+pub use monitor::{Granted, GrantedUpTo, owns};
+pub use parkers::{FlaggedParker, Parkers};
+pub use patience::Patience;
 pub use transaction::Transaction;
+pub use wakes::{MAX_WAKES, PendingWakes, Wakes};

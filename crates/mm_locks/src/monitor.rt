@@ -11,7 +11,7 @@ ghost use Rattle.mm_locks.specs.Errors.{of_begin, of_lock, of_try, of_unlock, of
 ghost use Rattle.mm_manager.specs.Made.{Aborted};
 ghost use Rattle.mm_locks.specs.Granted.{IsFor, OwnsFor, IsAmong};
 ghost use Rattle.mm_locks.specs.Wakes.{IsToWake};
-ghost use Rattle.mm_locks.specs.Overdue.{NotesEnd, NotesTold, NotesTry};
+ghost use Rattle.mm_locks.specs.Overdue.{NotesEnd, NotesTry};
 
 mod tokens;
 
@@ -178,23 +178,13 @@ impl Monitor {
         }
     }
 
-    /// Returns whether the transaction owns the name.
-    fn owns(&self, key: Key, name: &[u8]) -> bool
-        ensures { IsTrue result ↔ Owns self.now.manager key name.now }
-    {
-        match self.manager.owner(name) {
-            Some(owner) => owner == key,
-            None => false,
-        }
-    }
-
     /// Returns what a request has come to that was told to wait. `Owns` only if the transaction owns the name at this moment.
     pub fn outcome<'n>(&self, key: Key, name: &'n [u8]) -> Result<Outcome<'n>, LockError>
         ensures finds { Finds self.now.manager key name.now result }
         ensures granted { IfOk result (OwnsFor key name.now) }
         ensures refused { IfErr result (λ error. of_lock error ≡ true) }
     {
-        if self.owns(key, name) {
+        if owns(&self.manager, key, name) {
             return Ok(Outcome::Owns(self.granted(key, name)));
         }
         match self.manager.status(key) {
@@ -228,7 +218,7 @@ impl Monitor {
         ensures noted { NotesTry self.new.manager key result wakes.old self.old.pending wakes.new self.new.pending }
     {
         let answer = self.manager.cancel(key);
-        self.note_told(wakes);
+        self.pending.note_told(wakes, &self.manager);
         if let Ok(Cancel::Withdrawn) = answer {
             self.pending.note_overdue(wakes);
             return Err(LockError::TimedOut);
@@ -249,7 +239,7 @@ impl Monitor {
         ensures refused { IfErr result (λ error. of_unlock error ≡ true) }
     {
         let answer = self.manager.unlock(key, name);
-        self.note(wakes);
+        self.pending.note_end(wakes, &self.manager);
         answer.map_err(LockError::of_refusal)
     }
 
@@ -261,7 +251,7 @@ impl Monitor {
     {
         match self.manager.commit(key) {
             Ok(()) => {
-                self.note(wakes);
+                self.pending.note_end(wakes, &self.manager);
                 Ok(())
             }
             Err(refusal) => {
@@ -277,7 +267,7 @@ impl Monitor {
         ensures noted { NotesEnd self.new.manager wakes.old self.old.pending wakes.new self.new.pending }
     {
         let answer = self.manager.abort(key);
-        self.note(wakes);
+        self.pending.note_end(wakes, &self.manager);
         answer
     }
 
@@ -304,26 +294,6 @@ impl Monitor {
         self.manager.events()
     }
 
-    /// Notes the processes that the last call told something: those for which there is no room in `wakes`, here.
-    #[inline]
-    fn note_told(&mut self, wakes: &mut Wakes)
-        ensures noted { NotesTold self.old.manager self.old.pending.overdue wakes.old self.old.pending wakes.new self.new.pending }
-        ensures manager { self.new.manager ≡ self.old.manager }
-    {
-        let Monitor { manager, pending } = self;
-        pending.note_granted(wakes, manager.granted());
-        pending.note_aborted(wakes, manager.aborted());
-    }
-
-    /// Notes the processes that the last call told something, and those that are overdue: that call may have ended what they wait for.
-    fn note(&mut self, wakes: &mut Wakes)
-        ensures noted { NotesEnd self.old.manager wakes.old self.old.pending wakes.new self.new.pending }
-        ensures manager { self.new.manager ≡ self.old.manager }
-    {
-        self.note_told(wakes);
-        self.pending.note_overdue(wakes);
-    }
-
     /// Takes some of those that are to be woken.
     pub fn take_pending(&mut self) -> Wakes
         ensures taken { (p : ℕ) → IsToWake [] self.old.pending.set p ↔ IsToWake result.processes.items self.new.pending.set p }
@@ -332,5 +302,15 @@ impl Monitor {
         ensures manager { self.new.manager ≡ self.old.manager }
     {
         self.pending.take()
+    }
+}
+
+/// Returns whether the transaction owns the name.
+pub fn owns(manager: &LockManager, key: Key, name: &[u8]) -> bool
+    ensures { IsTrue result ↔ Owns manager.now key name.now }
+{
+    match manager.owner(name) {
+        Some(owner) => owner == key,
+        None => false,
     }
 }

@@ -85,7 +85,7 @@ impl PendingWakes {
     }
 
     /// Notes all who were granted something.
-    pub fn note_granted(&mut self, wakes: &mut Wakes, granted: &[Grant])
+    pub(crate) fn note_granted(&mut self, wakes: &mut Wakes, granted: &[Grant])
         ensures noted { Notes (map (λ g. g.key.process) granted.now) wakes.old.processes.items self.old.set wakes.new.processes.items self.new.set }
         ensures overdue { self.new.overdue ≡ self.old.overdue }
     {
@@ -95,7 +95,7 @@ impl PendingWakes {
     }
 
     /// Notes all who were aborted.
-    pub fn note_aborted(&mut self, wakes: &mut Wakes, aborted: &[Key])
+    pub(crate) fn note_aborted(&mut self, wakes: &mut Wakes, aborted: &[Key])
         ensures noted { Notes (map (λ k. k.process) aborted.now) wakes.old.processes.items self.old.set wakes.new.processes.items self.new.set }
         ensures overdue { self.new.overdue ≡ self.old.overdue }
     {

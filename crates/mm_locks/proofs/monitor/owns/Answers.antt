@@ -1,6 +1,6 @@
 use Rattle.std.proofs.Common.{Some, sym, ap, ◌∙◌, ◌≡◌}
 use Rattle.mm_locks.proofs.Keys.{same_key, key_itself}
-use Rattle.mm_locks.proofs.monitor.Monitor.owns.Goals as goal
+use Rattle.mm_locks.proofs.monitor.owns.Goals as goal
 
 pub returns-in-Some : goal.returns-in-Some
 returns-in-Some c = (

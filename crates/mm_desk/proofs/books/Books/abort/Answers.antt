@@ -4,7 +4,7 @@ use Rattle.mm_desk.specs.Books.{BooksState}
 use Rattle.mm_desk.specs.Calls.{IsOver}
 use Rattle.mm_desk.proofs.Names.{aborts_over, held_inside, others_same}
 use Rattle.mm_desk.proofs.Cuts.{cut_to_mend}
-use Rattle.mm_desk.proofs.books.Books.end.Goals as goal
+use Rattle.mm_desk.proofs.books.Books.abort.Goals as goal
 
 pub uncount-requires : goal.uncount-requires
 uncount-requires c = record {
