@@ -1,0 +1,4 @@
+-- who is told that it owns a name owns it
+pub mod Owning
+-- what a worker has taken
+pub mod Taking

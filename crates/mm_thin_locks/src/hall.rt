@@ -1,0 +1,224 @@
+//! What lies behind the lock.
+ghost use Rattle.std.specs.Prelude.{◌≡◌, ◌≢◌, ◌↔◌, ◌<◌, [], ℕ, IfErr, IfOk, IsTrue, length};
+ghost use Rattle.mm_bit_set.specs.BitSet.{HasNoneFrom};
+ghost use Rattle.mm_locks.specs.Overdue.{NotesEnd};
+ghost use Rattle.mm_locks.specs.Wakes.{IsToWake};
+ghost use Rattle.mm_thin_locks.specs.Granted.{OwnsAt, OwnsFor};
+ghost use Rattle.mm_thin_locks.specs.Calls.{AsksFor, TriesFor};
+
+use crate::tokens::Granted;
+use mm_desk::{Asked, Desk, Room, Tried, Unlocked};
+use mm_locks::{LockError, MAX_WAKES, PendingWakes, Wakes, owns};
+use mm_manager::{Cancel, Refusal, Status, Totals};
+use mm_thin::Worker;
+
+/// The desk, room for what an end looks at, the processes whose wake-up is still pending, and the workers of no session.
+#[derive(Drop)]
+pub(crate) struct Hall {
+    pub(crate) desk: Desk,
+    pub(crate) room: Room,
+    pub(crate) pending: PendingWakes,
+    pub(crate) idle: Vec<Worker>,
+}
+
+/// What a request for a name has come to.
+#[derive(Drop)]
+pub(crate) enum Outcome<'n> {
+    /// The transaction owns the name.
+    Owns(Granted<'n>),
+    /// It waits for the name.
+    Waits,
+    /// Another thread changed a bucket meanwhile: it is to ask again.
+    Again,
+}
+
+impl Hall {
+    /// A worker for a session.
+    pub(crate) fn take_worker(&mut self) -> Option<Worker> {
+        self.idle.pop()
+    }
+
+    /// Takes in the worker of a session that has ended.
+    pub(crate) fn take_in(&mut self, worker: Worker) {
+        if self.idle.len() < self.idle.capacity() {
+            self.idle.push_reserved(worker);
+        }
+    }
+
+    /// The process of a worker's transaction.
+    pub(crate) fn process_of(&self, at: u32) -> Option<u32> {
+        Some(self.desk.key_of(at)?.process)
+    }
+
+    /// Asks for a name. All that the worker has taken is made fat first.
+    pub(crate) fn ask<'n>(
+        &mut self,
+        worker: &Worker,
+        name: &'n [u8],
+    ) -> Result<Outcome<'n>, LockError>
+        ensures in_time { IfErr result (λ error. error ≢ LockError.TimedOut) }
+        ensures asks { AsksFor self.old.desk worker.now name.now result self.new.desk }
+        ensures granted { IfOk result (OwnsFor worker.now.at name.now) }
+        ensures kept { self.new.pending ≡ self.old.pending }
+    {
+        match self.desk.ask(worker, name) {
+            Ok(Asked::Granted) => Ok(Outcome::Owns(self.granted(worker.at(), name))),
+            Ok(Asked::Held) => Ok(Outcome::Owns(self.granted(worker.at(), name))),
+            Ok(Asked::Waits { .. }) => Ok(Outcome::Waits),
+            Ok(Asked::Deadlock { .. }) => Err(LockError::Deadlock),
+            Ok(Asked::Again) => Ok(Outcome::Again),
+            Err(refusal) => Err(LockError::of_refusal(refusal)),
+        }
+    }
+
+    /// Asks for a name, and never waits. `Waits` says that another transaction owns it.
+    pub(crate) fn try_lock<'n>(&mut self, at: u32, name: &'n [u8]) -> Result<Outcome<'n>, LockError>
+        ensures in_time { IfErr result (λ error. error ≢ LockError.TimedOut) }
+        ensures tries { TriesFor self.old.desk at name.now result self.new.desk }
+        ensures granted { IfOk result (OwnsFor at name.now) }
+        ensures kept { self.new.pending ≡ self.old.pending }
+    {
+        match self.desk.try_lock(at, name) {
+            Ok(Tried::Granted) => Ok(Outcome::Owns(self.granted(at, name))),
+            Ok(Tried::Held) => Ok(Outcome::Owns(self.granted(at, name))),
+            Ok(Tried::Busy { .. }) => Ok(Outcome::Waits),
+            Ok(Tried::Again) => Ok(Outcome::Again),
+            Err(refusal) => Err(LockError::of_refusal(refusal)),
+        }
+    }
+
+    /// Returns whether the transaction of a worker owns the name in the manager.
+    fn owns(&self, at: u32, name: &[u8]) -> bool
+        ensures { IsTrue result ↔ OwnsAt self.now.desk at name.now }
+    {
+        match self.desk.key_of(at) {
+            Some(key) => owns(self.desk.manager(), key, name),
+            None => false,
+        }
+    }
+
+    /// Returns what a request has come to that was told to wait. `Owns` only if the transaction owns the name at this moment.
+    pub(crate) fn outcome<'n>(&self, at: u32, name: &'n [u8]) -> Result<Outcome<'n>, LockError>
+        ensures granted { IfOk result (OwnsFor at name.now) }
+        ensures in_time { IfErr result (λ error. error ≢ LockError.TimedOut) }
+    {
+        if self.owns(at, name) {
+            return Ok(Outcome::Owns(self.granted(at, name)));
+        }
+        match self.status(at) {
+            Ok(Status::Waiting { .. }) => Ok(Outcome::Waits),
+            Ok(Status::Deadlock { .. }) => Err(LockError::Deadlock),
+            Ok(Status::Active) | Err(_) => Err(LockError::NotActive),
+        }
+    }
+
+    /// Returns what the transaction of a worker does.
+    fn status(&self, at: u32) -> Result<Status, Refusal> {
+        match self.desk.key_of(at) {
+            Some(key) => self.desk.manager().status(key),
+            None => Err(Refusal::NoTransaction),
+        }
+    }
+
+    /// Takes back the request of one that waits: `TimedOut` if that is done. Else it owns the name; or it waits on, since a transaction
+    /// ahead was told of a deadlock and has yet to abort, and is overdue from now on.
+    pub(crate) fn take_back<'n>(
+        &mut self,
+        at: u32,
+        name: &'n [u8],
+        wakes: &mut Wakes,
+    ) -> Result<Outcome<'n>, LockError>
+        ensures granted { IfOk result (OwnsFor at name.now) }
+    {
+        let answer = self.desk.cancel(at);
+        self.pending.note_told(wakes, self.desk.manager());
+        if let Ok(Cancel::Withdrawn) = answer {
+            self.pending.note_overdue(wakes);
+            return Err(LockError::TimedOut);
+        }
+        match self.outcome(at, name)? {
+            Outcome::Owns(granted) => Ok(Outcome::Owns(granted)),
+            Outcome::Waits | Outcome::Again => {
+                if let Some(process) = self.process_of(at) {
+                    self.pending.add_overdue(process);
+                }
+                Ok(Outcome::Waits)
+            }
+        }
+    }
+
+    /// Gives a name back that a worker could not give back by itself, or had not taken.
+    pub(crate) fn unlock(
+        &mut self,
+        worker: &mut Worker,
+        name: &[u8],
+        wakes: &mut Wakes,
+    ) -> Result<(), LockError>
+        ensures noted { NotesEnd self.new.desk.manager wakes.old self.old.pending wakes.new self.new.pending }
+        ensures in_time { IfErr result (λ error. error ≢ LockError.TimedOut) }
+    {
+        if let Some(k) = worker.find(name) {
+            let _ = worker.let_go(k);
+        }
+        let answer = self.desk.unlock(worker.at(), name);
+        self.pending.note_end(wakes, self.desk.manager());
+        done(answer)
+    }
+
+    /// Ends a transaction. One whose end is refused is rolled back.
+    pub(crate) fn commit(&mut self, worker: &mut Worker, wakes: &mut Wakes) -> Result<(), LockError>
+        ensures in_time { IfErr result (λ error. error ≢ LockError.TimedOut) }
+    {
+        let_go_all(worker);
+        match self.desk.commit(worker.at(), &mut self.room) {
+            Ok(Unlocked::Done) => {
+                self.pending.note_end(wakes, self.desk.manager());
+                let _ = self.desk.begin(worker.at());
+                Ok(())
+            }
+            answer => {
+                self.roll_back(worker, wakes);
+                done(answer)
+            }
+        }
+    }
+
+    /// Ends a transaction, be it in a deadlock or not.
+    pub(crate) fn roll_back(&mut self, worker: &mut Worker, wakes: &mut Wakes) {
+        let_go_all(worker);
+        let _ = self.desk.abort(worker.at(), &mut self.room);
+        self.pending.note_end(wakes, self.desk.manager());
+        let _ = self.desk.begin(worker.at());
+    }
+
+    /// Takes some of those that are to be woken.
+    pub(crate) fn take_pending(&mut self) -> Wakes
+        ensures taken { (p : ℕ) → IsToWake [] self.old.pending.set p ↔ IsToWake result.processes.items self.new.pending.set p }
+        ensures rest { length result.processes.items < MAX_WAKES → HasNoneFrom self.new.pending.set 0 }
+    {
+        self.pending.take()
+    }
+
+    /// What the manager counted since the opening.
+    pub(crate) fn totals(&self) -> Totals {
+        self.desk.manager().totals()
+    }
+}
+
+/// Lets all go that a worker has taken, and that is fat.
+fn let_go_all(worker: &mut Worker) {
+    for k in 0..worker.places() {
+        let _ = worker.let_go(k);
+    }
+}
+
+/// Returns what the answer to an unlock, a commit or an abort means.
+fn done(answer: Result<Unlocked, Refusal>) -> Result<(), LockError>
+    ensures in_time { IfErr result (λ error. error ≢ LockError.TimedOut) }
+{
+    match answer {
+        Ok(Unlocked::Done) => Ok(()),
+        Ok(Unlocked::NotLetGo) => Err(LockError::NotActive),
+        Err(refusal) => Err(LockError::of_refusal(refusal)),
+    }
+}

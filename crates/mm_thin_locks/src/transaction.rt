@@ -1,0 +1,238 @@
+//! A transaction.
+ghost use Rattle.std.specs.Prelude.{◌≡◌, ◌≢◌, IfErr, IfOk, IfSome};
+ghost use Rattle.mm_thin_locks.specs.Granted.{IsFor, OwnsFor};
+
+use crate::hall::Outcome;
+use crate::session::Session;
+use crate::tokens::{Granted, take_thinly};
+use mm_locks::LockError;
+use mm_mutex::stay_away;
+use mm_thin::{GiveUp, Take};
+use std::sync::Wait;
+
+/// How often the thread of a victim yields its processor when the victim was rolled back. One that began again at once would often close the
+/// same cycle once more, before the others are done.
+const VICTIM_YIELDS: u32 = 256;
+
+/// How often a thread looks again whether a name is free before it asks the manager. Before each further time it yields twice as often.
+const LOOKS: u32 = 3;
+
+/// A transaction. If it is dropped it is rolled back: all that it owns is handed over, and the processes that were granted something are
+/// woken. After a deadlock the drop then yields the processor for a while, so that the others come to their ends before the caller begins
+/// again.
+pub struct Transaction<'s, 'm, R: Wait> {
+    pub(crate) session: &'s mut Session<'m, R>,
+    /// Whether the manager may know of it.
+    is_known: bool,
+    /// Whether it was told of a deadlock. From then on it takes no name.
+    is_victim: bool,
+}
+
+impl<'s, 'm, R: Wait> Drop for Transaction<'s, 'm, R> {
+    fn drop(self) {
+        let Self {
+            session,
+            is_known,
+            is_victim,
+        } = self;
+        session.roll_back(is_known);
+        if is_victim {
+            stay_away(VICTIM_YIELDS);
+        }
+    }
+}
+
+impl<'s, 'm, R: Wait> Transaction<'s, 'm, R> {
+    pub(crate) fn new(session: &'s mut Session<'m, R>) -> Transaction<'s, 'm, R> {
+        Transaction {
+            session,
+            is_known: false,
+            is_victim: false,
+        }
+    }
+
+    pub(crate) fn is_victim(&self) -> bool {
+        self.is_victim
+    }
+
+    /// Locks the name: returns when the transaction owns it, at once if nobody else does, and else it sleeps until it was granted.
+    ///
+    /// If nobody else owns a name of its bucket, that is one compare-and-swap. Else the thread looks some times more, and then the manager is
+    /// asked; all that the transaction has locked is the manager's from then on. `Deadlock` comes at once, if the wait would close a cycle of
+    /// waits; no other call makes a victim of one that sleeps. The transaction is then to be dropped: it keeps what it owns until that, so
+    /// that its caller can undo what it did, and each further call is refused as `Deadlock` too. A name that it owns already is `Ok`, and is
+    /// owned once. Refused as `Deadlock`, `NameEmpty`, `NameTooLong`, `NamesFull`, `CountsFull` or `LabelsFull`, as `LockManager::lock` is.
+    #[inline]
+    pub fn lock<'n>(&mut self, name: &'n [u8]) -> Result<Granted<'n>, LockError>
+        ensures granted { IfOk result (IsFor self.old.session.now.worker.at name.now) }
+        ensures in_time { IfErr result (λ error. error ≢ LockError.TimedOut) }
+    {
+        if self.is_victim {
+            return Err(LockError::Deadlock);
+        }
+        match take_thinly(&mut self.session.worker, name) {
+            Ok(granted) => Ok(granted),
+            Err(_) => self.lock_slowly(name),
+        }
+    }
+
+    /// Looks some times more whether the name is free, and then asks the manager for it.
+    #[inline(never)]
+    fn lock_slowly<'n>(&mut self, name: &'n [u8]) -> Result<Granted<'n>, LockError>
+        ensures granted { IfOk result (IsFor self.old.session.now.worker.at name.now) }
+        ensures in_time { IfErr result (λ error. error ≢ LockError.TimedOut) }
+    {
+        match self.begin_wait(name)? {
+            Some(granted) => Ok(granted),
+            None => sleep(self.session, name),
+        }
+    }
+
+    /// Locks the name, or waits for it in the manager from now on, and then returns `None`.
+    pub(crate) fn begin_wait<'n>(
+        &mut self,
+        name: &'n [u8],
+    ) -> Result<Option<Granted<'n>>, LockError>
+        ensures granted { IfOk result (λ found. IfSome found (IsFor self.old.session.now.worker.at name.now)) }
+        ensures in_time { IfErr result (λ error. error ≢ LockError.TimedOut) }
+        ensures at { self.new.session.now.worker.at ≡ self.old.session.now.worker.at }
+    {
+        for _ in self.session.rt.forever() {
+            if let Some(granted) = self.look_again(name) {
+                return Ok(Some(granted));
+            }
+            match self.request(name)? {
+                Outcome::Owns(granted) => return Ok(Some(granted)),
+                Outcome::Waits => return Ok(None),
+                Outcome::Again => {}
+            }
+        }
+        unreachable!()
+    }
+
+    /// Takes the name if it becomes free soon.
+    fn look_again<'n>(&mut self, name: &'n [u8]) -> Option<Granted<'n>>
+        ensures granted { IfSome result (IsFor self.old.session.now.worker.at name.now) }
+        ensures at { self.new.session.now.worker.at ≡ self.old.session.now.worker.at }
+    {
+        let mut yields = 1u32;
+        for _ in 0..LOOKS {
+            stay_away(yields);
+            match take_thinly(&mut self.session.worker, name) {
+                Ok(granted) => return Some(granted),
+                Err(Take::Busy) => {}
+                Err(_) => return None,
+            }
+            yields = yields.saturating_mul(2);
+        }
+        None
+    }
+
+    /// Asks the manager for the name.
+    fn request<'n>(&mut self, name: &'n [u8]) -> Result<Outcome<'n>, LockError>
+        ensures granted { IfOk result (OwnsFor self.old.session.now.worker.at name.now) }
+        ensures in_time { IfErr result (λ error. error ≢ LockError.TimedOut) }
+        ensures at { self.new.session.now.worker.at ≡ self.old.session.now.worker.at }
+    {
+        self.is_known = true;
+        let answer = self.session.ask(name);
+        self.is_victim = is_deadlock(&answer);
+        answer
+    }
+
+    /// Locks the name if nobody else owns it, and never sleeps for it. Returns `None` if another transaction owns it.
+    ///
+    /// Refused as `Deadlock`, `NameEmpty`, `NameTooLong`, `NamesFull` or `CountsFull`, as `LockManager::try_lock` is.
+    pub fn try_lock<'n>(&mut self, name: &'n [u8]) -> Result<Option<Granted<'n>>, LockError>
+        ensures granted { IfOk result (λ tried. IfSome tried (IsFor self.old.session.now.worker.at name.now)) }
+        ensures in_time { IfErr result (λ error. error ≢ LockError.TimedOut) }
+    {
+        if self.is_victim {
+            return Err(LockError::Deadlock);
+        }
+        match take_thinly(&mut self.session.worker, name) {
+            Ok(granted) => Ok(Some(granted)),
+            Err(_) => {
+                self.is_known = true;
+                try_slowly(self.session, name)
+            }
+        }
+    }
+
+    /// Gives the name back: its longest waiter owns it from now on, and is woken; with no waiter it is free.
+    ///
+    /// Refused as `Deadlock`, `NameEmpty`, `NameTooLong` or `NotOwner`, as `LockManager::unlock` is.
+    pub fn unlock(&mut self, name: &[u8]) -> Result<(), LockError>
+        ensures in_time { IfErr result (λ error. error ≢ LockError.TimedOut) }
+    {
+        if self.is_victim {
+            return Err(LockError::Deadlock);
+        }
+        if let Some(k) = self.session.worker.find(name) {
+            if let GiveUp::Done = self.session.worker.give_back(k) {
+                return Ok(());
+            }
+        }
+        self.is_known = true;
+        self.session.unlock(name)
+    }
+
+    /// Ends the transaction: all that it owns is handed over, and the processes that were granted something are woken.
+    ///
+    /// A transaction that is in a deadlock is rolled back, and the call is refused as `Deadlock`.
+    pub fn commit(self) -> Result<(), LockError>
+        ensures in_time { IfErr result (λ error. error ≢ LockError.TimedOut) }
+    {
+        if self.is_victim {
+            return Err(LockError::Deadlock);
+        }
+        let Self {
+            session,
+            is_known,
+            is_victim: _,
+        } = self;
+        session.commit(is_known)
+    }
+}
+
+/// Whether an answer says that the transaction is in a deadlock.
+fn is_deadlock(answer: &Result<Outcome<'_>, LockError>) -> bool {
+    matches!(answer, Err(LockError::Deadlock))
+}
+
+/// Asks the manager for the name, and never waits.
+#[inline(never)]
+fn try_slowly<'n, R: Wait>(
+    session: &Session<'_, R>,
+    name: &'n [u8],
+) -> Result<Option<Granted<'n>>, LockError>
+    ensures granted { IfOk result (λ tried. IfSome tried (IsFor session.now.worker.at name.now)) }
+    ensures in_time { IfErr result (λ error. error ≢ LockError.TimedOut) }
+{
+    for _ in session.rt.forever() {
+        match session.try_lock(name)? {
+            Outcome::Owns(granted) => return Ok(Some(granted)),
+            Outcome::Waits => return Ok(None),
+            Outcome::Again => {}
+        }
+    }
+    unreachable!()
+}
+
+/// Sleeps until the session's transaction owns what it waits for.
+#[inline(never)]
+fn sleep<'n, R: Wait>(session: &Session<'_, R>, name: &'n [u8]) -> Result<Granted<'n>, LockError>
+    ensures granted { IfOk result (IsFor session.now.worker.at name.now) }
+    ensures in_time { IfErr result (λ error. error ≢ LockError.TimedOut) }
+{
+    let Some(parker) = session.parker() else {
+        return Err(LockError::NotActive);
+    };
+    for _ in session.rt.forever() {
+        parker.yield_and_park(session.rt);
+        if let Outcome::Owns(granted) = session.outcome(name)? {
+            return Ok(granted);
+        }
+    }
+    unreachable!()
+}
