@@ -10,7 +10,7 @@ use std::sync::atomic::AtomicU64;
 use std::sync::atomic::Ordering::SeqCst;
 
 /// Says of each of these names that it is owned, and takes that back. Returns how many were owned by another one too.
-fn owned_twice(owners: &[AtomicU64], numbers: &[u32]) -> u64 {
+pub fn owned_twice(owners: &[AtomicU64], numbers: &[u32]) -> u64 {
     let mut twice = 0u64;
     for number in numbers {
         if let Some(count) = owners.get(*number as usize) {

@@ -4,6 +4,7 @@
 //!
 //! - `one`: four locks, one after the other. `all`: four locks by `lock_all`. `with`: by `begin_with`. `run`: by `run` with `lock_all`.
 //! - `crowd`: one to six locks, as by `one` or as by `all`, and each looks whether it is the only owner of its names.
+//! - `thin`, `thin_crowd`: as `one` and `crowd`, at a `ThinLocks`.
 //! - `sleep`: one owns a name until the end, and all others wait for it.
 //!
 //! `bench_locks late LENGTH`: a chain of this many transactions, the front of which blocks anew while each other one waits for the one before it
@@ -18,6 +19,7 @@
 //! - `late`: chains of transactions that wait with a time.
 //! - `names`: the names, and which of them a transaction locks.
 //! - `shared`: what all threads share, and what each has done.
+//! - `thin`: transactions at a `ThinLocks`.
 //! - `transfers`: transactions of four locks.
 //! - `crowd`: transactions that look who else owns their names.
 //! - `threads`: threads that are at work at once.
@@ -27,11 +29,13 @@ mod crowd;
 mod late;
 mod names;
 mod shared;
+mod thin;
 mod threads;
 mod transfers;
 
 use late::{Chain, late};
 use mm_locks::{Locks, ManagerConfig};
+use mm_thin_locks::{ThinLocks, ThinLocksConfig};
 use names::{Name, all_names};
 use shared::{Done, Way};
 use std::alloc::{AllocError, Global};
@@ -45,6 +49,9 @@ use threads::timed;
 const MAX_THREADS: u32 = 64;
 
 const MAX_NAMES: u32 = 65_536;
+
+/// How many buckets the `ThinLocks` has.
+const BUCKETS: u32 = 1_048_576;
 
 /// The number that a word of the command line is; 0 if it is none.
 fn number(word: Option<String>) -> u32 {
@@ -76,10 +83,18 @@ fn run<R: Threads + Wait + Clock + Sync>(
     let Ok(locks) = Locks::open(alloc, config) else {
         return Ok(None);
     };
+    let thin = ThinLocksConfig {
+        manager: config,
+        buckets: BUCKETS,
+    };
+    let Ok(thin) = ThinLocks::open(alloc, thin) else {
+        return Ok(None);
+    };
     let done = timed(
         rt,
         alloc,
         &locks,
+        &thin,
         names,
         owners.as_slice(),
         way,

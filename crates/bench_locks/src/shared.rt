@@ -2,6 +2,7 @@
 
 use crate::names::Name;
 use mm_locks::Locks;
+use mm_thin_locks::ThinLocks;
 use std::sync::Barrier;
 use std::sync::atomic::{AtomicBool, AtomicU64};
 
@@ -18,6 +19,10 @@ pub enum Way {
     Run,
     /// Transactions of one to six locks, each of which looks whether it is the only owner of its names.
     Crowd,
+    /// Transactions of four locks at the `ThinLocks`, one after the other.
+    Thin,
+    /// Those of `Crowd` at the `ThinLocks`.
+    ThinCrowd,
     /// One owns a name until the end, and the others wait for it.
     Sleep,
 }
@@ -31,6 +36,8 @@ impl Way {
             "with" => Some(Way::With),
             "run" => Some(Way::Run),
             "crowd" => Some(Way::Crowd),
+            "thin" => Some(Way::Thin),
+            "thin_crowd" => Some(Way::ThinCrowd),
             "sleep" => Some(Way::Sleep),
             _ => None,
         }
@@ -41,6 +48,7 @@ impl Way {
 #[derive(Drop)]
 pub struct Shared<'a> {
     pub locks: &'a Locks,
+    pub thin: &'a ThinLocks,
     pub names: &'a [Name],
     /// By name, how many believe that they own it.
     pub owners: &'a [AtomicU64],

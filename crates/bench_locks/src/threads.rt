@@ -3,8 +3,10 @@
 use crate::crowd::visit_by_chance;
 use crate::names::Name;
 use crate::shared::{Done, Shared, Way};
+use crate::thin::work_thinly;
 use crate::transfers::transfer_at_last;
 use mm_locks::{LockError, Locks};
+use mm_thin_locks::ThinLocks;
 use rand_pcg::Lcg64Xsh32;
 use std::alloc::{AllocError, Global};
 use std::sync::atomic::Ordering::SeqCst;
@@ -95,9 +97,11 @@ fn part<R: Wait + Clock>(rt: &R, shared: &Shared<'_>, milliseconds: u32, number:
     }
     shared.gate.wait(rt);
     if number == 0 {
-        stop_after(rt, shared, milliseconds)
-    } else {
-        work(rt, shared, number as u64)
+        return stop_after(rt, shared, milliseconds);
+    }
+    match shared.way {
+        Way::Thin | Way::ThinCrowd => work_thinly(rt, shared, number as u64),
+        _ => work(rt, shared, number as u64),
     }
 }
 
@@ -106,6 +110,7 @@ pub fn timed<'a, R: Threads + Wait + Clock + Sync>(
     rt: &R,
     alloc: Global,
     locks: &'a Locks,
+    thin: &'a ThinLocks,
     names: &'a [Name],
     owners: &'a [AtomicU64],
     way: Way,
@@ -117,6 +122,7 @@ pub fn timed<'a, R: Threads + Wait + Clock + Sync>(
     let stop = AtomicBool::new(false);
     let shared = Shared {
         locks,
+        thin,
         names,
         owners,
         way,

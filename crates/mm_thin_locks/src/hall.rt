@@ -147,7 +147,8 @@ impl Hall {
         }
     }
 
-    /// Gives a name back that a worker could not give back by itself, or had not taken.
+    /// Gives a name back that a worker could not give back by itself, or had not taken. All that it has taken and that is fat is let go: a
+    /// bucket may be lent to it for another name.
     pub(crate) fn unlock(
         &mut self,
         worker: &mut Worker,
@@ -157,9 +158,7 @@ impl Hall {
         ensures noted { NotesEnd self.new.desk.manager wakes.old self.old.pending wakes.new self.new.pending }
         ensures in_time { IfErr result (λ error. error ≢ LockError.TimedOut) }
     {
-        if let Some(k) = worker.find(name) {
-            let _ = worker.let_go(k);
-        }
+        let_go_all(worker);
         let answer = self.desk.unlock(worker.at(), name);
         self.pending.note_end(wakes, self.desk.manager());
         done(answer)

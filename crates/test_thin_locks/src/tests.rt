@@ -1,0 +1,132 @@
+//! One thread with one session and with two, and threads that cross, wait and give up.
+//!
+//! `on_locks` opens the locks, lends them to the threads, and drops them: so no test owns locks.
+
+mod alone;
+mod helpers;
+mod together;
+
+use crate::tests::alone::{each_name_is_known, nine_names_and_a_long_one, one_name_by_two};
+use crate::tests::together::{cross_often, sleep_and_wake, time_passes};
+use mm_thin_locks::{ManagerConfig, ThinLocks, ThinLocksConfig};
+use std::alloc::Global;
+use std::process::Abort;
+use std::sync::{Barrier, Wait};
+use std::thread;
+use std::thread::Threads;
+use std::time::Clock;
+
+/// What threads do.
+#[derive(Clone, Copy)]
+enum Work {
+    EachName,
+    NineNames,
+    OneNameByTwo,
+    Cross,
+    Sleep,
+    Time,
+}
+
+impl Work {
+    /// What the thread of this number does. Returns how many transactions it committed.
+    fn part<R: Wait + Clock + Abort>(
+        self,
+        rt: &R,
+        locks: &ThinLocks,
+        gate: &Barrier,
+        number: usize,
+    ) -> u64 {
+        match self {
+            Work::EachName => each_name_is_known(rt, locks),
+            Work::NineNames => nine_names_and_a_long_one(rt, locks),
+            Work::OneNameByTwo => one_name_by_two(rt, locks),
+            Work::Cross => cross_often(rt, locks, gate, number),
+            Work::Sleep => sleep_and_wake(rt, locks, gate, number),
+            Work::Time => time_passes(rt, locks, gate, number),
+        }
+    }
+}
+
+/// Runs so many threads at locks of so many buckets. Returns how many transactions they committed.
+fn on_locks<R: Threads + Wait + Clock + Abort + Sync>(
+    rt: &R,
+    alloc: Global,
+    work: Work,
+    threads: usize,
+    buckets: u32,
+) -> u64 {
+    let config = ThinLocksConfig {
+        manager: ManagerConfig {
+            transactions: 4,
+            names: 16,
+            name_bytes: 80,
+            seed: 7,
+        },
+        buckets,
+    };
+    let Ok(locks) = ThinLocks::open(alloc, config) else {
+        return 0;
+    };
+    let gate = Barrier::new(threads);
+    let parts = thread::map_indices(
+        rt,
+        alloc,
+        threads,
+        &|number| work.part(rt, &locks, &gate, number),
+    );
+    drop(locks);
+    let mut committed = 0u64;
+    if let Ok(parts) = parts {
+        for part in parts.as_slice() {
+            committed = committed.wrapping_add(*part);
+        }
+    }
+    committed
+}
+
+/// The buckets with which each case runs: one for all names, and more than there are names.
+const BUCKETS: [u32; 3] = [1, 4, 4_096];
+
+/// Ends the test unless the threads committed so many, however many buckets there are.
+fn commit_together<R: Threads + Wait + Clock + Abort + Sync>(
+    rt: &R,
+    alloc: Global,
+    work: Work,
+    threads: usize,
+    committed: u64,
+) {
+    for buckets in BUCKETS {
+        let came = on_locks(rt, alloc, work, threads, buckets);
+        assert_eq!(rt; came, committed);
+    }
+}
+
+#[test]
+fn test_each_name_is_known(rt: HostRuntime) {
+    commit_together(&rt, rt.alloc(), Work::EachName, 1, 2);
+}
+
+#[test]
+fn test_nine_names_and_a_long_one(rt: HostRuntime) {
+    commit_together(&rt, rt.alloc(), Work::NineNames, 1, 2);
+}
+
+#[test]
+fn test_one_name_by_two(rt: HostRuntime) {
+    commit_together(&rt, rt.alloc(), Work::OneNameByTwo, 1, 2);
+}
+
+#[test]
+fn test_threads_that_cross(rt: HostRuntime) {
+    commit_together(&rt, rt.alloc(), Work::Cross, 2, 400);
+}
+
+#[test]
+fn test_one_that_sleeps_is_woken(rt: HostRuntime) {
+    commit_together(&rt, rt.alloc(), Work::Sleep, 2, 200);
+}
+
+#[test]
+fn test_time_passes(rt: HostRuntime) {
+    commit_together(&rt, rt.alloc(), Work::Time, 2, 2);
+}

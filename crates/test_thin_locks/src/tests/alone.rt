@@ -1,0 +1,109 @@
+//! What one thread does.
+use crate::tests::helpers::{Answer, is_done, same, session, tried};
+use mm_thin_locks::{LockError, ThinLocks};
+use std::process::Abort;
+use std::sync::Wait;
+use std::time::{Clock, Duration};
+
+/// Locks names, each also a second time, and gives them back, once too often.
+pub fn each_name_is_known<R: Wait + Clock + Abort>(rt: &R, locks: &ThinLocks) -> u64 {
+    let mut session = session(rt, locks);
+    for _ in 0..2 {
+        let mut transaction = session.begin();
+        for name in [b"a".as_slice(), b"b", b"a"] {
+            same(rt, is_done(transaction.lock(name)), Ok(true));
+            same(rt, tried(transaction.try_lock(name)), Ok(true));
+            same(
+                rt,
+                is_done(transaction.lock_for(name, Duration::from_millis(0))),
+                Ok(true),
+            );
+        }
+        same(rt, is_done(transaction.unlock(b"a")), Ok(true));
+        same(
+            rt,
+            is_done(transaction.unlock(b"a")),
+            Err(LockError::NotOwner),
+        );
+        same(
+            rt,
+            is_done(transaction.unlock(b"c")),
+            Err(LockError::NotOwner),
+        );
+        same(
+            rt,
+            is_done(transaction.lock(b"")),
+            Err(LockError::NameEmpty),
+        );
+        same(
+            rt,
+            is_done(transaction.lock(&[7; 81])),
+            Err(LockError::NameTooLong),
+        );
+        same(rt, is_done(transaction.commit()), Ok(true));
+    }
+    2
+}
+
+/// Twelve names, of which each is nine to twelve times as long as the one before is not, and the longest that there can be.
+static NAMES: [&[u8]; 12] = [
+    b"1", b"2", b"3", b"4", b"5", b"6", b"7", b"8", b"9", b"10", b"11", &[7; 80],
+];
+
+/// Locks more names than a worker has records, and one that is too long for a record, and gives half of them back before the end.
+pub fn nine_names_and_a_long_one<R: Wait + Abort>(rt: &R, locks: &ThinLocks) -> u64 {
+    let mut session = session(rt, locks);
+    for _ in 0..2 {
+        let mut transaction = session.begin();
+        for name in NAMES {
+            same(rt, is_done(transaction.lock(name)), Ok(true));
+        }
+        for name in &NAMES[6..] {
+            same(rt, is_done(transaction.unlock(name)), Ok(true));
+            same(
+                rt,
+                is_done(transaction.unlock(name)),
+                Err(LockError::NotOwner),
+            );
+        }
+        same(rt, is_done(transaction.commit()), Ok(true));
+    }
+    2
+}
+
+/// What a second transaction is told of a name.
+fn told<R: Wait + Clock + Abort>(rt: &R, locks: &ThinLocks, name: &[u8]) -> Answer {
+    let mut session = session(rt, locks);
+    let mut transaction = session.begin();
+    let answer = tried(transaction.try_lock(name));
+    let timed = is_done(transaction.lock_for(name, Duration::from_millis(1)));
+    match answer {
+        Ok(false) => same(rt, timed, Err(LockError::TimedOut)),
+        _ => same(rt, timed, Ok(true)),
+    }
+    answer
+}
+
+/// Two transactions of one thread ask for one name: the second one is told that it is owned, until it is given back, or the first one ends.
+pub fn one_name_by_two<R: Wait + Clock + Abort>(rt: &R, locks: &ThinLocks) -> u64 {
+    let mut session = session(rt, locks);
+    let mut transaction = session.begin();
+    for name in [b"x".as_slice(), b"y"] {
+        same(rt, is_done(transaction.lock(name)), Ok(true));
+        same(rt, told(rt, locks, name), Ok(false));
+        same(rt, is_done(transaction.lock(name)), Ok(true));
+    }
+    same(rt, is_done(transaction.unlock(b"x")), Ok(true));
+    same(rt, told(rt, locks, b"x"), Ok(true));
+    same(rt, told(rt, locks, b"y"), Ok(false));
+    same(rt, is_done(transaction.commit()), Ok(true));
+    same(rt, told(rt, locks, b"y"), Ok(true));
+    let mut again = session.begin();
+    same(rt, is_done(again.lock(b"y")), Ok(true));
+    same(rt, told(rt, locks, b"y"), Ok(false));
+    drop(again);
+    same(rt, told(rt, locks, b"y"), Ok(true));
+    let last = session.begin();
+    same(rt, is_done(last.commit()), Ok(true));
+    2
+}
