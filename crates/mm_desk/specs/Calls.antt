@@ -73,6 +73,10 @@ AdoptsBucket bucket (Refused refusal) new = Unit {0}
 abbrev pub LoansAreOthers : DeskState → ℕ → Key → Type 0
 LoansAreOthers d bucket k = (l : Lent) → Among l d.office.desk.lent → l.bucket ≡ bucket → slice_get d.keys (l.number / 10) ≡ Some k → ⊥
 
+-- a bucket is lent to a worker whose transaction has this key
+abbrev pub IsLentTo : DeskState → ℕ → Key → Type 0
+IsLentTo d bucket k = (l : Lent) × Among l d.office.desk.lent × (l.bucket ≡ bucket) × (slice_get d.keys (l.number / 10) ≡ Some k)
+
 -- the manager and the keys stay
 pub record KeepsManager (old new : DeskState) : Type 0 where
   pub of : new.office.of ≡ old.office.of
@@ -82,7 +86,7 @@ pub record KeepsManager (old new : DeskState) : Type 0 where
 -- an unlock by the transaction of a worker
 abbrev pub UnlocksAt : DeskState → ℕ → List ℕ → Result Unlocked Refusal → DeskState → Type 0
 UnlocksAt old at name (Ok Done) new = (k : Key) × (slice_get old.keys at ≡ Some k) × UnlocksName old.manager k name (Ok tt) new.manager × (new.keys ≡ old.keys)
-UnlocksAt old at name (Ok NotLetGo) new = KeepsManager old new
+UnlocksAt old at name (Ok NotLetGo) new = ((k : Key) × (slice_get old.keys at ≡ Some k) × IsLentTo old (bucket_by old.office.of.spread name) k) × KeepsManager old new
 UnlocksAt old at name (Err refusal) new =
     ((slice_get old.keys at ≡ None) × (refusal ≡ NoTransaction) × (new ≡ old))
     ⊎ ((k : Key) × (slice_get old.keys at ≡ Some k) × UnlocksName old.manager k name (Err refusal) new.manager × (new.keys ≡ old.keys))
@@ -199,17 +203,21 @@ abbrev pub IsUnasked : DeskState → ℕ → ℕ → Refusal → DeskState → T
 IsUnasked old at room refusal new =
     ((slice_get old.keys at ≡ None) × (refusal ≡ NoTransaction) × (new ≡ old)) ⊎ ((room < old.manager.table.config.resources) × (refusal ≡ NamesFull) × (new ≡ old))
 
+-- a bucket is lent to the worker
+abbrev pub HasNotLetGo : DeskState → ℕ → Type 0
+HasNotLetGo d at = (k : Key) × (slice_get d.keys at ≡ Some k) × ((b : ℕ) × IsLentTo d b k)
+
 -- the commit of a worker's transaction, with room for this many names
 abbrev pub CommitsAt : DeskState → ℕ → ℕ → Result Unlocked Refusal → DeskState → Type 0
 CommitsAt old at room (Ok Done) new = (k : Key) × (slice_get old.keys at ≡ Some k) × Commits old.manager k (Ok tt) new.manager × (new.keys ≡ old.keys)
-CommitsAt old at room (Ok NotLetGo) new = KeepsManager old new
+CommitsAt old at room (Ok NotLetGo) new = HasNotLetGo old at × KeepsManager old new
 CommitsAt old at room (Err refusal) new =
     IsUnasked old at room refusal new ⊎ ((k : Key) × (slice_get old.keys at ≡ Some k) × Commits old.manager k (Err refusal) new.manager × (new.keys ≡ old.keys))
 
 -- its abort
 abbrev pub AbortsAt : DeskState → ℕ → ℕ → Result Unlocked Refusal → DeskState → Type 0
 AbortsAt old at room (Ok Done) new = (k : Key) × (slice_get old.keys at ≡ Some k) × Aborts old.manager k (Ok aborts.Done) new.manager × (new.keys ≡ old.keys)
-AbortsAt old at room (Ok NotLetGo) new = KeepsManager old new
+AbortsAt old at room (Ok NotLetGo) new = HasNotLetGo old at × KeepsManager old new
 AbortsAt old at room (Err refusal) new =
     IsUnasked old at room refusal new
     ⊎ ((k : Key) × (slice_get old.keys at ≡ Some k) × (may_cancel old.manager.table k ≡ Ok tt) × (refusal ≡ Waiting) × (new ≡ old))

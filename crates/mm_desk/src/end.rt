@@ -1,11 +1,11 @@
 //! The end of a transaction.
 ghost use Rattle.std.specs.Prelude.{◌≡◌, ◌↔◌, ◌<◌, ◌≤◌, ℕ, List, Some, None, Ok, IsTrue, IfSome, IfNone, slice_get, vec_capacity};
-ghost use Rattle.std.specs.Bool.{OnFalse};
+ghost use Rattle.std.specs.Bool.{OnFalse, OnTrue};
 ghost use Rattle.mm_manager.specs.Permit.{may_cancel};
 ghost use Rattle.mm_manager.specs.Calls.{Aborts, Commits};
 ghost use Rattle.mm_names.specs.Names.{name_of};
 ghost use Rattle.mm_thin.specs.Spread.{bucket_by};
-ghost use Rattle.mm_desk.specs.Calls.{NoLoansOf, LoansEnd, KeepsManager, NumberIsFree, AbortsAt, CommitsAt, is_wait};
+ghost use Rattle.mm_desk.specs.Calls.{IsLentTo, NoLoansOf, LoansEnd, KeepsManager, NumberIsFree, AbortsAt, CommitsAt, is_wait};
 
 use crate::desk::Desk;
 use crate::reply::Unlocked;
@@ -82,6 +82,7 @@ impl Desk {
     fn has_loans(&mut self, key: Key, room: &mut Room) -> bool
         requires { self.old.manager.table.config.resources ≤ vec_capacity room.old.numbers }
         ensures none { OnFalse result (NoLoansOf self.new key) }
+        ensures lent { OnTrue result ((b : ℕ) × IsLentTo self.old b key) }
         ensures keeps { KeepsManager self.old self.new }
         ensures room { vec_capacity room.new.numbers ≡ vec_capacity room.old.numbers }
     {
@@ -100,6 +101,7 @@ impl Desk {
     /// Whether the bucket of this number's name is lent to a worker whose transaction has this key. Adds the bucket to `buckets`.
     fn has_lent_number(&mut self, number: u32, key: Key, buckets: &mut Vec<usize>) -> bool
         ensures free { OnFalse result (NumberIsFree self.new key number) }
+        ensures lent { OnTrue result ((b : ℕ) × IsLentTo self.old b key) }
         ensures fewer { LoansEnd self.old self.new }
         ensures keeps { KeepsManager self.old self.new }
     {

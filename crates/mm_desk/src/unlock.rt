@@ -1,9 +1,9 @@
 //! A name is handed over, and its bucket freed if no other name of it is owned.
 ghost use Rattle.std.specs.Prelude.{◌≡◌, ◌<◌, ◌/◌, ◌↔◌, Some, IsTrue, slice_get};
-ghost use Rattle.std.specs.Bool.{OnFalse};
+ghost use Rattle.std.specs.Bool.{OnFalse, OnTrue};
 ghost use Rattle.mm_manager.specs.Calls.{UnlocksName};
 ghost use Rattle.mm_thin.specs.Spread.{bucket_by};
-ghost use Rattle.mm_desk.specs.Calls.{LoansAreOthers, LoansEnd, KeepsManager, UnlocksAt};
+ghost use Rattle.mm_desk.specs.Calls.{IsLentTo, LoansAreOthers, LoansEnd, KeepsManager, UnlocksAt};
 
 use crate::desk::Desk;
 use crate::reply::Unlocked;
@@ -45,6 +45,7 @@ impl Desk {
     pub(crate) fn has_lent(&mut self, bucket: usize, key: Key) -> bool
         requires { bucket < self.old.office.of.table.words }
         ensures others { OnFalse result (LoansAreOthers self.new bucket key) }
+        ensures lent { OnTrue result (IsLentTo self.old bucket key) }
         ensures fewer { LoansEnd self.old self.new }
         ensures keeps { KeepsManager self.old self.new }
     {

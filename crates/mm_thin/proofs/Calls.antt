@@ -85,7 +85,7 @@ module _ (count slots seat b : ℕ) (d : DeskView) (below : b < count) where
   tells s t at =
       let lawful = desk_lawful count s t seat d at in
       let f = lawful.each b (inside s t) in
-      (f.fat, f.is_fat, λ i is. (lawful.low b i (f.thin_of i is)).1)
+      (f.fat, f.is_fat, (λ i is. (lawful.low b i (f.thin_of i is)).1), f.held)
 
   sees : Allows (IsKept count) slots seat at_desk b (λ k. k) (Seen (step slots b 0 0 none) at_desk)
   sees s t sized at small = (Desk d ∷ [], keeps, tt, stays count s t seat b (Desk d ∷ []) at, (refl, tells s t at))

@@ -371,6 +371,7 @@ module _ (count : ℕ) (s : WordsState) (t : IsKept count s) (seat : ℕ) where
         fat = f.fat;
         lent = λ l among of. (let was = f.lent l among of in
             (was.0, λ lent. (let its = was.1 lent in subst (λ (x : Told). Among b x.0 × (l.name ≡ x.1)) (sym (new_of b l.number its.0)) its)));
+        held = f.held;
       })
 
       more_home : (b i : ℕ) → Among b (more_h i).0 → (get_elem? (set s.homes d.records none) i ≡ some (some (more_h i).1)) ⊎ IsRead (more_records d) i
@@ -487,6 +488,7 @@ opens words texts free = record {
       is_fat = λ among. absurd among;
       fat = λ fat. (let low = fat.0 in let zero_is = free b inside in absurd (omega arith));
       lent = λ l among of. absurd among;
+      held = λ lent. (let low = lent.0 in let zero_is = free b inside in absurd (omega arith));
     };
     low = λ b i among. absurd among;
     low_fat = λ b among. absurd among;

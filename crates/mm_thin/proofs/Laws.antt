@@ -87,6 +87,7 @@ same_bucket word now d e g h c is told fats lents f = record {
   lent = λ l among of.
       let was = f.lent l ((lents l of).0 among) of in
       (fats.1 was.0, λ now_lent. (let its = was.1 (subst IsLent is now_lent) in ((told l.number).0.1 its.0, its.1 ∙ sym ((told l.number).1 its.0))));
+  held = λ now_lent. (let l = f.held (subst IsLent is now_lent) in (l.0, (lents l.0 l.2).1 l.1, l.2));
 }
 
 -- what is read of other buckets is read as before
@@ -198,6 +199,7 @@ module _ (word : ℕ) (d : DeskView) (g : ℕ → Told) (b : ℕ) (f : Fits word
         is_fat = λ among. absurd (zero_fat word free (f.is_fat among));
         fat = λ fat. absurd (thin_fat (thin number) number refl fat);
         lent = λ l among of. absurd (zero_fat word free (lent_fat l among of));
+        held = λ lent. absurd (thin_lent (thin number) number refl lent);
       }
 
     -- this record had taken it, and has not any more
@@ -216,6 +218,7 @@ module _ (word : ℕ) (d : DeskView) (g : ℕ → Told) (b : ℕ) (f : Fits word
         is_fat = λ among. absurd (thin_fat word number was (f.is_fat among));
         fat = λ fat. absurd (zero_fat 0 refl fat);
         lent = λ l among of. absurd (thin_fat word number was (lent_fat l among of));
+        held = λ lent. absurd (not_lent_at 0 (omega arith) lent);
       }
 
       pub fits_let_go : word ≡ 3 → Fits 1 d (with_told g number now) b
@@ -226,6 +229,7 @@ module _ (word : ℕ) (d : DeskView) (g : ℕ → Told) (b : ℕ) (f : Fits word
         is_fat = λ among. (omega arith, omega arith);
         fat = λ fat. f.fat (omega arith, omega arith);
         lent = λ l among of. ((f.lent l among of).0, λ lent. absurd (not_lent_at 1 (omega arith) lent));
+        held = λ lent. absurd (not_lent_at 1 (omega arith) lent);
       }
 
   -- it is fat from now on
@@ -237,6 +241,7 @@ module _ (word : ℕ) (d : DeskView) (g : ℕ → Told) (b : ℕ) (f : Fits word
     is_fat = λ among. (omega arith, omega arith);
     fat = λ fat. inl refl;
     lent = λ l among of. absurd (zero_fat word free (lent_fat l among of));
+    held = λ lent. absurd (not_lent_at 1 (omega arith) lent);
   }
 
   pub fits_reading : (i : ℕ) → word ≡ thin i → Fits 2 (with_reading d b i (g i).1) g b
@@ -250,6 +255,7 @@ module _ (word : ℕ) (d : DeskView) (g : ℕ → Told) (b : ℕ) (f : Fits word
       | inl same ↦ (inl refl, λ lent. (subst (λ k. Among b (g k).0) (sym (ap (λ (x : Lent). x.number) same)) (f.thin_of i was), ap (λ (x : Lent). x.name) same ∙ ap (λ k. (g k).1) (sym (ap (λ (x : Lent). x.number) same))))
       | inr later ↦ absurd (thin_fat word i was (lent_fat l later of))
     ];
+    held = λ lent. (loan b i (g i).1, inl refl, refl);
   }
 
   -- its name is read
@@ -261,6 +267,7 @@ module _ (word : ℕ) (d : DeskView) (g : ℕ → Told) (b : ℕ) (f : Fits word
     is_fat = λ among. (omega arith, omega arith);
     fat = λ fat. f.fat (omega arith, omega arith);
     lent = λ l among of. (let its = f.lent l among of in (its.0, λ lent. its.1 (omega arith, omega arith)));
+    held = λ lent. f.held (omega arith, omega arith);
   }
 
   -- it is thin again
@@ -274,6 +281,7 @@ module _ (word : ℕ) (d : DeskView) (g : ℕ → Told) (b : ℕ) (f : Fits word
         is_fat = λ among. absurd ((Among-without b b d.fat among).1 refl);
         fat = λ fat. absurd (thin_fat (thin i) i refl fat);
         lent = λ l among of. absurd (none_lent b d.lent l among of);
+        held = λ lent. absurd (thin_lent (thin i) i refl lent);
       }
 
   -- the record that had taken it has let it go
@@ -285,6 +293,7 @@ module _ (word : ℕ) (d : DeskView) (g : ℕ → Told) (b : ℕ) (f : Fits word
     is_fat = f.is_fat;
     fat = f.fat;
     lent = λ l among of. absurd (none_lent b d.lent l among of);
+    held = λ lent. absurd (not_lent_at word (omega arith) lent);
   }
 
   -- it is free again
@@ -303,4 +312,5 @@ module _ (word : ℕ) (d : DeskView) (g : ℕ → Told) (b : ℕ) (f : Fits word
       is_fat = λ among. absurd ((Among-without b b d.fat among).1 refl);
       fat = λ fat. absurd (zero_fat 0 refl fat);
       lent = λ l among of. absurd (not_lent l among of);
+      held = λ lent. absurd (not_lent_at 0 (omega arith) lent);
     }

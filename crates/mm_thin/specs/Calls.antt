@@ -1,6 +1,7 @@
 -- What the calls answer.
 use Rattle.std.specs.Prelude.{◌≡◌, ◌≢◌, ◌⊎◌, ◌<◌, ◌+◌, ℕ, Bool, true, false, List, [], length, slice_get, slice_set, Some}
 use Rattle.mm_lists.specs.Members.{Among}
+use Rattle.mm_thin.specs.declared.views.Lent.{Lent}
 use Rattle.mm_thin.specs.declared.views.DeskView.{DeskView}
 use Rattle.mm_thin.specs.declared.views.RecordView.{RecordView}
 use Rattle.mm_thin.specs.declared.reply.Got.{Got}
@@ -60,7 +61,7 @@ TakesFree d bucket false after = after ≡ d
 abbrev pub LooksAt : DeskView → ℕ → Look → DeskView → Type 0
 LooksAt d bucket NotFat after = (after ≡ d) × (Among bucket d.fat → ⊥)
 LooksAt d bucket Fat after = (after ≡ without_lent d bucket) × Among bucket d.fat
-LooksAt d bucket IsLent after = (after ≡ d) × Among bucket d.fat
+LooksAt d bucket IsLent after = (after ≡ d) × Among bucket d.fat × ((l : Lent) × Among l d.lent × (l.bucket ≡ bucket))
 
 -- the office makes a bucket thin again, that it has lent
 abbrev pub ThinsBucket : DeskView → ℕ → Bool → DeskView → Type 0

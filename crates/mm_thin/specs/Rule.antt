@@ -35,7 +35,8 @@ abbrev pub Told : Type 0
 Told = List ℕ × List ℕ
 
 -- of one bucket with this word: one record at most has taken it; its word is thin, of that record, or lent to it, for its name; a thin word's record has
--- taken it; the office has the bucket exactly if the word is fat; and what the office has lent is fat, and, if the word says so, is that record's
+-- taken it; the office has the bucket exactly if the word is fat; and what the office has lent is fat, and, if the word says so, is that record's; a word that says so is
+-- of a bucket that the office has lent
 pub record Fits (word : ℕ) (d : DeskView) (told_of : ℕ → Told) (b : ℕ) : Type 0 where
   pub one : (i j : ℕ) → Among b (told_of i).0 → Among b (told_of j).0 → i ≡ j
   pub taken : (i : ℕ) → Among b (told_of i).0 → (word ≡ thin i) ⊎ (IsLent word × Among (loan b i (told_of i).1) d.lent)
@@ -43,6 +44,7 @@ pub record Fits (word : ℕ) (d : DeskView) (told_of : ℕ → Told) (b : ℕ) :
   pub is_fat : Among b d.fat → IsFat word
   pub fat : IsFat word → Among b d.fat
   pub lent : (l : Lent) → Among l d.lent → l.bucket ≡ b → Among b d.fat × (IsLent word → Among b (told_of l.number).0 × (l.name ≡ (told_of l.number).1))
+  pub held : IsLent word → (l : Lent) × Among l d.lent × (l.bucket ≡ b)
 
 -- the office reads the name of a record
 abbrev pub IsRead : DeskView → ℕ → Type 0

@@ -2,12 +2,13 @@
 use Rattle.std.specs.Prelude.{◌≡◌, ◌≢◌, ℕ, ◌<◌, List, [], ◌∷◌, ◌++◌}
 use Rattle.atomic_table.specs.Table.{Me, Step}
 use Rattle.mm_lists.specs.Members.{Among}
+use Rattle.mm_thin.specs.declared.views.Lent.{Lent}
 use Rattle.mm_thin.specs.declared.views.DeskView.{DeskView}
 use Rattle.mm_thin.specs.declared.views.RecordView.{RecordView}
 use Rattle.mm_thin.specs.declared.views.Part.{Part}
 use Rattle.mm_thin.specs.declared.views.Part.TheVariants.{Desk, Record}
 use Rattle.mm_thin.specs.Views.{no_desk, new_record, more_records, loan, with_taken, idle, with_fat, with_reading, done_reading, without_fat, without_lent, thinned}
-use Rattle.mm_thin.specs.Rule.{thin, IsFat}
+use Rattle.mm_thin.specs.Rule.{thin, IsFat, IsLent}
 
 -- a seat with its view, and the texts that it holds
 abbrev pub SeatState : Type 0
@@ -69,9 +70,11 @@ GivenUp step before found after =
 
 -- ---- the office alone
 
--- the word of a bucket says whether it is fat, and whether there is the record that it is thin of
+-- the word of a bucket says whether it is fat, whether it is lent, and whether there is the record that it is thin of
 abbrev pub Tells : DeskView → ℕ → ℕ → Type 0
-Tells d bucket found = (IsFat found → Among bucket d.fat) × (Among bucket d.fat → IsFat found) × ((i : ℕ) → found ≡ thin i → i < d.records)
+Tells d bucket found =
+    (IsFat found → Among bucket d.fat) × (Among bucket d.fat → IsFat found) × ((i : ℕ) → found ≡ thin i → i < d.records)
+    × (IsLent found → (l : Lent) × Among l d.lent × (l.bucket ≡ bucket))
 
 abbrev pub Seen : StepOf → SeatState → ℕ → SeatState → Type 0
 Seen step before found after = (after ≡ before) × Tells (desk_in before.0) step.word found

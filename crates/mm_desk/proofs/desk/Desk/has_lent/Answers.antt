@@ -1,5 +1,6 @@
-use Rattle.std.proofs.Common.{ℕ}
-use Rattle.std.proofs.Common.{ap, subst}
+use Rattle.std.proofs.Common.{◌≡◌, ◌<◌, ◌/◌, ℕ, Bool, true, false, Some, sym, refl, ap, subst, ◌∙◌, arith}
+use Rattle.std.specs.Prelude.{slice_get}
+use Rattle.std.specs.Bool.{OnTrue}
 use Rattle.mm_lists.specs.Members.{Among}
 use Rattle.mm_thin.specs.declared.views.DeskView.{DeskView}
 use Rattle.mm_thin.specs.Parts.{OfficeState}
@@ -8,7 +9,9 @@ use Rattle.mm_thin.specs.declared.reply.Look.{Look}
 use Rattle.mm_thin.specs.declared.reply.Look.TheVariants as look
 use Rattle.mm_thin.specs.Calls.{LooksAt}
 use Rattle.mm_desk.specs.Desk.{DeskState}
-use Rattle.mm_desk.proofs.Keeps.{none_lent, was_lent, not_fat_unlent, desk_any_look}
+use Rattle.mm_desk.specs.Calls.{IsLentTo}
+use Rattle.mm_desk.proofs.Counts.{count_is}
+use Rattle.mm_desk.proofs.Keeps.{none_lent, was_lent, not_fat_unlent, listed_number, desk_any_look}
 use Rattle.mm_desk.proofs.desk.Desk.has_lent.Goals as goal
 
 pub invariant_of-self : goal.invariant_of-self
@@ -41,3 +44,17 @@ returns-in-Fat-clause-fewer c = subst (λ (s : DeskState). (l : Lent) → Among 
 
 pub returns-clause-fewer : goal.returns-clause-fewer
 returns-clause-fewer c = subst (λ (s : DeskState). (l : Lent) → Among l c.look.new.self.desk.lent → Among l s.office.desk.lent) c.self.view_is (any_look c.self.inside.office.desk c.args.bucket c.look.result c.look.new.self.desk c.look.ensures.looks)
+
+on_true : (b : Bool) (P : Type 0) → (b ≡ true → P) → OnTrue b P
+on_true true P holds = holds refl
+on_true false P holds = tt
+
+pub returns-clause-lent : goal.returns-clause-lent
+returns-clause-lent c = on_true c.is_of.result (IsLentTo c.args.self.now c.args.bucket c.args.key) (λ yes.
+    (let loan = c.in-IsLent.ensures.looks.2 in
+    let listed = listed_number c.self.inside.books c.self.inside.office c.self.inside.keys.items c.self.inside.lent_to.items c.self.invariant c.args.bucket loan.0 loan.1 loan.2 in
+    let below = subst (λ (d : DeskState). c.args.bucket < d.office.of.table.words) (sym c.self.view_is) c.requires in
+    let size = c.self.invariant.sized in
+    let is = count_is c.self.inside.lent_to.items c.args.bucket c.index.result.now (omega arith) c.index.ensures in
+    subst (λ (d : DeskState). IsLentTo d c.args.bucket c.args.key) c.self.view_is
+    (loan.0, loan.1, loan.2, ap (λ n. slice_get c.self.inside.keys.items (n / 10)) (sym listed ∙ sym is) ∙ c.is_of.ensures.0 yes)))

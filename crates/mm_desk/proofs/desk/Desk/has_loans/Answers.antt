@@ -1,11 +1,11 @@
 use Rattle.std.proofs.Common.{◌≡◌, ◌↔◌, ◌<◌, ℕ, Some, length, sym, ap, ◌∙◌, subst, inl, inr, arith}
-use Rattle.std.specs.Prelude.{slice_index}
+use Rattle.std.specs.Prelude.{◌/◌, slice_get, slice_index}
 use Rattle.std.proofs.lemmas.Bool.{cases_eq}
 use Rattle.mm_lists.specs.Members.{Among}
 use Rattle.mm_rules.specs.TableState.{owner_of}
 use Rattle.mm_manager.specs.LockState.{LockState}
 use Rattle.mm_desk.specs.Desk.{DeskState}
-use Rattle.mm_desk.specs.Calls.{NumberIsFree, NoLoansOf}
+use Rattle.mm_desk.specs.Calls.{IsLentTo, NumberIsFree, NoLoansOf}
 use Rattle.mm_desk.proofs.Counts.{count_is}
 use Rattle.mm_desk.proofs.Cuts.{index_of}
 use Rattle.mm_desk.proofs.Keeps.{same_both, free_still, no_loans}
@@ -23,6 +23,7 @@ loop-k-preserved c =
         | inl same ↦ subst (λ n. NumberIsFree now c.args.key n) (is ∙ ap (slice_index c.holds.new.numbers.items) (sym same)) c.if-has_lent_number.ensures.free
         | inr apart ↦ free_still c.loop-k.self now c.args.key (slice_index c.holds.new.numbers.items j) c.has_lent_number.ensures.keeps c.has_lent_number.ensures.fewer (c.loop-k.invariant.1 j (omega arith) below)
       ],
+      λ l among. c.loop-k.invariant.2 l (c.has_lent_number.ensures.fewer l among),
     )
 
 pub returns-clause-none : goal.returns-clause-none
@@ -38,3 +39,9 @@ returns-clause-none c =
     subst (λ (d : DeskState). NoLoansOf d c.args.key) c.self-2.view_is
     (no_loans c.self-2.inside.books c.self-2.inside.office c.self-2.inside.keys.items c.self-2.inside.lent_to.items c.self-2.invariant c.args.key numbers owned
     (subst (λ (d : DeskState). (n : ℕ) → Among n numbers → NumberIsFree d c.args.key n) (sym c.self-2.view_is) free))
+
+pub returns-then-has_lent_number-clause-lent : goal.returns-then-has_lent_number-clause-lent
+returns-then-has_lent_number-clause-lent c =
+    let lent = c.if-has_lent_number.ensures.lent in
+    let loan = lent.1 in
+    (lent.0, (loan.0, c.loop-k.invariant.2 loan.0 loan.1, loan.2, ap (λ ks. slice_get ks (loan.0.number / 10)) (sym c.loop-k.invariant.0.keys) ∙ loan.3))
