@@ -60,23 +60,38 @@ pub fn each_time_passes<R: Wait + Abort>(rt: &R, locks: &Locks) {
     commits(rt, owner);
 }
 
-/// A runtime with a clock that stands until another thread moves it.
+/// A clock that stands until another thread moves it.
+#[derive(Drop)]
+pub struct Hand {
+    /// The time, in milliseconds.
+    time: AtomicU64,
+    /// How often the clock was read after it was moved.
+    readings: AtomicU64,
+}
+
+impl Hand {
+    pub fn new() -> Hand {
+        Hand {
+            time: AtomicU64::new(0),
+            readings: AtomicU64::new(0),
+        }
+    }
+}
+
+/// A runtime with that clock.
 #[derive(Drop)]
 struct Standing<'a, R: Wait> {
     _rt: &'a R,
-    /// The time, in milliseconds.
-    time: &'a AtomicU64,
-    /// How often the clock was read after it was moved.
-    readings: &'a AtomicU64,
+    hand: &'a Hand,
 }
 
 impl<'a, R: Wait> Wait for Standing<'a, R> {}
 
 impl<'a, R: Wait> Clock for Standing<'a, R> {
     fn monotonic(&self) -> io::Result<Duration> {
-        let time = self.time.load(SeqCst);
+        let time = self.hand.time.load(SeqCst);
         if time > 0 {
-            self.readings.fetch_add(1, SeqCst);
+            self.hand.readings.fetch_add(1, SeqCst);
         }
         Ok(Duration::from_millis(time))
     }
@@ -100,22 +115,16 @@ fn wait_for_victim<R: Wait + Abort>(rt: &R, locks: &Locks, gate: &Barrier) {
 }
 
 /// Owns `b`, and is told of a deadlock once the two others wait for it. Moves the clock, lets others end, and aborts.
-fn be_victim<R: Wait + Abort>(
-    rt: &R,
-    locks: &Locks,
-    gate: &Barrier,
-    time: &AtomicU64,
-    readings: &AtomicU64,
-) {
+fn be_victim<R: Wait + Abort>(rt: &R, locks: &Locks, gate: &Barrier, hand: &Hand) {
     let mut victim = begin(rt, locks);
     takes(rt, &mut victim, b"b");
     gate.wait(rt);
     // Three begins, two locks, two waits of two events each.
     await_events(rt, locks, 9);
     same(rt, owns(victim.lock(b"a")), Err(LockError::Deadlock));
-    time.store(2, SeqCst);
+    hand.time.store(2, SeqCst);
     for _ in rt.forever() {
-        if readings.load(SeqCst) > 0 {
+        if hand.readings.load(SeqCst) > 0 {
             break;
         }
         thread::yield_now();
@@ -129,18 +138,8 @@ fn be_victim<R: Wait + Abort>(
 }
 
 /// Waits for `b` behind the other one, with a time, and gives up.
-fn give_up_behind<R: Wait + Abort>(
-    rt: &R,
-    locks: &Locks,
-    gate: &Barrier,
-    time: &AtomicU64,
-    readings: &AtomicU64,
-) {
-    let clock = &Standing {
-        _rt: rt,
-        time,
-        readings,
-    };
+fn give_up_behind<R: Wait + Abort>(rt: &R, locks: &Locks, gate: &Barrier, hand: &Hand) {
+    let clock = &Standing { _rt: rt, hand };
     let mut waiter = locks.begin(clock).expect(rt, "there is room");
     gate.wait(rt);
     // Three begins, two locks, and the two events of the other one's wait.
@@ -157,15 +156,13 @@ pub fn behind_a_victim<R: Wait + Abort>(
     rt: &R,
     locks: &Locks,
     gate: &Barrier,
-    numbers: &[AtomicU64],
+    hand: &Hand,
     thread: usize,
 ) {
-    let time = numbers.get(0).expect(rt, "the time");
-    let readings = numbers.get(1).expect(rt, "the readings");
     match thread {
         0 => wait_for_victim(rt, locks, gate),
-        1 => be_victim(rt, locks, gate, time, readings),
-        _ => give_up_behind(rt, locks, gate, time, readings),
+        1 => be_victim(rt, locks, gate, hand),
+        _ => give_up_behind(rt, locks, gate, hand),
     }
-    same(rt, readings.load(SeqCst), 1);
+    same(rt, hand.readings.load(SeqCst), 1);
 }
