@@ -3,7 +3,6 @@ ghost use Rattle.mm_board.specs.Views.{processes_of};
 
 use crate::tests::same::same;
 use mm_board::{Board, Name, RawBoard, Reader, Waiter};
-use mm_label::COUNTER_RANGE;
 use std::marker::Brand;
 use std::process::Abort;
 use std::test::Fail;
@@ -42,29 +41,6 @@ fn store_read_and_show<N: Name, R: Abort>(rt: &R, raw: RawBoard)
     same(rt, other.read_label(&board, 1), label(5, 1));
 }
 
-// One word keeps the greatest label of the greatest board, and another the greatest holder.
-#[test]
-fn keeps_the_greatest_of_all(rt: HostRuntime) -> Result<(), Fail> {
-    let raw = RawBoard::new(rt.alloc(), 65536)?;
-    store_the_greatest::<Brand, _>(&rt, raw);
-    Ok(())
-}
-
-fn store_the_greatest<N: Name, R: Abort>(rt: &R, raw: RawBoard)
-    requires named { raw ≡ N.board }
-    requires processes { processes_of raw ≡ 65536 }
-{
-    let (board, mut publisher, mut reader) = raw.open::<N>();
-    same(rt, board.processes(), 65536);
-    let greatest = label(COUNTER_RANGE - 1, 65535);
-    publisher.store_label(&board, 65535, greatest);
-    publisher.store_holder(&board, 0, Some(65535));
-    same(rt, reader.read_label(&board, 65535), greatest);
-    same(rt, reader.read_holder(&board, 0), Some(65535));
-    same(rt, reader.read_label(&board, 0), label(0, 0));
-    same(rt, reader.read_holder(&board, 65535), None);
-}
-
 // A walk finds the one process that has a holder, wherever it stands and wherever the walk begins.
 #[test]
 fn finds_each_waiter(rt: HostRuntime) -> Result<(), Fail> {
@@ -97,31 +73,4 @@ fn find_from_each<N: Name, R: Abort>(
         let expected = (from <= waiter.process).then_some(waiter);
         same(rt, reader.next_waiter(board, from), expected);
     }
-}
-
-// A walk finds all that have a holder, one after another.
-#[test]
-fn finds_all_waiters(rt: HostRuntime) -> Result<(), Fail> {
-    let raw = RawBoard::new(rt.alloc(), 11)?;
-    let_six_wait::<Brand, _>(&rt, raw);
-    Ok(())
-}
-
-fn let_six_wait<N: Name, R: Abort>(rt: &R, raw: RawBoard)
-    requires named { raw ≡ N.board }
-    requires processes { processes_of raw ≡ 11 }
-{
-    let (board, mut publisher, mut reader) = raw.open::<N>();
-    for process in [1, 2, 4, 7, 9, 10] {
-        publisher.store_holder(&board, process, Some(0));
-    }
-    for (from, found) in [(0, 1), (2, 2), (3, 4), (5, 7), (8, 9), (10, 10)] {
-        same(rt, reader.next_waiter(&board, from), waits(found));
-    }
-    same(rt, reader.next_waiter(&board, 11), None);
-}
-
-/// This process waits for process 0.
-fn waits(process: u32) -> Option<Waiter> {
-    Some(Waiter { process, holder: 0 })
 }

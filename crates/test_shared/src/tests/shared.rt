@@ -7,7 +7,7 @@ mod wakes;
 
 use crate::tests::rows::beside_a_table;
 use crate::tests::same::same;
-use look::{Turn, watch};
+use look::{Step, watch};
 use mm_shared::{CloseRefused, Config, Name, Pass, Prepared, Refusal, Report, SharedTable};
 use std::alloc::{AllocError, Global};
 use std::marker::Brand;
@@ -20,13 +20,23 @@ use test_support::Row;
 /// How many parts the pass has that is split off at the opening.
 const PARTS: u64 = 1000;
 
+/// This many processes and resources, with labels and keys that last for any test.
+pub fn config(processes: u32, resources: u32) -> Config {
+    Config {
+        processes,
+        resources,
+        label_limit: 1_000_000,
+        generation_limit: u32::MAX,
+    }
+}
+
 /// What is done with a table, by two passes that have all its parts together.
 #[derive(Clone, Copy)]
 pub enum Work {
     /// The calls of a script.
     Script(&'static Row),
     /// Calls, and looks at the board, and what the table has counted then.
-    Turns(&'static [Turn], Report),
+    Steps(&'static [Step], Report),
     /// Calls that list whom to wake.
     Wakes,
 }
@@ -43,8 +53,8 @@ impl Work {
     ) -> Result<Report, AllocError> {
         match self {
             Work::Script(row) => Ok(beside_a_table(rt, alloc, table, pass, row)),
-            Work::Turns(turns, report) => {
-                watch(rt, table, pass, other, turns);
+            Work::Steps(steps, report) => {
+                watch(rt, table, pass, other, steps);
                 Ok(report)
             }
             Work::Wakes => wakes::list_all(rt, alloc, table, pass),

@@ -3,14 +3,13 @@ ghost use Rattle.std.specs.Prelude.{◌≤◌, vec_capacity};
 
 use crate::tests::call::{call_of, is_told, on_shared_waking};
 use crate::tests::same::same;
-use crate::tests::shared::{Work, on_a_table};
+use crate::tests::shared::{Work, config, on_a_table};
 use mm_shared::{Name, Pass, Report, SharedTable};
 use std::alloc::{AllocError, Global};
 use std::process::Abort;
 use std::sync::Wait;
 use std::sync::ledger::Ledger;
 use std::test::Fail;
-use test_seats::config;
 
 /// Calls, as a script has them, each with its reply, and the processes that it lists. Process 2 waits for 1, and then 0 and 1 wait for each
 /// other.
