@@ -37,15 +37,15 @@ WRONG = [
 
 def worked() -> list[tuple[str, bytes, bytes, int]]:
     """The worked scripts of the crate test_support: a name, the script, its replies, and how many lines are malformed."""
-    row = r'Row \{\s*name: ("(?:[^"\\]|\\.)*"),\s*input: ("(?:[^"\\]|\\.)*"),\s*output: ("(?:[^"\\]|\\.)*"),\s*malformed: (\d+),\s*\}'
+    row = r'Row \{\s*name: ("(?:[^"\\]|\\.)*"),\s*input: ("(?:[^"\\]|\\.)*"),\s*output: ("(?:[^"\\]|\\.)*"),\s*\}'
     with open(os.path.join(TOP, "crates/test_support/src/rows.rt"), encoding="utf-8") as file:
         text = file.read()
     rows = re.findall(row, text)
     count = sum(map(int, re.findall(r"static \w+: \[Row; (\d+)\]", text)))
     assert len(rows) == count, f"{len(rows)} of {count} scripts are read"
     # (of escapes these texts have only such as Python writes in the same way)
-    read = [[ast.literal_eval("b" + literal) for literal in row[:3]] for row in rows]
-    return [(name.decode(), script, replies, int(row[3])) for (name, script, replies), row in zip(read, rows)]
+    read = [[ast.literal_eval("b" + literal) for literal in row] for row in rows]
+    return [(name.decode(), script, replies, replies.count(b"malformed\n")) for name, script, replies in read]
 
 
 class Worked(Case):
@@ -66,6 +66,14 @@ class Worked(Case):
 
 
 class Scripts(Case):
+    def test_largest_table(self) -> None:
+        """It has a process for each of so many transactions, who all wait for one, and no more."""
+        count = 65_536
+        given = f"table2 {count} {count} 17592186044415 9\n" + "begin\n" * (count + 1) + "".join(f"acquire {place}.1 65535\n" for place in range(count))
+        told = self.run_program(given=given)
+        waits = "".join(f"waits 0.1 1.{place}\n" for place in range(1, count))
+        self.ends(told, 0, "ok\n" + "".join(f"key {place}.1\n" for place in range(count)) + "refused 6 Full\ngranted\n" + waits)
+
     @each(["", "script"])
     def test_from_a_file(self, word: str) -> None:
         with open(self.file("script", FIRST_RUN), "rb") as script:

@@ -89,24 +89,6 @@ static pashkure_remote_result joined(struct asker *asker)
     return asker->result;
 }
 
-static void test_alone(void)
-{
-    key first = begun(&one), owner;
-    GIVES(OK, pashkure_remote_lock(&one, first, "a"));
-    GIVES(HELD, pashkure_remote_lock(&one, first, "a"));
-    GIVES(OK, pashkure_remote_try_lock(&one, first, "\xc3\xbc"));
-    GIVES(OK, pashkure_remote_owner(&two, "a", &owner));
-    CHECK(same(owner, first));
-    GIVES(OK, pashkure_remote_unlock(&one, first, "a"));
-    GIVES(NOT_OWNER, pashkure_remote_unlock(&one, first, "a"));
-    GIVES(FREE, pashkure_remote_owner(&two, "a", &owner));
-    GIVES(NOT_WAITING, pashkure_remote_cancel(&one, first));
-    GIVES(OK, pashkure_remote_commit(&one, first));
-    GIVES(NO_TRANSACTION, pashkure_remote_commit(&one, first));
-    GIVES(NO_TRANSACTION, pashkure_remote_abort(&one, first));
-    GIVES(FREE, pashkure_remote_owner(&one, "\xc3\xbc", &owner));
-}
-
 static void test_two(void)
 {
     key first = begun(&one), second = begun(&two);
@@ -160,41 +142,6 @@ static void test_one_connection(void)
     GIVES(OK, pashkure_remote_lock(&one, third, "b"));
     GIVES(OK, pashkure_remote_wait(&one, third));
     GIVES(OK, pashkure_remote_commit(&one, third));
-}
-
-/* Its time is up, at once, behind another one that waits: its wait is taken back. */
-static void test_timed_out_behind(void)
-{
-    key owner = begun(&one), last = begun(&two), waiter = begun(&two);
-    GIVES(OK, pashkure_remote_lock(&one, owner, "x"));
-    GIVES(OK, pashkure_remote_lock(&two, last, "z"));
-    GIVES(WAITS, pashkure_remote_ask(&one, owner, "z"));
-    GIVES(TIMED_OUT, pashkure_remote_lock_for(&two, waiter, "x", 0));
-    until_waiting(1);
-    GIVES(OK, pashkure_remote_commit(&two, waiter));
-    GIVES(OK, pashkure_remote_commit(&two, last));
-    GIVES(OK, pashkure_remote_wait(&one, owner));
-    GIVES(OK, pashkure_remote_commit(&one, owner));
-}
-
-/* Behind a victim neither a wait nor a transaction ends. Its abort is done when its wait ends. */
-static void test_aborted_later(void)
-{
-    key owner = begun(&one), victim = begun(&two), waiter = begun(&two);
-    pashkure_remote_status status;
-    GIVES(OK, pashkure_remote_lock(&one, owner, "x"));
-    GIVES(OK, pashkure_remote_lock(&two, victim, "z"));
-    GIVES(WAITS, pashkure_remote_ask(&two, waiter, "x"));
-    GIVES(WAITS, pashkure_remote_ask(&one, owner, "z"));
-    GIVES(DEADLOCK, pashkure_remote_ask(&two, victim, "x"));
-    GIVES(CARRIED, pashkure_remote_cancel(&two, waiter));
-    GIVES(LATER, pashkure_remote_abort(&two, waiter));
-    GIVES(OK, pashkure_remote_status_of(&two, waiter, &status));
-    CHECK(status.mode == PASHKURE_REMOTE_IS_WAITING && status.is_aborting);
-    GIVES(OK, pashkure_remote_abort(&two, victim));
-    GIVES(OK, pashkure_remote_wait(&one, owner));
-    GIVES(OK, pashkure_remote_commit(&one, owner));
-    GIVES(NO_TRANSACTION, pashkure_remote_wait(&two, waiter));
 }
 
 /* Who hangs up, or is killed, gives back what it owned. */
@@ -407,8 +354,7 @@ static void test_paths(void)
 
 int main(int count, char *words[])
 {
-    static const struct test tests[] = {TEST(alone), TEST(two), TEST(deadlock), TEST(one_connection), TEST(timed_out_behind),
-        TEST(aborted_later), TEST(hang_up), TEST(limits), TEST(several), TEST(operator), TEST(killed), TEST(full), TEST(started_program), TEST(paths)};
+    static const struct test tests[] = {TEST(two), TEST(deadlock), TEST(one_connection), TEST(hang_up), TEST(limits), TEST(several), TEST(operator), TEST(killed), TEST(full), TEST(started_program), TEST(paths)};
     int status;
     path = count > 2 ? words[2] : "";
     GIVES(OK, pashkure_remote_open(&one, path));

@@ -144,7 +144,7 @@ class Service(CCase):
         """A server whose program is late, and whose own calls are short, makes no difference to a client."""
         rules = "send:short%30 recv:short%30 read:late=1%5 write:short%20"
         server = self.started(env=variables(rules, only="pashkure-serve"))
-        for name in "alone", "two", "deadlock", "one_connection":
+        for name in "two", "deadlock", "one_connection":
             self.passes(run(self.program("service"), name, server.path, env=environment()))
 
 

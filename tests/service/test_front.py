@@ -354,16 +354,6 @@ class Operators(StubCase):
         status = os.stat(self.admin_path)
         self.assertEqual((stat.S_IMODE(status.st_mode), stat.S_IMODE(os.stat(self.admin_path + ".lock").st_mode)), (0o600, 0o600))
 
-    def test_as_many_as_there_may_be(self) -> None:
-        self.stubbed()
-        others = [self.wire(self.admin_path) for _ in range(15)]
-        for other in others:
-            self.asks(other, (b"a", b"heard 61"))
-        self.assertEqual(self.wire(self.admin_path).all(), FULL)
-        others[0].close()
-        self.asks(others[1], (b"b", b"heard 62"))
-        self.asks(self.wire(self.admin_path), (b"c", b"heard 63"))
-
     def test_path_in_use(self) -> None:
         """A second server does not start at the operator's path of another one."""
         self.stubbed()

@@ -64,26 +64,6 @@ class Clients(ServerCase):
         self.asks(other, (b"owner a", b"owner 0.1"), (b"graph", b"refused operator"), (b"totals", b"totals 1 0 0 0"))
         self.asks(one, (b"holds 0.1", b"holds a"))
 
-    def test_large_replies(self) -> None:
-        """An operator that asks for many graphs and does not read makes the server keep few of them, and gets all."""
-        admin, count, name = self.path("admin"), 200, b"n" * 200
-        server = self.server("--name-bytes", "200", "--admin", admin)
-        crowd, slow = self.wire(server), self.wire(admin)
-        crowd.send(b"begin\n" * count)
-        keys = [line[6:] for line in crowd.lines(count)]
-        crowd.send(b"".join(b"lock %b %b\n" % (key, name) for key in keys))
-        crowd.lines(count)
-        before = server.memory()
-        slow.send(b"graph\n" * 3000)
-        select.select([slow.socket], [], [])  # it has begun to answer
-        for _ in range(100):  # and had many turns to go on
-            self.asks(crowd, (b"status " + keys[0], b"active"))
-        self.has_not_grown(server, before, 32_000_000)
-        for _ in range(3000):
-            self.assertEqual(slow.lines(1), [b"graph %d" % (count - 1)])
-            lines = slow.lines(count - 1)
-            self.assertEqual((lines[0], len(lines)), (b"* %b %b %b" % (keys[1], name, keys[0]), count - 1))
-
     def test_all_are_aborted(self) -> None:
         """Who hangs up has all its transactions aborted: active ones, waiting ones, and one in a deadlock."""
         server = self.server()

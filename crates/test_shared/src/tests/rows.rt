@@ -82,7 +82,7 @@ fn shared_calls_answer_as_those_of_a_table(rt: HostRuntime) -> Result<(), Fail> 
 
 fn each_on_both<R: Wait + Abort>(rt: &R, alloc: Global, rows: &'static [Row]) -> Result<(), Fail> {
     for row in rows {
-        if row.malformed == 0 && row.output.starts_with("ok\n") {
+        if row.output.starts_with("ok\n") && !row.output.lines().any(|line| line == "malformed") {
             on_both(rt, alloc, row)?;
         }
     }
