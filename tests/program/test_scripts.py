@@ -152,16 +152,6 @@ class Devices(Case):
             self.ends(self.run_program(*words.split(), given=b"begin\n", stdout=full), 3, b"", "write fault\n")
         self.ends(self.run_program(*words.split(), given=b"begin\n", preexec_fn=lambda: os.close(1)), 3, b"", "write fault\n")
 
-    def test_disk_that_is_full_in_the_middle(self) -> None:
-        """The front part of the replies stays."""
-        path, replies = self.path("replies"), b"no table\n" * 20_000
-        with open(path, "wb") as out:
-            limit = lambda: resource.setrlimit(resource.RLIMIT_FSIZE, (100_000, 100_000))
-            self.ends(self.run_program(given=b"begin\n" * 20_000, stdout=out, preexec_fn=limit, restore_signals=False), 3, b"", "write fault\n")
-        with open(path, "rb") as out:
-            written = out.read()
-        self.assertTrue(0 < len(written) <= 100_000 and replies.startswith(written), len(written))
-
     @each(["", "locks", "explain"])
     def test_input_that_cannot_be_read(self, words: str) -> None:
         with _directory() as folder:

@@ -109,15 +109,6 @@ class Storms(Case):
         self.assertEqual(report["totals"]["accepted"], 2 * transactions * clients + sum(len(each) for client in each_client for each in client))
         self.assertEqual(report["waits"], 0)
 
-    @each([("", 7, True), ("--seed 1", 7, True), ("--seed 2", 10, True), ("--seed 3", 9, False), ("--seed 0", 9, False), (f"--seed {2**64 - 1}", 8, False)])
-    def test_calls_of_two(self, words: str, least: int, is_all: bool) -> None:
-        """Which seed is asked for is seen by how many calls are accepted: just so many if the two acquire nothing in common."""
-        told = self.run_program("storm", "--clients", "2", "--transmitters", "0", "--verbose", *words.split())
-        accepted = re.search(rb"calls accepted (\d+)", told.err)
-        assert accepted
-        self.assertEqual(least, 4 + sum(map(len, Generator(options(words)["seed"], 0).transactions(2, 8, 4))))
-        (self.assertEqual if is_all else self.assertGreaterEqual)(int(accepted[1]), least)
-
     def test_generator(self) -> None:
         """The first words of the C library's example program."""
         example = Generator(42, 54)

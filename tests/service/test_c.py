@@ -102,7 +102,7 @@ class Service(CCase):
     def test_sanitized(self, name: str) -> None:
         self.passes(run(self.program("service.sanitized"), name, self.path_of_server()))
 
-    @each([name for name in tests("service") if name not in ("killed", "full", "limits", "hang_up")])
+    @each([name for name in tests("service") if name not in ("killed", "full", "limits")])
     def test_with_faults(self, name: str) -> None:
         for seed in SEEDS:
             with self.subTest(seed=seed):

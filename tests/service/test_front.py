@@ -2,6 +2,7 @@
 from __future__ import annotations
 
 import os
+import resource
 import signal
 import socket
 import stat
@@ -11,7 +12,7 @@ import time
 from typing import Any
 
 from lib.faults import FaultCase, variables
-from lib.world import LIMIT, TOP, Server, Wire, each, environment, run, stop, until
+from lib.world import IS_SLOW, LIMIT, TOP, Server, Wire, each, environment, run, stop, until
 from service.test_server import ServerCase, fills
 
 STUB = os.path.join(TOP, "tests", "lib", "stub.py")
@@ -276,9 +277,10 @@ class Leaving(StubCase):
         self.assertEqual(self.words()[1:3], ["--connections", "9"])
 
     def test_many(self) -> None:
-        """Hundreds at once, each with its own replies."""
-        server = self.stubbed()
-        wires = [self.wire(server) for _ in range(400)]
+        """Hundreds at once, and with --slow ten thousand, each with its own replies."""
+        server, count = self.stubbed(), 10_000 if IS_SLOW else 400
+        resource.setrlimit(resource.RLIMIT_NOFILE, (resource.getrlimit(resource.RLIMIT_NOFILE)[1],) * 2)
+        wires = [self.wire(server) for _ in range(count)]
         for turn in range(3):
             for number, wire in enumerate(wires):
                 wire.send(b"%d\n" % (number + turn) * 3)
@@ -286,7 +288,8 @@ class Leaving(StubCase):
                 self.assertEqual(wire.lines(3), [b"heard " + (b"%d" % (number + turn)).hex().encode()] * 3)
         for wire in wires[::2]:
             wire.close()
-        until(lambda: len([line for line in self.came() if line.startswith(b"- ")]) == 200, "half of them have hung up")
+        until(lambda: len([line for line in self.came() if line.startswith(b"- ")]) == count // 2, "half of them have hung up")
+        self.has_not_grown(server, 0, 40_000_000)
         for number, wire in enumerate(wires[1::2]):
             self.asks(wire, (b"%d" % number, b"heard " + (b"%d" % number).hex().encode()))
 

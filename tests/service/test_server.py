@@ -3,12 +3,8 @@ halves of lines, and bounds are in test_front; what the program says to connecti
 from __future__ import annotations
 
 import os
-import random
-import resource
-import select
-import socket
 
-from lib.world import IS_SLOW, LIMIT, SEED, Case, Server, Wire, slow, until
+from lib.world import IS_SLOW, LIMIT, Case, Server, Wire, until
 
 
 def begun(wire: Wire, *names: bytes) -> bytes:
@@ -97,26 +93,3 @@ class Clients(ServerCase):
         self.assertEqual(self.counts(other)[:2], [count, count // 2])
         until(lambda: server.descriptors() <= before[1], "all connections are closed")
         self.has_not_grown(server, before[0], 4_000_000)
-
-    @slow
-    def test_ten_thousand(self) -> None:
-        """Ten thousand connections at once, each with a transaction and a lock; some of them hang up and are replaced, again and again."""
-        path, count = self.path("admin"), 10_000
-        server = self.server("--connections", "10500", "--each", "2", "--admin", path)
-        resource.setrlimit(resource.RLIMIT_NOFILE, (resource.getrlimit(resource.RLIMIT_NOFILE)[1],) * 2)
-        admin = Wire(path)
-        self.addCleanup(admin.close)
-        wires: dict[int, Wire] = {}
-        chance = random.Random(SEED)
-        for number in [*range(count), *(chance.randrange(count) for _ in range(5 * count))]:
-            if number in wires:
-                wires[number].close()
-            wire = wires[number] = Wire(server.path)
-            key = wire.ask(b"begin")[6:]
-            if wire.ask(b"lock %b name/%d" % (key, number)) != b"granted":
-                self.assertEqual(wire.lines(1), [b"* granted %b name/%d" % (key, number)])
-        self.assertLess(server.memory(), 40_000_000)
-        self.assertEqual(admin.ask(b"graph"), b"graph 0")
-        for wire in wires.values():
-            wire.close()
-        until(lambda: admin.ask(b"list") == b"list 0", "all transactions are aborted")

@@ -3,6 +3,7 @@
 
 mod board;
 mod call;
+mod flush;
 mod rows;
 mod same;
 mod shared;

@@ -11,56 +11,7 @@ use std::{io, thread};
 /// The longest time, in milliseconds, that a request is given.
 const LONGEST: u64 = 6;
 
-/// A runtime with a clock of its own: each reading is a millisecond later than the one before.
-#[derive(Drop)]
-struct Ticking<'a, R: Wait> {
-    _rt: &'a R,
-    /// How often the clock was read.
-    readings: AtomicU64,
-}
-
-impl<'a, R: Wait> Wait for Ticking<'a, R> {}
-
-impl<'a, R: Wait> Clock for Ticking<'a, R> {
-    fn monotonic(&self) -> io::Result<Duration> {
-        Ok(Duration::from_millis(self.readings.fetch_add(1, SeqCst)))
-    }
-
-    fn since_1970(&self) -> io::Result<Duration> {
-        self.monotonic()
-    }
-}
-
-/// Asks for a name that another transaction owns and keeps, and gives up after this many milliseconds. Ends the test unless that time had
-/// passed when the clock was read last.
-fn is_taken_back<R: Wait + Abort>(rt: &R, locks: &Locks, limit: u64) {
-    let clock = &Ticking {
-        _rt: rt,
-        readings: AtomicU64::new(0),
-    };
-    let mut waiter = locks.begin(clock).expect(rt, "there is room");
-    let answer = owns(waiter.lock_for(b"a", Duration::from_millis(limit)));
-    same(rt, answer, Err(LockError::TimedOut));
-    drop(waiter);
-    // The first reading is at 0.
-    holds(
-        rt,
-        "the time has passed",
-        clock.readings.load(SeqCst) > limit,
-    );
-}
-
-/// A request for a name that stays owned is taken back, and not before its time.
-pub fn each_time_passes<R: Wait + Abort>(rt: &R, locks: &Locks) {
-    let mut owner = begin(rt, locks);
-    takes(rt, &mut owner, b"a");
-    for limit in 0..=LONGEST {
-        is_taken_back(rt, locks, limit);
-    }
-    commits(rt, owner);
-}
-
-/// A clock that stands until another thread moves it.
+/// A clock that another thread moves, or each reading.
 #[derive(Drop)]
 pub struct Hand {
     /// The time, in milliseconds.
@@ -80,16 +31,18 @@ impl Hand {
 
 /// A runtime with that clock.
 #[derive(Drop)]
-struct Standing<'a, R: Wait> {
+struct Timed<'a, R: Wait> {
     _rt: &'a R,
     hand: &'a Hand,
+    /// By how much each reading moves the clock, in milliseconds.
+    step: u64,
 }
 
-impl<'a, R: Wait> Wait for Standing<'a, R> {}
+impl<'a, R: Wait> Wait for Timed<'a, R> {}
 
-impl<'a, R: Wait> Clock for Standing<'a, R> {
+impl<'a, R: Wait> Clock for Timed<'a, R> {
     fn monotonic(&self) -> io::Result<Duration> {
-        let time = self.hand.time.load(SeqCst);
+        let time = self.hand.time.fetch_add(self.step, SeqCst);
         if time > 0 {
             self.hand.readings.fetch_add(1, SeqCst);
         }
@@ -99,6 +52,37 @@ impl<'a, R: Wait> Clock for Standing<'a, R> {
     fn since_1970(&self) -> io::Result<Duration> {
         self.monotonic()
     }
+}
+
+/// Asks for a name that another transaction owns and keeps, and gives up after this many milliseconds, where each reading of the clock is a
+/// millisecond later than the one before. Ends the test unless that time had passed when the clock was read last.
+fn is_taken_back<R: Wait + Abort>(rt: &R, locks: &Locks, limit: u64) {
+    let hand = &Hand::new();
+    let clock = &Timed {
+        _rt: rt,
+        hand,
+        step: 1,
+    };
+    let mut waiter = locks.begin(clock).expect(rt, "there is room");
+    let answer = owns(waiter.lock_for(b"a", Duration::from_millis(limit)));
+    same(rt, answer, Err(LockError::TimedOut));
+    drop(waiter);
+    // The first reading is at 0.
+    holds(
+        rt,
+        "the time has passed",
+        hand.readings.load(SeqCst) >= limit,
+    );
+}
+
+/// A request for a name that stays owned is taken back, and not before its time.
+pub fn each_time_passes<R: Wait + Abort>(rt: &R, locks: &Locks) {
+    let mut owner = begin(rt, locks);
+    takes(rt, &mut owner, b"a");
+    for limit in 0..=LONGEST {
+        is_taken_back(rt, locks, limit);
+    }
+    commits(rt, owner);
 }
 
 /// How many transactions end while the victim has yet to abort.
@@ -139,7 +123,11 @@ fn be_victim<R: Wait + Abort>(rt: &R, locks: &Locks, gate: &Barrier, hand: &Hand
 
 /// Waits for `b` behind the other one, with a time, and gives up.
 fn give_up_behind<R: Wait + Abort>(rt: &R, locks: &Locks, gate: &Barrier, hand: &Hand) {
-    let clock = &Standing { _rt: rt, hand };
+    let clock = &Timed {
+        _rt: rt,
+        hand,
+        step: 0,
+    };
     let mut waiter = locks.begin(clock).expect(rt, "there is room");
     gate.wait(rt);
     // Three begins, two locks, and the two events of the other one's wait.
