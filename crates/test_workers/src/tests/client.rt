@@ -25,6 +25,9 @@ struct Case {
 
 /// The transactions that follow the first one, each of which acquires resource 0.
 fn stream(alloc: Global, transactions: u32) -> Option<TransactionStream> {
+    if transactions == 0 || transactions > 3 {
+        return None;
+    }
     let options = StormOptions {
         seed: 1,
         clients: 1,

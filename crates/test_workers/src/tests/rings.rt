@@ -10,7 +10,6 @@ use std::marker::Brand;
 use std::sync::Wait;
 use std::sync::ledger::Ledger;
 use std::test::Fail;
-use test_support::label;
 
 /// The configuration of the tables: four processes and four resources.
 const FOUR: Config = Config {
@@ -54,47 +53,55 @@ fn gate<R: Wait>(rt: &R, alloc: Global) -> Option<SharedGate<'_, R>> {
     shared_gates(rt, alloc, 1, 1).ok()?.pop()
 }
 
-/// The public labels of a ring of three after no turn, one turn and so on, by their counters and processes, and how many verdicts there are
-/// then: as docs/ALGORITHM.md shows them.
-static TURNS: [([(u64, u32); 3], u64); 7] = [
-    ([(1, 0), (1, 1), (2, 2)], 0),
-    ([(1, 1), (1, 1), (2, 2)], 0),
-    ([(1, 1), (2, 2), (2, 2)], 0),
-    ([(1, 1), (2, 2), (2, 2)], 0),
-    ([(2, 2), (2, 2), (2, 2)], 0),
-    ([(2, 2), (2, 2), (2, 2)], 0),
-    ([(2, 2), (2, 2), (2, 2)], 1),
+/// What a ring of three shows: the public labels, by their counters and processes, and how many verdicts there are.
+type Shown = ((u64, u32), (u64, u32), (u64, u32), u64);
+
+/// After no turn, one turn and so on, as docs/ALGORITHM.md shows it.
+static TURNS: [Shown; 7] = [
+    ((1, 0), (1, 1), (2, 2), 0),
+    ((1, 1), (1, 1), (2, 2), 0),
+    ((1, 1), (2, 2), (2, 2), 0),
+    ((1, 1), (2, 2), (2, 2), 0),
+    ((2, 2), (2, 2), (2, 2), 0),
+    ((2, 2), (2, 2), (2, 2), 0),
+    ((2, 2), (2, 2), (2, 2), 1),
 ];
 
 /// Whether the table has this label for the transaction of a process.
-fn shows(table: &Table, process: u32, counter: u64, of: u32) -> bool {
+fn has(table: &Table, process: u32, label: (u64, u32)) -> bool {
     match table.state(key(process)) {
-        Ok(state) => state.public == label(counter, of),
+        Ok(state) => (state.public.counter(), state.public.process()) == label,
         Err(_) => false,
     }
 }
 
-/// Whether so many turns make of a ring of three what they are to make.
-fn goes_round<R: Wait>(rt: &R, alloc: Global, turns: usize) -> Option<bool> {
-    let (labels, verdicts) = TURNS.get(turns)?;
+/// Whether the table shows that.
+fn shows(table: &Table, shown: &Shown) -> bool {
+    let (first, second, third, verdicts) = *shown;
+    table.totals().verdicts == verdicts
+        && has(table, 0, first)
+        && has(table, 1, second)
+        && has(table, 2, third)
+}
+
+/// Whether a ring of three shows that after so many turns.
+fn goes_round<R: Wait>(rt: &R, alloc: Global, turns: u64, shown: &Shown) -> Option<bool> {
     let gate = gate(rt, alloc)?;
     let mut table = Table::open(alloc, FOUR).ok()?;
     wait_in_a_ring(&mut table, 3);
-    let table = transmit(table, gate, turns as u64);
-    let mut is_right = table.totals().verdicts == *verdicts;
-    for process in 0..3usize {
-        let (counter, of) = labels[process];
-        is_right = is_right && shows(&table, process as u32, counter, of);
-    }
+    let table = transmit(table, gate, turns);
+    let is_right = shows(&table, shown);
     drop(table);
     Some(is_right)
 }
 
 #[test]
 fn a_ring_of_three_on_a_table_alone(rt: HostRuntime) {
-    for turns in 0..TURNS.len() {
-        let goes = goes_round(&rt, rt.alloc(), turns) == Some(true);
+    let mut turns: u64 = 0;
+    for shown in &TURNS {
+        let goes = goes_round(&rt, rt.alloc(), turns, shown) == Some(true);
         passes(&rt, "a_ring_of_three_on_a_table_alone", goes);
+        turns = turns.saturating_add(1);
     }
 }
 
