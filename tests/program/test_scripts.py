@@ -95,18 +95,6 @@ class Scripts(Case):
     def test_verbose_has_nothing_to_say(self) -> None:
         self.ends(self.run_program("script", "-v", given=FIRST_RUN), 0, FIRST_REPLIES)
 
-    def test_lines_in_pieces(self) -> None:
-        with subprocess.Popen([PROGRAM, "script", "--verbose"], stdin=subprocess.PIPE, stdout=subprocess.PIPE, stderr=subprocess.PIPE) as child:
-            assert child.stdin and child.stdout and child.stderr
-            for piece, reply in (b"be", b""), (b"gin\nfly", b"no table\n"), (b" away\nfl", b"malformed\n"), (b"y", b""):
-                child.stdin.write(piece)
-                child.stdin.flush()
-                self.assertEqual(child.stdout.readline() if reply else b"", reply)
-            child.stdin.close()
-            self.assertEqual(child.stdout.read(), b"malformed\n")
-            self.assertEqual(child.stderr.read(), b"line 2: no call has this word\nline 3: no call has this word\n")
-        self.assertEqual(child.returncode, 1)
-
     def test_typed_lines(self) -> None:
         """Each reply is there before the next line is given."""
         with subprocess.Popen([PROGRAM], stdin=subprocess.PIPE, stdout=subprocess.PIPE) as child:

@@ -58,7 +58,10 @@ class Storms(Case):
         """The numbers of the two lines, what is on standard error, and the report. Fails unless each agrees with the others."""
         path = self.path("report")
         told = self.run_program(*words.split(), *more, "--report", path)
-        numbers = self.numbers(told.out, told.status)
+        lines = re.fullmatch(rb"clients finished (\d+) aborted (\d+) spent (\d+) refused (\d+)\ntable verdicts (\d+) aborts (\d+)\n", told.out)
+        assert lines, told.out
+        numbers = list(map(int, lines.groups()))
+        self.assertEqual(told.status, 5 if numbers[2] + numbers[3] else 0)
         with open(path, encoding="utf-8") as file:
             text = file.read()
         report = json.loads(text)
@@ -70,14 +73,6 @@ class Storms(Case):
         self.assertEqual(ends["aborted"], totals["aborts"])
         self.assertTrue(totals["aborts"] <= report["waits"] <= totals["accepted"] >= report["raises"] and report["seconds"] > 0, text)
         return numbers, told.err.decode(), report
-
-    def numbers(self, out: bytes, status: int) -> list[int]:
-        lines = re.fullmatch(rb"clients finished (\d+) aborted (\d+) spent (\d+) refused (\d+)\ntable verdicts (\d+) aborts (\d+)\n", out)
-        self.assertIsNotNone(lines, out)
-        assert lines
-        numbers = list(map(int, lines.groups()))
-        self.assertEqual(status, 5 if numbers[2] + numbers[3] else 0)
-        return numbers
 
     @each(STORMS)
     def test_storm(self, words: str) -> None:

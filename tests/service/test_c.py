@@ -140,13 +140,6 @@ class Service(CCase):
             self.skipTest("this C compiler has no thread sanitizer that runs here (Debian's package libtsan)")
         self.passes(run(path, self.path_of_server()))
 
-    def test_service_that_is_slow(self) -> None:
-        """A server whose program is late, and whose own calls are short, makes no difference to a client."""
-        rules = "send:short%30 recv:short%30 read:late=1%5 write:short%20"
-        server = self.started(env=variables(rules, only="pashkure-serve"))
-        for name in "two", "deadlock", "one_connection":
-            self.passes(run(self.program("service"), name, server.path, env=environment()))
-
 
 class Sources(CCase):
     def test_compilers(self) -> None:

@@ -435,17 +435,6 @@ class Program(StubCase):
             self.assertEqual(server.process.wait(LIMIT), 1)
             self.assertRegex(server.stderr(), rf"\A[^\n]* ended with status {status}\n\Z")
 
-    def test_lines_in_pieces(self) -> None:
-        """A line of the program may come in pieces."""
-        script = r"""read a; printf '0 tot'; sleep 0.05; printf 'als 0 0 0 0'; sleep 0.05; echo
-        while read number word; do
-          if [ "$number" = - ]; then echo "- $word"; else printf "$number"; sleep 0.01; printf ' h'; sleep 0.01; printf 'eard\n%s * x\n' "$number"; fi
-        done"""
-        server = self.server(program=self.script(script))
-        wire = self.wire(server)
-        wire.send(b"a\nb\n")
-        self.assertEqual(wire.lines(4), [b"heard", b"* x"] * 2)
-
     def test_options(self) -> None:
         server = self.stubbed("--transactions", "7", "--names=8", "--name-bytes", "9", "--each", "3", "--epoch", "11", "--connections", "20")
         self.assertEqual(self.words(), "locks --transactions 7 --names 8 --name-bytes 9 --connections 21 --epoch 11 --each 3".split())

@@ -6,7 +6,7 @@ pub struct Row {
     pub output: &'static str,
 }
 
-static FIRST: [Row; 17] = [
+static FIRST: [Row; 12] = [
     Row {
         name: "empty",
         input: "",
@@ -28,11 +28,6 @@ static FIRST: [Row; 17] = [
         output: "ok\nkey 0.1\nkey 1.1\ngranted\ngranted\nrefused 4 AlreadyOwns\nwaits 1.1 1.0\nrefused 3 Waiting\nrefused 2 NoResource\nrefused 1 Stale\nrefused 1 Stale\nrefused 5 NotOwner\nrefused 8 NotWaiting\nrefused 9 NoVerdict\nrefused 9 NoVerdict\nrefused 3 Waiting\ntotals 5 0 0\n",
     },
     Row {
-        name: "first_run",
-        input: "table 4 4 100 9\nbegin\nbegin\nacquire 0.1 0\nacquire 1.1 1\nacquire 0.1 1\nacquire 1.1 0\nstate 0.1\nstate 1.1\n",
-        output: "ok\nkey 0.1\nkey 1.1\ngranted\ngranted\nwaits 1.1 1.0\nwaits 0.1 2.1\nwaiting 1 1.0 1.0\nwaiting 0 2.1 2.1\n",
-    },
-    Row {
         name: "cutting_lines",
         input: "# first\n\n  table 1 1 9 9\r\nbegin extra\n begin \nbegin",
         output: "ok\nmalformed\nkey 0.1\nrefused 6 Full\n",
@@ -43,34 +38,14 @@ static FIRST: [Row; 17] = [
         output: "no table\nmalformed\nrefused 11 BadConfig\nrefused 11 BadConfig\nrefused 11 BadConfig\nrefused 11 BadConfig\nrefused 11 BadConfig\nrefused 11 BadConfig\nok\ntable stands\nmalformed\nrefused 1 Stale\n",
     },
     Row {
-        name: "crosswise_waits",
-        input: "table 4 4 100 9\nbegin\nbegin\nacquire 0.1 0\nacquire 1.1 1\nacquire 0.1 1\nacquire 1.1 0\ndetect 0.1\ndetect 1.1\n",
-        output: "ok\nkey 0.1\nkey 1.1\ngranted\ngranted\nwaits 1.1 1.0\nwaits 0.1 2.1\nclear\nclear\n",
-    },
-    Row {
         name: "freed_slots_first",
         input: "table 4 1 9 9\nbegin\nbegin\nbegin\nfinish 0.1\nfinish 2.1\nbegin\nbegin\nbegin\nbegin\n",
         output: "ok\nkey 0.1\nkey 1.1\nkey 2.1\nfinished\nfinished\nkey 2.2\nkey 0.2\nkey 3.1\nrefused 6 Full\n",
     },
     Row {
-        name: "finish_hands_over",
-        input: "table 4 2 100 9\nbegin\nbegin\nbegin\nbegin\nacquire 0.1 0\nacquire 0.1 1\nacquire 1.1 1\nacquire 2.1 0\nacquire 3.1 0\nfinish 0.1\nowner 0\nowner 1\nstate 3.1\n",
-        output: "ok\nkey 0.1\nkey 1.1\nkey 2.1\nkey 3.1\ngranted\ngranted\nwaits 0.1 1.1\nwaits 0.1 1.2\nwaits 0.1 1.3\nfinished\nowner 2.1\nowner 1.1\nwaiting 0 2.3 2.3\n",
-    },
-    Row {
         name: "two_cycles",
         input: "table 4 4 100 9\nbegin\nbegin\nbegin\nbegin\nacquire 0.1 0\nacquire 1.1 1\nacquire 2.1 2\nacquire 3.1 3\nacquire 0.1 1\nacquire 1.1 0\nacquire 2.1 3\nacquire 3.1 2\nsettle\nstate 1.1\nstate 3.1\nabort 1.1\nabort 3.1\nowner 1\nowner 3\ntotals\n",
         output: "ok\nkey 0.1\nkey 1.1\nkey 2.1\nkey 3.1\ngranted\ngranted\ngranted\ngranted\nwaits 1.1 1.0\nwaits 0.1 2.1\nwaits 3.1 1.2\nwaits 2.1 2.3\nsettled 2 2\nconvicted 0 2.1 2.1\nconvicted 2 2.3 2.3\naborted\naborted\nowner 0.1\nowner 2.1\ntotals 15 2 2\n",
-    },
-    Row {
-        name: "crosswise_verdict",
-        input: "table 4 4 100 9\nbegin\nbegin\nacquire 0.1 0\nacquire 1.1 1\nacquire 0.1 1\nacquire 1.1 0\ndetect 0.1\ndetect 1.1\ntransmit 0.1\ndetect 1.1\ndetect 1.1\ntotals\n",
-        output: "ok\nkey 0.1\nkey 1.1\ngranted\ngranted\nwaits 1.1 1.0\nwaits 0.1 2.1\nclear\nclear\nraised 2.1\ndeadlock 2.1\nstanding\ntotals 11 1 0\n",
-    },
-    Row {
-        name: "crosswise_abort",
-        input: "table 4 4 100 9\nbegin\nbegin\nacquire 0.1 0\nacquire 1.1 1\nacquire 0.1 1\nacquire 1.1 0\ndetect 0.1\ndetect 1.1\ntransmit 0.1\ndetect 1.1\ndetect 1.1\ntotals\nabort 1.1\nowner 0\nowner 1\nstate 0.1\nstate 1.1\ntotals\n",
-        output: "ok\nkey 0.1\nkey 1.1\ngranted\ngranted\nwaits 1.1 1.0\nwaits 0.1 2.1\nclear\nclear\nraised 2.1\ndeadlock 2.1\nstanding\ntotals 11 1 0\naborted\nowner 0.1\nowner 0.1\nactive 1.0 2.1\nrefused 1 Stale\ntotals 12 1 1\n",
     },
     Row {
         name: "ring_of_three_settles",
@@ -94,16 +69,11 @@ static FIRST: [Row; 17] = [
     },
 ];
 
-static SECOND: [Row; 17] = [
+static SECOND: [Row; 16] = [
     Row {
         name: "limit_refuses_block",
         input: "table 2 2 1 9\nbegin\nbegin\nacquire 0.1 0\nacquire 1.1 1\nacquire 0.1 1\nacquire 1.1 0\nstate 1.1\n",
         output: "ok\nkey 0.1\nkey 1.1\ngranted\ngranted\nwaits 1.1 1.0\nrefused 7 LabelsExhausted\nactive 0.1 0.1\n",
-    },
-    Row {
-        name: "limit_refuses_abort",
-        input: "table 3 2 3 9\nbegin\nbegin\nbegin\nacquire 0.1 0\nacquire 1.1 1\nacquire 0.1 1\nacquire 1.1 0\nacquire 2.1 1\ntransmit 0.1\ndetect 1.1\nabort 1.1\nstate 1.1\ndetect 1.1\ntotals\n",
-        output: "ok\nkey 0.1\nkey 1.1\nkey 2.1\ngranted\ngranted\nwaits 1.1 1.0\nwaits 0.1 2.1\nwaits 1.1 3.2\nraised 2.1\ndeadlock 2.1\nrefused 7 LabelsExhausted\nconvicted 0 2.1 2.1\nstanding\ntotals 11 1 0\n",
     },
     Row {
         name: "retired_then_next",

@@ -8,7 +8,7 @@ mod wakes;
 use crate::tests::rows::beside_a_table;
 use crate::tests::same::same;
 use look::{Step, watch};
-use mm_shared::{CloseRefused, Config, Name, Pass, Prepared, Refusal, Report, SharedTable};
+use mm_shared::{Config, Name, Pass, Prepared, Report, SharedTable};
 use std::alloc::{AllocError, Global};
 use std::marker::Brand;
 use std::process::Abort;
@@ -62,38 +62,6 @@ impl Work {
     }
 }
 
-/// Ends the test unless the table is not closed for want of a pass, with this text, and gives both back.
-fn refused_close<N: Name, A: Ledger, V: Ledger, B: Ledger>(
-    rt: &impl Abort,
-    alloc: Global,
-    table: SharedTable<N, A, V, B>,
-    pass: Pass<N, A, V, B>,
-) -> CloseRefused<N, A, V, B> {
-    let refused = table.close(pass).err().expect(rt, "a pass is missing");
-    same(rt, refused.refusal, Refusal::SharesMissing);
-    let text = format!(in alloc; "{refused}").expect(rt, "memory");
-    same(rt, text.as_str(), "the pass does not have all parts");
-    refused
-}
-
-/// Ends the test unless the table is not closed with one pass alone, and is closed with this report once the other is joined to it.
-fn closes_with_both<N: Name, A: Ledger, V: Ledger, B: Ledger>(
-    rt: &impl Abort,
-    alloc: Global,
-    table: SharedTable<N, A, V, B>,
-    pass: Pass<N, A, V, B>,
-    other: Pass<N, A, V, B>,
-    report: Option<Report>,
-) {
-    let CloseRefused {
-        refusal: _,
-        table,
-        mut pass,
-    } = refused_close(rt, alloc, table, pass);
-    pass.join(&table, other);
-    same(rt, table.close(pass).ok(), report);
-}
-
 /// Opens the table, does the work with two passes, and closes it.
 fn on_named<N: Name, A: Ledger, V: Ledger, B: Ledger, R: Wait + Abort>(
     rt: &R,
@@ -109,7 +77,8 @@ fn on_named<N: Name, A: Ledger, V: Ledger, B: Ledger, R: Wait + Abort>(
     let (table, mut pass) = prepared.open::<N, A, V, B>();
     let mut other = pass.split(&table, PARTS);
     let done = work.done(rt, alloc, &table, &mut pass, &mut other);
-    closes_with_both(rt, alloc, table, pass, other, done.ok());
+    pass.join(&table, other);
+    same(rt, table.into_report(pass), done.ok());
     done.map(|_| ())
 }
 
