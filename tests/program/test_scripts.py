@@ -5,7 +5,6 @@ import ast
 import glob
 import os
 import re
-import resource
 import subprocess
 
 from lib.world import PROGRAM, TOP, Case, each

@@ -109,15 +109,6 @@ class Storms(Case):
         example = Generator(42, 54)
         self.assertEqual([example.word() for _ in range(6)], [0xA15C02B7, 0x7B47F409, 0xBA1D3330, 0x83D2F293, 0xBFA4784B, 0xCBED606E])
 
-    def test_usual_numbers(self) -> None:
-        """A storm without options is that of the usual numbers, and one transaction is what it makes without that option."""
-        told = []
-        for more in "", "--resources 8 --acquires 4", "--transactions 1":
-            numbers, err, report = self.storm(f"storm --clients 1 --transmitters 0 --verbose {more}")
-            del report["seconds"]
-            told.append((numbers, re.sub(r"took [0-9.]+ s", "took", err), report))
-        self.assertEqual(told, told[:1] * 3)
-
     def test_report_of_a_workload(self) -> None:
         path = os.path.join(TOP, "examples/workloads/crosswise.json")
         numbers, told, report = self.storm("threads", path)

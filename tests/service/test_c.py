@@ -9,7 +9,7 @@ import tempfile
 from typing import Any
 
 from lib.faults import FaultCase, variables
-from lib.world import CLIENTS, LIMIT, SEED, TOP, Run, Server, each, environment, run
+from lib.world import CLIENTS, LIMIT, SEED, TOP, Run, Server, each, run
 
 HERE = os.path.join(TOP, "tests", "service")
 CLIENT = os.path.join(CLIENTS, "c")

@@ -1,14 +1,11 @@
 """How a server starts and ends, and what its clients are told. The server is known by its command and its socket alone."""
 from __future__ import annotations
 
-import itertools
 import os
 import signal
 import socket
 import stat
 import subprocess
-import threading
-import time
 
 from lib.world import LIMIT, PROGRAM, Server, Wire, answers, each, environment, run, stop, until
 from service.test_server import ServerCase, begun

@@ -6,7 +6,6 @@ import resource
 import signal
 import socket
 import stat
-import subprocess
 import sys
 import time
 from typing import Any
