@@ -70,6 +70,8 @@ const FULL: Line = (Call::Begin, Answer::Refused(Refusal::Full));
 
 const GRANTED_TOO: Line = (Call::Acquire(1), Answer::Done);
 
+const WAITS_TOO: Line = (Call::Acquire(1), Answer::Waits);
+
 const FREED: Line = (Call::Release(3), Answer::Done);
 
 const ARRIVES: Line = (Call::Arrive, Answer::Done);
@@ -156,12 +158,12 @@ static CASES: [Case; 18] = [
         ends: (0, 0, End::Aborted),
     },
     Case {
-        name: "the resource is its own, by its first transmit",
+        name: "the resource is its own, by its first transmit, and its turns are used",
         work: &TWO,
         transactions: 1,
         turns: 2,
-        calls: &[BEGIN, WAITS, IS_GRANTED, GRANTED_TOO, FINISH, LEAVE],
-        ends: (0, 0, End::Finished),
+        calls: &[BEGIN, WAITS, IS_GRANTED, WAITS_TOO, LEAVE],
+        ends: (0, 0, End::Spent),
     },
     Case {
         name: "the resource is its own, by its second detect",
