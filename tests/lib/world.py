@@ -224,11 +224,6 @@ class Server:
         """How many files the server has open."""
         return len(os.listdir(f"/proc/{self.process.pid}/fd"))
 
-    def ticks(self) -> int:
-        """The processor time that it has taken, in ticks of the system's clock."""
-        with open(f"/proc/{self.process.pid}/stat", encoding="ascii") as file:
-            return sum(map(int, file.read().rpartition(")")[2].split()[11:13]))
-
     def close(self) -> int:
         """Ends the server as its user does, and returns its status."""
         if self.process.poll() is None:

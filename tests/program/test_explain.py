@@ -2,13 +2,12 @@
 from __future__ import annotations
 
 import os
-import pty
 import random
 import shutil
-import subprocess
 
 from lib import draw, explained, follow, graphs
 from lib.table import lines_of, shown
+from lib.terminal import typed
 from lib.world import OUT, PROGRAM, SEED, Case, each, run
 
 LONGEST = 16_777_216
@@ -133,19 +132,9 @@ class Explain(Case):
 
     def on_terminal(self, environment: dict[str, str]) -> bytes:
         """What it prints on a terminal."""
-        leader, follower = pty.openpty()
-        with open(self.file("script", CALLS), "rb") as given:
-            with subprocess.Popen([PROGRAM, "explain"], stdin=given, stdout=follower, env=environment) as child:
-                os.close(follower)
-                told = b""
-                try:
-                    while piece := os.read(leader, 65536):
-                        told += piece
-                except OSError:
-                    pass
-        os.close(leader)
-        self.assertEqual(child.returncode, 0)
-        return told
+        status, shown = typed(["sh", "-c", f'"{PROGRAM}" explain < "{self.file("script", CALLS)}"'], b"", environment)
+        self.assertEqual(status, 0)
+        return shown
 
     def test_colors(self) -> None:
         """Text has colors on a terminal if NO_COLOR is not set, and says the same without them."""

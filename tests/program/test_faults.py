@@ -7,7 +7,7 @@ import subprocess
 
 from lib import search
 from lib.faults import FaultCase, variables
-from lib.world import LIMIT, PROGRAM, SEED, TOP, Run, each, run, until
+from lib.world import LIMIT, PROGRAM, SEED, TOP, Run, each, run, state, until
 
 CROSSWISE = os.path.join(TOP, "examples/workloads/crosswise.json")
 CROSSWISE_LINES = b"clients finished 1 aborted 1 spent 0 refused 0\ntable verdicts 1 aborts 1\n"
@@ -89,13 +89,6 @@ class Refused(FaultCase):
             told, after = self.failing("write/1", piece, "ENOSPC", count + 1, *command, given=given)
             self.assertEqual((told, after), (Run(3, whole[: piece * count], b"write fault\n"), []))
 
-    def test_write_in_the_middle(self) -> None:
-        """The front part of the replies is there, each whole reply of it in its place."""
-        given, wanted = b"begin\n" * 30_000, b"no table\n" * 30_000
-        told = self.faulty("write/1:ENOSPC@3", PROGRAM, given=given)
-        self.assertEqual((told.status, told.err), (3, b"write fault\n"))
-        self.assertTrue(0 < len(told.out) < len(wanted) and wanted.startswith(told.out))
-
     def test_open(self) -> None:
         """A file that cannot be opened for want of descriptors is a read fault, and a report a write fault."""
         for fault in "EMFILE", "ENFILE":
@@ -128,12 +121,7 @@ class Interrupted(FaultCase):
 
     def is_asleep_or_over(self, child: "subprocess.Popen[bytes]") -> None:
         """Returns when the program sleeps, since it has nothing to read or no room to write, or when it has ended."""
-
-        def state() -> str:
-            with open(f"/proc/{child.pid}/stat", encoding="ascii") as file:
-                return file.read().rpartition(")")[2].split()[0]
-
-        until(lambda: child.poll() is not None or state() == "S", "it sleeps or ends")
+        until(lambda: child.poll() is not None or state(child.pid) == "S", "it sleeps or ends")
 
     @each(["", "locks"])
     def test_empty_input_that_does_not_wait(self, word: str) -> None:

@@ -1,5 +1,5 @@
-"""The program and the libraries with each request for memory refused in turn, with starts of threads refused, and in little space; and calls
-that request no memory."""
+"""The program with each request for memory refused in turn, with starts of threads refused, and in little space; and calls that request no
+memory."""
 from __future__ import annotations
 
 import glob
@@ -62,8 +62,6 @@ totals
 CONNECTIONS = b"1 begin a b\n2 begin\n2 lock 1.1 c a\n1 lock 0.1 c\n0 list\n0 graph\n0 counts\n1 hello\n1 cycle 0.1\n1 holds 0.1\n2 fence 1.1 c\n0 abort 0.1\n- 1\n- 2\n"
 # One transaction owns a name for good, and another one in each round.
 ROUND = "begin\nlock 1.{0} z\ngraph\ncancel 1.{0}\nlock 1.{0} a\ntry 1.{0} b\nunlock 1.{0} b\nholds 1.{0}\nstatus 1.{0}\nowner a\nlock 1.{0} z\nabort 1.{0}\ntotals\n"
-# What test_memory calls, by its words: each takes memory.
-LIBRARY = "open lists names manager prepare shared read storm gates run".split()
 
 
 def calls(rounds: int) -> bytes:
@@ -197,16 +195,6 @@ class InTurn(MemoryCase):
     def test_words(self, words: str) -> None:
         command = [PROGRAM, *words.split()]
         self.in_turn(as_ample(self.ample(*command)), *command)
-
-    def test_libraries(self) -> None:
-        """Each call of the libraries that takes memory refuses, or is as with ample memory."""
-        memory, requests = self.built("test_memory"), {}
-        base = self.counted("", memory, "none").counts.requests
-        for word in LIBRARY:
-            with self.subTest(word):
-                judge: Judge = lambda told: {b"refused 10 Memory\n": REFUSED, b"ok\n": AMPLE}.get(told.out) if told._replace(out=b"") == (0, b"", b"") else None
-                requests[word] = self.in_turn(judge, memory, word, first=base + 1)
-        self.assertEqual((requests["shared"] - requests["prepare"], requests["lists"] - requests["open"]), (0, 1))
 
     def test_locks_that_threads_sleep_for(self) -> None:
         """The bank of eight threads makes all of its transfers, or says why it made none."""

@@ -8,6 +8,8 @@ from lib.table import lines_of
 from lib.world import SEED, Case, each, run
 
 LINES = 40_000
+BYTES = [bytes([byte]) for byte in range(256) if byte != 0x0A]
+FORMED = [b"status 0.1", b"holds 0.1", b"graph", b"totals", b"owner a", b"lock 0.1 a", b"try 9.9 a", b"unlock 1.1 a", b"commit 1.1", b"abort 9.9", b"cancel 0.1"]
 REQUESTS, CONNECTIONS = (subject for subject in search.SUBJECTS if subject.name in ("requests", "connections"))
 
 
@@ -49,6 +51,15 @@ class Drawn(Case):
         for data in search.inputs(CONNECTIONS, 2, 3_000):
             command = [*CONNECTIONS.command(data), "--seed", "5"]
             self.assertEqual(run(*command, given=data), run(*command, given=data))
+
+    def test_each_byte(self) -> None:
+        """Each byte alone, twice and before a request, and each at each place of each request, whose transaction is live, waits, or is none."""
+        given = [b"begin", b"begin", b"lock 0.1 a", b"lock 1.1 a"]
+        for byte in BYTES:
+            given += [byte, byte * 2, b" " + byte, byte + b"\r", byte + b"\r\r", byte + b"owner a", byte + b" begin"]
+        for line in FORMED:
+            given += [line[:place] + byte * count + line[place:] for place in range(len(line) + 1) for byte in BYTES for count in (1, 2)]
+        self.assertIsNone(REQUESTS.difference(b"\n".join(given)))
 
     def test_end_without_promise(self) -> None:
         """The model's order of grants is the program's, by the numbers of names, which no page promises."""

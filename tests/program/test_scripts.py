@@ -5,7 +5,6 @@ import ast
 import glob
 import os
 import re
-import resource
 import subprocess
 
 from lib.world import PROGRAM, TOP, Case, each
@@ -37,15 +36,15 @@ WRONG = [
 
 def worked() -> list[tuple[str, bytes, bytes, int]]:
     """The worked scripts of the crate test_support: a name, the script, its replies, and how many lines are malformed."""
-    row = r'Row \{\s*name: ("(?:[^"\\]|\\.)*"),\s*input: ("(?:[^"\\]|\\.)*"),\s*output: ("(?:[^"\\]|\\.)*"),\s*malformed: (\d+),\s*\}'
+    row = r'Row \{\s*name: ("(?:[^"\\]|\\.)*"),\s*input: ("(?:[^"\\]|\\.)*"),\s*output: ("(?:[^"\\]|\\.)*"),\s*\}'
     with open(os.path.join(TOP, "crates/test_support/src/rows.rt"), encoding="utf-8") as file:
         text = file.read()
     rows = re.findall(row, text)
     count = sum(map(int, re.findall(r"static \w+: \[Row; (\d+)\]", text)))
     assert len(rows) == count, f"{len(rows)} of {count} scripts are read"
     # (of escapes these texts have only such as Python writes in the same way)
-    read = [[ast.literal_eval("b" + literal) for literal in row[:3]] for row in rows]
-    return [(name.decode(), script, replies, int(row[3])) for (name, script, replies), row in zip(read, rows)]
+    read = [[ast.literal_eval("b" + literal) for literal in row] for row in rows]
+    return [(name.decode(), script, replies, replies.count(b"malformed\n")) for name, script, replies in read]
 
 
 class Worked(Case):
@@ -66,6 +65,14 @@ class Worked(Case):
 
 
 class Scripts(Case):
+    def test_largest_table(self) -> None:
+        """It has a process for each of so many transactions, who all wait for one, and no more."""
+        count = 65_536
+        given = f"table2 {count} {count} 17592186044415 9\n" + "begin\n" * (count + 1) + "".join(f"acquire {place}.1 65535\n" for place in range(count))
+        told = self.run_program(given=given)
+        waits = "".join(f"waits 0.1 1.{place}\n" for place in range(1, count))
+        self.ends(told, 0, "ok\n" + "".join(f"key {place}.1\n" for place in range(count)) + "refused 6 Full\ngranted\n" + waits)
+
     @each(["", "script"])
     def test_from_a_file(self, word: str) -> None:
         with open(self.file("script", FIRST_RUN), "rb") as script:
@@ -86,18 +93,6 @@ class Scripts(Case):
 
     def test_verbose_has_nothing_to_say(self) -> None:
         self.ends(self.run_program("script", "-v", given=FIRST_RUN), 0, FIRST_REPLIES)
-
-    def test_lines_in_pieces(self) -> None:
-        with subprocess.Popen([PROGRAM, "script", "--verbose"], stdin=subprocess.PIPE, stdout=subprocess.PIPE, stderr=subprocess.PIPE) as child:
-            assert child.stdin and child.stdout and child.stderr
-            for piece, reply in (b"be", b""), (b"gin\nfly", b"no table\n"), (b" away\nfl", b"malformed\n"), (b"y", b""):
-                child.stdin.write(piece)
-                child.stdin.flush()
-                self.assertEqual(child.stdout.readline() if reply else b"", reply)
-            child.stdin.close()
-            self.assertEqual(child.stdout.read(), b"malformed\n")
-            self.assertEqual(child.stderr.read(), b"line 2: no call has this word\nline 3: no call has this word\n")
-        self.assertEqual(child.returncode, 1)
 
     def test_typed_lines(self) -> None:
         """Each reply is there before the next line is given."""
@@ -143,16 +138,6 @@ class Devices(Case):
         with open("/dev/full", "wb") as full:
             self.ends(self.run_program(*words.split(), given=b"begin\n", stdout=full), 3, b"", "write fault\n")
         self.ends(self.run_program(*words.split(), given=b"begin\n", preexec_fn=lambda: os.close(1)), 3, b"", "write fault\n")
-
-    def test_disk_that_is_full_in_the_middle(self) -> None:
-        """The front part of the replies stays."""
-        path, replies = self.path("replies"), b"no table\n" * 20_000
-        with open(path, "wb") as out:
-            limit = lambda: resource.setrlimit(resource.RLIMIT_FSIZE, (100_000, 100_000))
-            self.ends(self.run_program(given=b"begin\n" * 20_000, stdout=out, preexec_fn=limit, restore_signals=False), 3, b"", "write fault\n")
-        with open(path, "rb") as out:
-            written = out.read()
-        self.assertTrue(0 < len(written) <= 100_000 and replies.startswith(written), len(written))
 
     @each(["", "locks", "explain"])
     def test_input_that_cannot_be_read(self, words: str) -> None:

@@ -58,7 +58,10 @@ class Storms(Case):
         """The numbers of the two lines, what is on standard error, and the report. Fails unless each agrees with the others."""
         path = self.path("report")
         told = self.run_program(*words.split(), *more, "--report", path)
-        numbers = self.numbers(told.out, told.status)
+        lines = re.fullmatch(rb"clients finished (\d+) aborted (\d+) spent (\d+) refused (\d+)\ntable verdicts (\d+) aborts (\d+)\n", told.out)
+        assert lines, told.out
+        numbers = list(map(int, lines.groups()))
+        self.assertEqual(told.status, 5 if numbers[2] + numbers[3] else 0)
         with open(path, encoding="utf-8") as file:
             text = file.read()
         report = json.loads(text)
@@ -70,14 +73,6 @@ class Storms(Case):
         self.assertEqual(ends["aborted"], totals["aborts"])
         self.assertTrue(totals["aborts"] <= report["waits"] <= totals["accepted"] >= report["raises"] and report["seconds"] > 0, text)
         return numbers, told.err.decode(), report
-
-    def numbers(self, out: bytes, status: int) -> list[int]:
-        lines = re.fullmatch(rb"clients finished (\d+) aborted (\d+) spent (\d+) refused (\d+)\ntable verdicts (\d+) aborts (\d+)\n", out)
-        self.assertIsNotNone(lines, out)
-        assert lines
-        numbers = list(map(int, lines.groups()))
-        self.assertEqual(status, 5 if numbers[2] + numbers[3] else 0)
-        return numbers
 
     @each(STORMS)
     def test_storm(self, words: str) -> None:
@@ -109,28 +104,10 @@ class Storms(Case):
         self.assertEqual(report["totals"]["accepted"], 2 * transactions * clients + sum(len(each) for client in each_client for each in client))
         self.assertEqual(report["waits"], 0)
 
-    @each([("", 7, True), ("--seed 1", 7, True), ("--seed 2", 10, True), ("--seed 3", 9, False), ("--seed 0", 9, False), (f"--seed {2**64 - 1}", 8, False)])
-    def test_calls_of_two(self, words: str, least: int, is_all: bool) -> None:
-        """Which seed is asked for is seen by how many calls are accepted: just so many if the two acquire nothing in common."""
-        told = self.run_program("storm", "--clients", "2", "--transmitters", "0", "--verbose", *words.split())
-        accepted = re.search(rb"calls accepted (\d+)", told.err)
-        assert accepted
-        self.assertEqual(least, 4 + sum(map(len, Generator(options(words)["seed"], 0).transactions(2, 8, 4))))
-        (self.assertEqual if is_all else self.assertGreaterEqual)(int(accepted[1]), least)
-
     def test_generator(self) -> None:
         """The first words of the C library's example program."""
         example = Generator(42, 54)
         self.assertEqual([example.word() for _ in range(6)], [0xA15C02B7, 0x7B47F409, 0xBA1D3330, 0x83D2F293, 0xBFA4784B, 0xCBED606E])
-
-    def test_usual_numbers(self) -> None:
-        """A storm without options is that of the usual numbers, and one transaction is what it makes without that option."""
-        told = []
-        for more in "", "--resources 8 --acquires 4", "--transactions 1":
-            numbers, err, report = self.storm(f"storm --clients 1 --transmitters 0 --verbose {more}")
-            del report["seconds"]
-            told.append((numbers, re.sub(r"took [0-9.]+ s", "took", err), report))
-        self.assertEqual(told, told[:1] * 3)
 
     def test_report_of_a_workload(self) -> None:
         path = os.path.join(TOP, "examples/workloads/crosswise.json")

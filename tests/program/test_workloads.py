@@ -3,6 +3,7 @@ from __future__ import annotations
 
 import json
 import os
+import re
 import shutil
 import signal
 import subprocess
@@ -147,6 +148,8 @@ class Workloads(Case):
         ("some that wait for an arrival", workload([[["meet", 2]], [["acquire", 5]]], resources=1, transmitters=0, turns=100), 5, lines(spent=1, refused=1)),
         ("as many steps as can be", workload([[["release", 7]] * 256] * 64, processes=64), 5, lines(refused=64)),
         ("no steps", workload([[]]), 0, lines(1)),
+        ("as many as there are keys", workload([[]] * 64, processes=8, generation_limit=8), 0, lines(64)),
+        ("one more than there are keys", workload([[]] * 64, processes=7, generation_limit=9), 5, lines(63, spent=1)),
         ("no steps and one turn", workload([[]], processes=1, transmitters=0, turns=1), 0, lines(1)),
         ("eight in one order", workload([[["acquire", place] for place in range(3)]] * 8, processes=8, resources=3, label_limit=1_000_000, transmitters=4,
          turns=1_000_000_000), 0, lines(8)),
@@ -161,8 +164,10 @@ class Workloads(Case):
         self.runs(self.file("workload", text), status, out)
 
     def test_who_is_left_over(self) -> None:
-        told = self.runs(self.file("workload", self.ENDS[0][1]), 5, lines(spent=1, refused=1))
-        self.assertRegex(told, "(?s)client 1 refused 2\n.*client 2 spent")
+        """They are told in the order of the clients."""
+        path = self.file("workload", workload([[["acquire", 5]], [["meet", 2]], [["acquire", 0]], [["release", 1]]], processes=4))
+        told = self.runs(path, 5, lines(1, spent=1, refused=2))
+        self.assertEqual(re.findall(r"client \d+ (?:refused \d+|spent)", told), ["client 1 refused 2", "client 2 spent", "client 4 refused 5"])
 
     def test_how_far_it_is(self) -> None:
         """A run that takes long says how far it is. (It is ended as soon as it has said so, however many turns are left.)"""

@@ -303,27 +303,17 @@ TEST(deadlock)
     shut();
 }
 
-/* A time that is over behind a victim: the wait is taken back at the abort, or the name is granted by it, and then nothing is left of that time. */
+/* A time that is over behind a victim, whose abort grants the name: nothing is left of that time then. */
 TEST(behind_a_victim)
 {
     struct sleeper given, timed;
     int before = carried;
     opened(4, 8);
-    has_time = true;
-    starts(&timed, c, "x", SHORT);
-    starts(&given, a, "y", PASHKURE_FOREVER);
-    GIVES(lock(b, "x", PASHKURE_FOREVER), PASHKURE_DEADLOCK);
-    has_time = false;
-    while (carried == before) sched_yield();
-    GIVES(pashkure_locks_abort(locks, b), PASHKURE_OK);
-    GIVES(result_of(&timed), PASHKURE_TIMED_OUT);
-    GIVES(result_of(&given), PASHKURE_OK);
     GIVES(lock(d, "w", 0), PASHKURE_OK);
     has_time = true;
     starts(&timed, c, "w", SHORT);
     starts(&given, a, "w", PASHKURE_FOREVER);
     GIVES(lock(d, "x", PASHKURE_FOREVER), PASHKURE_DEADLOCK);
-    before = carried;
     has_time = false;
     while (carried == before) sched_yield();
     GIVES(pashkure_locks_abort(locks, d), PASHKURE_OK);

@@ -6,9 +6,7 @@
 #include <errno.h>
 #include <limits.h>
 #include <pthread.h>
-#include <signal.h>
 #include <stdlib.h>
-#include <sys/wait.h>
 #include <time.h>
 #include <unistd.h>
 
@@ -59,24 +57,19 @@ struct asker {
     pashkure_remote_connection connection;
     key transaction;
     const char *name;
-    unsigned milliseconds; /* 0: for ever */
     pashkure_remote_result result;
 };
 
 static void *ask(void *argument)
 {
     struct asker *asker = argument;
-    if (asker->milliseconds == 0)
-        asker->result = pashkure_remote_lock(&asker->connection, asker->transaction, asker->name);
-    else
-        asker->result = pashkure_remote_lock_for(&asker->connection, asker->transaction, asker->name, asker->milliseconds);
+    asker->result = pashkure_remote_lock(&asker->connection, asker->transaction, asker->name);
     return NULL;
 }
 
-static void start(struct asker *asker, const char *name, unsigned milliseconds)
+static void start(struct asker *asker, const char *name)
 {
     asker->name = name;
-    asker->milliseconds = milliseconds;
     memset(&asker->connection, 0, sizeof asker->connection);
     GIVES(OK, pashkure_remote_open(&asker->connection, path));
     asker->transaction = begun(&asker->connection);
@@ -87,24 +80,6 @@ static pashkure_remote_result joined(struct asker *asker)
 {
     pthread_join(asker->thread, NULL);
     return asker->result;
-}
-
-static void test_alone(void)
-{
-    key first = begun(&one), owner;
-    GIVES(OK, pashkure_remote_lock(&one, first, "a"));
-    GIVES(HELD, pashkure_remote_lock(&one, first, "a"));
-    GIVES(OK, pashkure_remote_try_lock(&one, first, "\xc3\xbc"));
-    GIVES(OK, pashkure_remote_owner(&two, "a", &owner));
-    CHECK(same(owner, first));
-    GIVES(OK, pashkure_remote_unlock(&one, first, "a"));
-    GIVES(NOT_OWNER, pashkure_remote_unlock(&one, first, "a"));
-    GIVES(FREE, pashkure_remote_owner(&two, "a", &owner));
-    GIVES(NOT_WAITING, pashkure_remote_cancel(&one, first));
-    GIVES(OK, pashkure_remote_commit(&one, first));
-    GIVES(NO_TRANSACTION, pashkure_remote_commit(&one, first));
-    GIVES(NO_TRANSACTION, pashkure_remote_abort(&one, first));
-    GIVES(FREE, pashkure_remote_owner(&one, "\xc3\xbc", &owner));
 }
 
 static void test_two(void)
@@ -118,7 +93,7 @@ static void test_two(void)
     GIVES(BUSY, pashkure_remote_try_lock(&two, second, "a"));
     GIVES(TIMED_OUT, pashkure_remote_lock_for(&two, second, "a", 20));
     GIVES(HELD, pashkure_remote_lock(&two, second, "b"));
-    start(&third, "a", 0);
+    start(&third, "a");
     until_waiting(1);
     GIVES(OK, pashkure_remote_commit(&one, first));
     GIVES(OK, joined(&third));
@@ -162,69 +137,19 @@ static void test_one_connection(void)
     GIVES(OK, pashkure_remote_commit(&one, third));
 }
 
-/* Its time is up, at once, behind another one that waits: its wait is taken back. */
-static void test_timed_out_behind(void)
-{
-    key owner = begun(&one), last = begun(&two), waiter = begun(&two);
-    GIVES(OK, pashkure_remote_lock(&one, owner, "x"));
-    GIVES(OK, pashkure_remote_lock(&two, last, "z"));
-    GIVES(WAITS, pashkure_remote_ask(&one, owner, "z"));
-    GIVES(TIMED_OUT, pashkure_remote_lock_for(&two, waiter, "x", 0));
-    until_waiting(1);
-    GIVES(OK, pashkure_remote_commit(&two, waiter));
-    GIVES(OK, pashkure_remote_commit(&two, last));
-    GIVES(OK, pashkure_remote_wait(&one, owner));
-    GIVES(OK, pashkure_remote_commit(&one, owner));
-}
-
-/* Behind a victim neither a wait nor a transaction ends. Its abort is done when its wait ends. */
-static void test_aborted_later(void)
-{
-    key owner = begun(&one), victim = begun(&two), waiter = begun(&two);
-    pashkure_remote_status status;
-    GIVES(OK, pashkure_remote_lock(&one, owner, "x"));
-    GIVES(OK, pashkure_remote_lock(&two, victim, "z"));
-    GIVES(WAITS, pashkure_remote_ask(&two, waiter, "x"));
-    GIVES(WAITS, pashkure_remote_ask(&one, owner, "z"));
-    GIVES(DEADLOCK, pashkure_remote_ask(&two, victim, "x"));
-    GIVES(CARRIED, pashkure_remote_cancel(&two, waiter));
-    GIVES(LATER, pashkure_remote_abort(&two, waiter));
-    GIVES(OK, pashkure_remote_status_of(&two, waiter, &status));
-    CHECK(status.mode == PASHKURE_REMOTE_IS_WAITING && status.is_aborting);
-    GIVES(OK, pashkure_remote_abort(&two, victim));
-    GIVES(OK, pashkure_remote_wait(&one, owner));
-    GIVES(OK, pashkure_remote_commit(&one, owner));
-    GIVES(NO_TRANSACTION, pashkure_remote_wait(&two, waiter));
-}
-
-/* Who hangs up, or is killed, gives back what it owned. */
+/* Who hangs up gives back what it owned. */
 static void test_hang_up(void)
 {
     pashkure_remote_connection third = PASHKURE_REMOTE_CLOSED;
     key transaction;
     struct asker asker;
-    pid_t child;
     GIVES(OK, pashkure_remote_open(&third, path));
     transaction = begun(&third);
     GIVES(OK, pashkure_remote_lock(&third, transaction, "a"));
-    start(&asker, "a", 0);
+    start(&asker, "a");
     until_waiting(1);
     pashkure_remote_close(&third);
     GIVES(OK, joined(&asker));
-    child = fork();
-    if (child == 0) {
-        if (pashkure_remote_open(&third, path) != PASHKURE_REMOTE_OK || pashkure_remote_begin(&third, &transaction) != PASHKURE_REMOTE_OK)
-            _exit(1);
-        pashkure_remote_lock(&third, transaction, "a");
-        pause();
-        _exit(1);
-    }
-    until_waiting(1);
-    GIVES(OK, pashkure_remote_unlock(&asker.connection, asker.transaction, "a"));
-    until_waiting(0);
-    GIVES(TIMED_OUT, pashkure_remote_lock_for(&asker.connection, asker.transaction, "a", 20));
-    CHECK(kill(child, SIGKILL) == 0 && waitpid(child, NULL, 0) == child);
-    GIVES(OK, pashkure_remote_lock(&asker.connection, asker.transaction, "a"));
     GIVES(OK, pashkure_remote_commit(&asker.connection, asker.transaction));
     pashkure_remote_close(&asker.connection);
 }
@@ -269,11 +194,8 @@ static void test_limits(void)
         GIVES(OK, pashkure_remote_commit(&one, transactions[place]));
     more = begun(&one);
     memset(name, 'n', sizeof name);
-    for (place = 65; place <= PASHKURE_REMOTE_NAME_BYTES; place++) {
-        name[place] = '\0';
-        GIVES(NAME_TOO_LONG, pashkure_remote_lock(&one, more, name));
-        name[place] = 'n';
-    }
+    name[65] = '\0';
+    GIVES(NAME_TOO_LONG, pashkure_remote_lock(&one, more, name));
     name[64] = '\0';
     GIVES(OK, pashkure_remote_lock(&one, more, name));
     GIVES(OK, pashkure_remote_abort(&one, more));
@@ -407,8 +329,8 @@ static void test_paths(void)
 
 int main(int count, char *words[])
 {
-    static const struct test tests[] = {TEST(alone), TEST(two), TEST(deadlock), TEST(one_connection), TEST(timed_out_behind),
-        TEST(aborted_later), TEST(hang_up), TEST(limits), TEST(several), TEST(operator), TEST(killed), TEST(full), TEST(started_program), TEST(paths)};
+    static const struct test tests[] = {TEST(two), TEST(deadlock), TEST(one_connection), TEST(hang_up), TEST(limits), TEST(several), TEST(operator),
+        TEST(killed), TEST(full), TEST(started_program), TEST(paths)};
     int status;
     path = count > 2 ? words[2] : "";
     GIVES(OK, pashkure_remote_open(&one, path));

@@ -2,27 +2,45 @@
 its number; the program alone, given the same, writes the same; and each client is told exactly what is for it."""
 from __future__ import annotations
 
-import itertools
 import random
 import signal
 import socket
 import threading
+from typing import Iterator
 
-from lib.kinds import DRAWN, LIMIT, Chance, among_requests, single_bytes
+from lib.draw import Requests, any_bytes, odd
 from lib.world import IS_SLOW, PROGRAM, SEED, Case, Server, Wire, each, run, until
-from service.test_bytes import pieces
 
 CLIENTS = 6
 TURNS = 200 if IS_SLOW else 12
 BATCHES = 4
+SIZE = (16, 12, 64)
+LIMIT = Requests.longest
 OPERATOR = [b"graph", b"totals", b"abort 0.1", b"status 1.1", b"holds 2.1", b"begin", b"lock 0.1 a", b"- 1", b"", b"x" * 3000, b"owner a\r\r"]
 
 
-def drawn(chance: Chance) -> list[bytes]:
-    """Some lines, few enough that a client that sends them all before it reads does not wait for itself."""
-    kind = chance.random.choice([*DRAWN, single_bytes])
-    lines = [line for line, _ in itertools.islice(among_requests(chance, kind(chance)), chance.random.choice([1, 5, 20, 50]))]
-    return [*lines, b"begin"] if chance.random.random() < 0.5 else lines
+def drawn(chance: random.Random, keys: list[bytes]) -> list[bytes]:
+    """Some lines, few enough that a client that sends them all before it reads does not wait for itself: requests of these transactions, some of
+    them odd, and any bytes."""
+    draws = Requests(chance, SIZE)
+    lines = [draws.request(keys) for _ in range(chance.choice([1, 5, 20, 50]))]
+    for place in chance.sample(range(len(lines)), len(lines) // 3):
+        kind = chance.random()
+        lines[place] = odd(chance, lines[place], LIMIT) if kind < 0.7 else any_bytes(chance, [], 30).replace(b"\n", b"\r")
+        if kind > 0.98:
+            lines[place] = b"x" * chance.choice([5_000, 65_536, 200_000])
+    return [*lines, b"begin"] if chance.random() < 0.5 else lines
+
+
+def pieces(data: bytes, chance: random.Random) -> Iterator[bytes]:
+    """The bytes in pieces, which end anywhere, and often just before or behind a newline."""
+    newlines = [place for place, byte in enumerate(data) if byte == 0x0A]
+    cuts = []
+    for _ in range(chance.choice([0, 1, 3, 10, 40])):
+        cuts.append(chance.choice([chance.randrange(len(data)), chance.choice(newlines), chance.choice(newlines) + 1]))
+    for start, end in zip([0, *sorted(cuts)], [*sorted(cuts), len(data)]):
+        if start < end:
+            yield data[start:end]
 
 
 def passed_on(line: bytes) -> bytes:
@@ -33,8 +51,9 @@ def passed_on(line: bytes) -> bytes:
 class Session:
     """A connection from its start to its end: what it sent, and what it was told."""
 
-    def __init__(self, wire: Wire, name: bytes, chance: Chance) -> None:
+    def __init__(self, wire: Wire, name: bytes, chance: random.Random) -> None:
         self.wire, self.chance = wire, chance
+        self.keys = [b"%d.%d" % (chance.randrange(9), chance.randrange(1, 4)) for _ in range(4)]
         self.sent: list[bytes] = [b"owner session/" + name]
         self.told: list[bytes] = []
         self.is_cut = False
@@ -42,7 +61,7 @@ class Session:
     def run(self, is_cut: bool) -> None:
         self.talk([])
         for _ in range(BATCHES):
-            self.talk(drawn(self.chance))
+            self.talk(drawn(self.chance, self.keys))
         self.is_cut = is_cut
         if not is_cut:
             self.wire.send(b"begin\nlock 0.1 a\nhalf a line")
@@ -54,11 +73,11 @@ class Session:
     def talk(self, lines: list[bytes]) -> None:
         self.sent += lines
         new = lines or self.sent
-        for piece in pieces(b"".join(line + b"\n" for line in new), self.chance.random):
+        for piece in pieces(b"".join(line + b"\n" for line in new), self.chance):
             self.wire.send(piece)
         replies = self.wire.replies(len(new))
         self.told += replies
-        self.chance.keys = [*self.chance.keys, *(reply[6:] for reply in replies if reply.startswith(b"begun "))][-6:]
+        self.keys = [*self.keys, *(reply[6:] for reply in replies if reply.startswith(b"begun "))][-6:]
 
 
 class Client(threading.Thread):
@@ -73,9 +92,7 @@ class Client(threading.Thread):
     def run(self) -> None:
         try:
             for turn in range(TURNS):
-                chance = Chance(self.random.randrange(2**32))
-                chance.keys = [b"%d.%d" % (self.random.randrange(9), self.random.randrange(1, 4)) for _ in range(4)]
-                self.sessions.append(Session(Wire(self.path), b"%d/%d" % (self.number, turn), chance))
+                self.sessions.append(Session(Wire(self.path), b"%d/%d" % (self.number, turn), self.random))
                 self.sessions[-1].run(self.random.random() < 0.3)
         except BaseException as error:
             self.error = error
@@ -107,12 +124,12 @@ class Between(Case):
     @each([("one seed", 1), ("a new seed", SEED)])
     def test_interleaved(self, name: str, seed: int) -> None:
         server = self.recorded()
-        clients, operator = [Client(server.path, number, seed) for number in range(CLIENTS)], Session(self.wire(self.admin), b"operator", Chance(seed))
+        clients, operator = [Client(server.path, number, seed) for number in range(CLIENTS)], Session(self.wire(self.admin), b"operator", random.Random(seed))
         for client in clients:
             client.start()
         operator.talk([])
         while any(client.is_alive() for client in clients):
-            operator.talk(operator.chance.random.choices(OPERATOR, k=5))
+            operator.talk(operator.chance.choices(OPERATOR, k=5))
         for client in clients:
             client.join()
             self.assertIsNone(client.error)

@@ -9,7 +9,7 @@ import tempfile
 from typing import Any
 
 from lib.faults import FaultCase, variables
-from lib.world import CLIENTS, LIMIT, SEED, TOP, Run, Server, each, environment, run
+from lib.world import CLIENTS, LIMIT, SEED, TOP, Run, Server, each, run
 
 HERE = os.path.join(TOP, "tests", "service")
 CLIENT = os.path.join(CLIENTS, "c")
@@ -102,7 +102,7 @@ class Service(CCase):
     def test_sanitized(self, name: str) -> None:
         self.passes(run(self.program("service.sanitized"), name, self.path_of_server()))
 
-    @each([name for name in tests("service") if name not in ("killed", "full", "limits", "hang_up")])
+    @each([name for name in tests("service") if name not in ("killed", "full", "limits")])
     def test_with_faults(self, name: str) -> None:
         for seed in SEEDS:
             with self.subTest(seed=seed):
@@ -139,13 +139,6 @@ class Service(CCase):
         if told.status or run(path).status != 2:
             self.skipTest("this C compiler has no thread sanitizer that runs here (Debian's package libtsan)")
         self.passes(run(path, self.path_of_server()))
-
-    def test_service_that_is_slow(self) -> None:
-        """A server whose program is late, and whose own calls are short, makes no difference to a client."""
-        rules = "send:short%30 recv:short%30 read:late=1%5 write:short%20"
-        server = self.started(env=variables(rules, only="pashkure-serve"))
-        for name in "alone", "two", "deadlock", "one_connection":
-            self.passes(run(self.program("service"), name, server.path, env=environment()))
 
 
 class Sources(CCase):

@@ -1,14 +1,11 @@
 """How a server starts and ends, and what its clients are told. The server is known by its command and its socket alone."""
 from __future__ import annotations
 
-import itertools
 import os
 import signal
 import socket
 import stat
 import subprocess
-import threading
-import time
 
 from lib.world import LIMIT, PROGRAM, Server, Wire, answers, each, environment, run, stop, until
 from service.test_server import ServerCase, begun
@@ -46,13 +43,6 @@ class Ends(ServerCase):
         clients.are_closed(self)
         self.assertEqual((server.process.wait(LIMIT), os.path.exists(server.path)), (1, False))
         self.assertRegex(server.stderr(), r"\A[^\n]*ended with status -9\n\Z")
-
-    def test_program_nonsense(self) -> None:
-        """A program that is no lock service ends the server with a line that says so."""
-        program = self.script("read line; echo 0 totals 0 0 0 0; read line; printf 'one\\ntwo\\n'; read line")
-        server = self.server(program=program)  # which tells the program when the client that looked whether it answers hangs up
-        self.assertEqual(server.process.wait(LIMIT), 1)
-        self.assertTrue(server.stderr().endswith("wrote what is no reply\n"), server.stderr())
 
     def test_killed(self) -> None:
         """Each client is told, the program ends, and a new server takes the socket over."""
@@ -253,78 +243,6 @@ class Starts(ServerCase):
         self.assertRegex(read(words), r"\Alocks --connections 16385 --epoch \d+\n\Z")
 
 
-class Worker(threading.Thread):
-    """Makes transactions of two names, in their order, and connects again whenever the connection ends."""
-
-    def __init__(self, path: str, names: tuple[bytes, bytes]) -> None:
-        super().__init__()
-        self.path, self.names = path, names
-        self.done = 0
-        self.is_over = False
-        self.error: BaseException | None = None
-
-    def run(self) -> None:
-        try:
-            while not self.is_over:
-                self.connects()
-        except BaseException as error:
-            self.error = error
-
-    def connects(self) -> None:
-        try:
-            wire = Wire(self.path)
-        except (FileNotFoundError, ConnectionRefusedError):
-            time.sleep(0.002)
-            return
-        try:
-            while not self.is_over:
-                self.works(wire)
-        except (BrokenPipeError, ConnectionResetError):
-            pass
-        except AssertionError as error:
-            if "the connection ended" not in str(error):
-                raise
-        finally:
-            wire.close()
-
-    def works(self, wire: Wire) -> None:
-        key = wire.ask(b"begin")[6:]
-        for name in self.names:
-            reply = wire.ask(b"lock %b %b" % (key, name))
-            if reply.startswith(b"waits "):
-                reply = wire.lines(1)[0]
-            assert reply in (b"granted", b"* granted %b %b" % (key, name)), reply
-        reply = wire.ask(b"commit " + key)
-        assert reply == b"committed", reply
-        self.done += 1
-
-
-class Restarts(ServerCase):
-    def test_under_load(self) -> None:
-        """A server that ends, by a signal or by a kill, while clients work is followed by another one, at which all of them work on."""
-        server = self.server()
-        pairs = itertools.combinations([b"a", b"b", b"c", b"d"], 2)
-        workers = [Worker(server.path, pair) for pair in pairs]
-        for worker in workers:
-            worker.start()
-        try:
-            for turn in range(6):
-                before = [worker.done for worker in workers]
-                until(lambda before=before: all(worker.done > done + 5 or worker.error for worker, done in zip(workers, before)), "all work")
-                server.process.send_signal(signal.SIGTERM if turn % 2 else signal.SIGKILL)
-                self.assertEqual(server.process.wait(LIMIT), 0 if turn % 2 else -signal.SIGKILL)
-                server = self.server(path=server.path)
-        finally:
-            for worker in workers:
-                worker.is_over = True
-            for worker in workers:
-                worker.join()
-        self.assertEqual([worker.error for worker in workers], [None] * len(workers))
-        wire = self.wire(server)
-        until(lambda: self.counts(wire)[0] == sum(self.counts(wire)[1:3]), "what was begun has ended")
-        begun(wire, b"a", b"b", b"c", b"d")
-
-
 class Epochs(ServerCase):
     def epoch(self, *words: str, path: str) -> int:
         """The epoch that a server gives its program."""
@@ -348,26 +266,6 @@ class Epochs(ServerCase):
             self.assertEqual(stat.S_IMODE(os.stat(path + ".epoch").st_mode), 0o600)
             last = now
         self.assertEqual(last, 9 * 10**18 + 2)
-
-    def test_fences(self) -> None:
-        """The fence of a new service is greater than each of an old one, also if the file of the epoch is gone."""
-        if b"fence" not in self.run_program("help", "locks").out:
-            self.skipTest("the program has no fences")
-        path, fences = self.path("socket"), []
-        for number in range(3):
-            if number == 2:
-                os.unlink(path + ".epoch")
-            server = self.server(path=path)
-            wire = self.wire(server)
-            key = begun(wire, b"a")
-            for _ in range(2):
-                word, *fence = wire.ask(b"fence %b a" % key).split(b" ")
-                self.assertEqual((word, len(fence)), (b"fence", 2))
-                fences.append(tuple(map(int, fence)))
-                begun(wire, b"b%d" % len(fences))
-            self.assertEqual(wire.ask(b"hello").split(b" ")[:3], [b"hello", b"1", b"%d" % fences[-1][0]])
-            self.assertEqual(server.close(), 0)
-        self.assertEqual(fences, sorted(set(fences)))
 
     def write(self, path: str, text: str) -> None:
         with open(path, "w", encoding="ascii") as file:

@@ -2,16 +2,16 @@
 from __future__ import annotations
 
 import os
+import resource
 import signal
 import socket
 import stat
-import subprocess
 import sys
 import time
 from typing import Any
 
 from lib.faults import FaultCase, variables
-from lib.world import LIMIT, TOP, Server, Wire, each, environment, run, stop, until
+from lib.world import IS_SLOW, LIMIT, TOP, Server, Wire, each, environment, run, stop, until
 from service.test_server import ServerCase, fills
 
 STUB = os.path.join(TOP, "tests", "lib", "stub.py")
@@ -276,9 +276,10 @@ class Leaving(StubCase):
         self.assertEqual(self.words()[1:3], ["--connections", "9"])
 
     def test_many(self) -> None:
-        """Hundreds at once, each with its own replies."""
-        server = self.stubbed()
-        wires = [self.wire(server) for _ in range(400)]
+        """Hundreds at once, and with --slow ten thousand, each with its own replies."""
+        server, count = self.stubbed(), 10_000 if IS_SLOW else 400
+        resource.setrlimit(resource.RLIMIT_NOFILE, (resource.getrlimit(resource.RLIMIT_NOFILE)[1],) * 2)
+        wires = [self.wire(server) for _ in range(count)]
         for turn in range(3):
             for number, wire in enumerate(wires):
                 wire.send(b"%d\n" % (number + turn) * 3)
@@ -286,7 +287,8 @@ class Leaving(StubCase):
                 self.assertEqual(wire.lines(3), [b"heard " + (b"%d" % (number + turn)).hex().encode()] * 3)
         for wire in wires[::2]:
             wire.close()
-        until(lambda: len([line for line in self.came() if line.startswith(b"- ")]) == 200, "half of them have hung up")
+        until(lambda: len([line for line in self.came() if line.startswith(b"- ")]) == count // 2, "half of them have hung up")
+        self.has_not_grown(server, 0, 40_000_000)
         for number, wire in enumerate(wires[1::2]):
             self.asks(wire, (b"%d" % number, b"heard " + (b"%d" % number).hex().encode()))
 
@@ -353,16 +355,6 @@ class Operators(StubCase):
         self.stubbed("--mode", "666")
         status = os.stat(self.admin_path)
         self.assertEqual((stat.S_IMODE(status.st_mode), stat.S_IMODE(os.stat(self.admin_path + ".lock").st_mode)), (0o600, 0o600))
-
-    def test_as_many_as_there_may_be(self) -> None:
-        self.stubbed()
-        others = [self.wire(self.admin_path) for _ in range(15)]
-        for other in others:
-            self.asks(other, (b"a", b"heard 61"))
-        self.assertEqual(self.wire(self.admin_path).all(), FULL)
-        others[0].close()
-        self.asks(others[1], (b"b", b"heard 62"))
-        self.asks(self.wire(self.admin_path), (b"c", b"heard 63"))
 
     def test_path_in_use(self) -> None:
         """A second server does not start at the operator's path of another one."""
@@ -441,17 +433,6 @@ class Program(StubCase):
             self.wire(server).send(b"end %d\n" % status)
             self.assertEqual(server.process.wait(LIMIT), 1)
             self.assertRegex(server.stderr(), rf"\A[^\n]* ended with status {status}\n\Z")
-
-    def test_lines_in_pieces(self) -> None:
-        """A line of the program may come in pieces."""
-        script = r"""read a; printf '0 tot'; sleep 0.05; printf 'als 0 0 0 0'; sleep 0.05; echo
-        while read number word; do
-          if [ "$number" = - ]; then echo "- $word"; else printf "$number"; sleep 0.01; printf ' h'; sleep 0.01; printf 'eard\n%s * x\n' "$number"; fi
-        done"""
-        server = self.server(program=self.script(script))
-        wire = self.wire(server)
-        wire.send(b"a\nb\n")
-        self.assertEqual(wire.lines(4), [b"heard", b"* x"] * 2)
 
     def test_options(self) -> None:
         server = self.stubbed("--transactions", "7", "--names=8", "--name-bytes", "9", "--each", "3", "--epoch", "11", "--connections", "20")

@@ -5,14 +5,13 @@ from __future__ import annotations
 import logging
 import os
 import shlex
-import threading
 import time
 from typing import Any, List
 
 from lib.clients import Apart, Asyncio, raises, same, waits
 from lib.world import PROGRAM, Case, until
 
-from pashkure import (Aborted, Closed, Counts, Deadlock, Event, Full, Interrupted, LockError, Locks, Misuse, MustAbort, NameTooLong, NotOwner, NoTransaction,
+from pashkure import (Aborted, Closed, Counts, Deadlock, Event, Full, Interrupted, Locks, Misuse, MustAbort, NameTooLong, NotOwner, NoTransaction,
                       Operator, Retry, Status, Timeout, Totals, Wait, Waiting, testing)  # fmt: skip
 
 OPTIONS = {"test_names": {"name_bytes": 20}, "test_full": {"transactions": 4, "names": 4}}
@@ -239,35 +238,6 @@ class Calls:
         deadlocks.close()
         for call in locks.locks, locks.graph, locks.counts:
             self.assertIn("pashkure.Operator", str(raises(Misuse, call)))  # type: ignore[attr-defined]
-
-    def test_runs(self) -> None:
-        """`run` tries again after a deadlock, at most so many times, and raises every other exception"""
-        locks = self.locks
-        barrier = threading.Barrier(2)
-        tries = []
-
-        def crosswise(tx: Any, first: str, second: str) -> str:
-            tries.append(first)
-            tx.lock(first)
-            if len(tries) <= 2:
-                barrier.wait()
-            tx.lock(second)
-            return first + second
-
-        thread = Apart(locks.run, crosswise, "a", "b")
-        same(locks.run(crosswise, "b", "a"), "ba")
-        same(thread.ends(), "ab")
-        assert len(tries) >= 3, tries
-        count = []
-
-        def fails(tx: Any, error: LockError) -> None:
-            tx.lock("a")
-            count.append(tx.key)
-            raise error
-
-        raises(Full, locks.run, fails, Full("names"))
-        same(len(count), 1)
-        same(locks.owner("a"), None)
 
     def test_names(self) -> None:
         """Names are any text without spaces: UTF-8, other bytes, and the longest; what is none raises at once"""

@@ -11,7 +11,7 @@ from lib.front import SANITIZED, built
 from lib.world import SEED, TOP, each, environment, run
 from service.test_server import ServerCase
 
-MODULES = ["service.test_front", "service.test_ends", "service.test_server", "service.test_crowd", "service.test_bytes", "service.test_between"]
+MODULES = ["service.test_front", "service.test_ends", "service.test_server", "service.test_between"]
 FAULTS = "read:short%30 write:short%30 recv:short%30 send:short%30 recv:EINTR%10 send:EINTR%10 write:EINTR%10 read:EINTR%10 epoll_wait:EINTR%10 accept:EINTR%20"
 OPTIONS = {"ASAN_OPTIONS": "quarantine_size_mb=1:detect_stack_use_after_return=0", "UBSAN_OPTIONS": "print_stacktrace=1"}
 
@@ -43,6 +43,5 @@ class Sanitized(FaultCase, ServerCase):
     def test_module(self, module: str) -> None:
         self.tries(module)
 
-    @each(["service.test_between", "service.test_crowd"])
-    def test_with_faults(self, module: str) -> None:
-        self.tries(module, **variables(FAULTS, SEED, only="pashkure-serve"))
+    def test_with_faults(self) -> None:
+        self.tries("service.test_between", **variables(FAULTS, SEED, only="pashkure-serve"))

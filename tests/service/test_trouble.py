@@ -17,7 +17,7 @@ from typing import Any, Callable, List
 
 from lib.clients import Apart, Asyncio, raises, same, waits
 from lib.faults import FaultCase, variables
-from lib.world import LIMIT, PROGRAM, SEED, Case, Server, each, environment, run, stop, until
+from lib.world import LIMIT, SEED, Case, Server, each, environment, run, stop, until
 
 import pashkure
 from pashkure import (Aborted, CannotConnect, Closed, Deadlock, Interrupted, Locks, LocksLost, NoTransaction, ProtocolError, ServiceRestarted, Timeout,

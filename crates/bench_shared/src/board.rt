@@ -2,11 +2,11 @@
 
 use crate::calls::{Round, block, crowd, hand_overs, rounds};
 use crate::clock::{nanoseconds_since, now};
+use crate::seat::Calls;
 use std::sync::atomic::AtomicBool;
 use std::sync::atomic::Ordering::SeqCst;
 use std::thread::{Threads, join};
 use std::time::Clock;
-use test_seats::Calls;
 
 /// What is timed.
 #[derive(Clone, Copy)]

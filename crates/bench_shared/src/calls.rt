@@ -1,7 +1,7 @@
 //! Calls of a shared table by one thread, again and again. They are compiled in place, since the calls are what is timed.
 
+use crate::seat::Calls;
 use mm_shared::{Key, Refusal, Released};
-use test_seats::Calls;
 
 /// How many wait if a resource is handed over.
 const WAITERS: u32 = 16;

@@ -10,6 +10,7 @@
 //! - `clock`: how long something took.
 //! - `timed`: a table, and what is done with it.
 //! - `board`: works that store on the board, or read it. `calls`: the calls of which they are made.
+//! - `seat`: the calls of one thread at a table, as a trait without clauses: a function that makes many of them has a short proof.
 //! - `threads`: threads that are at work at once. `rounds`: what one of them does.
 //! - `storms`: storms, one after another.
 #![tactic(auto)]
@@ -18,6 +19,7 @@ mod board;
 mod calls;
 mod clock;
 mod rounds;
+mod seat;
 mod storms;
 mod threads;
 mod timed;

@@ -1,7 +1,7 @@
 //! What one thread does: transactions, each of which takes sixteen resources and finishes.
 
+use crate::seat::Calls;
 use mm_shared::Refusal;
-use test_seats::Calls;
 
 /// How many resources each transaction takes.
 pub const RESOURCES: u32 = 16;

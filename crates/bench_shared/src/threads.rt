@@ -2,13 +2,13 @@
 
 use crate::clock::{nanoseconds_since, now};
 use crate::rounds::{RESOURCES, rounds_by};
+use crate::seat::Calls;
 use crate::timed::Taken;
 use std::alloc::{AllocError, Global};
 use std::sync::Wait;
 use std::thread;
 use std::thread::{JoinHandle, Scope, Threads};
 use std::time::Clock;
-use test_seats::Calls;
 
 /// Starts a thread for each seat, with sixteen resources of its own.
 fn start_all<'s, 'e, C: Calls + Send + Drop + 'e>(

@@ -2,6 +2,7 @@
 ghost use Rattle.std.specs.Prelude.{◌≡◌};
 
 use crate::board::{Work, time_of_work};
+use crate::seat::{Calls, Seat};
 use crate::threads::time_at_once;
 use mm_shared::{Name, Pass, Prepared, SharedTable};
 use std::alloc::{AllocError, Global};
@@ -9,7 +10,6 @@ use std::sync::Wait;
 use std::sync::ledger::Ledger;
 use std::thread::Threads;
 use std::time::Clock;
-use test_seats::{Calls, Seat};
 
 /// What is done with a table.
 #[derive(Clone, Copy)]

@@ -1,12 +1,11 @@
 //! Threads that lock names, and sleep until they own them.
 //!
-//! - `cases`: the cases by name, each with its locks and threads, and the tests that go through them.
+//! - `cases`: how locks are opened and lent to threads, and the tests of threads that do more than a script can say.
 //! - `scripts`: threads whose calls have one answer each, and `steps`: how they are made.
-//! - `again`, `crowd`, `patience`, `wakes`: threads that do more than a script can say.
+//! - `again`, `patience`, `wakes`: what the threads of the other tests do.
 
 mod again;
 mod cases;
-mod crowd;
 mod helpers;
 mod patience;
 mod scripts;

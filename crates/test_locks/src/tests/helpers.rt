@@ -3,8 +3,6 @@ use mm_locks::{Granted, LockError, Locks, Transaction};
 use std::fmt::Debug;
 use std::process::Abort;
 use std::sync::Wait;
-use std::sync::atomic::AtomicU64;
-use std::sync::atomic::Ordering::SeqCst;
 use std::thread;
 
 /// Whether the transaction owns the name now, or why not.
@@ -59,25 +57,4 @@ pub fn await_events<R: Wait>(rt: &R, locks: &Locks, events: u64) {
         }
         thread::yield_now();
     }
-}
-
-/// One more transaction believes that it owns the name of this number. Ends the test unless it is the only one.
-pub fn enters(rt: &impl Abort, owners: &[AtomicU64], name: usize) {
-    let count = owners.get(name).expect(rt, "a name");
-    same(rt, count.fetch_add(1, SeqCst), 0);
-}
-
-/// The only transaction that believes that it owns the name of this number does so no longer.
-pub fn leaves(rt: &impl Abort, owners: &[AtomicU64], name: usize) {
-    let count = owners.get(name).expect(rt, "a name");
-    same(rt, count.fetch_sub(1, SeqCst), 1);
-}
-
-/// Ends the test unless this many have begun, were committed, were aborted, and were told of a deadlock.
-pub fn totals_are<R: Wait + Abort>(rt: &R, locks: &Locks, expected: [u64; 4]) {
-    let totals = locks.totals(rt);
-    same(rt, totals.begun, expected[0]);
-    same(rt, totals.committed, expected[1]);
-    same(rt, totals.aborted, expected[2]);
-    same(rt, totals.deadlocks, expected[3]);
 }

@@ -11,19 +11,42 @@ use std::{io, thread};
 /// The longest time, in milliseconds, that a request is given.
 const LONGEST: u64 = 6;
 
-/// A runtime with a clock of its own: each reading is a millisecond later than the one before.
+/// A clock that another thread moves, or each reading.
 #[derive(Drop)]
-struct Ticking<'a, R: Wait> {
-    _rt: &'a R,
-    /// How often the clock was read.
+pub struct Hand {
+    /// The time, in milliseconds.
+    time: AtomicU64,
+    /// How often the clock was read after it was moved.
     readings: AtomicU64,
 }
 
-impl<'a, R: Wait> Wait for Ticking<'a, R> {}
+impl Hand {
+    pub fn new() -> Hand {
+        Hand {
+            time: AtomicU64::new(0),
+            readings: AtomicU64::new(0),
+        }
+    }
+}
 
-impl<'a, R: Wait> Clock for Ticking<'a, R> {
+/// A runtime with that clock.
+#[derive(Drop)]
+struct Timed<'a, R: Wait> {
+    _rt: &'a R,
+    hand: &'a Hand,
+    /// By how much each reading moves the clock, in milliseconds.
+    step: u64,
+}
+
+impl<'a, R: Wait> Wait for Timed<'a, R> {}
+
+impl<'a, R: Wait> Clock for Timed<'a, R> {
     fn monotonic(&self) -> io::Result<Duration> {
-        Ok(Duration::from_millis(self.readings.fetch_add(1, SeqCst)))
+        let time = self.hand.time.fetch_add(self.step, SeqCst);
+        if time > 0 {
+            self.hand.readings.fetch_add(1, SeqCst);
+        }
+        Ok(Duration::from_millis(time))
     }
 
     fn since_1970(&self) -> io::Result<Duration> {
@@ -31,12 +54,14 @@ impl<'a, R: Wait> Clock for Ticking<'a, R> {
     }
 }
 
-/// Asks for a name that another transaction owns and keeps, and gives up after this many milliseconds. Ends the test unless that time had
-/// passed when the clock was read last.
+/// Asks for a name that another transaction owns and keeps, and gives up after this many milliseconds, where each reading of the clock is a
+/// millisecond later than the one before. Ends the test unless that time had passed when the clock was read last.
 fn is_taken_back<R: Wait + Abort>(rt: &R, locks: &Locks, limit: u64) {
-    let clock = &Ticking {
+    let hand = &Hand::new();
+    let clock = &Timed {
         _rt: rt,
-        readings: AtomicU64::new(0),
+        hand,
+        step: 1,
     };
     let mut waiter = locks.begin(clock).expect(rt, "there is room");
     let answer = owns(waiter.lock_for(b"a", Duration::from_millis(limit)));
@@ -46,7 +71,7 @@ fn is_taken_back<R: Wait + Abort>(rt: &R, locks: &Locks, limit: u64) {
     holds(
         rt,
         "the time has passed",
-        clock.readings.load(SeqCst) > limit,
+        hand.readings.load(SeqCst) >= limit,
     );
 }
 
@@ -58,32 +83,6 @@ pub fn each_time_passes<R: Wait + Abort>(rt: &R, locks: &Locks) {
         is_taken_back(rt, locks, limit);
     }
     commits(rt, owner);
-}
-
-/// A runtime with a clock that stands until another thread moves it.
-#[derive(Drop)]
-struct Standing<'a, R: Wait> {
-    _rt: &'a R,
-    /// The time, in milliseconds.
-    time: &'a AtomicU64,
-    /// How often the clock was read after it was moved.
-    readings: &'a AtomicU64,
-}
-
-impl<'a, R: Wait> Wait for Standing<'a, R> {}
-
-impl<'a, R: Wait> Clock for Standing<'a, R> {
-    fn monotonic(&self) -> io::Result<Duration> {
-        let time = self.time.load(SeqCst);
-        if time > 0 {
-            self.readings.fetch_add(1, SeqCst);
-        }
-        Ok(Duration::from_millis(time))
-    }
-
-    fn since_1970(&self) -> io::Result<Duration> {
-        self.monotonic()
-    }
 }
 
 /// How many transactions end while the victim has yet to abort.
@@ -100,22 +99,16 @@ fn wait_for_victim<R: Wait + Abort>(rt: &R, locks: &Locks, gate: &Barrier) {
 }
 
 /// Owns `b`, and is told of a deadlock once the two others wait for it. Moves the clock, lets others end, and aborts.
-fn be_victim<R: Wait + Abort>(
-    rt: &R,
-    locks: &Locks,
-    gate: &Barrier,
-    time: &AtomicU64,
-    readings: &AtomicU64,
-) {
+fn be_victim<R: Wait + Abort>(rt: &R, locks: &Locks, gate: &Barrier, hand: &Hand) {
     let mut victim = begin(rt, locks);
     takes(rt, &mut victim, b"b");
     gate.wait(rt);
     // Three begins, two locks, two waits of two events each.
     await_events(rt, locks, 9);
     same(rt, owns(victim.lock(b"a")), Err(LockError::Deadlock));
-    time.store(2, SeqCst);
+    hand.time.store(2, SeqCst);
     for _ in rt.forever() {
-        if readings.load(SeqCst) > 0 {
+        if hand.readings.load(SeqCst) > 0 {
             break;
         }
         thread::yield_now();
@@ -129,17 +122,11 @@ fn be_victim<R: Wait + Abort>(
 }
 
 /// Waits for `b` behind the other one, with a time, and gives up.
-fn give_up_behind<R: Wait + Abort>(
-    rt: &R,
-    locks: &Locks,
-    gate: &Barrier,
-    time: &AtomicU64,
-    readings: &AtomicU64,
-) {
-    let clock = &Standing {
+fn give_up_behind<R: Wait + Abort>(rt: &R, locks: &Locks, gate: &Barrier, hand: &Hand) {
+    let clock = &Timed {
         _rt: rt,
-        time,
-        readings,
+        hand,
+        step: 0,
     };
     let mut waiter = locks.begin(clock).expect(rt, "there is room");
     gate.wait(rt);
@@ -157,15 +144,13 @@ pub fn behind_a_victim<R: Wait + Abort>(
     rt: &R,
     locks: &Locks,
     gate: &Barrier,
-    numbers: &[AtomicU64],
+    hand: &Hand,
     thread: usize,
 ) {
-    let time = numbers.get(0).expect(rt, "the time");
-    let readings = numbers.get(1).expect(rt, "the readings");
     match thread {
         0 => wait_for_victim(rt, locks, gate),
-        1 => be_victim(rt, locks, gate, time, readings),
-        _ => give_up_behind(rt, locks, gate, time, readings),
+        1 => be_victim(rt, locks, gate, hand),
+        _ => give_up_behind(rt, locks, gate, hand),
     }
-    same(rt, readings.load(SeqCst), 1);
+    same(rt, hand.readings.load(SeqCst), 1);
 }

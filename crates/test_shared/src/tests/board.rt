@@ -2,8 +2,7 @@ ghost use Rattle.std.specs.Prelude.{◌≡◌};
 ghost use Rattle.mm_board.specs.Views.{processes_of};
 
 use crate::tests::same::same;
-use mm_board::{Board, Name, RawBoard, Reader, Waiter};
-use mm_label::COUNTER_RANGE;
+use mm_board::{Name, RawBoard, Waiter};
 use std::marker::Brand;
 use std::process::Abort;
 use std::test::Fail;
@@ -40,88 +39,4 @@ fn store_read_and_show<N: Name, R: Abort>(rt: &R, raw: RawBoard)
     publisher.store_label(&board, 1, label(5, 1));
     publisher.show(&board, &mut other);
     same(rt, other.read_label(&board, 1), label(5, 1));
-}
-
-// One word keeps the greatest label of the greatest board, and another the greatest holder.
-#[test]
-fn keeps_the_greatest_of_all(rt: HostRuntime) -> Result<(), Fail> {
-    let raw = RawBoard::new(rt.alloc(), 65536)?;
-    store_the_greatest::<Brand, _>(&rt, raw);
-    Ok(())
-}
-
-fn store_the_greatest<N: Name, R: Abort>(rt: &R, raw: RawBoard)
-    requires named { raw ≡ N.board }
-    requires processes { processes_of raw ≡ 65536 }
-{
-    let (board, mut publisher, mut reader) = raw.open::<N>();
-    same(rt, board.processes(), 65536);
-    let greatest = label(COUNTER_RANGE - 1, 65535);
-    publisher.store_label(&board, 65535, greatest);
-    publisher.store_holder(&board, 0, Some(65535));
-    same(rt, reader.read_label(&board, 65535), greatest);
-    same(rt, reader.read_holder(&board, 0), Some(65535));
-    same(rt, reader.read_label(&board, 0), label(0, 0));
-    same(rt, reader.read_holder(&board, 65535), None);
-}
-
-// A walk finds the one process that has a holder, wherever it stands and wherever the walk begins.
-#[test]
-fn finds_each_waiter(rt: HostRuntime) -> Result<(), Fail> {
-    let raw = RawBoard::new(rt.alloc(), 11)?;
-    let_each_wait::<Brand, _>(&rt, raw);
-    Ok(())
-}
-
-fn let_each_wait<N: Name, R: Abort>(rt: &R, raw: RawBoard)
-    requires named { raw ≡ N.board }
-    requires processes { processes_of raw ≡ 11 }
-{
-    let (board, mut publisher, mut reader) = raw.open::<N>();
-    for process in 0..11 {
-        let holder = if process == 0 { 1 } else { 0 };
-        publisher.store_holder(&board, process, Some(holder));
-        find_from_each(rt, &board, &mut reader, Waiter { process, holder });
-        publisher.store_holder(&board, process, None);
-    }
-}
-
-/// A walk from each process on, and one from behind the last, on a board on which this process alone has a holder.
-fn find_from_each<N: Name, R: Abort>(
-    rt: &R,
-    board: &Board<N>,
-    reader: &mut Reader<N>,
-    waiter: Waiter,
-) {
-    for from in 0..=board.processes() {
-        let expected = (from <= waiter.process).then_some(waiter);
-        same(rt, reader.next_waiter(board, from), expected);
-    }
-}
-
-// A walk finds all that have a holder, one after another.
-#[test]
-fn finds_all_waiters(rt: HostRuntime) -> Result<(), Fail> {
-    let raw = RawBoard::new(rt.alloc(), 11)?;
-    let_six_wait::<Brand, _>(&rt, raw);
-    Ok(())
-}
-
-fn let_six_wait<N: Name, R: Abort>(rt: &R, raw: RawBoard)
-    requires named { raw ≡ N.board }
-    requires processes { processes_of raw ≡ 11 }
-{
-    let (board, mut publisher, mut reader) = raw.open::<N>();
-    for process in [1, 2, 4, 7, 9, 10] {
-        publisher.store_holder(&board, process, Some(0));
-    }
-    for (from, found) in [(0, 1), (2, 2), (3, 4), (5, 7), (8, 9), (10, 10)] {
-        same(rt, reader.next_waiter(&board, from), waits(found));
-    }
-    same(rt, reader.next_waiter(&board, 11), None);
-}
-
-/// This process waits for process 0.
-fn waits(process: u32) -> Option<Waiter> {
-    Some(Waiter { process, holder: 0 })
 }

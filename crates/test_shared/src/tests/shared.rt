@@ -7,8 +7,8 @@ mod wakes;
 
 use crate::tests::rows::beside_a_table;
 use crate::tests::same::same;
-use look::{Turn, watch};
-use mm_shared::{CloseRefused, Config, Name, Pass, Prepared, Refusal, Report, SharedTable};
+use look::{Step, watch};
+use mm_shared::{Config, Name, Pass, Prepared, Report, SharedTable};
 use std::alloc::{AllocError, Global};
 use std::marker::Brand;
 use std::process::Abort;
@@ -20,13 +20,23 @@ use test_support::Row;
 /// How many parts the pass has that is split off at the opening.
 const PARTS: u64 = 1000;
 
+/// This many processes and resources, with labels and keys that last for any test.
+pub fn config(processes: u32, resources: u32) -> Config {
+    Config {
+        processes,
+        resources,
+        label_limit: 1_000_000,
+        generation_limit: u32::MAX,
+    }
+}
+
 /// What is done with a table, by two passes that have all its parts together.
 #[derive(Clone, Copy)]
 pub enum Work {
     /// The calls of a script.
     Script(&'static Row),
     /// Calls, and looks at the board, and what the table has counted then.
-    Turns(&'static [Turn], Report),
+    Steps(&'static [Step], Report),
     /// Calls that list whom to wake.
     Wakes,
 }
@@ -43,45 +53,13 @@ impl Work {
     ) -> Result<Report, AllocError> {
         match self {
             Work::Script(row) => Ok(beside_a_table(rt, alloc, table, pass, row)),
-            Work::Turns(turns, report) => {
-                watch(rt, table, pass, other, turns);
+            Work::Steps(steps, report) => {
+                watch(rt, table, pass, other, steps);
                 Ok(report)
             }
             Work::Wakes => wakes::list_all(rt, alloc, table, pass),
         }
     }
-}
-
-/// Ends the test unless the table is not closed for want of a pass, with this text, and gives both back.
-fn refused_close<N: Name, A: Ledger, V: Ledger, B: Ledger>(
-    rt: &impl Abort,
-    alloc: Global,
-    table: SharedTable<N, A, V, B>,
-    pass: Pass<N, A, V, B>,
-) -> CloseRefused<N, A, V, B> {
-    let refused = table.close(pass).err().expect(rt, "a pass is missing");
-    same(rt, refused.refusal, Refusal::SharesMissing);
-    let text = format!(in alloc; "{refused}").expect(rt, "memory");
-    same(rt, text.as_str(), "the pass does not have all parts");
-    refused
-}
-
-/// Ends the test unless the table is not closed with one pass alone, and is closed with this report once the other is joined to it.
-fn closes_with_both<N: Name, A: Ledger, V: Ledger, B: Ledger>(
-    rt: &impl Abort,
-    alloc: Global,
-    table: SharedTable<N, A, V, B>,
-    pass: Pass<N, A, V, B>,
-    other: Pass<N, A, V, B>,
-    report: Option<Report>,
-) {
-    let CloseRefused {
-        refusal: _,
-        table,
-        mut pass,
-    } = refused_close(rt, alloc, table, pass);
-    pass.join(&table, other);
-    same(rt, table.close(pass).ok(), report);
 }
 
 /// Opens the table, does the work with two passes, and closes it.
@@ -99,7 +77,8 @@ fn on_named<N: Name, A: Ledger, V: Ledger, B: Ledger, R: Wait + Abort>(
     let (table, mut pass) = prepared.open::<N, A, V, B>();
     let mut other = pass.split(&table, PARTS);
     let done = work.done(rt, alloc, &table, &mut pass, &mut other);
-    closes_with_both(rt, alloc, table, pass, other, done.ok());
+    pass.join(&table, other);
+    same(rt, table.into_report(pass), done.ok());
     done.map(|_| ())
 }
 

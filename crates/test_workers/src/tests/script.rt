@@ -3,7 +3,7 @@
 use mm_shared::Refusal;
 use std::cell::Cell;
 
-/// A call that a client makes, without its key.
+/// A call that a worker makes, without its key.
 #[derive(Clone, Copy, PartialEq)]
 pub enum Call {
     Begin,
@@ -13,22 +13,32 @@ pub enum Call {
     Detect,
     Finish,
     Abort,
+    Tenant(u32),
+    Scan(u32),
     Arrive,
     MayPass(u32),
     Leave,
-    /// Any call that a client never makes.
+    Over,
+    /// Any call that a worker never makes, or with another key than the one of the script.
     Other,
 }
 
 /// What the table or the gate answers.
 #[derive(Clone, Copy)]
 pub enum Answer {
-    /// It is done: begun, granted, freed, still, clear, finished or aborted.
+    /// It is done: begun, granted, freed, still, clear, finished or aborted; there is a tenant.
     Done,
     Waits,
     Deadlock,
     Standing,
+    /// The gate lets pass, or is over.
     Passes,
+    /// There is no hint, or no tenant.
+    Nothing,
+    /// A hint that the label of this process may be raised.
+    Raise(u32),
+    /// A hint that a verdict of this process may be due.
+    Equal(u32),
     Refused(Refusal),
 }
 
@@ -36,6 +46,8 @@ pub enum Answer {
 pub type Line = (Call, Answer);
 
 pub const BEGIN: Line = (Call::Begin, Answer::Done);
+
+pub const GRANTED: Line = (Call::Acquire(0), Answer::Done);
 
 pub const WAITS: Line = (Call::Acquire(0), Answer::Waits);
 
@@ -51,31 +63,21 @@ pub const ABORT: Line = (Call::Abort, Answer::Done);
 
 pub const LEAVE: Line = (Call::Leave, Answer::Done);
 
-/// The script, and how far it is. The lines of `rest` follow those of `front`.
+/// The script, and how far it is.
 #[derive(Drop)]
 pub struct Script<'a> {
-    front: &'a [Line],
-    rest: &'a [Line],
+    lines: &'a [Line],
     place: Cell<usize>,
     /// Whether another call came than was expected.
     is_wrong: Cell<bool>,
 }
 
 impl<'a> Script<'a> {
-    pub fn new(front: &'a [Line], rest: &'a [Line]) -> Script<'a> {
+    pub fn new(lines: &'a [Line]) -> Script<'a> {
         Script {
-            front,
-            rest,
+            lines,
             place: Cell::new(0),
             is_wrong: Cell::new(false),
-        }
-    }
-
-    /// The line at this place.
-    fn line(&self, place: usize) -> Option<&Line> {
-        match self.front.get(place) {
-            Some(line) => Some(line),
-            None => self.rest.get(place.saturating_sub(self.front.len())),
         }
     }
 
@@ -83,7 +85,7 @@ impl<'a> Script<'a> {
     pub fn answer(&self, call: Call) -> Answer {
         let place = self.place.get();
         self.place.set(place.saturating_add(1));
-        match self.line(place) {
+        match self.lines.get(place) {
             Some((expected, answer)) if *expected == call => *answer,
             _ => {
                 self.is_wrong.set(true);
@@ -94,6 +96,6 @@ impl<'a> Script<'a> {
 
     /// Whether just the calls of the script were made.
     pub fn is_over(&self) -> bool {
-        !self.is_wrong.get() && self.line(self.place.get()).is_none()
+        !self.is_wrong.get() && self.place.get() == self.lines.len()
     }
 }

@@ -4,36 +4,45 @@ ghost use Rattle.mm_board.specs.Views.{new_seen};
 
 use crate::tests::script::{Answer, Call, Script};
 use mm_shared::{Acquired, Detected, Key, Refusal, Released, Settled, Transmitted};
-use mm_workers::{Gate, Hint, Steps};
+use mm_workers::{Gate, Hint, HintKind, Steps};
 use test_support::label;
 
-/// The key of the one transaction.
-pub const KEY: Key = Key {
+/// The key of each transaction.
+const KEY: Key = Key {
     process: 0,
     generation: 1,
 };
 
-/// A table that answers by a script. It counts as a table does. Each process has one tenant, and the first scan gives a hint.
+/// A table that answers by a script. It counts as a table does.
 #[derive(Drop)]
 pub struct ScriptedSteps<'a> {
-    pub script: &'a Script<'a>,
-    pub accepted: u64,
-    pub verdicts: u64,
-    pub aborts: u64,
-    pub tenant: Option<Key>,
-    pub hint: Option<Hint>,
+    script: &'a Script<'a>,
+    accepted: u64,
+    verdicts: u64,
+    aborts: u64,
+}
+
+/// The call, if it has the key of the script.
+fn with(key: Key, call: Call) -> Call {
+    if key == KEY { call } else { Call::Other }
+}
+
+/// A hint of this kind, that a process waits for process 0, or for 1 if it is that one.
+fn hint(process: u32, kind: HintKind) -> Option<Hint> {
+    Some(Hint {
+        process,
+        holder: u32::from(process == 0),
+        kind,
+    })
 }
 
 impl<'a> ScriptedSteps<'a> {
-    /// Steps without a tenant and without a hint, which clients need not.
     pub fn new(script: &'a Script<'a>) -> ScriptedSteps<'a> {
         ScriptedSteps {
             script,
             accepted: 0,
             verdicts: 0,
             aborts: 0,
-            tenant: None,
-            hint: None,
         }
     }
 
@@ -64,8 +73,8 @@ impl<'a> Steps for ScriptedSteps<'a> {
         Ok(KEY)
     }
 
-    fn acquire(&mut self, _key: Key, resource: u32) -> Result<Acquired, Refusal> {
-        match self.event(Call::Acquire(resource))? {
+    fn acquire(&mut self, key: Key, resource: u32) -> Result<Acquired, Refusal> {
+        match self.event(with(key, Call::Acquire(resource)))? {
             Answer::Waits => Ok(Acquired::Waits {
                 holder: KEY,
                 label: label(1, 0),
@@ -74,26 +83,26 @@ impl<'a> Steps for ScriptedSteps<'a> {
         }
     }
 
-    fn release(&mut self, _key: Key, resource: u32) -> Result<Released, Refusal> {
-        self.event(Call::Release(resource))?;
+    fn release(&mut self, key: Key, resource: u32) -> Result<Released, Refusal> {
+        self.event(with(key, Call::Release(resource)))?;
         Ok(Released::Free)
     }
 
-    fn finish(&mut self, _key: Key) -> Result<(), Refusal> {
-        self.event(Call::Finish)?;
+    fn finish(&mut self, key: Key) -> Result<(), Refusal> {
+        self.event(with(key, Call::Finish))?;
         Ok(())
     }
 
-    fn transmit(&mut self, _key: Key) -> Result<Transmitted, Refusal> {
-        self.event(Call::Transmit)?;
+    fn transmit(&mut self, key: Key) -> Result<Transmitted, Refusal> {
+        self.event(with(key, Call::Transmit))?;
         Ok(Transmitted::Still)
     }
 
-    fn detect(&mut self, _key: Key) -> Result<Detected, Refusal> {
+    fn detect(&mut self, key: Key) -> Result<Detected, Refusal> {
         let Some(verdicts) = self.verdicts.checked_add(1) else {
             return Err(Refusal::CountsExhausted);
         };
-        match self.event(Call::Detect)? {
+        match self.event(with(key, Call::Detect))? {
             Answer::Deadlock => {
                 self.verdicts = verdicts;
                 Ok(Detected::Deadlock(label(1, 0)))
@@ -103,11 +112,11 @@ impl<'a> Steps for ScriptedSteps<'a> {
         }
     }
 
-    fn abort(&mut self, _key: Key) -> Result<(), Refusal> {
+    fn abort(&mut self, key: Key) -> Result<(), Refusal> {
         let Some(aborts) = self.aborts.checked_add(1) else {
             return Err(Refusal::CountsExhausted);
         };
-        self.event(Call::Abort)?;
+        self.event(with(key, Call::Abort))?;
         self.aborts = aborts;
         Ok(())
     }
@@ -122,14 +131,19 @@ impl<'a> Steps for ScriptedSteps<'a> {
         Err(Refusal::CountsExhausted)
     }
 
-    fn tenant(&mut self, _process: u32) -> Option<Key> {
-        let _ = self.script.answer(Call::Other);
-        self.tenant
+    fn tenant(&mut self, process: u32) -> Option<Key> {
+        match self.script.answer(Call::Tenant(process)) {
+            Answer::Done => Some(KEY),
+            _ => None,
+        }
     }
 
-    fn scan(&mut self, _from: u32) -> Option<Hint> {
-        let _ = self.script.answer(Call::Other);
-        self.hint.take()
+    fn scan(&mut self, from: u32) -> Option<Hint> {
+        match self.script.answer(Call::Scan(from)) {
+            Answer::Raise(process) => hint(process, HintKind::Raise),
+            Answer::Equal(process) => hint(process, HintKind::Equal),
+            _ => None,
+        }
     }
 }
 
@@ -153,7 +167,6 @@ impl<'a> Gate for ScriptedGate<'a> {
     }
 
     fn over(&mut self) -> bool {
-        let _ = self.script.answer(Call::Other);
-        true
+        matches!(self.script.answer(Call::Over), Answer::Passes)
     }
 }

@@ -47,52 +47,40 @@ fn watched_gates<'a, R: Wait>(
     Ok(watched)
 }
 
-/// Whether both clients finished, and each call was reported.
-fn is_so(outcome: &Outcome) -> bool {
-    outcome.counted().finished == 2 && outcome.report.accepted == 7 && outcome.report.aborts == 0
-}
-
-/// Runs the workload at these gates but for the last one, which looks. Whether it comes to that.
-fn runs_at<R: Threads + Wait + Sync>(
+/// Runs the workload at such gates. Returns what came of it, and what the gates counted.
+fn ran<R: Threads + Wait + Sync>(
     rt: &R,
     alloc: Global,
     workload: &Workload,
-    mut gates: Vec<SharedGate<'_, R>>,
-) -> bool {
-    let Some(last) = gates.pop() else {
-        return false;
-    };
-    let counts = Counts {
+) -> Option<(Outcome, Counts)> {
+    let mut gates = shared_gates(rt, alloc, 2, 6).ok()?;
+    let last = gates.pop()?;
+    let gates = watched_gates(alloc, gates).ok()?;
+    if gates.len() != workload.clients().len() + workload.transmitters() as usize {
+        return None;
+    }
+    let outcome = run_threads(rt, alloc, workload, gates).ok()?;
+    Some((outcome, last.counts()))
+}
+
+/// Both clients finish, three times five looks are counted, and each client has left once.
+fn is_so(outcome: &Outcome, counts: Counts) -> bool {
+    let counted = Counts {
         arrived: 15,
         left: 2,
     };
-    let workers = workload.clients().len() + workload.transmitters() as usize;
-    match watched_gates(alloc, gates) {
-        Ok(gates) if gates.len() == workers => match run_threads(rt, alloc, workload, gates) {
-            Ok(outcome) => is_so(&outcome) && last.counts() == counts,
-            Err(_) => false,
-        },
-        _ => false,
-    }
-}
-
-/// The same at gates that are made for it.
-fn runs_so<R: Threads + Wait + Sync>(rt: &R, alloc: Global, workload: &Workload) -> bool {
-    match shared_gates(rt, alloc, 2, 6) {
-        Ok(gates) => runs_at(rt, alloc, workload, gates),
-        Err(_) => false,
-    }
+    counts == counted && outcome.counted().finished == 2 && outcome.report.accepted == 7
 }
 
 #[test]
 fn each_transmitter_has_all_turns_and_each_call_is_reported(rt: HostRuntime) {
-    let runs = match Workload::read(rt.alloc(), APART.as_bytes()) {
-        Ok(workload) => runs_so(&rt, rt.alloc(), &workload),
-        Err(_) => false,
-    };
+    let workload = Workload::read(rt.alloc(), APART.as_bytes()).expect(&rt, "a workload");
+    let ran = ran(&rt, rt.alloc(), &workload);
+    drop(workload);
+    let runs_so = ran.is_some_and(|ran| is_so(&ran.0, ran.1));
     passes(
         &rt,
         "each_transmitter_has_all_turns_and_each_call_is_reported",
-        runs,
+        runs_so,
     );
 }

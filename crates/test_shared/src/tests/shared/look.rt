@@ -2,37 +2,27 @@
 
 use crate::tests::call::{call_of, is_told, on_shared};
 use crate::tests::same::same;
-use crate::tests::shared::{Work, on_a_table};
+use crate::tests::shared::{Work, config, on_a_table};
 use mm_label::Label;
-use mm_shared::{Hint, HintKind, Name, Pass, Report, SharedTable};
+use mm_shared::{HintKind, Name, Pass, Report, SharedTable};
 use std::process::Abort;
 use std::sync::Wait;
 use std::sync::ledger::Ledger;
 use std::test::Fail;
-use test_seats::config;
 
-/// By which pass a step is made.
-#[derive(Clone, Copy)]
-enum By {
-    First,
-    Other,
-}
+/// A hint: the process, its holder, and the kind.
+type Seen = (u32, u32, HintKind);
 
-/// A call or a look at the board, and what is to come of it.
+/// A call by one pass, or a look at the board by another one, and what is to come of it.
 #[derive(Clone, Copy)]
-enum Step {
+pub enum Step {
     /// A call, as a script has it, and its reply.
     Calls(&'static str, &'static str),
     /// The label of a process: its counter and its process.
     Peeks(u32, u64, u32),
-    /// The table has no process of this number, so nothing is read.
-    HasNot(u32),
     /// The first hints from each process of two on, and past both of them.
-    Scans([Option<Hint>; 3]),
+    Scans([Option<Seen>; 3]),
 }
-
-#[derive(Clone, Copy)]
-pub struct Turn(By, Step);
 
 /// The label of a process on the board; `None` if it is not one of the table's. It has no handle, so it may not wait.
 fn peeked<N: Name, A: Ledger, V: Ledger, B: Ledger>(
@@ -46,16 +36,14 @@ fn peeked<N: Name, A: Ledger, V: Ledger, B: Ledger>(
     Some(table.peek(pass, process))
 }
 
-/// The first hints from each process of two on, and past both of them. It has no handle, so it may not wait.
+/// The first hint from this process on. It has no handle, so it may not wait.
 fn scanned<N: Name, A: Ledger, V: Ledger, B: Ledger>(
     table: &SharedTable<N, A, V, B>,
     pass: &mut Pass<N, A, V, B>,
-) -> [Option<Hint>; 3] {
-    [
-        table.scan(pass, 0),
-        table.scan(pass, 1),
-        table.scan(pass, 2),
-    ]
+    from: u32,
+) -> Option<Seen> {
+    let hint = table.scan(pass, from)?;
+    Some((hint.process, hint.holder, hint.kind))
 }
 
 /// Makes a call. Ends the test if it has another reply.
@@ -77,149 +65,79 @@ impl Step {
         rt: &R,
         table: &SharedTable<N, A, V, B>,
         pass: &mut Pass<N, A, V, B>,
+        other: &mut Pass<N, A, V, B>,
     ) {
         match self {
             Step::Calls(line, reply) => calls(rt, table, pass, line, reply),
             Step::Peeks(process, counter, of) => {
-                same(rt, peeked(table, pass, process), Label::new(counter, of));
+                same(rt, peeked(table, other, process), Label::new(counter, of));
             }
-            Step::HasNot(process) => same(rt, peeked(table, pass, process), None),
-            Step::Scans(hints) => same(rt, scanned(table, pass), hints),
+            Step::Scans(hints) => {
+                for from in 0..3usize {
+                    same(rt, scanned(table, other, from as u32), hints[from]);
+                }
+            }
         }
     }
 }
 
-/// Makes the steps one after the other, each by its pass.
+/// Makes the steps one after the other.
 pub fn watch<N: Name, A: Ledger, V: Ledger, B: Ledger, R: Wait + Abort>(
     rt: &R,
     table: &SharedTable<N, A, V, B>,
     pass: &mut Pass<N, A, V, B>,
     other: &mut Pass<N, A, V, B>,
-    turns: &[Turn],
+    steps: &[Step],
 ) {
-    for turn in turns {
-        let Turn(by, step) = *turn;
-        match by {
-            By::First => step.make(rt, table, pass),
-            By::Other => step.make(rt, table, other),
-        }
+    for step in steps {
+        step.make(rt, table, pass, other);
     }
 }
 
-const NONE: [Option<Hint>; 3] = [None, None, None];
+const NONE: [Option<Seen>; 3] = [None; 3];
 
-const FIRST_RAISES: Option<Hint> = Some(Hint {
-    process: 0,
-    holder: 1,
-    kind: HintKind::Raise,
-});
+const FIRST_RAISES: Option<Seen> = Some((0, 1, HintKind::Raise));
 
-const SECOND_RAISES: Option<Hint> = Some(Hint {
-    process: 1,
-    holder: 0,
-    kind: HintKind::Raise,
-});
+const SECOND_RAISES: Option<Seen> = Some((1, 0, HintKind::Raise));
 
-const FIRST_IS_EQUAL: Option<Hint> = Some(Hint {
-    process: 0,
-    holder: 1,
-    kind: HintKind::Equal,
-});
+const FIRST_IS_EQUAL: Option<Seen> = Some((0, 1, HintKind::Equal));
 
-const SECOND_IS_EQUAL: Option<Hint> = Some(Hint {
-    process: 1,
-    holder: 0,
-    kind: HintKind::Equal,
-});
+const SECOND_IS_EQUAL: Option<Seen> = Some((1, 2, HintKind::Equal));
 
-const SECOND_IS_EQUAL_TO_THIRD: Option<Hint> = Some(Hint {
-    process: 1,
-    holder: 2,
-    kind: HintKind::Equal,
-});
-
-const THIRD_IS_EQUAL: Option<Hint> = Some(Hint {
-    process: 2,
-    holder: 0,
-    kind: HintKind::Equal,
-});
-
-/// A deadlock of two, as two passes see it on the board: from the first wait on until it is broken.
-static DEADLOCK: [Turn; 19] = [
-    Turn(By::First, Step::Calls("begin", "key 0.1")),
-    Turn(By::First, Step::Calls("begin", "key 1.1")),
-    Turn(By::First, Step::Calls("acquire 0.1 0", "granted")),
-    Turn(By::First, Step::Calls("acquire 1.1 1", "granted")),
-    Turn(By::First, Step::Peeks(0, 0, 0)),
-    Turn(By::First, Step::Calls("acquire 0.1 1", "waits 1.1 1.0")),
-    Turn(By::First, Step::Peeks(0, 1, 0)),
-    Turn(By::Other, Step::Peeks(0, 1, 0)),
-    Turn(By::First, Step::Scans(NONE)),
-    Turn(By::First, Step::Calls("acquire 1.1 0", "waits 0.1 2.1")),
-    Turn(By::Other, Step::Scans([FIRST_RAISES, None, None])),
-    Turn(By::First, Step::Calls("transmit 0.1", "raised 2.1")),
-    Turn(By::First, Step::Scans(BOTH_ARE_EQUAL)),
-    Turn(By::Other, Step::Scans(BOTH_ARE_EQUAL)),
-    Turn(By::First, Step::Calls("detect 1.1", "deadlock 2.1")),
-    Turn(By::First, Step::Calls("abort 1.1", "aborted")),
-    Turn(By::Other, Step::Scans(NONE)),
-    Turn(By::Other, Step::Peeks(1, 2, 1)),
-    Turn(By::Other, Step::HasNot(2)),
-];
-
-const BOTH_ARE_EQUAL: [Option<Hint>; 3] = [FIRST_IS_EQUAL, SECOND_IS_EQUAL, None];
-
-#[test]
-fn the_board_shows_a_deadlock(rt: HostRuntime) -> Result<(), Fail> {
-    let report = Report {
-        accepted: 9,
-        verdicts: 1,
-        aborts: 1,
-    };
-    on_a_table(
-        &rt,
-        rt.alloc(),
-        config(2, 2),
-        Work::Turns(&DEADLOCK, report),
-    )
-}
+const THIRD_IS_EQUAL: Option<Seen> = Some((2, 0, HintKind::Equal));
 
 /// A resource that two wait for is handed over twice, and each time the board shows the waits. Then each of three owns one
 /// resource and waits for that of the next, and a settle finds the deadlock.
-static QUEUE_AND_SETTLE: [Turn; 26] = [
-    Turn(By::First, Step::Calls("begin", "key 0.1")),
-    Turn(By::First, Step::Calls("begin", "key 1.1")),
-    Turn(By::First, Step::Calls("begin", "key 2.1")),
-    Turn(By::First, Step::Calls("acquire 0.1 0", "granted")),
-    Turn(By::First, Step::Calls("acquire 1.1 0", "waits 0.1 1.1")),
-    Turn(By::First, Step::Calls("acquire 2.1 0", "waits 0.1 1.2")),
-    Turn(By::First, Step::Calls("release 0.1 0", "to 1.1")),
-    Turn(By::Other, Step::Peeks(1, 1, 1)),
-    Turn(By::Other, Step::Peeks(2, 2, 2)),
-    Turn(By::First, Step::Calls("finish 1.1", "finished")),
-    Turn(By::Other, Step::Peeks(2, 2, 2)),
-    Turn(By::Other, Step::Scans(NONE)),
-    Turn(By::First, Step::Calls("begin", "key 1.2")),
-    Turn(By::First, Step::Calls("acquire 0.1 1", "granted")),
-    Turn(By::First, Step::Calls("acquire 1.2 2", "granted")),
-    Turn(By::First, Step::Calls("acquire 0.1 2", "waits 1.2 2.0")),
-    Turn(By::First, Step::Calls("acquire 1.2 0", "waits 2.1 3.1")),
-    Turn(By::First, Step::Calls("acquire 2.1 1", "waits 0.1 3.2")),
-    Turn(By::Other, Step::Peeks(0, 2, 0)),
-    Turn(By::Other, Step::Peeks(1, 3, 1)),
-    Turn(By::First, Step::Calls("settle", "settled 3 1")),
-    Turn(By::Other, Step::Peeks(0, 3, 2)),
-    Turn(By::Other, Step::Peeks(1, 3, 2)),
-    Turn(By::Other, Step::Scans(THREE_ARE_EQUAL)),
-    Turn(By::First, Step::Calls("abort 2.1", "aborted")),
-    Turn(By::Other, Step::Scans([FIRST_IS_EQUAL, None, None])),
+static QUEUE_AND_SETTLE: [Step; 26] = [
+    Step::Calls("begin", "key 0.1"),
+    Step::Calls("begin", "key 1.1"),
+    Step::Calls("begin", "key 2.1"),
+    Step::Calls("acquire 0.1 0", "granted"),
+    Step::Calls("acquire 1.1 0", "waits 0.1 1.1"),
+    Step::Calls("acquire 2.1 0", "waits 0.1 1.2"),
+    Step::Calls("release 0.1 0", "to 1.1"),
+    Step::Peeks(1, 1, 1),
+    Step::Peeks(2, 2, 2),
+    Step::Calls("finish 1.1", "finished"),
+    Step::Peeks(2, 2, 2),
+    Step::Scans(NONE),
+    Step::Calls("begin", "key 1.2"),
+    Step::Calls("acquire 0.1 1", "granted"),
+    Step::Calls("acquire 1.2 2", "granted"),
+    Step::Calls("acquire 0.1 2", "waits 1.2 2.0"),
+    Step::Calls("acquire 1.2 0", "waits 2.1 3.1"),
+    Step::Calls("acquire 2.1 1", "waits 0.1 3.2"),
+    Step::Peeks(0, 2, 0),
+    Step::Peeks(1, 3, 1),
+    Step::Calls("settle", "settled 3 1"),
+    Step::Peeks(0, 3, 2),
+    Step::Peeks(1, 3, 2),
+    Step::Scans(THREE_ARE_EQUAL),
+    Step::Calls("abort 2.1", "aborted"),
+    Step::Scans([FIRST_IS_EQUAL, None, None]),
 ];
 
-const THREE_ARE_EQUAL: [Option<Hint>; 3] = [
-    FIRST_IS_EQUAL,
-    SECOND_IS_EQUAL_TO_THIRD,
-    THIRD_IS_EQUAL,
-];
+const THREE_ARE_EQUAL: [Option<Seen>; 3] = [FIRST_IS_EQUAL, SECOND_IS_EQUAL, THIRD_IS_EQUAL];
 
 #[test]
 fn the_board_shows_a_queue_and_a_settle(rt: HostRuntime) -> Result<(), Fail> {
@@ -228,31 +146,28 @@ fn the_board_shows_a_queue_and_a_settle(rt: HostRuntime) -> Result<(), Fail> {
         verdicts: 1,
         aborts: 1,
     };
-    let work = Work::Turns(&QUEUE_AND_SETTLE, report);
+    let work = Work::Steps(&QUEUE_AND_SETTLE, report);
     on_a_table(&rt, rt.alloc(), config(3, 3), work)
 }
 
 /// One of two that wait for each other gives up. From then on the board shows no holder of it, and the label that it had.
-static GIVEN_UP: [Turn; 16] = [
-    Turn(By::First, Step::Calls("begin", "key 0.1")),
-    Turn(By::First, Step::Calls("begin", "key 1.1")),
-    Turn(By::First, Step::Calls("acquire 0.1 0", "granted")),
-    Turn(By::First, Step::Calls("acquire 1.1 1", "granted")),
-    Turn(By::First, Step::Calls("acquire 0.1 1", "waits 1.1 1.0")),
-    Turn(By::First, Step::Calls("acquire 1.1 0", "waits 0.1 2.1")),
-    Turn(By::Other, Step::Scans([FIRST_RAISES, None, None])),
-    Turn(By::First, Step::Calls("give_up 0.1", "withdrawn")),
-    Turn(By::Other, Step::Scans(NONE)),
-    Turn(By::Other, Step::Peeks(0, 1, 0)),
-    Turn(
-        By::First,
-        Step::Calls("give_up 0.1", "refused 8 NotWaiting"),
-    ),
-    Turn(By::First, Step::Scans(NONE)),
-    Turn(By::First, Step::Calls("acquire 0.1 1", "waits 1.1 3.0")),
-    Turn(By::Other, Step::Scans([SECOND_RAISES, SECOND_RAISES, None])),
-    Turn(By::Other, Step::Calls("give_up 1.1", "withdrawn")),
-    Turn(By::First, Step::Scans(NONE)),
+static GIVEN_UP: [Step; 16] = [
+    Step::Calls("begin", "key 0.1"),
+    Step::Calls("begin", "key 1.1"),
+    Step::Calls("acquire 0.1 0", "granted"),
+    Step::Calls("acquire 1.1 1", "granted"),
+    Step::Calls("acquire 0.1 1", "waits 1.1 1.0"),
+    Step::Calls("acquire 1.1 0", "waits 0.1 2.1"),
+    Step::Scans([FIRST_RAISES, None, None]),
+    Step::Calls("give_up 0.1", "withdrawn"),
+    Step::Scans(NONE),
+    Step::Peeks(0, 1, 0),
+    Step::Calls("give_up 0.1", "refused 8 NotWaiting"),
+    Step::Scans(NONE),
+    Step::Calls("acquire 0.1 1", "waits 1.1 3.0"),
+    Step::Scans([SECOND_RAISES, SECOND_RAISES, None]),
+    Step::Calls("give_up 1.1", "withdrawn"),
+    Step::Scans(NONE),
 ];
 
 #[test]
@@ -266,6 +181,6 @@ fn the_board_shows_no_holder_of_who_gave_up(rt: HostRuntime) -> Result<(), Fail>
         &rt,
         rt.alloc(),
         config(4, 2),
-        Work::Turns(&GIVEN_UP, report),
+        Work::Steps(&GIVEN_UP, report),
     )
 }

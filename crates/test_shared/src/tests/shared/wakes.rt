@@ -3,14 +3,13 @@ ghost use Rattle.std.specs.Prelude.{◌≤◌, vec_capacity};
 
 use crate::tests::call::{call_of, is_told, on_shared_waking};
 use crate::tests::same::same;
-use crate::tests::shared::{Work, on_a_table};
+use crate::tests::shared::{Work, config, on_a_table};
 use mm_shared::{Name, Pass, Report, SharedTable};
 use std::alloc::{AllocError, Global};
 use std::process::Abort;
 use std::sync::Wait;
 use std::sync::ledger::Ledger;
 use std::test::Fail;
-use test_seats::config;
 
 /// Calls, as a script has them, each with its reply, and the processes that it lists. Process 2 waits for 1, and then 0 and 1 wait for each
 /// other.
@@ -40,27 +39,7 @@ const COUNTED: Report = Report {
     aborts: 1,
 };
 
-/// Makes the call of a line. Ends the test if it has another reply, or lists other processes. `wake` has room for each process.
-fn make<N: Name, A: Ledger, V: Ledger, B: Ledger, R: Wait + Abort>(
-    rt: &R,
-    table: &SharedTable<N, A, V, B>,
-    pass: &mut Pass<N, A, V, B>,
-    wake: &mut Vec<u32>,
-    line: &str,
-    reply: &str,
-    woken: &[u32],
-)
-    requires { table.now ≤ vec_capacity wake.old }
-    ensures { table.now ≤ vec_capacity wake.new }
-{
-    let call = call_of(line).expect(rt, "a call");
-    wake.clear();
-    let answer = on_shared_waking(rt, table, pass, wake, call);
-    is_told(rt, answer, reply);
-    same(rt, wake.as_slice(), woken);
-}
-
-/// Makes these calls. `wake` has room for each process.
+/// Makes these calls. Ends the test if one has another reply, or lists other processes. `wake` has room for each process.
 fn make_all<N: Name, A: Ledger, V: Ledger, B: Ledger, R: Wait + Abort>(
     rt: &R,
     table: &SharedTable<N, A, V, B>,
@@ -71,7 +50,11 @@ fn make_all<N: Name, A: Ledger, V: Ledger, B: Ledger, R: Wait + Abort>(
 {
     for call in &CALLS {
         let (line, reply, woken) = *call;
-        make(rt, table, pass, wake, line, reply, woken);
+        let call = call_of(line).expect(rt, "a call");
+        wake.clear();
+        let answer = on_shared_waking(rt, table, pass, wake, call);
+        is_told(rt, answer, reply);
+        same(rt, wake.as_slice(), woken);
     }
 }
 

@@ -1,4 +1,4 @@
-use Rattle.test_workers.proofs.tests.transmitters.a_deadlock_on_a_shared_table.Given as goal
+use Rattle.test_workers.proofs.tests.rings.a_deadlock_on_a_shared_table.Given as goal
 
 -- the board and the ledgers that were just made
 abbrev pub ghosts-four_turns_at_a_desk-N-Name : goal.ghosts-four_turns_at_a_desk-N-Name

@@ -1,8 +1,8 @@
-//! The calls, and who makes them.
+//! The calls of a shared table by one thread. They have no clauses, so a function that makes many of them has a short proof, and knows nothing
+//! of what they did.
 
 use mm_shared::{
-    Acquired, Detected, Key, Name, Pass, Refusal, Released, Settled, SharedTable, State,
-    Transmitted,
+    Acquired, Detected, Key, Name, Pass, Refusal, Released, Settled, SharedTable, Transmitted,
 };
 use std::sync::Wait;
 use std::sync::ledger::Ledger;
@@ -23,15 +23,7 @@ pub trait Calls {
 
     fn abort(&mut self, key: Key) -> Result<(), Refusal>;
 
-    fn give_up(&mut self, key: Key) -> Result<(), Refusal>;
-
     fn settle(&mut self) -> Result<Settled, Refusal>;
-
-    fn state(&mut self, key: Key) -> Result<State, Refusal>;
-
-    fn owner(&mut self, resource: u32) -> Result<Option<Key>, Refusal>;
-
-    fn tenant(&mut self, process: u32) -> Option<Key>;
 
     fn processes(&self) -> u32;
 
@@ -108,28 +100,8 @@ impl<'a, N: Name, A: Ledger, V: Ledger, B: Ledger, R: Wait> Calls for Seat<'a, N
     }
 
     #[inline(always)]
-    fn give_up(&mut self, key: Key) -> Result<(), Refusal> {
-        self.table.give_up(self.rt, &mut self.pass, key)
-    }
-
-    #[inline(always)]
     fn settle(&mut self) -> Result<Settled, Refusal> {
         self.table.settle(self.rt, &mut self.pass)
-    }
-
-    #[inline(always)]
-    fn state(&mut self, key: Key) -> Result<State, Refusal> {
-        self.table.state(self.rt, &mut self.pass, key)
-    }
-
-    #[inline(always)]
-    fn owner(&mut self, resource: u32) -> Result<Option<Key>, Refusal> {
-        self.table.owner(self.rt, &mut self.pass, resource)
-    }
-
-    #[inline(always)]
-    fn tenant(&mut self, process: u32) -> Option<Key> {
-        self.table.tenant(self.rt, &mut self.pass, process)
     }
 
     #[inline(always)]

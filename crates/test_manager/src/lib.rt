@@ -1,5 +1,0 @@
-//! Tests of the lock manager, by what its callers can call.
-#![tactic(auto)]
-
-#[cfg(test)]
-mod tests;

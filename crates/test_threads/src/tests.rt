@@ -1,4 +1,0 @@
-//! `shared`: threads at a shared table.
-
-mod same;
-mod shared;
