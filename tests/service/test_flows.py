@@ -359,10 +359,9 @@ class Arguments(Case):
 
     def callers(self) -> list[tuple[Any, Any]]:
         """Locks and a transaction of each form, of which nothing may be asked."""
-        plain = pashkure.Locks(Silent(), Watch(None, None), Retry())  # type: ignore[arg-type]
-        tx = Transaction(Silent(), Silent(), flows.State(), Watch(None, None))  # type: ignore[arg-type]
-        tx._right.clear()
-        tasks = aio.Locks(Silent(), Watch(None, None), Retry())  # type: ignore[arg-type]
+        plain = pashkure.Locks(Silent(), Watch(), Retry())
+        tx = Transaction(Silent(), Watch())
+        tasks = aio.Locks(Silent(), Watch(), Retry())
         return [(plain, tx), (tasks, tasks.transaction())]
 
     def test_names(self) -> None:

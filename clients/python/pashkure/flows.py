@@ -1,20 +1,21 @@
 """What each call does, step by step, for threads and for tasks alike. Nothing here reads, writes or sleeps.
 
 A flow is a generator. It yields an `Ask`, and is sent the answer; or it yields a time, and is sent how the wait of its transaction ended,
-`WOKEN`, or nothing at that time. It returns what the call returns, and raises what the call raises.
+`WOKEN`, or nothing at that time; or it yields a call, and is sent what that returns. It returns what the call returns, and raises what the
+call raises. `pashkure.backend.now` runs it for a thread, and `pashkure.aio.backend.soon` for a task.
 """
 from __future__ import annotations
 
 import math
 from time import monotonic
-from typing import Callable, Generator, List, Optional, Sequence, Tuple, TypeVar, Union
+from typing import Any, Callable, Generator, List, Optional, Sequence, Tuple, TypeVar, Union
 
-from .errors import Aborted, Deadlock, Interrupted, LockError, ProtocolError, Timeout, refusal
+from .errors import Aborted, Closed, Deadlock, Interrupted, LockError, ProtocolError, Timeout, refusal
 from .values import Status, Wait, decoded
 from .wire import LONGEST, Answer, Ask, cut
 
 R = TypeVar("R")
-Flow = Generator[Union[Ask, float], Optional[Answer], R]
+Flow = Generator[Union[Ask, float, Callable[[], Any]], Any, R]
 WOKEN: Answer = (b"woken",)
 """The wait was not ended: somebody called `wake`."""
 SHORTEST, LONGEST_PAUSE = 0.001, 0.1
@@ -35,18 +36,18 @@ class State:
 
 def begin(state: State, names: Sequence[bytes], deadline: float) -> Flow[None]:
     """Begins a transaction that owns these names. Where it cannot own all, none is left."""
-    part = names[: cut(names, LONGEST - len(b"begin"))] if names else ()
-    words = yield from _asked(Ask(b"begin", tuple(part)))
-    if words[0] != b"begun":
+    part = names[: cut(names, LONGEST - len(b"begin"))]
+    words: Answer = yield Ask(b"begin", tuple(part))
+    state.is_over = words[0] != b"begun"
+    if state.is_over:
         raise refusal(words[-1])
     state.key = words[1]
     try:
-        if part:
-            owned = yield from _owned(state, part, words[2:], deadline)
-            yield from lock(state, names[owned:], deadline)
-    except LockError:
-        if not state.is_over:
-            yield Ask(b"abort")
+        owned = yield from _owned(state, part, words[2:], deadline)
+        yield from lock(state, names[owned:], deadline)
+    except LockError as error:
+        if not state.is_over and not isinstance(error, Closed):
+            yield from abort(state)
         raise
 
 
@@ -55,7 +56,7 @@ def lock(state: State, names: Sequence[bytes], deadline: float) -> Flow[None]:
     state.waited = 0.0
     while names:
         part = names[: cut(names, LONGEST - len(b"lock ") - len(state.key))]
-        words = yield from _ask(state, Ask(b"lock", tuple(part)))
+        words = yield from _asked(state, Ask(b"lock", tuple(part)))
         names = names[(yield from _owned(state, part, words, deadline)) :]
 
 
@@ -76,7 +77,7 @@ def _owned(state: State, names: Sequence[bytes], words: Answer, deadline: float)
 
 def _deadlock(name: bytes, holder: bytes) -> Flow[Deadlock]:
     """What to raise after a deadlock, once the cycle was read."""
-    words = yield from _asked(Ask(b"cycle"))
+    words: Answer = yield Ask(b"cycle")
     return Deadlock(decoded(name), holder.decode("ascii"), cycle_of(words[1:]) if words[0] == b"cycle" else ())
 
 
@@ -98,7 +99,7 @@ def _told(state: State, name: str, holder: str, deadline: float) -> Flow[Answer]
     start, pause, is_tried = monotonic(), SHORTEST, False
     warns, until = start + state.slow_wait, deadline
     while True:
-        told = None if state.is_interrupted and not is_tried else (yield min(until, warns))
+        told: Optional[Answer] = None if state.is_interrupted and not is_tried else (yield min(until, warns))
         if told is not None and told != WOKEN:
             return told
         now = monotonic()
@@ -107,7 +108,7 @@ def _told(state: State, name: str, holder: str, deadline: float) -> Flow[Answer]
             warns = math.inf
         if now < until and not state.is_interrupted:
             continue
-        words = yield from _asked(Ask(b"cancel"))
+        words: Answer = yield Ask(b"cancel")
         if words[0] == b"cancelled":
             is_interrupted, state.is_interrupted = state.is_interrupted, False
             raise Interrupted(f"the wait for {name!r} was interrupted") if is_interrupted else Timeout(name)
@@ -120,10 +121,10 @@ def settle(state: State) -> Flow[None]:
     """After a call that was left: the replies to what it sent first, and what it waits for is taken back."""
     pause = SHORTEST
     while state.is_unsettled:
-        words = yield from _asked(Ask(b"cancel"))
+        words: Answer = yield Ask(b"cancel")
         state.is_unsettled = words[0] == b"carried"
         if words[-1] == b"must-abort":  # the request that was left closed a cycle
-            told = yield from _asked(Ask(b"status"))
+            told: Answer = yield Ask(b"status")
             raise (yield from _deadlock(*told[1:3])) if told[0] == b"deadlock" else refusal(words[-1])
         if state.is_unsettled:
             yield monotonic() + pause
@@ -131,50 +132,47 @@ def settle(state: State) -> Flow[None]:
 
 
 def asked(state: State, ask: Ask, read: Callable[[Answer], R]) -> Flow[R]:
-    """What is read of the answer to a request that is not refused."""
-    return read((yield from _wanted(state, ask)))
+    """What is read of the answer to a request of a transaction. It is not refused."""
+    words = yield from _asked(state, ask)
+    if words[0] == b"refused":
+        raise _refused(state, words)
+    return read(words)
+
+
+def _asked(state: State, ask: Ask) -> Flow[Answer]:
+    """The answer to a request of a transaction that waits for nothing."""
+    if state.is_unsettled:
+        yield from settle(state)
+    words: Answer = yield ask
+    return words
 
 
 def commit(state: State, deadline: Optional[float]) -> Flow[None]:
-    yield from _wanted(state, Ask(b"commit", (), deadline))
+    """Ends the transaction."""
+    yield from asked(state, Ask(b"commit", (), deadline), lambda words: None)
     state.is_over = True
 
 
 def abort(state: State) -> Flow[bool]:
     """Ends the transaction, whatever it does. Whether it has ended now, and not only when its wait ends."""
-    words = yield from _asked(Ask(b"abort"))
+    words: Answer = yield Ask(b"abort")
     state.is_over = True
     return words[0] != b"later"
 
 
-def plain(ask: Ask, read: Callable[[Answer], R]) -> Flow[R]:
-    """The same, of a request without a transaction."""
-    words = yield from _asked(ask)
+def plain(state: State, ask: Ask, read: Callable[[Answer], R]) -> Flow[R]:
+    """What is read of the answer to a request without a transaction: then nothing is left."""
+    words: Answer = yield ask
+    state.is_over = True
     if words[0] == b"refused":
         raise refusal(words[-1])
     return read(words)
 
 
-def _asked(ask: Ask) -> Flow[Answer]:
-    """The answer to a request."""
-    words = yield ask
-    assert words is not None
-    return words
-
-
-def _ask(state: State, ask: Ask) -> Flow[Answer]:
-    """The answer to a request of a transaction that waits for nothing."""
-    if state.is_unsettled:
-        yield from settle(state)
-    return (yield from _asked(ask))
-
-
-def _wanted(state: State, ask: Ask) -> Flow[Answer]:
-    """The answer to a request that may be refused, and is not."""
-    words = yield from _ask(state, ask)
-    if words[0] == b"refused":
-        raise _refused(state, words)
-    return words
+def known(value: R) -> Flow[R]:
+    """What need not be asked."""
+    yield from ()
+    return value
 
 
 def _refused(state: State, words: Answer) -> LockError:

@@ -2,44 +2,22 @@
 from __future__ import annotations
 
 import os
-import weakref
 from time import monotonic
-from typing import Any, Callable, Generator, Iterable, List, Optional, Sequence, Tuple, Type, TypeVar, Union
+from typing import Any, Callable, Generator, List, Optional, Sequence, Union
 
+from .backend import Backend, Why
 from .errors import CannotConnect, Closed, Full, LocksLost, ProtocolError, ServiceRestarted
 from .values import seconds
 from .wire import Answer
 
-C = TypeVar("C")
 Path = Union[str, bytes, "os.PathLike[str]", "os.PathLike[bytes]"]
-Why = Tuple[Type[Closed], str]
-"""Why a connection is of no use any more."""
-BY_CLOSE: Why = (Closed, "it was closed")
-BY_FORK: Why = (Closed, "it belongs to the parent process, before a fork")
-BY_DROP: Why = (LocksLost, "a call of this transaction was broken off, so its connection was closed, and its locks are gone")
 LOST: Why = (LocksLost, "the connection to the service was lost")
+RESTARTED: Why = (ServiceRestarted, "the service was started anew, and all locks of before are gone")
 LONGEST = 1e6
 """Seconds that the calls of the system take; more are as good as for ever."""
-RESTARTED = "the service was started anew, and all locks of before are gone"
 
 
-FORGOTTEN: "weakref.WeakSet[Any]" = weakref.WeakSet()
-"""What the child of a fork forgets, so that only the parent has it: the connections, whose copies it closes, and the managers in process."""
-
-
-def each(items: Iterable[C]) -> List[C]:
-    """The items of a set to which other threads may add."""
-    while True:
-        try:
-            return list(items)
-        except RuntimeError:
-            pass  # it changed size
-
-
-os.register_at_fork(after_in_child=lambda: [connection.forget() for connection in each(FORGOTTEN)])
-
-
-class Ways:
+class Ways(Backend):
     """The ways to one service, by the paths of sockets."""
 
     def __init__(self, paths: Sequence[Path], connect_timeout: float, reply_timeout: float, tell: Callable[[Optional[Closed]], None]) -> None:
@@ -50,29 +28,32 @@ class Ways:
         self.reply_timeout = min(seconds(reply_timeout, "reply_timeout"), LONGEST)
         self.tell = tell
         self.epoch = 0  # the greatest that was seen
-        self.is_closed = False
         self._way = 0  # the place of the path that answered last
 
-    def find(self, deadline: float, kind: Type[C], is_once: bool = False) -> "Generator[Union[str, bytes, float], Union[C, Exception, None], C]":
-        """Yields a path, and is sent a connection or why there is none; or yields how long to pause, 10 ms to 1 s. Returns the connection."""
+    def find(self, deadline: float, is_once: bool) -> "Generator[Union[str, bytes, float], Any, Any]":
+        """A flow. It yields a path, and is sent a connection or an exception; or it yields how long to pause, 10 ms to 1 s. It returns the
+        connection."""
         pause = 0.01
-        while not self.is_closed:
-            first, failed, error = self._way, "", None
-            for place in [*range(first, len(self.paths)), *range(first)]:
-                found = yield self.paths[place]
-                if isinstance(found, kind):
+        while True:
+            self.check()
+            failed: List[str] = []
+            for place in [*range(self._way, len(self.paths)), *range(self._way)]:
+                try:
+                    found = yield self.paths[place]
                     self._way = place
+                    if self.why is not None:
+                        found.end(self.why)
                     return found
-                assert isinstance(found, Exception)
-                if isinstance(found, ProtocolError):
-                    raise found
-                failed, error = f"{failed}{'; ' if failed else ''}no service at {os.fsdecode(self.paths[place])}: {found}", found
+                except ProtocolError:
+                    raise
+                except (OSError, Full) as error:
+                    cause = error.with_traceback(None)
+                    failed.append(f"no service at {os.fsdecode(self.paths[place])}: {error}")
             left = deadline - monotonic()
             if left <= 0 or is_once:
-                raise CannotConnect(failed) from error
+                raise CannotConnect("; ".join(failed)) from cause
             yield min(pause, left)
             pause = min(1.0, 2 * pause)
-        raise Closed(BY_CLOSE[1])
 
     def limit(self, deadline: float) -> float:
         """In how many seconds a service has to say who it is: a tenth at least, so that the last try is one."""
@@ -89,7 +70,7 @@ class Ways:
             raise ConnectionError(f"the service's epoch {epoch} is below {self.epoch}, which was seen before: it has to be started anew")
         is_new, self.epoch = 0 < self.epoch < epoch, max(self.epoch, epoch)
         if is_new:
-            self.tell(ServiceRestarted(RESTARTED))
+            self.tell(RESTARTED[0](RESTARTED[1]))
         return epoch
 
     def __str__(self) -> str:

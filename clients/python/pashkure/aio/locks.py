@@ -3,20 +3,16 @@ from __future__ import annotations
 
 import asyncio
 import inspect
-import math
-import warnings
 from time import monotonic
-from typing import TYPE_CHECKING, Any, Awaitable, Callable, Dict, Generator, List, Optional, Sequence, Tuple, TypeVar
+from typing import TYPE_CHECKING, Any, Awaitable, Callable, Dict, Generator, List, Optional, TypeVar
 
-from .. import flows
 from ..calls import Calls, OnEvent, Opened, Watch
-from ..errors import CannotConnect, Closed, LockError, LocksLost, NoTransaction, Waiting
-from ..flows import Flow
 from ..locks import is_deadlock
 from ..values import Counts, Fence, Name, Retry, Status, Totals, Wait, all_encoded, seconds
 from ..ways import Path
+from .backend import soon
 from .in_process import InProcess
-from .service import Service, drive
+from .service import Service
 
 if TYPE_CHECKING:
     from typing_extensions import Concatenate, ParamSpec
@@ -40,14 +36,8 @@ class Transaction(Calls):
     transaction goes on; `holds` says whether the name was granted in that moment. A cancelled `commit` or `abort` was sent, and counts.
     """
 
-    _session: Any
-    _task: "Optional[asyncio.Task[Any]]" = None  # within a call
-    _is_live = _has_begun = False
-
-    def __init__(self, service: Any, watch: Watch, names: Tuple[bytes, ...], timeout: float) -> None:
-        super().__init__(watch.state(), watch)
-        self._service, self._names, self._timeout = service, names, timeout
-        self._own: "Optional[asyncio.Task[Any]]" = None
+    _drive = staticmethod(soon)
+    _who = staticmethod(asyncio.current_task)
 
     # fmt: off
     if TYPE_CHECKING:  # what `Calls` does
@@ -58,84 +48,15 @@ class Transaction(Calls):
         async def holds(self) -> List[str]: ...
         async def status(self) -> Status: ...
         async def commit(self, timeout: Optional[float] = None) -> None: ...
+        async def abort(self) -> None: ...
     # fmt: on
 
-    async def abort(self) -> None:
-        """Ends the transaction, whatever it does. All that it owns is given back. Nothing happens if it has ended.
-
-        Any task may call it. If another task waits in a call, that call raises `Aborted` at once.
-        """
-        if self._state.is_over or not self._has_begun:
-            return
-        start = monotonic()
-        self._state.is_over, self._is_live = True, False
-        self._is_aborted = self._task is not None or asyncio.current_task() is not self._own
-        if self._task is not None:
-            self._session.break_off()
-        try:
-            await drive(self._session, flows.abort(self._state))
-        except Closed:
-            pass
-        finally:
-            self._watch.call("abort", self._state, (), start, None)
-
-    async def _begin(self) -> "Transaction":
-        if self._has_begun:
-            raise RuntimeError("it has begun: call `transaction` for each transaction")
-        self._has_begun, self._own, start = True, asyncio.current_task(), monotonic()
-        deadline, error = start + self._timeout, None
-        while True:
-            self._session = await self._service.session(deadline)
-            try:
-                await drive(self._session, flows.begin(self._state, self._names, deadline))
-                self._is_live = True
-                return self
-            except BaseException as told:
-                error = told
-                self._session.drop()
-                if not isinstance(told, LocksLost) or self._state.key:
-                    self._state.is_over = True
-                    raise
-                if self._session.is_slow:
-                    raise CannotConnect(str(told)) from told
-            finally:
-                if self._is_live or self._state.key:
-                    self._watch.call("begin", self._state, self._names, start, None if self._is_live else error)
-                error = None  # it has this frame
-
-    async def _call(self, kind: str, flow: Flow[R], names: Sequence[bytes] = ()) -> R:
-        self._check()
-        if not self._has_begun:
-            raise NoTransaction("the transaction has not begun: use `async with`, or `await`")
-        if self._task is not None:
-            raise Waiting("another task is inside a call of this transaction")
-        self._task, start = asyncio.current_task(), monotonic()
-        error: Optional[BaseException] = None
-        try:
-            return await drive(self._session, flow)
-        except BaseException as told:
-            error = told
-            if isinstance(told, Closed) or kind == "commit" and not isinstance(told, LockError):
-                self._is_live, self._state.is_over = False, not isinstance(told, Closed)
-                self._session.drop()  # a commit was sent; if it is refused, the transaction is aborted
-            elif not isinstance(told, LockError):
-                self._state.is_unsettled = True
-                self._session.abandon()  # so that nothing waits on that nobody wants
-            raise
-        finally:
-            self._task = None
-            self._is_live = self._is_live and not self._state.is_over
-            self._watch.call(kind, self._state, names, start, error)
-            del error  # which has this frame
-
-    async def _known(self, status: Status) -> Status:
-        return status
-
     def __await__(self) -> Generator[Any, None, "Transaction"]:
-        return self._begin().__await__()
+        begun: Generator[Any, None, Transaction] = self._begin().__await__()
+        return begun
 
     async def __aenter__(self) -> "Transaction":
-        return await self._begin()
+        return await self
 
     async def __aexit__(self, *error: object) -> None:
         if error[0] is not None:
@@ -147,13 +68,6 @@ class Transaction(Calls):
                 await self.abort()
                 raise
 
-    def __del__(self) -> None:
-        if self._is_live:
-            loop = self._session.loop
-            if not loop.is_closed():
-                loop.call_soon_threadsafe(self._session.drop)
-            warnings.warn(f"{self!r} was dropped alive, and is aborted: use `async with`, commit or abort", ResourceWarning, source=self)
-
 
 class Locks(Opened):
     """Exclusive locks on names, for transactions, and for the tasks of one event loop.
@@ -162,7 +76,7 @@ class Locks(Opened):
     fork while it is open.
     """
 
-    _backend: Any
+    _drive = staticmethod(soon)
 
     @classmethod
     def connect(cls, *paths: Path, connect_timeout: float = 5.0, reply_timeout: float = 10.0, retry: Retry = Retry(), on_event: OnEvent = None,
@@ -222,16 +136,6 @@ class Locks(Opened):
     async def close(self) -> None:
         """Closes all connections, and waits for nothing. Live transactions are aborted, and their calls raise `Closed`."""
         self._backend.close()
-
-    async def _ask(self, flow: Callable[[], Flow[R]]) -> R:
-        """What a request without a transaction says."""
-        while True:
-            session = await self._backend.session(math.inf)
-            try:
-                return await drive(session, flow())
-            except LocksLost as lost:
-                if session.is_slow:
-                    raise CannotConnect(str(lost)) from lost
 
     async def __aenter__(self) -> "Locks":
         return self

@@ -5,16 +5,16 @@ import asyncio
 import math
 import socket
 from time import monotonic
-from typing import Any, Callable, List, Optional, Sequence, Tuple, TypeVar, Union, cast
+from typing import Any, Callable, List, Optional, Sequence, Tuple, cast
 
-from ..errors import CannotConnect, Closed, Full, LocksLost, ProtocolError, ServiceRestarted
-from ..flows import WOKEN, Flow
+from ..backend import BY_CLOSE, BY_FORK, FORGOTTEN, Why
+from ..errors import CannotConnect, Closed, LocksLost, ProtocolError
 from ..service import SIZE
-from ..ways import BY_CLOSE, BY_FORK, FORGOTTEN, LOST, RESTARTED, Path, Ways, Why
+from ..ways import LOST, RESTARTED, Path, Ways
 from ..wire import Answer, Ask, Call, Conversation, Party
-from .waiter import Waiter
+from . import backend
+from .backend import soon
 
-R = TypeVar("R")
 ENDS = (b"commit", b"abort", b"cancel")
 
 
@@ -31,7 +31,7 @@ class Connection(asyncio.Protocol):
         self._transport: Optional[asyncio.Transport] = None
         self._timer: Optional[asyncio.TimerHandle] = None
 
-    async def opened(self, path: Union[str, bytes]) -> None:
+    async def opened(self, path: Any) -> None:
         """Connects, and asks the service who it is."""
         self.own.setblocking(False)
         self.own.connect(path)
@@ -81,7 +81,7 @@ class Connection(asyncio.Protocol):
     def is_good(self) -> bool:
         """Whether it can be used. One of a service of before is closed."""
         if self.epoch < self.service.epoch:
-            self.end((ServiceRestarted, RESTARTED))
+            self.end(RESTARTED)
         return self.why is None
 
     def end(self, why: Why) -> None:
@@ -111,7 +111,8 @@ class Connection(asyncio.Protocol):
         why = self.why or LOST
         if why is LOST:
             await self.service.look(self)
-        return ServiceRestarted(RESTARTED) if why is LOST and self.epoch < self.service.epoch else why[0](why[1])
+            why = RESTARTED if self.epoch < self.service.epoch else why
+        return why[0](why[1])
 
     def _time_is_up(self) -> None:
         """Ends the connection if the oldest request has waited for too long."""
@@ -125,79 +126,47 @@ class Connection(asyncio.Protocol):
                 self.end((LocksLost, f"the service did not answer within {self.service.reply_timeout:g} s"))
 
 
-class Session(Waiter, Party):
-    """One transaction of a connection. One task at a time may call `ask` and `wait`."""
+class Session(backend.Session):
+    """One transaction of a connection."""
 
     def __init__(self, connection: Connection) -> None:
-        super().__init__(connection.loop)
-        Party.__init__(self)
+        super().__init__()
         self.connection, self.epoch = connection, connection.epoch
         self._last: Optional[Call] = None  # the last request
-        self._is_woken = False
 
     @property
-    def is_slow(self) -> bool:
-        """Whether the service did not answer in time."""
+    def is_slow(self) -> bool:  # type: ignore[override]
         return self.connection.is_slow
 
     async def ask(self, ask: Ask) -> Answer:
-        connection = self.connection
+        connection, deadline = self.connection, math.inf if ask.deadline is None else ask.deadline
         while not connection.can_write.is_set() and ask.word not in ENDS:
             await connection.can_write.wait()
-        if not connection.is_good():
-            raise await connection.lost()
-        self._check(ask.word)
         call = self._last = Call(ask, self)
-        connection.send(call)
+        if self.why is None and connection.is_good():
+            connection.send(call)
         while call.answer is None:
-            await self._woken(math.inf if ask.deadline is None else ask.deadline)
-            self._check(ask.word)
-            if call.answer is None and connection.why is not None:
-                raise await connection.lost()
-            if call.answer is None and ask.deadline is not None and monotonic() >= ask.deadline:
+            self.check()
+            await self._sleep(deadline)
+            if call.answer is None and monotonic() >= deadline:
                 raise LocksLost(f"the service did not answer {ask.word.decode()} in time")
         return call.answer
 
-    async def wait(self, deadline: float) -> Optional[Answer]:
-        while True:
-            self._check(b"")
-            if self.told:
-                return self.told.pop(0)
-            if self._is_woken:
-                self._is_woken = False
-                return WOKEN
-            if not self.connection.is_good():
-                raise await self.connection.lost()
-            if monotonic() >= deadline:
-                return None
-            await self._woken(deadline)
-
-    def wake(self) -> None:
-        self._is_woken = True
-        self.is_told()
-
-    def drop(self) -> None:
-        if self.connection.why is None:
+    def end(self, why: Why) -> None:
+        if self.why is None and self.connection.why is None:
+            self.why = why
             self.connection.write(self.connection.talk.drop(self))
+            self.is_told()
 
-    def abandon(self) -> None:
-        """A task was cancelled in a call: what its last request waits for is taken back."""
+    def abandon(self) -> bool:
         if self._last is not None and self.connection.why is None:
             self.connection.write(self.connection.talk.abandon(self._last))
+        return True
 
-
-async def drive(session: Any, flow: Flow[R]) -> R:
-    """Runs a flow. What an exception leaves behind is the caller's to clean up."""
-    try:
-        step = next(flow)
-        while True:
-            step = flow.send(await session.ask(step) if isinstance(step, Ask) else await session.wait(step))
-    except StopIteration as end:
-        result: R = end.value
-        return result
-    except BaseException:
-        flow.close()
-        raise
+    async def _sleep(self, deadline: float) -> None:
+        if not self.connection.is_good():
+            raise await self.connection.lost()
+        await super()._sleep(deadline)
 
 
 class Service(Ways):
@@ -214,8 +183,7 @@ class Service(Ways):
         self._loop: Optional[asyncio.AbstractEventLoop] = None
 
     async def session(self, deadline: float) -> Session:
-        if self.is_closed:
-            raise Closed(BY_CLOSE[1])
+        self.check()
         self._loop = self._loop or asyncio.get_running_loop()
         if self._loop is not asyncio.get_running_loop():
             raise RuntimeError("these locks were opened in another event loop: each loop needs its own")
@@ -226,7 +194,7 @@ class Service(Ways):
         return Session(await self._shared(place, deadline))
 
     def close(self) -> None:
-        self.is_closed = True
+        self.why = BY_CLOSE
         for connection in self.connections:
             if connection is not None:
                 connection.end(BY_CLOSE)
@@ -256,27 +224,15 @@ class Service(Ways):
                 raise type(error)(*error.args) from error.__cause__
 
     async def _connected(self, place: int, is_once: bool) -> Connection:
-        connection = self.connections[place] = await self._found(monotonic() + self.connect_timeout, is_once)
+        deadline = monotonic() + self.connect_timeout
+        finding = self.find(deadline, is_once)
+        connection: Connection = await soon(finding, lambda step: asyncio.sleep(step) if isinstance(step, float) else self._tried(step, deadline))
+        self.connections[place] = connection
         self.tell(None)
         return connection
 
-    async def _found(self, deadline: float, is_once: bool) -> Connection:
-        """A new connection."""
-        finding = self.find(deadline, Connection, is_once)
-        try:
-            step = next(finding)
-            while True:
-                if isinstance(step, float):
-                    await asyncio.sleep(step)
-                step = finding.send(None if isinstance(step, float) else await self._tried(step, deadline))
-        except StopIteration as end:
-            connection: Connection = end.value
-        if self.is_closed:
-            connection.end(BY_CLOSE)
-        return connection
-
-    async def _tried(self, path: Union[str, bytes], deadline: float) -> Union[Connection, Exception]:
-        """A connection by this way, or why there is none."""
+    async def _tried(self, path: Any, deadline: float) -> Connection:
+        """A connection by this way."""
         connection = Connection(self, socket.socket(socket.AF_UNIX))
         try:
             await asyncio.wait_for(connection.opened(path), self.limit(deadline))
@@ -285,7 +241,5 @@ class Service(Ways):
             connection.end(LOST)
             connection.own.close()
             if isinstance(error, asyncio.TimeoutError):
-                return OSError("no answer")
-            if isinstance(error, (OSError, Full)):
-                return error
+                raise OSError("no answer") from error
             raise
