@@ -12,6 +12,7 @@ import re
 import shutil
 import subprocess
 import sys
+import time
 import unittest.mock
 from typing import Any, Callable, Optional
 
@@ -21,9 +22,9 @@ from lib.world import PACKAGE, Case, each, environment, run
 
 import pashkure
 from pashkure import Aborted, Deadlock, Full, Interrupted, LockError, LocksLost, MustAbort, NotOwner, ProtocolError, Retry, Timeout, aio, flows, wire
-from pashkure.calls import Watch
 from pashkure.locks import Transaction
 from pashkure.values import encoded, key_bytes
+from pashkure.watch import Watch
 from pashkure.wire import Ask, Call, Conversation, Party
 
 DIALOGUE = [
@@ -418,19 +419,16 @@ class FakeLocks:
         return self
 
     def run(self, work: Callable[..., Any]) -> Any:
-        places = ("pashkure.locks.monotonic", "pashkure.aio.locks.monotonic")
-        with unittest.mock.patch(places[not self.is_plain], lambda: self.now), unittest.mock.patch("time.sleep", self.pauses.append):
-            if self.is_plain:
-                return self.locks.run(work)
+        async def works(tx: Any) -> Any:
+            return work(tx)
 
-            async def works(tx: Any) -> Any:
-                return work(tx)
+        async def sleeps(seconds: float) -> None:
+            self.pauses.append(seconds)
 
-            async def sleeps(seconds: float) -> None:
-                self.pauses.append(seconds)
-
-            with unittest.mock.patch("pashkure.aio.locks.asyncio.sleep", sleeps):
-                return asyncio.run(self.locks.run(works))
+        same(type(self.locks)._pause, time.sleep if self.is_plain else asyncio.sleep)
+        self.locks._pause = self.pauses.append if self.is_plain else sleeps
+        with unittest.mock.patch("pashkure.calls.monotonic", lambda: self.now):
+            return self.locks.run(work) if self.is_plain else asyncio.run(self.locks.run(works))
 
     def __enter__(self) -> Any:
         return self

@@ -1,21 +1,35 @@
-"""The seam below the flows: where a transaction lives, and what lends such places. The service at its socket is one backend."""
+"""The seam below the flows: where a transaction lives, and what runs flows there. What lends such places has `session`, `look` and `close`."""
 from __future__ import annotations
 
 import os
 import weakref
 from time import monotonic
-from typing import Any, Callable, Generator, Iterable, List, Optional, Tuple, Type, TypeVar
+from typing import Any, Callable, Generator, Iterable, List, NamedTuple, Optional, Type, TypeVar
 
-from .errors import Closed, LocksLost
+from .errors import Closed, LocksLost, ServiceRestarted
 from .flows import WOKEN
 from .wire import Answer, Ask, Party
 
 R = TypeVar("R")
-Why = Tuple[Type[Closed], str]
-"""Why a session is of no use any more."""
-BY_CLOSE: Why = (Closed, "it was closed")
-BY_FORK: Why = (Closed, "it belongs to the parent process, before a fork")
-BY_DROP: Why = (LocksLost, "a call of this transaction was broken off, so its connection was closed, and its locks are gone")
+
+
+class Why(NamedTuple):
+    """Why something is of no use any more."""
+
+    kind: Type[Closed]
+    text: str
+    is_slow: bool = False
+    """Whether an answer did not come in time. If a session is lost otherwise at its first request, another one may do."""
+
+    def error(self) -> Closed:
+        return self.kind(self.text)
+
+
+BY_CLOSE = Why(Closed, "it was closed")
+BY_FORK = Why(Closed, "it belongs to the parent process, before a fork")
+BY_DROP = Why(LocksLost, "a call of this transaction was broken off, so its connection was closed, and its locks are gone")
+LOST = Why(LocksLost, "the connection to the service was lost")
+RESTARTED = Why(ServiceRestarted, "the service was started anew, and all locks of before are gone")
 FORGOTTEN: "weakref.WeakSet[Any]" = weakref.WeakSet()
 """What the child of a fork forgets, so that only the parent has it: the connections, whose copies it closes, and the managers in process."""
 
@@ -50,22 +64,30 @@ def now(flow: "Generator[Any, Any, R]", do: Callable[[Any], Any]) -> R:
         flow.close()  # if the exception of a signal came between two steps
 
 
-class Session(Party):
+class Ending:
+    """What is of no use any more at some time."""
+
+    why: Optional[Why] = None
+
+    def check(self) -> None:
+        """Raises if it is of no use any more."""
+        if self.why is not None:
+            raise self.why.error()
+
+
+class Session(Party, Ending):
     """Where one transaction lives. One thread at a time may call `ask` and `wait`; in `pashkure.aio` one task, which awaits them."""
 
     epoch = 0
     """The number of the service's start."""
-    is_slow = False
-    """Whether it ended because an answer did not come in time. If it is lost otherwise at its first request, another one may do."""
+    _is_woken = False
 
-    def __init__(self) -> None:
-        super().__init__()
-        self.why: Optional[Why] = None
-        self._is_woken = False
-
-    def ask(self, ask: Ask) -> Any:
-        """The answer to a request. It waits for no other transaction, and for no longer than the backend allows: then this raises `Closed`."""
-        raise NotImplementedError
+    ask: Callable[[Ask], Any]
+    """The answer to a request. It waits for no other transaction, and for no longer than the backend allows: then it raises `Closed`."""
+    end: Callable[[Why], None]
+    """Ends the transaction, whatever it does, from any thread. It waits for nothing, and never raises."""
+    _sleep: Callable[[float], Any]
+    """Returns when there may be news, and at the deadline."""
 
     def wait(self, deadline: float) -> Any:
         """How the wait of its transaction ended: granted or aborted. `WOKEN` after `wake`; none at the deadline, a time of `monotonic`."""
@@ -89,7 +111,7 @@ class Session(Party):
         self.is_told()
 
     def drop(self) -> None:
-        """Ends the transaction, whatever it does, from any thread. It waits for nothing, and never raises."""
+        """Ends a transaction that nobody wants."""
         self.end(BY_DROP)
 
     def let_go(self) -> None:
@@ -100,37 +122,5 @@ class Session(Party):
         """A call was left at an exception. Whether what it waits for could be taken back, so that the transaction goes on."""
         return False
 
-    def check(self) -> None:
-        """Raises if the session is of no use."""
-        if self.why is not None:
-            raise self.why[0](self.why[1])
-
-    def end(self, why: Why) -> Any:
-        """As `drop`, and says why."""
-        raise NotImplementedError
-
-    def _sleep(self, deadline: float) -> Any:
-        """Returns when there may be news, and at the deadline."""
-        raise NotImplementedError
-
-
-class Backend:
-    """What lends sessions."""
-
-    why: Optional[Why] = None
-
-    def session(self, deadline: float) -> Any:
-        """A session without a transaction, for which tasks wait. Raises `CannotConnect` if there is none in time."""
-        raise NotImplementedError
-
-    def give_back(self, session: Any) -> None:
-        """The transaction of the session has ended. Never raises."""
-
-    def close(self) -> None:
-        """Drops all sessions. It waits for nothing."""
-        raise NotImplementedError
-
-    def check(self) -> None:
-        """Raises if it is closed."""
-        if self.why is not None:
-            raise self.why[0](self.why[1])
+    def give_back(self) -> None:
+        """Its transaction has ended. Never raises."""

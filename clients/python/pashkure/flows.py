@@ -2,11 +2,12 @@
 
 A flow is a generator. It yields an `Ask`, and is sent the answer; or it yields a time, and is sent how the wait of its transaction ended,
 `WOKEN`, or nothing at that time; or it yields a call, and is sent what that returns. It returns what the call returns, and raises what the
-call raises. `pashkure.backend.now` runs it for a thread, and `pashkure.aio.backend.soon` for a task.
+call raises. `pashkure.backend.now` runs it for a thread, and `pashkure.aio.service.soon` for a task.
 """
 from __future__ import annotations
 
 import math
+from dataclasses import dataclass
 from time import monotonic
 from typing import Any, Callable, Generator, List, Optional, Sequence, Tuple, TypeVar, Union
 
@@ -21,17 +22,18 @@ WOKEN: Answer = (b"woken",)
 SHORTEST, LONGEST_PAUSE = 0.001, 0.1
 
 
+@dataclass
 class State:
     """What is known of a transaction."""
 
-    def __init__(self, slow_wait: float = math.inf, warn: Optional[Callable[[bytes, str, str, float], None]] = None) -> None:
-        self.key = b""
-        self.waits: Optional[Status] = None  # while it waits
-        self.waited = 0.0  # how long the last call waited
-        self.is_over = False
-        self.is_interrupted = False  # its wait, or its next one, is to be interrupted
-        self.is_unsettled = False  # a call was left, so it may wait for what nobody wants
-        self.slow_wait, self.warn = slow_wait, warn
+    slow_wait: float = math.inf
+    warn: Optional[Callable[[bytes, str, str, float], None]] = None
+    key: bytes = b""
+    waits: Optional[Status] = None  # while it waits
+    waited: float = 0.0  # how long the last call waited
+    is_over: bool = False
+    is_interrupted: bool = False  # its wait, or its next one, is to be interrupted
+    is_unsettled: bool = False  # a call was left, so it may wait for what nobody wants
 
 
 def begin(state: State, names: Sequence[bytes], deadline: float) -> Flow[None]:

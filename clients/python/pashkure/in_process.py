@@ -6,12 +6,18 @@ import os
 import threading
 import weakref
 from time import monotonic
-from typing import Any, Callable, Dict, List, Optional, Sequence
+from typing import Any, Callable, Dict, List, Optional, Sequence, Type, TypeVar
 
 from . import backend
 from .backend import BY_CLOSE, BY_FORK, FORGOTTEN, Why, each
-from .errors import Closed, Misuse
+from .errors import Misuse
+from .flows import waits_of
+from .values import Counts, Retry, Wait, decoded
+from .watch import OnEvent, Watch
 from .wire import Answer, Ask
+
+L = TypeVar("L", bound="Manages")
+R = TypeVar("R")
 
 OK, HELD, WAITS, DEADLOCK, BUSY, LATER, CARRIED, _, ABORTED = range(9)
 """Results of `pashkure.h`."""
@@ -63,7 +69,7 @@ class Inside(backend.Session):
 
     def _refused(self, result: int) -> Answer:
         if result not in REFUSALS:  # another thread has closed the manager
-            raise Closed(BY_CLOSE[1])
+            raise BY_CLOSE.error()
         return (b"refused", REFUSALS[result])
 
     def _begin(self, names: Sequence[bytes]) -> Answer:
@@ -158,7 +164,8 @@ _ANSWERS: Dict[bytes, Callable[[Inside, Sequence[bytes]], Answer]] = {
 class Session(Inside):
     """For threads."""
 
-    ask = Inside.answer
+    def ask(self, ask: Ask) -> Answer:
+        return self.answer(ask)
 
     def _bell(self) -> Callable[[], None]:
         self._lock_of_news = threading.Lock()  # released when there is news
@@ -175,7 +182,7 @@ class Session(Inside):
         self._lock_of_news.acquire(True, min(max(0.0, deadline - monotonic()), threading.TIMEOUT_MAX))
 
 
-class InProcess(backend.Backend):
+class InProcess(backend.Ending):
     """The manager, and its sessions."""
 
     def __init__(self, transactions: int, names: int, name_bytes: int) -> None:
@@ -217,3 +224,45 @@ def extension() -> Any:
         return importlib.import_module("_pashkure")
     except ModuleNotFoundError as error:
         raise ImportError("the C extension _pashkure is not there: `pip install` of the package builds it") from error
+
+
+class Manages:
+    """What locks in process have besides: how they are opened, and what a service tells its operator alone."""
+
+    _backend: Any
+    _ask: Callable[..., Any]
+    _inside: Type[Any] = InProcess
+
+    @classmethod
+    def in_process(cls: Type[L], *, transactions: int = 1024, names: int = 4096, name_bytes: int = 64, retry: Retry = Retry(),
+                   on_event: OnEvent = None, slow_wait: Optional[float] = None) -> L:  # fmt: skip
+        """The locks of this process alone, or of the tasks of one loop, which a lock manager inside this process keeps.
+
+        The child of a fork finds them closed. There are no fences. Raises `ImportError` if the C extension is not installed, and says why
+        it is not.
+
+        - `transactions`: how many can be live at a time, 1 to 65,536.
+        - `names`: how many can be owned at a time, 1 to 65,536. `name_bytes`: how many bytes each may have, 1 to 1,024.
+        - `retry`, `on_event`, `slow_wait`: as for `connect`.
+        """
+        kind: Any = cls
+        locks: L = kind(cls._inside(transactions, names, name_bytes), Watch(on_event, slow_wait), retry)
+        return locks
+
+    def locks(self) -> Dict[str, str]:
+        """The names that are owned, each with the key of its owner. Of `in_process` alone, as `graph` and `counts`: else it raises `Misuse`."""
+        return self._told(b"locks", lambda words: {decoded(name): key.decode("ascii") for name, key in zip(words[1::2], words[2::2])})
+
+    def graph(self) -> List[Wait]:
+        """All waits."""
+        return self._told(b"graph", waits_of)
+
+    def counts(self) -> Counts:
+        """What was counted, and how many events are left until the locks have to be opened again."""
+        return self._told(b"counts", lambda words: Counts(*map(int, words[1:])))
+
+    def _told(self, word: bytes, read: Callable[[Answer], R]) -> R:
+        if not isinstance(self._backend, InProcess):
+            raise Misuse(f"{word.decode()} of a service is its operator's: pashkure.Operator")
+        told: R = self._ask(word, read)
+        return told

@@ -4,16 +4,13 @@ from __future__ import annotations
 import inspect
 import threading
 import time
-from time import monotonic
-from typing import TYPE_CHECKING, Callable, Dict, List, Optional, Sequence, TypeVar
+from typing import TYPE_CHECKING, Callable, Optional, TypeVar
 
 from .backend import now
-from .calls import Calls, OnEvent, Opened, Watch
-from .errors import Aborted, Deadlock, MustAbort
-from .in_process import InProcess
-from .service import Service
-from .values import Counts, Fence, Name, Retry, Status, Totals, Wait, all_encoded, seconds
-from .ways import Path
+from .calls import Calls, Opened
+from .service import Path, Service
+from .values import Name, Retry, all_encoded, seconds
+from .watch import OnEvent, Watch
 
 if TYPE_CHECKING:
     from typing_extensions import Concatenate, ParamSpec
@@ -37,18 +34,6 @@ class Transaction(Calls):
     _drive = staticmethod(now)
     _who = staticmethod(threading.get_ident)
 
-    # fmt: off
-    if TYPE_CHECKING:  # what `Calls` does
-        def lock(self, *names: Name, timeout: Optional[float] = None) -> None: ...
-        def try_lock(self, name: Name) -> bool: ...
-        def unlock(self, name: Name) -> None: ...
-        def fence(self, name: Name) -> Fence: ...
-        def holds(self) -> List[str]: ...
-        def status(self) -> Status: ...
-        def commit(self, timeout: Optional[float] = None) -> None: ...
-        def abort(self) -> None: ...
-    # fmt: on
-
     def __enter__(self) -> "Transaction":
         self._own = self._who()
         return self
@@ -70,7 +55,8 @@ class Locks(Opened):
     `Locks.connect` makes one for a service, and `Locks.in_process` one without. In a `with` statement it is closed at the end.
     """
 
-    _drive = staticmethod(now)
+    _kind = Transaction
+    _pause = staticmethod(time.sleep)
 
     @classmethod
     def connect(cls, *paths: Path, connect_timeout: float = 5.0, reply_timeout: float = 10.0, retry: Retry = Retry(), on_event: OnEvent = None,
@@ -88,23 +74,11 @@ class Locks(Opened):
         watch = Watch(on_event, slow_wait)
         return cls(Service(paths, connect_timeout, reply_timeout, watch.connection), watch, retry)
 
-    @classmethod
-    def in_process(cls, *, transactions: int = 1024, names: int = 4096, name_bytes: int = 64, retry: Retry = Retry(), on_event: OnEvent = None,
-                   slow_wait: Optional[float] = None) -> "Locks":  # fmt: skip
-        """The locks of this process alone, which a lock manager inside it keeps. The child of a fork finds them closed. There are no fences.
-
-        Raises `ImportError` if the C extension is not installed, and says why it is not.
-
-        - `transactions`: how many can be live at a time, 1 to 65,536.
-        - `names`: how many can be owned at a time, 1 to 65,536. `name_bytes`: how many bytes each may have, 1 to 1,024.
-        - `retry`, `on_event`, `slow_wait`: as for `connect`.
-        """
-        return cls(InProcess(transactions, names, name_bytes), Watch(on_event, slow_wait), retry)
-
     def transaction(self, *names: Name, timeout: Optional[float] = None) -> Transaction:
         """Begins a transaction, and locks the names in their order. At an exception, as `Deadlock` or `Timeout`, none is left."""
-        begun: Transaction = Transaction(self._backend, self._watch, all_encoded(names), seconds(timeout))._begin()
-        return begun
+        tx = Transaction(self._backend, self._watch, all_encoded(names), seconds(timeout))
+        tx._begin()
+        return tx
 
     def run(self, work: "Callable[Concatenate[Transaction, P], R]", *args: "P.args", **kwargs: "P.kwargs") -> R:
         """Runs `work(tx, *args, **kwargs)` in a transaction of its own, and returns what it returns.
@@ -115,29 +89,17 @@ class Locks(Opened):
         """
         if is_coroutine(work):
             raise TypeError(f"{work!r} is a coroutine function: use pashkure.aio")
-        attempt = 0
-        while True:
-            start, attempt = monotonic(), attempt + 1
-            try:
-                with self.transaction() as tx:
-                    result = work(tx, *args, **kwargs)
-                    if inspect.iscoroutine(result):
-                        result.close()
-                        raise TypeError(f"{work!r} returned a coroutine: use pashkure.aio")
-                    return result
-            except BaseException as error:
-                if attempt >= self._retry.attempts or not is_deadlock(error):
-                    raise
-            time.sleep(self._retry.pause(attempt, monotonic() - start))
 
-    # fmt: off
-    if TYPE_CHECKING:  # what `Opened` does
-        def owner(self, name: Name) -> Optional[str]: ...
-        def totals(self) -> Totals: ...
-        def locks(self) -> Dict[str, str]: ...
-        def graph(self) -> List[Wait]: ...
-        def counts(self) -> Counts: ...
-    # fmt: on
+        def attempt() -> R:
+            with self.transaction() as tx:
+                result = work(tx, *args, **kwargs)
+                if inspect.iscoroutine(result):
+                    result.close()
+                    raise TypeError(f"{work!r} returned a coroutine: use pashkure.aio")
+                return result
+
+        value: R = self._again(attempt)
+        return value
 
     def close(self) -> None:
         """Closes all connections, and waits for nothing. Live transactions are aborted, and their calls raise `Closed`."""
@@ -154,10 +116,3 @@ def is_coroutine(work: object) -> bool:
     """Whether a call of it only makes a coroutine."""
     work = getattr(work, "func", work)  # of a functools.partial
     return inspect.iscoroutinefunction(work) or inspect.iscoroutinefunction(getattr(work, "__call__", None))
-
-
-def is_deadlock(error: BaseException) -> bool:
-    """Whether a deadlock is all that went wrong, also in a group of exceptions."""
-    parts: Sequence[BaseException] = getattr(error, "exceptions", ())
-    rest = [part for part in parts if not is_deadlock(part)]
-    return isinstance(error, Deadlock) or len(rest) < len(parts) and all(isinstance(part, (MustAbort, Aborted)) for part in rest)

@@ -4,12 +4,11 @@ from __future__ import annotations
 import math
 from typing import Callable, Iterator, List, Tuple, TypeVar
 
-from .backend import now
-from .calls import Watch, asked
 from .flows import cycle_of, status_of, waits_of
-from .service import Service
+from .locks import Transaction
+from .service import Path, Service
 from .values import Client, Counts, Live, Status, Wait, decoded, key_bytes
-from .ways import Path
+from .watch import Watch
 from .wire import Answer, Ask
 
 R = TypeVar("R")
@@ -71,7 +70,8 @@ class Operator:
         self._service.close()
 
     def _ask(self, word: bytes, read: Callable[[Answer], R], *names: bytes) -> R:
-        return now(*asked(self._service, self._watch, Ask(word, names), read))
+        result: R = Transaction(self._service, self._watch)._plain(Ask(word, names), read)
+        return result
 
     def __enter__(self) -> "Operator":
         return self

@@ -1,4 +1,4 @@
-"""The service at a Unix socket, for threads: a connection for each live transaction, from a pool."""
+"""The service at a Unix socket: how it is found, and for threads a connection for each live transaction, from a pool."""
 from __future__ import annotations
 
 import math
@@ -8,15 +8,85 @@ import socket
 import time
 import weakref
 from time import monotonic
-from typing import Any, Callable, List, Optional, Sequence, Tuple
+from typing import Any, Callable, Generator, List, Optional, Sequence, Tuple, Union
 
 from . import backend
-from .backend import BY_CLOSE, BY_DROP, BY_FORK, FORGOTTEN, Why, each, now
-from .errors import Closed, LocksLost, ProtocolError
-from .ways import LONGEST, LOST, RESTARTED, Path, Ways
+from .backend import BY_CLOSE, BY_DROP, BY_FORK, FORGOTTEN, LOST, RESTARTED, Ending, Why, each, now
+from .errors import CannotConnect, Closed, Full, LocksLost, ProtocolError
+from .values import seconds
 from .wire import Answer, Ask, Call, Conversation, Party
 
 SIZE = 16384
+Path = Union[str, bytes, "os.PathLike[str]", "os.PathLike[bytes]"]
+LONGEST = 1e6
+"""Seconds that the calls of the system take; more are as good as for ever."""
+
+
+def reason(error: Optional[Exception], limit: Optional[float]) -> Why:
+    """Why a connection is of no use after this error. So many seconds it waited for an answer."""
+    if isinstance(error, ProtocolError):
+        return Why(ProtocolError, str(error))
+    return Why(LocksLost, f"the service did not answer within {limit:g} s", True) if isinstance(error, socket.timeout) else LOST
+
+
+class Ways(Ending):
+    """The ways to one service, by the paths of sockets."""
+
+    def __init__(self, paths: Sequence[Path], connect_timeout: float, reply_timeout: float, tell: Callable[[Optional[Closed]], None]) -> None:
+        if not paths:
+            raise ValueError("the path of a socket is missing")
+        self.paths = [os.fspath(path) for path in paths]
+        self.connect_timeout = seconds(connect_timeout, "connect_timeout")
+        self.reply_timeout = min(seconds(reply_timeout, "reply_timeout"), LONGEST)
+        self.tell = tell
+        self.epoch = 0  # the greatest that was seen
+        self._way = 0  # the place of the path that answered last
+
+    def find(self, deadline: float, is_once: bool) -> "Generator[Union[str, bytes, float], Any, Any]":
+        """A flow. It yields a path, and is sent a connection or an exception; or it yields how long to pause, 10 ms to 1 s. It returns the
+        connection."""
+        pause = 0.01
+        while True:
+            self.check()
+            failed: List[str] = []
+            for place in [*range(self._way, len(self.paths)), *range(self._way)]:
+                try:
+                    found = yield self.paths[place]
+                    self._way = place
+                    if self.why is not None:
+                        found.end(self.why)
+                    return found
+                except ProtocolError:
+                    raise
+                except (OSError, Full) as error:
+                    cause = error.with_traceback(None)
+                    failed.append(f"no service at {os.fsdecode(self.paths[place])}: {error}")
+            left = deadline - monotonic()
+            if left <= 0 or is_once:
+                raise CannotConnect("; ".join(failed)) from cause
+            yield min(pause, left)
+            pause = min(1.0, 2 * pause)
+
+    def limit(self, deadline: float) -> float:
+        """In how many seconds a service has to say who it is: a tenth at least, so that the last try is one."""
+        return max(0.1, min(self.reply_timeout, deadline - monotonic()))
+
+    def greet(self, answer: Answer) -> int:
+        """The epoch that a service says. Raises `OSError` if a greater one was seen, so that the service is of no use."""
+        if answer[0] != b"hello":
+            raise Full("connections")
+        if answer[1] != b"1":
+            raise ProtocolError(f"the service speaks protocol {answer[1].decode()}, and this package protocol 1")
+        epoch = int(answer[2])
+        if epoch < self.epoch:
+            raise ConnectionError(f"the service's epoch {epoch} is below {self.epoch}, which was seen before: it has to be started anew")
+        is_new, self.epoch = 0 < self.epoch < epoch, max(self.epoch, epoch)
+        if is_new:
+            self.tell(RESTARTED.error())
+        return epoch
+
+    def __str__(self) -> str:
+        return " or ".join(map(os.fsdecode, self.paths))
 
 
 class Socket(socket.socket):
@@ -56,14 +126,19 @@ class Session(backend.Session):
         except OSError:
             pass  # it is closed, or many have woken it
 
-    def end(self, why: Why) -> Why:
-        """As `drop`, and says why. A thread that reads wakes up. The descriptor is closed when nobody has the session any more."""
-        why = self.why = self.why or why
+    def end(self, why: Why) -> None:
+        """A thread that reads wakes up. The descriptor is closed when nobody has the session any more."""
+        self.why = self.why or why
         try:
             self._socket.shutdown(socket.SHUT_RDWR)
         except OSError:
             pass  # the other side has closed it
-        return why
+
+    def give_back(self) -> None:
+        self.key = b""
+        self.service.idle.append(self)
+        if self.service.why is not None:
+            self.end(self.service.why)
 
     def forget(self) -> None:
         """In the child of a fork: closes its copies, so that only the parent has the connection."""
@@ -111,14 +186,13 @@ class Session(backend.Session):
         """Sends a line, if there is one, and takes what comes."""
         try:
             self._feed(line)
-        except ProtocolError as error:
-            self.end((ProtocolError, str(error)))
-            raise
-        except socket.timeout as error:
-            self.is_slow = True
-            raise self._lost((LocksLost, f"the service did not answer within {self._socket.gettimeout():g} s")) from error
         except OSError as error:
-            raise self._lost(LOST) from error
+            is_new = self.why is None
+            self.end(reason(error, self._socket.gettimeout()))
+            assert self.why is not None
+            if is_new:
+                self.service.tell(self.why.error())
+            raise self.why.error() from error
 
     def _feed(self, line: bytes) -> None:
         try:
@@ -129,16 +203,6 @@ class Session(backend.Session):
         if not data:
             raise ConnectionResetError("it closed the connection")
         self._talk.feed(data)
-
-    def _lost(self, why: Why) -> Closed:
-        """What to raise, now that the connection is lost. Whether the service was started anew a new connection says, if there is one."""
-        is_new = self.why is None
-        if is_new and why is LOST:
-            self.service.look()
-        kind, text = self.end(RESTARTED if self.epoch < self.service.epoch else why)
-        if is_new:
-            self.service.tell(kind(text))
-        return kind(text)
 
     def __del__(self) -> None:
         if hasattr(self, "_socket"):
@@ -153,13 +217,13 @@ class Service(Ways):
 
     def __init__(self, paths: Sequence[Path], connect_timeout: float, reply_timeout: float, tell: Callable[[Optional[Closed]], None]) -> None:
         super().__init__(paths, connect_timeout, reply_timeout, tell)
-        self._idle: List[Session] = []
+        self.idle: List[Session] = []
         self._all: "weakref.WeakSet[Session]" = weakref.WeakSet()
 
     def session(self, deadline: float) -> Session:
-        while self._idle:
+        while self.idle:
             try:
-                session = self._idle.pop()
+                session = self.idle.pop()
             except IndexError:
                 break  # another thread took it
             if session.epoch >= self.epoch and session.is_idle():
@@ -173,22 +237,16 @@ class Service(Ways):
         self.tell(None)
         return session
 
-    def give_back(self, session: Session) -> None:
-        session.key = b""
-        self._idle.append(session)
-        if self.why is not None:
-            session.end(self.why)
-
     def close(self) -> None:
         self.why = BY_CLOSE
-        self._idle.clear()
+        self.idle.clear()
         for session in each(self._all):
             session.end(BY_CLOSE)
 
-    def look(self) -> None:
+    def look(self, lost: Session) -> None:
         """Tries each way once, to learn whether the service was started anew."""
         try:
-            self._idle.append(self._found(math.inf, True))
+            self.idle.append(self._found(math.inf, True))
         except Closed:
             pass
 

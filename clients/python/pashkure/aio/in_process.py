@@ -3,10 +3,10 @@ from __future__ import annotations
 
 from .. import in_process
 from ..wire import Answer, Ask
-from . import backend
+from .service import Sleeper
 
 
-class Session(backend.Session, in_process.Inside):
+class Session(Sleeper, in_process.Inside):
     """One transaction."""
 
     async def ask(self, ask: Ask) -> Answer:

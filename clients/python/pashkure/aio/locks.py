@@ -3,16 +3,14 @@ from __future__ import annotations
 
 import asyncio
 import inspect
-from time import monotonic
 from typing import TYPE_CHECKING, Any, Awaitable, Callable, Dict, Generator, List, Optional, TypeVar
 
-from ..calls import Calls, OnEvent, Opened, Watch
-from ..locks import is_deadlock
+from ..calls import Calls, Opened
+from ..service import Path
 from ..values import Counts, Fence, Name, Retry, Status, Totals, Wait, all_encoded, seconds
-from ..ways import Path
-from .backend import soon
+from ..watch import OnEvent, Watch
 from .in_process import InProcess
-from .service import Service
+from .service import Service, soon
 
 if TYPE_CHECKING:
     from typing_extensions import Concatenate, ParamSpec
@@ -41,22 +39,22 @@ class Transaction(Calls):
 
     # fmt: off
     if TYPE_CHECKING:  # what `Calls` does
-        async def lock(self, *names: Name, timeout: Optional[float] = None) -> None: ...
-        async def try_lock(self, name: Name) -> bool: ...
-        async def unlock(self, name: Name) -> None: ...
-        async def fence(self, name: Name) -> Fence: ...
-        async def holds(self) -> List[str]: ...
-        async def status(self) -> Status: ...
-        async def commit(self, timeout: Optional[float] = None) -> None: ...
-        async def abort(self) -> None: ...
+        async def lock(self, *names: Name, timeout: Optional[float] = None) -> None: ...  # type: ignore[override]
+        async def try_lock(self, name: Name) -> bool: ...  # type: ignore[override]
+        async def unlock(self, name: Name) -> None: ...  # type: ignore[override]
+        async def fence(self, name: Name) -> Fence: ...  # type: ignore[override]
+        async def holds(self) -> List[str]: ...  # type: ignore[override]
+        async def status(self) -> Status: ...  # type: ignore[override]
+        async def commit(self, timeout: Optional[float] = None) -> None: ...  # type: ignore[override]
+        async def abort(self) -> None: ...  # type: ignore[override]
     # fmt: on
 
     def __await__(self) -> Generator[Any, None, "Transaction"]:
-        begun: Generator[Any, None, Transaction] = self._begin().__await__()
-        return begun
+        return self.__aenter__().__await__()
 
     async def __aenter__(self) -> "Transaction":
-        return await self
+        await self._begin()
+        return self
 
     async def __aexit__(self, *error: object) -> None:
         if error[0] is not None:
@@ -76,7 +74,9 @@ class Locks(Opened):
     fork while it is open.
     """
 
-    _drive = staticmethod(soon)
+    _kind = Transaction
+    _inside = InProcess
+    _pause = staticmethod(asyncio.sleep)
 
     @classmethod
     def connect(cls, *paths: Path, connect_timeout: float = 5.0, reply_timeout: float = 10.0, retry: Retry = Retry(), on_event: OnEvent = None,
@@ -91,12 +91,6 @@ class Locks(Opened):
         watch = Watch(on_event, slow_wait)
         return cls(Service(paths, connect_timeout, reply_timeout, connections, watch.connection), watch, retry)
 
-    @classmethod
-    def in_process(cls, *, transactions: int = 1024, names: int = 4096, name_bytes: int = 64, retry: Retry = Retry(), on_event: OnEvent = None,
-                   slow_wait: Optional[float] = None) -> "Locks":  # fmt: skip
-        """The locks of the tasks of one loop alone, which a lock manager inside this process keeps: as `pashkure.Locks.in_process`."""
-        return cls(InProcess(transactions, names, name_bytes), Watch(on_event, slow_wait), retry)
-
     def transaction(self, *names: Name, timeout: Optional[float] = None) -> Transaction:
         """A transaction, which begins by `async with` or by `await`, and then locks the names in their order. At an exception of that, as
         `Deadlock` or `Timeout`, and if the task is cancelled, none is left."""
@@ -109,28 +103,25 @@ class Locks(Opened):
         as often as `retry` says. The last `Deadlock`, and each other exception, is raised. So the work locks first and changes things then,
         or undoes what it changed. It is not run again after `LocksLost`: it may have changed things while somebody else owned the names.
         """
-        attempt = 0
-        while True:
-            start, attempt = monotonic(), attempt + 1
-            try:
-                async with self.transaction() as tx:
-                    result = work(tx, *args, **kwargs)
-                    if not inspect.isawaitable(result):
-                        raise TypeError(f"{work!r} returned nothing to await")
-                    value: R = await result
-                    return value
-            except BaseException as error:
-                if attempt >= self._retry.attempts or not is_deadlock(error):
-                    raise
-            await asyncio.sleep(self._retry.pause(attempt, monotonic() - start))
+
+        async def attempt() -> R:
+            async with self.transaction() as tx:
+                result = work(tx, *args, **kwargs)
+                if not inspect.isawaitable(result):
+                    raise TypeError(f"{work!r} returned nothing to await")
+                value: R = await result
+                return value
+
+        value: R = await self._again(attempt)
+        return value
 
     # fmt: off
     if TYPE_CHECKING:  # what `Opened` does
-        async def owner(self, name: Name) -> Optional[str]: ...
-        async def totals(self) -> Totals: ...
-        async def locks(self) -> Dict[str, str]: ...
-        async def graph(self) -> List[Wait]: ...
-        async def counts(self) -> Counts: ...
+        async def owner(self, name: Name) -> Optional[str]: ...  # type: ignore[override]
+        async def totals(self) -> Totals: ...  # type: ignore[override]
+        async def locks(self) -> Dict[str, str]: ...  # type: ignore[override]
+        async def graph(self) -> List[Wait]: ...  # type: ignore[override]
+        async def counts(self) -> Counts: ...  # type: ignore[override]
     # fmt: on
 
     async def close(self) -> None:

@@ -1,21 +1,71 @@
-"""The service at a Unix socket, for tasks: one connection for the transactions of all tasks, or a few."""
+"""The service at a Unix socket, for tasks: one connection for the transactions of all tasks, or a few. And what runs flows for tasks."""
 from __future__ import annotations
 
 import asyncio
 import math
 import socket
 from time import monotonic
-from typing import Any, Callable, List, Optional, Sequence, Tuple, cast
+from typing import Any, Callable, Generator, List, Optional, Sequence, Tuple, TypeVar, cast
 
-from ..backend import BY_CLOSE, BY_FORK, FORGOTTEN, Why
+from .. import backend
+from ..backend import BY_CLOSE, BY_FORK, FORGOTTEN, LOST, RESTARTED, Why
 from ..errors import CannotConnect, Closed, LocksLost, ProtocolError
-from ..service import SIZE
-from ..ways import LOST, RESTARTED, Path, Ways
+from ..service import SIZE, Path, Ways, reason
 from ..wire import Answer, Ask, Call, Conversation, Party
-from . import backend
-from .backend import soon
 
+R = TypeVar("R")
 ENDS = (b"commit", b"abort", b"cancel")
+
+
+async def soon(flow: "Generator[Any, Any, R]", do: Callable[[Any], Any]) -> R:
+    """As `pashkure.backend.now`, for a task: what `do` returns is awaited."""
+    try:
+        step = next(flow)
+        while True:
+            try:
+                answer = await do(step)
+            except BaseException as error:
+                step = flow.throw(error)
+            else:
+                step = flow.send(answer)
+    except StopIteration as end:
+        result: R = end.value
+        return result
+
+
+class Sleeper(backend.Session):
+    """Where one transaction lives. One task at a time may sleep here."""
+
+    _waiter: "Optional[asyncio.Future[None]]" = None
+
+    def __init__(self, *owner: Any) -> None:
+        super().__init__(*owner)
+        self.loop = asyncio.get_running_loop()
+
+    async def wait(self, deadline: float) -> Optional[Answer]:
+        while True:
+            news = self.news()
+            if news is not None or monotonic() >= deadline:
+                return news
+            await self._sleep(deadline)
+
+    def is_told(self) -> None:
+        """Wakes the task."""
+        if self._waiter is not None and not self._waiter.done():
+            self._waiter.set_result(None)
+
+    def let_go(self) -> None:
+        if not self.loop.is_closed():
+            self.loop.call_soon_threadsafe(self.drop)
+
+    async def _sleep(self, deadline: float) -> None:
+        waiter = self._waiter = self.loop.create_future()
+        timer = self.loop.call_later(max(0.0, deadline - monotonic()), self.is_told) if deadline < math.inf else None
+        try:
+            await waiter
+        finally:
+            if timer is not None:
+                timer.cancel()
 
 
 class Connection(asyncio.Protocol):
@@ -25,7 +75,6 @@ class Connection(asyncio.Protocol):
         self.service, self.own, self.epoch = service, own, service.epoch
         self.loop, self.talk = asyncio.get_running_loop(), Conversation()
         self.why: Optional[Why] = None
-        self.is_slow = False
         self.can_write = asyncio.Event()
         self.can_write.set()
         self._transport: Optional[asyncio.Transport] = None
@@ -57,7 +106,7 @@ class Connection(asyncio.Protocol):
             if self.why is None:
                 self.write(self.talk.feed(data))
         except ProtocolError as error:
-            self.end((ProtocolError, str(error)))
+            self.end(reason(error, None))
 
     def connection_lost(self, error: Optional[Exception]) -> None:
         self.end(LOST)
@@ -78,12 +127,6 @@ class Connection(asyncio.Protocol):
         if data and self.why is None and self._transport is not None:
             self._transport.write(data)
 
-    def is_good(self) -> bool:
-        """Whether it can be used. One of a service of before is closed."""
-        if self.epoch < self.service.epoch:
-            self.end(RESTARTED)
-        return self.why is None
-
     def end(self, why: Why) -> None:
         """Closes the connection. All that wait for it are told."""
         if self.why is not None:
@@ -97,7 +140,7 @@ class Connection(asyncio.Protocol):
         if self._transport is not None:
             self._transport.abort()
         if self in self.service.connections and why is not BY_CLOSE:
-            self.service.tell(why[0](why[1]))
+            self.service.tell(why.error())
         self.can_write.set()
         self.talk.lost()
 
@@ -105,14 +148,6 @@ class Connection(asyncio.Protocol):
         """In the child of a fork: closes its copy."""
         self.why = BY_FORK
         self.own.close()
-
-    async def lost(self) -> Closed:
-        """What to raise, now that the connection is lost. Whether the service was started anew a new connection says, if there is one."""
-        why = self.why or LOST
-        if why is LOST:
-            await self.service.look(self)
-            why = RESTARTED if self.epoch < self.service.epoch else why
-        return why[0](why[1])
 
     def _time_is_up(self) -> None:
         """Ends the connection if the oldest request has waited for too long."""
@@ -122,11 +157,10 @@ class Connection(asyncio.Protocol):
             if left > 0:
                 self._timer = self.loop.call_later(left, self._time_is_up)
             else:
-                self.is_slow = True
-                self.end((LocksLost, f"the service did not answer within {self.service.reply_timeout:g} s"))
+                self.end(reason(socket.timeout(), self.service.reply_timeout))
 
 
-class Session(backend.Session):
+class Session(Sleeper):
     """One transaction of a connection."""
 
     def __init__(self, connection: Connection) -> None:
@@ -134,23 +168,26 @@ class Session(backend.Session):
         self.connection, self.epoch = connection, connection.epoch
         self._last: Optional[Call] = None  # the last request
 
-    @property
-    def is_slow(self) -> bool:  # type: ignore[override]
-        return self.connection.is_slow
-
     async def ask(self, ask: Ask) -> Answer:
         connection, deadline = self.connection, math.inf if ask.deadline is None else ask.deadline
         while not connection.can_write.is_set() and ask.word not in ENDS:
             await connection.can_write.wait()
+        self.check()
         call = self._last = Call(ask, self)
-        if self.why is None and connection.is_good():
-            connection.send(call)
+        connection.send(call)
         while call.answer is None:
-            self.check()
             await self._sleep(deadline)
-            if call.answer is None and monotonic() >= deadline:
-                raise LocksLost(f"the service did not answer {ask.word.decode()} in time")
+            if call.answer is None:
+                self.check()
+                if monotonic() >= deadline:
+                    raise LocksLost(f"the service did not answer {ask.word.decode()} in time")
         return call.answer
+
+    def check(self) -> None:
+        if self.epoch < self.connection.service.epoch:
+            self.connection.end(RESTARTED)
+        self.why = self.why or self.connection.why
+        super().check()
 
     def end(self, why: Why) -> None:
         if self.why is None and self.connection.why is None:
@@ -162,11 +199,6 @@ class Session(backend.Session):
         if self._last is not None and self.connection.why is None:
             self.connection.write(self.connection.talk.abandon(self._last))
         return True
-
-    async def _sleep(self, deadline: float) -> None:
-        if not self.connection.is_good():
-            raise await self.connection.lost()
-        await super()._sleep(deadline)
 
 
 class Service(Ways):
@@ -189,7 +221,7 @@ class Service(Ways):
             raise RuntimeError("these locks were opened in another event loop: each loop needs its own")
         place = self._turn = (self._turn + 1) % len(self.connections)
         connection = self.connections[place]
-        if connection is not None and connection.is_good():
+        if connection is not None and connection.why is None and connection.epoch >= self.epoch:
             return Session(connection)
         return Session(await self._shared(place, deadline))
 
@@ -199,11 +231,11 @@ class Service(Ways):
             if connection is not None:
                 connection.end(BY_CLOSE)
 
-    async def look(self, lost: Connection) -> None:
+    async def look(self, lost: Session) -> None:
         """Tries each way once, to learn whether the service was started anew."""
-        if lost in self.connections:
+        if lost.connection in self.connections:
             try:
-                await self._shared(self.connections.index(lost), math.inf, True)
+                await self._shared(self.connections.index(lost.connection), math.inf, True)
             except Closed:
                 pass
 
