@@ -1,6 +1,7 @@
 """The calls that threads and tasks have in common. Each makes a flow, and `_drive` runs it: now, or when it is awaited."""
 from __future__ import annotations
 
+import contextlib
 import copy
 import functools
 import itertools
@@ -180,7 +181,8 @@ class Calls:
         if self._is_aborted and isinstance(error, LocksLost):
             return Aborted("another thread or task aborted the transaction")
         if is_lost and self._session.epoch >= self._backend.epoch:  # whether the service was started anew a new connection says
-            yield functools.partial(self._backend.look, self._session)
+            with contextlib.suppress(Closed):
+                yield functools.partial(self._backend.look, self._session)
         if is_lost and self._session.epoch < self._backend.epoch:
             self._session.why = RESTARTED
             return RESTARTED.error()

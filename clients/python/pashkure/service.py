@@ -71,8 +71,15 @@ class Ways(Ending):
         """In how many seconds a service has to say who it is: a tenth at least, so that the last try is one."""
         return max(0.1, min(self.reply_timeout, deadline - monotonic()))
 
-    def greet(self, answer: Answer) -> int:
-        """The epoch that a service says. Raises `OSError` if a greater one was seen, so that the service is of no use."""
+    def hello(self, talk: Conversation) -> "Generator[bytes, Any, int]":
+        """A flow. It yields what is to be sent, and is sent what came. It returns the epoch that the service says. Raises `OSError` if the
+        service is of no use, as if a greater epoch was seen."""
+        call = Call(Ask(b"hello"), Party())
+        line = talk.send(call)
+        while call.answer is None:
+            talk.feed((yield line))
+            line = b""
+        answer = call.answer
         if answer[0] != b"hello":
             raise Full("connections")
         if answer[1] != b"1":
@@ -113,10 +120,14 @@ class Session(backend.Session):
         self.check()
         if ask.deadline is not None:
             self._socket.settimeout(max(0.001, min(self.service.reply_timeout, ask.deadline - monotonic())))
-        answer = self._answer(Call(ask, self), self._take)
+        call = Call(ask, self)
+        line = self._talk.send(call)
+        while call.answer is None:
+            self._take(line)
+            line = b""
         if ask.deadline is not None:
             self._socket.settimeout(self.service.reply_timeout)
-        return answer
+        return call.answer
 
     def wake(self) -> None:
         self._is_woken = True
@@ -158,15 +169,8 @@ class Session(backend.Session):
 
     def greet(self) -> None:
         """Asks the service who it is."""
-        self.epoch = self.service.greet(self._answer(Call(Ask(b"hello"), Party()), self._feed))
+        self.epoch = now(self.service.hello(self._talk), self._exchanged)
         self._socket.settimeout(self.service.reply_timeout)
-
-    def _answer(self, call: Call, take: Callable[[bytes], None]) -> Answer:
-        line = self._talk.send(call)
-        while call.answer is None:
-            take(line)
-            line = b""
-        return call.answer
 
     def _sleep(self, deadline: float) -> None:
         if not self._pipe:
@@ -185,7 +189,7 @@ class Session(backend.Session):
     def _take(self, line: bytes) -> None:
         """Sends a line, if there is one, and takes what comes."""
         try:
-            self._feed(line)
+            self._talk.feed(self._exchanged(line))
         except OSError as error:
             is_new = self.why is None
             self.end(reason(error, self._socket.gettimeout()))
@@ -194,7 +198,7 @@ class Session(backend.Session):
                 self.service.tell(self.why.error())
             raise self.why.error() from error
 
-    def _feed(self, line: bytes) -> None:
+    def _exchanged(self, line: bytes) -> bytes:
         try:
             self._socket.sendall(line)
         except BrokenPipeError:
@@ -202,7 +206,7 @@ class Session(backend.Session):
         data = self._socket.recv(SIZE)
         if not data:
             raise ConnectionResetError("it closed the connection")
-        self._talk.feed(data)
+        return data
 
     def __del__(self) -> None:
         if hasattr(self, "_socket"):
@@ -244,11 +248,8 @@ class Service(Ways):
             session.end(BY_CLOSE)
 
     def look(self, lost: Session) -> None:
-        """Tries each way once, to learn whether the service was started anew."""
-        try:
-            self.idle.append(self._found(math.inf, True))
-        except Closed:
-            pass
+        """Tries each way once, to learn whether the service was started anew. Raises `Closed` if there is none."""
+        self.idle.append(self._found(math.inf, True))
 
     def _found(self, deadline: float, is_once: bool) -> Session:
         deadline = min(deadline, monotonic() + self.connect_timeout)

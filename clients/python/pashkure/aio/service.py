@@ -11,7 +11,7 @@ from .. import backend
 from ..backend import BY_CLOSE, BY_FORK, FORGOTTEN, LOST, RESTARTED, Why
 from ..errors import CannotConnect, Closed, LocksLost, ProtocolError
 from ..service import SIZE, Path, Ways, reason
-from ..wire import Answer, Ask, Call, Conversation, Party
+from ..wire import Answer, Ask, Call, Conversation
 
 R = TypeVar("R")
 ENDS = (b"commit", b"abort", b"cancel")
@@ -85,18 +85,18 @@ class Connection(asyncio.Protocol):
         self.own.setblocking(False)
         self.own.connect(path)
         FORGOTTEN.add(self)
-        hello = Call(Ask(b"hello"), Party())
+        self.epoch = await soon(self.service.hello(self.talk), self._exchanged)
+        await self.loop.create_connection(lambda: self, sock=self.own)
+
+    async def _exchanged(self, line: bytes) -> bytes:
         try:
-            await self.loop.sock_sendall(self.own, self.talk.send(hello))
+            await self.loop.sock_sendall(self.own, line)
         except BrokenPipeError:
             pass  # a service that has no room says so unasked
-        while hello.answer is None:
-            data = await self.loop.sock_recv(self.own, SIZE)
-            if not data:
-                raise ConnectionResetError("it closed the connection")
-            self.talk.feed(data)
-        self.epoch = self.service.greet(hello.answer)
-        await self.loop.create_connection(lambda: self, sock=self.own)
+        data = await self.loop.sock_recv(self.own, SIZE)
+        if not data:
+            raise ConnectionResetError("it closed the connection")
+        return data
 
     def connection_made(self, transport: asyncio.BaseTransport) -> None:
         self._transport = cast(asyncio.Transport, transport)
@@ -232,12 +232,9 @@ class Service(Ways):
                 connection.end(BY_CLOSE)
 
     async def look(self, lost: Session) -> None:
-        """Tries each way once, to learn whether the service was started anew."""
+        """Tries each way once, to learn whether the service was started anew. Raises `Closed` if there is none."""
         if lost.connection in self.connections:
-            try:
-                await self._shared(self.connections.index(lost.connection), math.inf, True)
-            except Closed:
-                pass
+            await self._shared(self.connections.index(lost.connection), math.inf, True)
 
     async def _shared(self, place: int, deadline: float, is_once: bool = False) -> Connection:
         """A new connection. All tasks that want one at this time wait for the same."""
