@@ -391,6 +391,11 @@ class Arguments(Case):
         for no_text in [*NO_TEXTS, b"0.1"]:
             raises(TypeError, key_bytes, no_text)
         same(key_bytes("4294967295.0"), b"4294967295.0")
+        operator = pashkure.Operator("/no/such/socket", connect_timeout=0)
+        for call in operator.status, operator.holds, operator.abort:
+            raises(pashkure.CannotConnect, call, "0.1")
+            for key in NO_KEYS:
+                raises(ValueError, call, key)
 
     def test_times(self) -> None:
         for locks, tx in self.callers():

@@ -24,6 +24,7 @@ from pashkure import (Aborted, CannotConnect, Closed, Deadlock, Interrupted, Loc
                       Waiting, aio)  # fmt: skip
 
 FORMS = [("threads", Locks.connect), ("tasks", Asyncio)]
+KILLS = 20
 
 
 class Stop(BaseException):
@@ -267,7 +268,7 @@ class Restarts(TroubleCase):
             return done
 
         threads = [Apart(works, locks, number) for locks in (plain, tasks) for number in range(8)]
-        for _ in range(8):
+        for _ in range(KILLS):
             count = len(fences)
             until(lambda: len(fences) > count + 50, "they work")
             server = self.again(server)
@@ -277,7 +278,7 @@ class Restarts(TroubleCase):
         for thread in threads:
             same((type(thread.ends()), thread.ends() != 0), (int, True), repr(thread.ends()))
         self.assertGreater(len(lost), 0)
-        self.assertLessEqual(len(lost), 16 * 8)
+        self.assertLessEqual(len(lost), 16 * KILLS)
         same(len({(name, fence) for name, fence, _ in fences}), len(fences))
         self.none_is_left(plain)
 

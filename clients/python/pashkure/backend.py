@@ -4,10 +4,10 @@ from __future__ import annotations
 import os
 import weakref
 from time import monotonic
-from typing import Any, Callable, Generator, Iterable, List, NamedTuple, Optional, Type, TypeVar
+from typing import Any, Callable, Iterable, List, NamedTuple, Optional, Type, TypeVar
 
 from .errors import Closed, LocksLost, ServiceRestarted
-from .flows import WOKEN
+from .flows import WOKEN, Flow
 from .wire import Answer, Ask, Party
 
 R = TypeVar("R")
@@ -46,13 +46,16 @@ def each(items: Iterable[R]) -> List[R]:
 os.register_at_fork(after_in_child=lambda: [item.forget() for item in each(FORGOTTEN)])
 
 
-def now(flow: "Generator[Any, Any, R]", do: Callable[[Any], Any]) -> R:
-    """Runs a flow, whose steps `do` does. What a step raises is raised in the flow."""
+def now(flow: Flow[R], caller: Any = None) -> R:
+    """Runs a flow, whose requests and waits are those of the caller's session. What a step raises is raised in the flow."""
     try:
         step = next(flow)
         while True:
             try:
-                answer = do(step)
+                if isinstance(step, Ask):
+                    answer = caller.session.ask(step)
+                else:
+                    answer = caller.session.wait(step) if isinstance(step, float) else step()
             except BaseException as error:
                 step = flow.throw(error)
             else:
@@ -60,8 +63,9 @@ def now(flow: "Generator[Any, Any, R]", do: Callable[[Any], Any]) -> R:
     except StopIteration as end:
         result: R = end.value
         return result
-    finally:
+    except BaseException:
         flow.close()  # if the exception of a signal came between two steps
+        raise
 
 
 class Ending:

@@ -38,15 +38,16 @@ class State:
 
 def begin(state: State, names: Sequence[bytes], deadline: float) -> Flow[None]:
     """Begins a transaction that owns these names. Where it cannot own all, none is left."""
-    part = names[: cut(names, LONGEST - len(b"begin"))]
+    part = names[: cut(names, LONGEST - len(b"begin"))] if names else ()
     words: Answer = yield Ask(b"begin", tuple(part))
     state.is_over = words[0] != b"begun"
     if state.is_over:
         raise refusal(words[-1])
     state.key = words[1]
     try:
-        owned = yield from _owned(state, part, words[2:], deadline)
-        yield from lock(state, names[owned:], deadline)
+        if part:
+            owned = yield from _owned(state, part, words[2:], deadline)
+            yield from lock(state, names[owned:], deadline)
     except LockError as error:
         if not state.is_over and not isinstance(error, Closed):
             yield from abort(state)

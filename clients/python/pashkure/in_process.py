@@ -42,7 +42,7 @@ class Inside(backend.Session):
         """What is to be called when there is news."""
         return self.is_told
 
-    def answer(self, ask: Ask) -> Answer:
+    def ask(self, ask: Ask) -> Any:
         """The answer to a request, by the words of the protocol."""
         self.check()
         return _ANSWERS[ask.word](self, ask.names)
@@ -163,9 +163,6 @@ _ANSWERS: Dict[bytes, Callable[[Inside, Sequence[bytes]], Answer]] = {
 
 class Session(Inside):
     """For threads."""
-
-    def ask(self, ask: Ask) -> Answer:
-        return self.answer(ask)
 
     def _bell(self) -> Callable[[], None]:
         self._lock_of_news = threading.Lock()  # released when there is news

@@ -1,6 +1,7 @@
 """The service at a Unix socket: how it is found, and for threads a connection for each live transaction, from a pool."""
 from __future__ import annotations
 
+import functools
 import math
 import os
 import select
@@ -8,11 +9,12 @@ import socket
 import time
 import weakref
 from time import monotonic
-from typing import Any, Callable, Generator, List, Optional, Sequence, Tuple, Union
+from typing import Any, Callable, List, Optional, Sequence, Tuple, Union
 
 from . import backend
 from .backend import BY_CLOSE, BY_DROP, BY_FORK, FORGOTTEN, LOST, RESTARTED, Ending, Why, each, now
 from .errors import CannotConnect, Closed, Full, LocksLost, ProtocolError
+from .flows import Flow
 from .values import seconds
 from .wire import Answer, Ask, Call, Conversation, Party
 
@@ -42,16 +44,15 @@ class Ways(Ending):
         self.epoch = 0  # the greatest that was seen
         self._way = 0  # the place of the path that answered last
 
-    def find(self, deadline: float, is_once: bool) -> "Generator[Union[str, bytes, float], Any, Any]":
-        """A flow. It yields a path, and is sent a connection or an exception; or it yields how long to pause, 10 ms to 1 s. It returns the
-        connection."""
+    def find(self, deadline: float, is_once: bool, tries: Callable[[Any, float], Any], pauses: Callable[[float], Any]) -> Flow[Any]:
+        """A connection, which one of the ways has. The pauses between the tries are 10 ms to 1 s."""
         pause = 0.01
         while True:
             self.check()
             failed: List[str] = []
             for place in [*range(self._way, len(self.paths)), *range(self._way)]:
                 try:
-                    found = yield self.paths[place]
+                    found = yield functools.partial(tries, self.paths[place], deadline)
                     self._way = place
                     if self.why is not None:
                         found.end(self.why)
@@ -64,20 +65,20 @@ class Ways(Ending):
             left = deadline - monotonic()
             if left <= 0 or is_once:
                 raise CannotConnect("; ".join(failed)) from cause
-            yield min(pause, left)
+            yield functools.partial(pauses, min(pause, left))
             pause = min(1.0, 2 * pause)
 
     def limit(self, deadline: float) -> float:
         """In how many seconds a service has to say who it is: a tenth at least, so that the last try is one."""
         return max(0.1, min(self.reply_timeout, deadline - monotonic()))
 
-    def hello(self, talk: Conversation) -> "Generator[bytes, Any, int]":
-        """A flow. It yields what is to be sent, and is sent what came. It returns the epoch that the service says. Raises `OSError` if the
-        service is of no use, as if a greater epoch was seen."""
+    def hello(self, talk: Conversation, exchange: Callable[[bytes], Any]) -> Flow[int]:
+        """The epoch that the service says, which is asked for it by `exchange`: that sends a line, and returns what comes. Raises `OSError` if
+        the service is of no use, as if a greater epoch was seen."""
         call = Call(Ask(b"hello"), Party())
         line = talk.send(call)
         while call.answer is None:
-            talk.feed((yield line))
+            talk.feed((yield functools.partial(exchange, line)))
             line = b""
         answer = call.answer
         if answer[0] != b"hello":
@@ -169,7 +170,7 @@ class Session(backend.Session):
 
     def greet(self) -> None:
         """Asks the service who it is."""
-        self.epoch = now(self.service.hello(self._talk), self._exchanged)
+        self.epoch = now(self.service.hello(self._talk, self._exchanged))
         self._socket.settimeout(self.service.reply_timeout)
 
     def _sleep(self, deadline: float) -> None:
@@ -253,7 +254,7 @@ class Service(Ways):
 
     def _found(self, deadline: float, is_once: bool) -> Session:
         deadline = min(deadline, monotonic() + self.connect_timeout)
-        session: Session = now(self.find(deadline, is_once), lambda step: time.sleep(step) if isinstance(step, float) else self._tried(step, deadline))
+        session: Session = now(self.find(deadline, is_once, self._tried, time.sleep))
         return session
 
     def _tried(self, path: Any, deadline: float) -> Session:

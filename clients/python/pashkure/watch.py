@@ -21,7 +21,7 @@ class Watch:
 
     def state(self) -> State:
         """What is known of a transaction that is to begin."""
-        return State(self._slow_wait, lambda key, *wait: log.warning("%s has waited for %r of %s for %.1f s", key.decode("ascii"), *wait))
+        return State(self._slow_wait, _warn)
 
     def connection(self, error: Optional[Closed]) -> None:
         """A connection was made, or it was lost."""
@@ -42,3 +42,7 @@ class Watch:
                 self._on_event(event)
             except Exception:
                 log.exception("on_event raised an exception")
+
+
+def _warn(key: bytes, name: str, holder: str, waited: float) -> None:
+    log.warning("%s has waited for %r of %s for %.1f s", key.decode("ascii"), name, holder, waited)

@@ -3,7 +3,6 @@ from __future__ import annotations
 
 import re
 from collections import deque
-from dataclasses import dataclass, field
 from time import monotonic
 from typing import Deque, Dict, List, NamedTuple, Optional, Sequence, Tuple
 
@@ -67,15 +66,15 @@ class Party:
         """Called when `told` has got something, and when a request has its answer or never gets one."""
 
 
-@dataclass(eq=False)
 class Call:
     """A request that was sent, and its answer once that is there."""
 
-    ask: Ask
-    party: Party
-    answer: Optional[Answer] = None
-    is_abandoned: bool = False
-    since: float = field(default_factory=monotonic)
+    __slots__ = ("ask", "party", "answer", "is_abandoned", "since")
+
+    def __init__(self, ask: Ask, party: Party) -> None:
+        self.ask, self.party, self.since = ask, party, monotonic()
+        self.answer: Optional[Answer] = None
+        self.is_abandoned = False
 
 
 class Conversation:

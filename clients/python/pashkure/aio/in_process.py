@@ -10,7 +10,8 @@ class Session(Sleeper, in_process.Inside):
     """One transaction."""
 
     async def ask(self, ask: Ask) -> Answer:
-        return self.answer(ask)
+        answer: Answer = super().ask(ask)
+        return answer
 
     def abandon(self) -> bool:
         self._manager.cancel(self._seat)

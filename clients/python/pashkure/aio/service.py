@@ -5,11 +5,12 @@ import asyncio
 import math
 import socket
 from time import monotonic
-from typing import Any, Callable, Generator, List, Optional, Sequence, Tuple, TypeVar, cast
+from typing import Any, Callable, List, Optional, Sequence, Tuple, TypeVar, cast
 
 from .. import backend
 from ..backend import BY_CLOSE, BY_FORK, FORGOTTEN, LOST, RESTARTED, Why
 from ..errors import CannotConnect, Closed, LocksLost, ProtocolError
+from ..flows import Flow
 from ..service import SIZE, Path, Ways, reason
 from ..wire import Answer, Ask, Call, Conversation
 
@@ -17,13 +18,16 @@ R = TypeVar("R")
 ENDS = (b"commit", b"abort", b"cancel")
 
 
-async def soon(flow: "Generator[Any, Any, R]", do: Callable[[Any], Any]) -> R:
-    """As `pashkure.backend.now`, for a task: what `do` returns is awaited."""
+async def soon(flow: Flow[R], caller: Any = None) -> R:
+    """As `pashkure.backend.now`, for a task."""
     try:
         step = next(flow)
         while True:
             try:
-                answer = await do(step)
+                if isinstance(step, Ask):
+                    answer = await caller.session.ask(step)
+                else:
+                    answer = await (caller.session.wait(step) if isinstance(step, float) else step())
             except BaseException as error:
                 step = flow.throw(error)
             else:
@@ -85,7 +89,7 @@ class Connection(asyncio.Protocol):
         self.own.setblocking(False)
         self.own.connect(path)
         FORGOTTEN.add(self)
-        self.epoch = await soon(self.service.hello(self.talk), self._exchanged)
+        self.epoch = await soon(self.service.hello(self.talk, self._exchanged))
         await self.loop.create_connection(lambda: self, sock=self.own)
 
     async def _exchanged(self, line: bytes) -> bytes:
@@ -253,9 +257,7 @@ class Service(Ways):
                 raise type(error)(*error.args) from error.__cause__
 
     async def _connected(self, place: int, is_once: bool) -> Connection:
-        deadline = monotonic() + self.connect_timeout
-        finding = self.find(deadline, is_once)
-        connection: Connection = await soon(finding, lambda step: asyncio.sleep(step) if isinstance(step, float) else self._tried(step, deadline))
+        connection: Connection = await soon(self.find(monotonic() + self.connect_timeout, is_once, self._tried, asyncio.sleep))
         self.connections[place] = connection
         self.tell(None)
         return connection
