@@ -53,9 +53,9 @@ def now(flow: Flow[R], caller: Any = None) -> R:
         while True:
             try:
                 if isinstance(step, Ask):
-                    answer = caller.session.ask(step)
+                    answer = caller._session.ask(step)
                 else:
-                    answer = caller.session.wait(step) if isinstance(step, float) else step()
+                    answer = caller._session.wait(step) if isinstance(step, float) else step()
             except BaseException as error:
                 step = flow.throw(error)
             else:

@@ -4,7 +4,6 @@ from __future__ import annotations
 import contextlib
 import copy
 import functools
-import itertools
 import math
 import threading
 import warnings
@@ -27,12 +26,12 @@ R = TypeVar("R")
 class Calls:
     """A transaction, which owns the names that it locks until it ends. The types are those for threads."""
 
-    _drive: Callable[..., Any]
+    _drive: Callable[[Flow[R], Any], R]
     _who: Callable[[], Any]
     """The thread or the task that calls this."""
 
     _own: Any = None  # the one that began it
-    session: Any = None
+    _session: Any = None
     _right: List[Any] = []  # the session: who takes it out may end the transaction
     _is_aborted = False  # by another thread or task
 
@@ -49,7 +48,7 @@ class Calls:
     @property
     def epoch(self) -> int:
         """The number of the service's start. It rises."""
-        return int(self.session.epoch)
+        return int(self._session.epoch)
 
     def lock(self, *names: Name, timeout: Optional[float] = None) -> None:
         """Returns when the transaction owns the names, which it asks for in their order. Until then only its thread, or task, waits.
@@ -83,8 +82,7 @@ class Calls:
     def status(self) -> Status:
         """What the transaction does. Any thread or task may call it; while it waits, this is known here, and nothing is asked."""
         waits = self._state.waits
-        known: Status = self._drive(flows.known(waits), self) if waits is not None else self._ask(b"status", flows.status_of)
-        return known
+        return self._drive(flows.known(waits), self) if waits is not None else self._ask(b"status", flows.status_of)
 
     def commit(self, timeout: Optional[float] = None) -> None:
         """Ends the transaction. All that it owns is given back. If no reply comes in time, this raises `LocksLost`."""
@@ -96,14 +94,13 @@ class Calls:
 
         Any thread or task may call it. If another one waits in a call, that call raises `Aborted` at once.
         """
-        done: None = self._drive(self._ends(), self)
-        return done
+        return self._drive(self._ends(), self)
 
     def interrupt(self) -> None:
         """The wait of the transaction, or its next one, raises `Interrupted`, once. Any thread may call it; in asyncio, any task."""
         self._state.is_interrupted = True
-        if self.session is not None:
-            self.session.wake()
+        if self._session is not None:
+            self._session.wake()
 
     def _ask(self, word: bytes, read: Callable[[Answer], R], *names: Name) -> R:
         return self._call("", flows.asked(self._state, Ask(word, all_encoded(names)), read))
@@ -121,21 +118,20 @@ class Calls:
         return self._call("begin", self._over(lambda: flows.begin(self._state, self._names, deadline), deadline), self._names)
 
     def _call(self, kind: str, flow: Flow[R], names: Sequence[bytes] = ()) -> R:
-        result: R = self._drive(self._within(kind, flow, names), self)
-        return result
+        return self._drive(self._within(kind, flow, names), self)
 
     def _over(self, flow: Callable[[], Flow[R]], deadline: float) -> Flow[R]:
         """This flow, over a session that is lent, or over another one if that is lost before anything was done."""
         while True:
-            self.session = yield functools.partial(self._backend.session, deadline)
-            self._right = [self.session]
+            self._session = yield functools.partial(self._backend.session, deadline)
+            self._right = [self._session]
             try:
                 return (yield from flow())
             except LocksLost as lost:
                 if self._state.key:
                     raise
                 self._drop()
-                if self.session.why.is_slow:
+                if self._session.why.is_slow:
                     raise CannotConnect(str(lost)) from lost
 
     def _within(self, kind: str, flow: Flow[R], names: Sequence[bytes] = ()) -> Flow[R]:
@@ -166,25 +162,25 @@ class Calls:
     def _after(self, kind: str, error: BaseException) -> Flow[BaseException]:
         """Cleans up after a call that this ended: one of its own exceptions or one of a signal, or its task was cancelled. What to raise."""
         is_last = kind in ("begin", "commit") or not self._state.key
-        if not isinstance(error, LockError) and self._right and self.session.abandon():
+        if not isinstance(error, LockError) and self._right and self._session.abandon():
             self._state.is_unsettled, self._state.is_over = not is_last, is_last  # a commit was sent; refused, it is an abort
         is_lost = False
         if isinstance(error, Closed) or not isinstance(error, LockError) and not self._state.is_unsettled:
-            is_lost = self._drop() and self.session.why is LOST
+            is_lost = self._drop() and self._session.why is LOST
         if self._is_aborted and isinstance(error, LocksLost):
             return Aborted("another thread or task aborted the transaction")
-        if is_lost and self.session.epoch >= self._backend.epoch:  # whether the service was started anew a new connection says
+        if is_lost and self._session.epoch >= self._backend.epoch:  # whether the service was started anew a new connection says
             with contextlib.suppress(Closed):
-                yield functools.partial(self._backend.look, self.session)
-        if is_lost and self.session.epoch < self._backend.epoch:
-            self.session.why = RESTARTED
+                yield functools.partial(self._backend.look, self._session)
+        if is_lost and self._session.epoch < self._backend.epoch:
+            self._session.why = RESTARTED
             return RESTARTED.error()
         return error
 
     def _ends(self) -> Flow[None]:
         """Aborts it. If another thread or task is in a call of it, this waits for nothing."""
         state = self._state
-        if state.is_over or self.session is None:
+        if state.is_over or self._session is None:
             return
         is_free, start = self._busy.acquire(False), monotonic()
         self._is_aborted = not is_free or self._who() != self._own
@@ -250,15 +246,17 @@ class Opened(Manages):
     def _ask(self, word: bytes, read: Callable[[Answer], R], *names: Name) -> R:
         return self._kind(self._backend, self._watch)._plain(Ask(word, all_encoded(names)), read)
 
-    def _again(self, attempt: Callable[[], Any]) -> Any:
+    def _again(self, attempt: Callable[[], R]) -> R:
         """What an attempt returns, which is made again after a deadlock."""
-        return self._kind._drive(self._attempts(attempt))
+        return self._kind._drive(self._attempts(attempt), None)
 
-    def _attempts(self, attempt: Callable[[], Any]) -> Flow[Any]:
-        for number in itertools.count(1):
-            start = monotonic()
+    def _attempts(self, attempt: Callable[[], R]) -> Flow[R]:
+        number = 0
+        while True:
+            start, number = monotonic(), number + 1
             try:
-                return (yield attempt)
+                result: R = yield attempt
+                return result
             except BaseException as error:
                 if number >= self._retry.attempts or not is_deadlock(error):
                     raise

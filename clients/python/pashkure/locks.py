@@ -98,8 +98,7 @@ class Locks(Opened):
                     raise TypeError(f"{work!r} returned a coroutine: use pashkure.aio")
                 return result
 
-        value: R = self._again(attempt)
-        return value
+        return self._again(attempt)
 
     def close(self) -> None:
         """Closes all connections, and waits for nothing. Live transactions are aborted, and their calls raise `Closed`."""

@@ -70,8 +70,7 @@ class Operator:
         self._service.close()
 
     def _ask(self, word: bytes, read: Callable[[Answer], R], *names: bytes) -> R:
-        result: R = Transaction(self._service, self._watch)._plain(Ask(word, names), read)
-        return result
+        return Transaction(self._service, self._watch)._plain(Ask(word, names), read)
 
     def __enter__(self) -> "Operator":
         return self

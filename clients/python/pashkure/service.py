@@ -166,7 +166,8 @@ class Session(backend.Session):
             self.drop()
         if self.why is None and self.epoch < self.service.epoch:
             self.end(RESTARTED)
-        super().check()
+        if self.why is not None:
+            raise self.why.error()
 
     def greet(self) -> None:
         """Asks the service who it is."""

@@ -34,7 +34,7 @@ class Transaction(Calls):
     transaction goes on; `holds` says whether the name was granted in that moment. A cancelled `commit` or `abort` was sent, and counts.
     """
 
-    _drive = staticmethod(soon)
+    _drive = staticmethod(soon)  # type: ignore[assignment]
     _who = staticmethod(asyncio.current_task)
 
     # fmt: off
@@ -112,8 +112,7 @@ class Locks(Opened):
                 value: R = await result
                 return value
 
-        value: R = await self._again(attempt)
-        return value
+        return await self._again(attempt)
 
     # fmt: off
     if TYPE_CHECKING:  # what `Opened` does

@@ -25,9 +25,9 @@ async def soon(flow: Flow[R], caller: Any = None) -> R:
         while True:
             try:
                 if isinstance(step, Ask):
-                    answer = await caller.session.ask(step)
+                    answer = await caller._session.ask(step)
                 else:
-                    answer = await (caller.session.wait(step) if isinstance(step, float) else step())
+                    answer = await (caller._session.wait(step) if isinstance(step, float) else step())
             except BaseException as error:
                 step = flow.throw(error)
             else:
