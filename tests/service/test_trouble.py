@@ -461,6 +461,30 @@ class Tasks(TroubleCase):
         for connections in 1, 3:
             self.run_with(main, connections=connections)
 
+    def test_aborted_begins(self) -> None:
+        """A begin that another task aborts, before it is connected or while it waits, raises `Aborted` and leaves no transaction."""
+
+        async def begins(tx: Any) -> None:
+            async with tx:
+                pass
+
+        async def main(locks: aio.Locks) -> None:
+            unconnected = locks.transaction("a")
+            task = asyncio.ensure_future(begins(unconnected))
+            await asyncio.sleep(0)
+            await unconnected.abort()
+            self.assertIsInstance((await asyncio.gather(task, return_exceptions=True))[0], Aborted)
+            async with locks.transaction("b"):
+                waiting = locks.transaction("a", "b")
+                task = asyncio.ensure_future(begins(waiting))
+                while not waiting._state.waits:
+                    await asyncio.sleep(0)
+                await waiting.abort()
+                self.assertIsInstance((await asyncio.gather(task, return_exceptions=True))[0], Aborted)
+                same((await locks.owner("a"), (await locks.totals()).aborted), (None, 1))
+
+        self.run_with(main)
+
     def test_cancelled_lock(self) -> None:
         """A lock that is given up waits no longer, dooms nobody, and its transaction goes on."""
 

@@ -125,6 +125,8 @@ class Calls:
         while True:
             self._session = yield functools.partial(self._backend.session, deadline)
             self._right = [self._session]
+            if self._is_aborted:
+                raise Aborted("another task aborted the transaction before it had begun")
             try:
                 return (yield from flow())
             except LocksLost as lost:
@@ -180,7 +182,7 @@ class Calls:
     def _ends(self) -> Flow[None]:
         """Aborts it. If another thread or task is in a call of it, this waits for nothing."""
         state = self._state
-        if state.is_over or self._session is None:
+        if state.is_over or self._own is None:
             return
         is_free, start = self._busy.acquire(False), monotonic()
         self._is_aborted = not is_free or self._who() != self._own
