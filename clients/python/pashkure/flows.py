@@ -19,6 +19,7 @@ R = TypeVar("R")
 Flow = Generator[Union[Ask, float, Callable[[], Any]], Any, R]
 WOKEN: Answer = (b"woken",)
 """The wait was not ended: somebody called `wake`."""
+OWNED = (b"granted", b"held")
 SHORTEST, LONGEST_PAUSE = 0.001, 0.1
 
 
@@ -57,15 +58,17 @@ def begin(state: State, names: Sequence[bytes], deadline: float) -> Flow[None]:
 def lock(state: State, names: Sequence[bytes], deadline: float) -> Flow[None]:
     """Locks the names in their order. What is owned at an exception stays owned."""
     state.waited = 0.0
+    if state.is_unsettled:
+        yield from settle(state)
     while names:
-        part = names[: cut(names, LONGEST - len(b"lock ") - len(state.key))]
-        words = yield from _asked(state, Ask(b"lock", tuple(part)))
-        names = names[(yield from _owned(state, part, words, deadline)) :]
+        part = names if len(names) == 1 else names[: cut(names, LONGEST - len(b"lock ") - len(state.key))]
+        words: Answer = yield Ask(b"lock", tuple(part))
+        names = names[len(part) if words[0] in OWNED else (yield from _owned(state, part, words, deadline)) :]
 
 
 def _owned(state: State, names: Sequence[bytes], words: Answer, deadline: float) -> Flow[int]:
     """How many of the names that it asked for are owned, after its wait if need be. Raises what else the answer says."""
-    if not words or words[0] in (b"granted", b"held"):
+    if not words or words[0] in OWNED:
         return len(names)
     place = int(words[1]) if len(words) == 3 else 0
     if place >= len(names):
@@ -135,19 +138,13 @@ def settle(state: State) -> Flow[None]:
 
 
 def asked(state: State, ask: Ask, read: Callable[[Answer], R]) -> Flow[R]:
-    """What is read of the answer to a request of a transaction. It is not refused."""
-    words = yield from _asked(state, ask)
-    if words[0] == b"refused":
-        raise _refused(state, words)
-    return read(words)
-
-
-def _asked(state: State, ask: Ask) -> Flow[Answer]:
-    """The answer to a request of a transaction that waits for nothing."""
+    """What is read of the answer to a request of a transaction that waits for nothing. It is not refused."""
     if state.is_unsettled:
         yield from settle(state)
     words: Answer = yield ask
-    return words
+    if words[0] == b"refused":
+        raise _refused(state, words)
+    return read(words)
 
 
 def commit(state: State, deadline: Optional[float]) -> Flow[None]:

@@ -191,7 +191,8 @@ class Session(Sleeper):
         if self.epoch < self.connection.service.epoch:
             self.connection.end(RESTARTED)
         self.why = self.why or self.connection.why
-        super().check()
+        if self.why is not None:
+            raise self.why.error()
 
     def end(self, why: Why) -> None:
         if self.why is None and self.connection.why is None:
