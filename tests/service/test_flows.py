@@ -12,6 +12,7 @@ import re
 import shutil
 import subprocess
 import sys
+import time
 import unittest.mock
 from typing import Any, Callable, Optional
 
@@ -21,9 +22,9 @@ from lib.world import PACKAGE, Case, each, environment, run
 
 import pashkure
 from pashkure import Aborted, Deadlock, Full, Interrupted, LockError, LocksLost, MustAbort, NotOwner, ProtocolError, Retry, Timeout, aio, flows, wire
-from pashkure.calls import Watch
 from pashkure.locks import Transaction
 from pashkure.values import encoded, key_bytes
+from pashkure.watch import Watch
 from pashkure.wire import Ask, Call, Conversation, Party
 
 DIALOGUE = [
@@ -359,10 +360,9 @@ class Arguments(Case):
 
     def callers(self) -> list[tuple[Any, Any]]:
         """Locks and a transaction of each form, of which nothing may be asked."""
-        plain = pashkure.Locks(Silent(), Watch(None, None), Retry())  # type: ignore[arg-type]
-        tx = Transaction(Silent(), Silent(), flows.State(), Watch(None, None))  # type: ignore[arg-type]
-        tx._right.clear()
-        tasks = aio.Locks(Silent(), Watch(None, None), Retry())  # type: ignore[arg-type]
+        plain = pashkure.Locks(Silent(), Watch(), Retry())
+        tx = Transaction(Silent(), Watch())
+        tasks = aio.Locks(Silent(), Watch(), Retry())
         return [(plain, tx), (tasks, tasks.transaction())]
 
     def test_names(self) -> None:
@@ -391,6 +391,11 @@ class Arguments(Case):
         for no_text in [*NO_TEXTS, b"0.1"]:
             raises(TypeError, key_bytes, no_text)
         same(key_bytes("4294967295.0"), b"4294967295.0")
+        operator = pashkure.Operator("/no/such/socket", connect_timeout=0)
+        for call in operator.status, operator.holds, operator.abort:
+            raises(pashkure.CannotConnect, call, "0.1")
+            for key in NO_KEYS:
+                raises(ValueError, call, key)
 
     def test_times(self) -> None:
         for locks, tx in self.callers():
@@ -419,19 +424,16 @@ class FakeLocks:
         return self
 
     def run(self, work: Callable[..., Any]) -> Any:
-        places = ("pashkure.locks.monotonic", "pashkure.aio.locks.monotonic")
-        with unittest.mock.patch(places[not self.is_plain], lambda: self.now), unittest.mock.patch("time.sleep", self.pauses.append):
-            if self.is_plain:
-                return self.locks.run(work)
+        async def works(tx: Any) -> Any:
+            return work(tx)
 
-            async def works(tx: Any) -> Any:
-                return work(tx)
+        async def sleeps(seconds: float) -> None:
+            self.pauses.append(seconds)
 
-            async def sleeps(seconds: float) -> None:
-                self.pauses.append(seconds)
-
-            with unittest.mock.patch("pashkure.aio.locks.asyncio.sleep", sleeps):
-                return asyncio.run(self.locks.run(works))
+        same(type(self.locks)._pause, time.sleep if self.is_plain else asyncio.sleep)
+        self.locks._pause = self.pauses.append if self.is_plain else sleeps
+        with unittest.mock.patch("pashkure.calls.monotonic", lambda: self.now):
+            return self.locks.run(work) if self.is_plain else asyncio.run(self.locks.run(works))
 
     def __enter__(self) -> Any:
         return self

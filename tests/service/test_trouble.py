@@ -24,6 +24,7 @@ from pashkure import (Aborted, CannotConnect, Closed, Deadlock, Interrupted, Loc
                       Waiting, aio)  # fmt: skip
 
 FORMS = [("threads", Locks.connect), ("tasks", Asyncio)]
+KILLS = 20
 
 
 class Stop(BaseException):
@@ -267,7 +268,7 @@ class Restarts(TroubleCase):
             return done
 
         threads = [Apart(works, locks, number) for locks in (plain, tasks) for number in range(8)]
-        for _ in range(8):
+        for _ in range(KILLS):
             count = len(fences)
             until(lambda: len(fences) > count + 50, "they work")
             server = self.again(server)
@@ -277,7 +278,7 @@ class Restarts(TroubleCase):
         for thread in threads:
             same((type(thread.ends()), thread.ends() != 0), (int, True), repr(thread.ends()))
         self.assertGreater(len(lost), 0)
-        self.assertLessEqual(len(lost), 16 * 8)
+        self.assertLessEqual(len(lost), 16 * KILLS)
         same(len({(name, fence) for name, fence, _ in fences}), len(fences))
         self.none_is_left(plain)
 
@@ -459,6 +460,30 @@ class Tasks(TroubleCase):
 
         for connections in 1, 3:
             self.run_with(main, connections=connections)
+
+    def test_aborted_begins(self) -> None:
+        """A begin that another task aborts, before it is connected or while it waits, raises `Aborted` and leaves no transaction."""
+
+        async def begins(tx: Any) -> None:
+            async with tx:
+                pass
+
+        async def main(locks: aio.Locks) -> None:
+            unconnected = locks.transaction("a")
+            task = asyncio.ensure_future(begins(unconnected))
+            await asyncio.sleep(0)
+            await unconnected.abort()
+            self.assertIsInstance((await asyncio.gather(task, return_exceptions=True))[0], Aborted)
+            async with locks.transaction("b"):
+                waiting = locks.transaction("a", "b")
+                task = asyncio.ensure_future(begins(waiting))
+                while not waiting._state.waits:
+                    await asyncio.sleep(0)
+                await waiting.abort()
+                self.assertIsInstance((await asyncio.gather(task, return_exceptions=True))[0], Aborted)
+                same((await locks.owner("a"), (await locks.totals()).aborted), (None, 1))
+
+        self.run_with(main)
 
     def test_cancelled_lock(self) -> None:
         """A lock that is given up waits no longer, dooms nobody, and its transaction goes on."""

@@ -1,70 +1,44 @@
-"""The calls that threads and tasks have in common. Each makes a flow, and `_call` or `_ask` runs it: now, or when it is awaited."""
+"""The calls that threads and tasks have in common. Each makes a flow, and `_drive` runs it: now, or when it is awaited."""
 from __future__ import annotations
 
+import contextlib
 import copy
-import logging
+import functools
+import math
+import threading
+import warnings
 from time import monotonic
-from typing import Any, Callable, Optional, Sequence, TypeVar
+from typing import Any, Callable, List, Optional, Sequence, Tuple, Type, TypeVar
 
 from . import flows
-from .errors import Aborted, Closed, Deadlock, Misuse, NoTransaction
-from .flows import State
-from .in_process import InProcess
-from .values import Counts, Event, Fence, Name, Retry, Totals, all_encoded, decoded, encoded, seconds
+from .backend import LOST, RESTARTED
+from .errors import Aborted, CannotConnect, Closed, Deadlock, LockError, LocksLost, MustAbort, NoTransaction, Waiting
+from .flows import Flow
+from .in_process import Manages
+from .values import Fence, Name, Retry, Status, Totals, all_encoded, decoded, seconds
+from .watch import Watch
 from .wire import Answer, Ask
 
 L = TypeVar("L", bound="Opened")
-
-
-log = logging.getLogger("pashkure")
-OnEvent = Optional[Callable[[Event], None]]
-
-
-class Watch:
-    """Tells of calls and connections."""
-
-    def __init__(self, on_event: OnEvent, slow_wait: Optional[float]) -> None:
-        self._on_event, self._slow_wait = on_event, seconds(slow_wait, "slow_wait")
-
-    def state(self) -> State:
-        """What is known of a transaction that is to begin."""
-        return State(self._slow_wait, _warn)
-
-    def connection(self, error: Optional[Closed]) -> None:
-        """A connection was made, or it was lost."""
-        log.log(logging.INFO if error is None else logging.WARNING, "%s", "connected" if error is None else error)
-        self._tell(Event("connect") if error is None else Event("lost", error=error))
-
-    def call(self, kind: str, state: State, names: Sequence[bytes], start: float, error: Optional[BaseException]) -> None:
-        """A call of a transaction has ended."""
-        if isinstance(error, Deadlock):
-            log.info("deadlock: %s", error)
-        if kind and self._on_event is not None:
-            waited = state.waited if kind in ("begin", "lock") else 0.0
-            self._tell(Event(kind, state.key.decode("ascii"), tuple(map(decoded, names)), monotonic() - start, waited, error))  # type: ignore[arg-type]
-
-    def _tell(self, event: Event) -> None:
-        if self._on_event is not None:
-            try:
-                self._on_event(event)
-            except Exception:
-                log.exception("on_event raised an exception")
-
-
-def _warn(key: bytes, name: str, holder: str, waited: float) -> None:
-    log.warning("%s has waited for %r of %s for %.1f s", key.decode("ascii"), name, holder, waited)
+R = TypeVar("R")
 
 
 class Calls:
-    """A transaction, which owns the names that it locks until it ends."""
+    """A transaction, which owns the names that it locks until it ends. The types are those for threads."""
 
-    _session: Any
-    _call: Callable[..., Any]
-    _known: Callable[..., Any]
+    _drive: Callable[[Flow[R], Any], R]
+    _who: Callable[[], Any]
+    """The thread or the task that calls this."""
 
-    def __init__(self, state: State, watch: Watch) -> None:
-        self._state, self._watch = state, watch
-        self._is_aborted = False  # by another thread or task
+    _own: Any = None  # the one that began it
+    _session: Any = None
+    _right: List[Any] = []  # the session: who takes it out may end the transaction
+    _is_aborted = False  # by another thread or task
+
+    def __init__(self, backend: Any, watch: Watch, names: Tuple[bytes, ...] = (), timeout: float = math.inf) -> None:
+        self._backend, self._watch, self._names, self._timeout = backend, watch, names, timeout
+        self._state = watch.state()
+        self._busy = threading.Lock()  # held within a call, and never waited for
 
     @property
     def key(self) -> str:
@@ -76,7 +50,7 @@ class Calls:
         """The number of the service's start. It rises."""
         return int(self._session.epoch)
 
-    def lock(self, *names: Name, timeout: Optional[float] = None) -> Any:
+    def lock(self, *names: Name, timeout: Optional[float] = None) -> None:
         """Returns when the transaction owns the names, which it asks for in their order. Until then only its thread, or task, waits.
 
         Raises `Deadlock` at once if a request would close a cycle of waits. A request that waits is never told of a deadlock later.
@@ -88,51 +62,171 @@ class Calls:
         deadline, data = monotonic() + seconds(timeout), all_encoded(names)
         return self._call("lock", flows.lock(self._state, data, deadline), data)
 
-    def try_lock(self, name: Name) -> Any:
+    def try_lock(self, name: Name) -> bool:
         """Whether the transaction owns the name now: it did, or nobody did. It never waits for another transaction."""
-        return self._call("", flows.asked(self._state, Ask(b"try", (encoded(name),)), lambda words: words[0] != b"busy"))
+        return self._ask(b"try", lambda words: words[0] != b"busy", name)
 
-    def unlock(self, name: Name) -> Any:
+    def unlock(self, name: Name) -> None:
         """Gives one name back before the end. The transaction that has waited for it the longest gets it."""
-        return self._call("", flows.asked(self._state, Ask(b"unlock", (encoded(name),)), lambda words: None))
+        return self._ask(b"unlock", lambda words: None, name)
 
-    def fence(self, name: Name) -> Any:
+    def fence(self, name: Name) -> Fence:
         """A number greater than what any earlier owner of the name was told. A storage that refuses smaller ones than the greatest that it
         saw is safe from those who lost their locks and do not know it yet."""
-        return self._call("", flows.asked(self._state, Ask(b"fence", (encoded(name),)), lambda words: Fence(int(words[1]), int(words[2]))))
+        return self._ask(b"fence", lambda words: Fence(int(words[1]), int(words[2])), name)
 
-    def holds(self) -> Any:
+    def holds(self) -> List[str]:
         """The names that the transaction owns, in the order of their bytes."""
-        return self._call("", flows.asked(self._state, Ask(b"holds"), lambda words: [decoded(word) for word in words[1:]]))
+        return self._ask(b"holds", lambda words: [decoded(word) for word in words[1:]])
 
-    def status(self) -> Any:
+    def status(self) -> Status:
         """What the transaction does. Any thread or task may call it; while it waits, this is known here, and nothing is asked."""
         waits = self._state.waits
-        return self._known(waits) if waits is not None else self._call("", flows.asked(self._state, Ask(b"status"), flows.status_of))
+        return self._drive(flows.known(waits), self) if waits is not None else self._ask(b"status", flows.status_of)
 
-    def commit(self, timeout: Optional[float] = None) -> Any:
+    def commit(self, timeout: Optional[float] = None) -> None:
         """Ends the transaction. All that it owns is given back. If no reply comes in time, this raises `LocksLost`."""
         deadline = None if timeout is None else monotonic() + seconds(timeout)
         return self._call("commit", flows.commit(self._state, deadline))
 
+    def abort(self) -> None:
+        """Ends the transaction, whatever it does. All that it owns is given back. Nothing happens if it has ended.
+
+        Any thread or task may call it. If another one waits in a call, that call raises `Aborted` at once.
+        """
+        return self._drive(self._ends(), self)
+
     def interrupt(self) -> None:
         """The wait of the transaction, or its next one, raises `Interrupted`, once. Any thread may call it; in asyncio, any task."""
         self._state.is_interrupted = True
-        self._session.wake()
+        if self._session is not None:
+            self._session.wake()
 
-    def _check(self) -> None:
-        """Raises if the transaction has ended."""
+    def _ask(self, word: bytes, read: Callable[[Answer], R], *names: Name) -> R:
+        return self._call("", flows.asked(self._state, Ask(word, all_encoded(names)), read))
+
+    def _plain(self, ask: Ask, read: Callable[[Answer], R]) -> R:
+        """What a request without a transaction says. None begins."""
+        self._own = "nobody"
+        return self._call("", self._over(lambda: flows.plain(self._state, ask, read), math.inf))
+
+    def _begin(self) -> Any:
+        """Begins it."""
+        if self._own is not None:
+            raise RuntimeError("it has begun: call `transaction` for each transaction")
+        self._own, deadline = self._who(), monotonic() + self._timeout
+        return self._call("begin", self._over(lambda: flows.begin(self._state, self._names, deadline), deadline), self._names)
+
+    def _call(self, kind: str, flow: Flow[R], names: Sequence[bytes] = ()) -> R:
+        return self._drive(self._within(kind, flow, names), self)
+
+    def _over(self, flow: Callable[[], Flow[R]], deadline: float) -> Flow[R]:
+        """This flow, over a session that is lent, or over another one if that is lost before anything was done."""
+        while True:
+            self._session = yield functools.partial(self._backend.session, deadline)
+            self._right = [self._session]
+            if self._is_aborted:
+                raise Aborted("another task aborted the transaction before it had begun")
+            try:
+                return (yield from flow())
+            except LocksLost as lost:
+                if self._state.key:
+                    raise
+                self._drop()
+                if self._session.why.is_slow:
+                    raise CannotConnect(str(lost)) from lost
+
+    def _within(self, kind: str, flow: Flow[R], names: Sequence[bytes] = ()) -> Flow[R]:
+        """This flow, as one call, beside which there is no other one. Whatever ends it, nothing stays that nobody wants."""
+        if self._own is None:
+            raise NoTransaction("the transaction has not begun: use `async with`, or `await`")
         if self._state.is_over:
             raise Aborted("the transaction was aborted") if self._is_aborted else NoTransaction("the transaction has ended")
+        if not self._busy.acquire(False):
+            raise Aborted("another call aborts it") if self._is_aborted else Waiting("another thread or task is inside a call of this transaction")
+        start, error = monotonic(), None
+        try:
+            result = yield from flow
+            self._is_aborted = self._is_aborted and not self._state.is_over  # a commit that was made counts
+            return result
+        except BaseException as told:
+            error = told
+            error = yield from self._after(kind, told)
+            raise error from told.__cause__
+        finally:
+            if self._state.is_over:
+                for session in self._take():
+                    session.give_back()
+            self._busy.release()
+            self._watch.call(kind, self._state, names, start, error)
+            del error  # which has this frame
+
+    def _after(self, kind: str, error: BaseException) -> Flow[BaseException]:
+        """Cleans up after a call that this ended: one of its own exceptions or one of a signal, or its task was cancelled. What to raise."""
+        is_last = kind in ("begin", "commit") or not self._state.key
+        if not isinstance(error, LockError) and self._right and self._session.abandon():
+            self._state.is_unsettled, self._state.is_over = not is_last, is_last  # a commit was sent; refused, it is an abort
+        is_lost = False
+        if isinstance(error, Closed) or not isinstance(error, LockError) and not self._state.is_unsettled:
+            is_lost = self._drop() and self._session.why is LOST
+        if self._is_aborted and isinstance(error, LocksLost):
+            return Aborted("another thread or task aborted the transaction")
+        if is_lost and self._session.epoch >= self._backend.epoch:  # whether the service was started anew a new connection says
+            with contextlib.suppress(Closed):
+                yield functools.partial(self._backend.look, self._session)
+        if is_lost and self._session.epoch < self._backend.epoch:
+            self._session.why = RESTARTED
+            return RESTARTED.error()
+        return error
+
+    def _ends(self) -> Flow[None]:
+        """Aborts it. If another thread or task is in a call of it, this waits for nothing."""
+        state = self._state
+        if state.is_over or self._own is None:
+            return
+        is_free, start = self._busy.acquire(False), monotonic()
+        self._is_aborted = not is_free or self._who() != self._own
+        try:
+            if is_free and self._right and (yield from flows.abort(state)):
+                for session in self._take():
+                    session.give_back()
+        except Closed:
+            pass
+        finally:
+            state.is_over = True
+            self._drop()
+            if is_free:
+                self._busy.release()
+            self._watch.call("abort", state, (), start, None)
+
+    def _take(self) -> List[Any]:
+        """The session, if this call is the one that ends the transaction."""
+        try:
+            return [self._right.pop()]
+        except IndexError:
+            return []
+
+    def _drop(self) -> bool:
+        taken = self._take()
+        for session in taken:
+            session.drop()
+        return bool(taken)
+
+    def __del__(self) -> None:
+        if self._right:
+            for session in self._take():
+                session.let_go()
+            warnings.warn(f"{self!r} was dropped alive, and is aborted: use `with`, commit or abort", ResourceWarning, source=self)
 
     def __repr__(self) -> str:
         return f"<Transaction {self.key}{' (over)' if self._state.is_over else ''}>"
 
 
-class Opened:
+class Opened(Manages):
     """Exclusive locks on names, for transactions."""
 
-    _ask: Callable[..., Any]
+    _kind: Type[Calls]  # of its transactions
+    _pause: Callable[[float], Any]
 
     def __init__(self, backend: Any, watch: Watch, retry: Retry) -> None:
         self._backend, self._watch, self._retry = backend, watch, retry
@@ -143,31 +237,39 @@ class Opened:
         locks._retry = retry
         return locks
 
-    def owner(self, name: Name) -> Any:
+    def owner(self, name: Name) -> Optional[str]:
         """The key of the transaction that owns the name, if one does."""
-        ask = Ask(b"owner", (encoded(name),))
-        return self._ask(lambda: flows.plain(ask, lambda words: words[1].decode("ascii") if words[0] == b"owner" else None))
+        return self._ask(b"owner", lambda words: words[1].decode("ascii") if words[0] == b"owner" else None, name)
 
-    def totals(self) -> Any:
+    def totals(self) -> Totals:
         """How many transactions began, were committed and were aborted, and how many requests were told of a deadlock."""
-        return self._ask(lambda: flows.plain(Ask(b"totals"), lambda words: Totals(*map(int, words[1:]))))
+        return self._ask(b"totals", lambda words: Totals(*map(int, words[1:])))
 
-    def locks(self) -> Any:
-        """The names that are owned, each with the key of its owner. Of `in_process` alone, as `graph` and `counts`: else it raises `Misuse`."""
-        return self._inside(b"locks", lambda words: {decoded(name): key.decode("ascii") for name, key in zip(words[1::2], words[2::2])})
+    def _ask(self, word: bytes, read: Callable[[Answer], R], *names: Name) -> R:
+        return self._kind(self._backend, self._watch)._plain(Ask(word, all_encoded(names)), read)
 
-    def graph(self) -> Any:
-        """All waits."""
-        return self._inside(b"graph", flows.waits_of)
+    def _again(self, attempt: Callable[[], R]) -> R:
+        """What an attempt returns, which is made again after a deadlock."""
+        return self._kind._drive(self._attempts(attempt), None)
 
-    def counts(self) -> Any:
-        """What was counted, and how many events are left until the locks have to be opened again."""
-        return self._inside(b"counts", lambda words: Counts(*map(int, words[1:])))
-
-    def _inside(self, word: bytes, read: Callable[[Answer], Any]) -> Any:
-        if not isinstance(self._backend, InProcess):
-            raise Misuse(f"{word.decode()} of a service is its operator's: pashkure.Operator")
-        return self._ask(lambda: flows.plain(Ask(word), read))
+    def _attempts(self, attempt: Callable[[], R]) -> Flow[R]:
+        number = 0
+        while True:
+            start, number = monotonic(), number + 1
+            try:
+                result: R = yield attempt
+                return result
+            except BaseException as error:
+                if number >= self._retry.attempts or not is_deadlock(error):
+                    raise
+            yield functools.partial(self._pause, self._retry.pause(number, monotonic() - start))
 
     def __repr__(self) -> str:
         return f"<Locks {self._backend}>"
+
+
+def is_deadlock(error: BaseException) -> bool:
+    """Whether a deadlock is all that went wrong, also in a group of exceptions."""
+    parts: Sequence[BaseException] = getattr(error, "exceptions", ())
+    rest = [part for part in parts if not is_deadlock(part)]
+    return isinstance(error, Deadlock) or len(rest) < len(parts) and all(isinstance(part, (MustAbort, Aborted)) for part in rest)

@@ -1,67 +1,74 @@
 """What each call does, step by step, for threads and for tasks alike. Nothing here reads, writes or sleeps.
 
 A flow is a generator. It yields an `Ask`, and is sent the answer; or it yields a time, and is sent how the wait of its transaction ended,
-`WOKEN`, or nothing at that time. It returns what the call returns, and raises what the call raises.
+`WOKEN`, or nothing at that time; or it yields a call, and is sent what that returns. It returns what the call returns, and raises what the
+call raises. `pashkure.backend.now` runs it for a thread, and `pashkure.aio.service.soon` for a task.
 """
 from __future__ import annotations
 
 import math
+from dataclasses import dataclass
 from time import monotonic
-from typing import Callable, Generator, List, Optional, Sequence, Tuple, TypeVar, Union
+from typing import Any, Callable, Generator, List, Optional, Sequence, Tuple, TypeVar, Union
 
-from .errors import Aborted, Deadlock, Interrupted, LockError, ProtocolError, Timeout, refusal
+from .errors import Aborted, Closed, Deadlock, Interrupted, LockError, ProtocolError, Timeout, refusal
 from .values import Status, Wait, decoded
 from .wire import LONGEST, Answer, Ask, cut
 
 R = TypeVar("R")
-Flow = Generator[Union[Ask, float], Optional[Answer], R]
+Flow = Generator[Union[Ask, float, Callable[[], Any]], Any, R]
 WOKEN: Answer = (b"woken",)
 """The wait was not ended: somebody called `wake`."""
+OWNED = (b"granted", b"held")
 SHORTEST, LONGEST_PAUSE = 0.001, 0.1
 
 
+@dataclass
 class State:
     """What is known of a transaction."""
 
-    def __init__(self, slow_wait: float = math.inf, warn: Optional[Callable[[bytes, str, str, float], None]] = None) -> None:
-        self.key = b""
-        self.waits: Optional[Status] = None  # while it waits
-        self.waited = 0.0  # how long the last call waited
-        self.is_over = False
-        self.is_interrupted = False  # its wait, or its next one, is to be interrupted
-        self.is_unsettled = False  # a call was left, so it may wait for what nobody wants
-        self.slow_wait, self.warn = slow_wait, warn
+    slow_wait: float = math.inf
+    warn: Optional[Callable[[bytes, str, str, float], None]] = None
+    key: bytes = b""
+    waits: Optional[Status] = None  # while it waits
+    waited: float = 0.0  # how long the last call waited
+    is_over: bool = False
+    is_interrupted: bool = False  # its wait, or its next one, is to be interrupted
+    is_unsettled: bool = False  # a call was left, so it may wait for what nobody wants
 
 
 def begin(state: State, names: Sequence[bytes], deadline: float) -> Flow[None]:
     """Begins a transaction that owns these names. Where it cannot own all, none is left."""
     part = names[: cut(names, LONGEST - len(b"begin"))] if names else ()
-    words = yield from _asked(Ask(b"begin", tuple(part)))
-    if words[0] != b"begun":
+    words: Answer = yield Ask(b"begin", tuple(part))
+    state.is_over = words[0] != b"begun"
+    if state.is_over:
         raise refusal(words[-1])
     state.key = words[1]
     try:
         if part:
             owned = yield from _owned(state, part, words[2:], deadline)
             yield from lock(state, names[owned:], deadline)
-    except LockError:
-        if not state.is_over:
-            yield Ask(b"abort")
+    except LockError as error:
+        if not state.is_over and not isinstance(error, Closed):
+            yield from abort(state)
         raise
 
 
 def lock(state: State, names: Sequence[bytes], deadline: float) -> Flow[None]:
     """Locks the names in their order. What is owned at an exception stays owned."""
     state.waited = 0.0
+    if state.is_unsettled:
+        yield from settle(state)
     while names:
-        part = names[: cut(names, LONGEST - len(b"lock ") - len(state.key))]
-        words = yield from _ask(state, Ask(b"lock", tuple(part)))
-        names = names[(yield from _owned(state, part, words, deadline)) :]
+        part = names if len(names) == 1 else names[: cut(names, LONGEST - len(b"lock ") - len(state.key))]
+        words: Answer = yield Ask(b"lock", tuple(part))
+        names = names[len(part) if words[0] in OWNED else (yield from _owned(state, part, words, deadline)) :]
 
 
 def _owned(state: State, names: Sequence[bytes], words: Answer, deadline: float) -> Flow[int]:
     """How many of the names that it asked for are owned, after its wait if need be. Raises what else the answer says."""
-    if not words or words[0] in (b"granted", b"held"):
+    if not words or words[0] in OWNED:
         return len(names)
     place = int(words[1]) if len(words) == 3 else 0
     if place >= len(names):
@@ -76,7 +83,7 @@ def _owned(state: State, names: Sequence[bytes], words: Answer, deadline: float)
 
 def _deadlock(name: bytes, holder: bytes) -> Flow[Deadlock]:
     """What to raise after a deadlock, once the cycle was read."""
-    words = yield from _asked(Ask(b"cycle"))
+    words: Answer = yield Ask(b"cycle")
     return Deadlock(decoded(name), holder.decode("ascii"), cycle_of(words[1:]) if words[0] == b"cycle" else ())
 
 
@@ -98,7 +105,7 @@ def _told(state: State, name: str, holder: str, deadline: float) -> Flow[Answer]
     start, pause, is_tried = monotonic(), SHORTEST, False
     warns, until = start + state.slow_wait, deadline
     while True:
-        told = None if state.is_interrupted and not is_tried else (yield min(until, warns))
+        told: Optional[Answer] = None if state.is_interrupted and not is_tried else (yield min(until, warns))
         if told is not None and told != WOKEN:
             return told
         now = monotonic()
@@ -107,7 +114,7 @@ def _told(state: State, name: str, holder: str, deadline: float) -> Flow[Answer]
             warns = math.inf
         if now < until and not state.is_interrupted:
             continue
-        words = yield from _asked(Ask(b"cancel"))
+        words: Answer = yield Ask(b"cancel")
         if words[0] == b"cancelled":
             is_interrupted, state.is_interrupted = state.is_interrupted, False
             raise Interrupted(f"the wait for {name!r} was interrupted") if is_interrupted else Timeout(name)
@@ -120,10 +127,10 @@ def settle(state: State) -> Flow[None]:
     """After a call that was left: the replies to what it sent first, and what it waits for is taken back."""
     pause = SHORTEST
     while state.is_unsettled:
-        words = yield from _asked(Ask(b"cancel"))
+        words: Answer = yield Ask(b"cancel")
         state.is_unsettled = words[0] == b"carried"
         if words[-1] == b"must-abort":  # the request that was left closed a cycle
-            told = yield from _asked(Ask(b"status"))
+            told: Answer = yield Ask(b"status")
             raise (yield from _deadlock(*told[1:3])) if told[0] == b"deadlock" else refusal(words[-1])
         if state.is_unsettled:
             yield monotonic() + pause
@@ -131,50 +138,41 @@ def settle(state: State) -> Flow[None]:
 
 
 def asked(state: State, ask: Ask, read: Callable[[Answer], R]) -> Flow[R]:
-    """What is read of the answer to a request that is not refused."""
-    return read((yield from _wanted(state, ask)))
+    """What is read of the answer to a request of a transaction that waits for nothing. It is not refused."""
+    if state.is_unsettled:
+        yield from settle(state)
+    words: Answer = yield ask
+    if words[0] == b"refused":
+        raise _refused(state, words)
+    return read(words)
 
 
 def commit(state: State, deadline: Optional[float]) -> Flow[None]:
-    yield from _wanted(state, Ask(b"commit", (), deadline))
+    """Ends the transaction."""
+    yield from asked(state, Ask(b"commit", (), deadline), lambda words: None)
     state.is_over = True
 
 
 def abort(state: State) -> Flow[bool]:
     """Ends the transaction, whatever it does. Whether it has ended now, and not only when its wait ends."""
-    words = yield from _asked(Ask(b"abort"))
+    words: Answer = yield Ask(b"abort")
     state.is_over = True
     return words[0] != b"later"
 
 
-def plain(ask: Ask, read: Callable[[Answer], R]) -> Flow[R]:
-    """The same, of a request without a transaction."""
-    words = yield from _asked(ask)
+def plain(state: State, ask: Ask, read: Callable[[Answer], R]) -> Flow[R]:
+    """What is read of the answer to a request without a transaction: then nothing is left."""
+    words: Answer = yield ask
+    state.is_over = True
     if words[0] == b"refused":
         raise refusal(words[-1])
     return read(words)
 
 
-def _asked(ask: Ask) -> Flow[Answer]:
-    """The answer to a request."""
-    words = yield ask
-    assert words is not None
-    return words
-
-
-def _ask(state: State, ask: Ask) -> Flow[Answer]:
-    """The answer to a request of a transaction that waits for nothing."""
-    if state.is_unsettled:
-        yield from settle(state)
-    return (yield from _asked(ask))
-
-
-def _wanted(state: State, ask: Ask) -> Flow[Answer]:
-    """The answer to a request that may be refused, and is not."""
-    words = yield from _ask(state, ask)
-    if words[0] == b"refused":
-        raise _refused(state, words)
-    return words
+def known(value: R) -> Flow[R]:
+    """What need not be asked."""
+    yield from ()
+    return value
 
 
 def _refused(state: State, words: Answer) -> LockError:

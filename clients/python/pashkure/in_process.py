@@ -6,13 +6,18 @@ import os
 import threading
 import weakref
 from time import monotonic
-from typing import Any, Callable, Dict, List, Optional, Sequence
+from typing import Any, Callable, Dict, List, Optional, Sequence, Type, TypeVar
 
 from . import backend
-from .errors import Closed, Misuse
-from .flows import WOKEN
-from .ways import BY_CLOSE, BY_DROP, BY_FORK, FORGOTTEN, Why, each
+from .backend import BY_CLOSE, BY_FORK, FORGOTTEN, Why, each
+from .errors import Misuse
+from .flows import waits_of
+from .values import Counts, Retry, Wait, decoded
+from .watch import OnEvent, Watch
 from .wire import Answer, Ask
+
+L = TypeVar("L", bound="Manages")
+R = TypeVar("R")
 
 OK, HELD, WAITS, DEADLOCK, BUSY, LATER, CARRIED, _, ABORTED = range(9)
 """Results of `pashkure.h`."""
@@ -25,44 +30,33 @@ LONGEST_CYCLE = 16
 """Waits of a cycle that a deadlock is told with."""
 
 
-class Inside:
+class Inside(backend.Session):
     """A session without its ways to sleep: at most one transaction, whose requests are answered as the service answers them."""
 
-    epoch, is_slow = 0, False
+    def __init__(self, owner: "InProcess") -> None:
+        super().__init__()
+        self._manager, self._slots = owner.manager, owner.transactions
+        self._seat = owner.extension.Seat(self._bell())
 
-    def __init__(self, owner: "InProcess", news: Callable[[], None]) -> None:
-        self._manager, self._slots, self._news = owner.manager, owner.transactions, news
-        self._seat = owner.extension.Seat(news)
-        self._why: Optional[Why] = None
-        self._is_woken = False
+    def _bell(self) -> Callable[[], None]:
+        """What is to be called when there is news."""
+        return self.is_told
 
-    def answer(self, ask: Ask) -> Answer:
+    def ask(self, ask: Ask) -> Any:
         """The answer to a request, by the words of the protocol."""
         self.check()
         return _ANSWERS[ask.word](self, ask.names)
 
-    def told(self) -> Optional[Answer]:
-        """How the wait of its transaction ended, or that it was woken, if that has yet to be told."""
+    def news(self) -> Optional[Answer]:
         self.check()
         over = self._seat.told()
-        if over is None and self._is_woken:
-            self._is_woken = False
-            return WOKEN
-        return None if over is None else TOLD[over]
-
-    def wake(self) -> None:
-        self._is_woken = True
-        self._tell()
-
-    def drop(self) -> None:
-        self.end(BY_DROP)
+        return super().news() if over is None else TOLD[over]
 
     def end(self, why: Why) -> None:
-        """Ends the transaction, and says why."""
-        if self._why is None:
-            self._why = why
+        if self.why is None:
+            self.why = why
             self._manager.abort(self._seat)
-            self._tell()
+            self.is_told()
 
     def __del__(self) -> None:
         """Ends the transaction, if an exception of a signal kept it from its end."""
@@ -71,22 +65,11 @@ class Inside:
 
     def forget(self) -> None:
         """In the child of a fork."""
-        self._why = BY_FORK
-
-    def check(self) -> None:
-        """Raises if the session is of no use."""
-        if self._why is not None:
-            raise self._why[0](self._why[1])
-
-    def _tell(self) -> None:
-        try:
-            self._news()
-        except RuntimeError:
-            pass  # the lock was released before
+        self.why = BY_FORK
 
     def _refused(self, result: int) -> Answer:
         if result not in REFUSALS:  # another thread has closed the manager
-            raise Closed(BY_CLOSE[1])
+            raise BY_CLOSE.error()
         return (b"refused", REFUSALS[result])
 
     def _begin(self, names: Sequence[bytes]) -> Answer:
@@ -181,58 +164,49 @@ _ANSWERS: Dict[bytes, Callable[[Inside, Sequence[bytes]], Answer]] = {
 class Session(Inside):
     """For threads."""
 
-    def __init__(self, owner: "InProcess") -> None:
+    def _bell(self) -> Callable[[], None]:
         self._lock_of_news = threading.Lock()  # released when there is news
         self._lock_of_news.acquire()
-        super().__init__(owner, self._lock_of_news.release)
+        return self._lock_of_news.release
 
-    ask = Inside.answer
+    def is_told(self) -> None:
+        try:
+            self._lock_of_news.release()
+        except RuntimeError:
+            pass  # it was released before
 
-    def wait(self, deadline: float) -> Optional[Answer]:
-        while True:
-            told = self.told()
-            if told is not None:
-                return told
-            left = deadline - monotonic()
-            if left <= 0:
-                return None
-            self._lock_of_news.acquire(True, min(left, threading.TIMEOUT_MAX))
+    def _sleep(self, deadline: float) -> None:
+        self._lock_of_news.acquire(True, min(max(0.0, deadline - monotonic()), threading.TIMEOUT_MAX))
 
 
-class InProcess:
+class InProcess(backend.Ending):
     """The manager, and its sessions."""
 
     def __init__(self, transactions: int, names: int, name_bytes: int) -> None:
         self.extension, self.transactions = extension(), transactions
         self.manager = self.extension.Manager(transactions, names, name_bytes, int.from_bytes(os.urandom(8), "little"))
-        self._why: Optional[Why] = None
         self._sessions: "weakref.WeakSet[Inside]" = weakref.WeakSet()
         FORGOTTEN.add(self)
 
-    def new(self, kind: Callable[["InProcess"], Any]) -> Any:
+    def new(self, kind: Callable[[Any], Any]) -> Any:
         """A session of this kind, for one transaction."""
-        if self._why is not None:
-            raise self._why[0](self._why[1])
+        self.check()
         session = kind(self)
         self._sessions.add(session)
         return session
 
-    def session(self, deadline: float) -> backend.Session:
-        session: Session = self.new(Session)
-        return session
-
-    def give_back(self, session: backend.Session) -> None:
-        """It is not used again."""
+    def session(self, deadline: float) -> Any:
+        return self.new(Session)
 
     def close(self) -> None:
-        self._why = self._why or BY_CLOSE
+        self.why = self.why or BY_CLOSE
         for session in each(self._sessions):
             session.end(BY_CLOSE)
         self.manager.close()
 
     def forget(self) -> None:
         """In the child of a fork, which excludes nobody of the parent."""
-        self._why = BY_FORK
+        self.why = BY_FORK
         self.manager.forget()
         for session in each(self._sessions):
             session.forget()
@@ -247,3 +221,45 @@ def extension() -> Any:
         return importlib.import_module("_pashkure")
     except ModuleNotFoundError as error:
         raise ImportError("the C extension _pashkure is not there: `pip install` of the package builds it") from error
+
+
+class Manages:
+    """What locks in process have besides: how they are opened, and what a service tells its operator alone."""
+
+    _backend: Any
+    _ask: Callable[..., Any]
+    _inside: Type[Any] = InProcess
+
+    @classmethod
+    def in_process(cls: Type[L], *, transactions: int = 1024, names: int = 4096, name_bytes: int = 64, retry: Retry = Retry(),
+                   on_event: OnEvent = None, slow_wait: Optional[float] = None) -> L:  # fmt: skip
+        """The locks of this process alone, or of the tasks of one loop, which a lock manager inside this process keeps.
+
+        The child of a fork finds them closed. There are no fences. Raises `ImportError` if the C extension is not installed, and says why
+        it is not.
+
+        - `transactions`: how many can be live at a time, 1 to 65,536.
+        - `names`: how many can be owned at a time, 1 to 65,536. `name_bytes`: how many bytes each may have, 1 to 1,024.
+        - `retry`, `on_event`, `slow_wait`: as for `connect`.
+        """
+        kind: Any = cls
+        locks: L = kind(cls._inside(transactions, names, name_bytes), Watch(on_event, slow_wait), retry)
+        return locks
+
+    def locks(self) -> Dict[str, str]:
+        """The names that are owned, each with the key of its owner. Of `in_process` alone, as `graph` and `counts`: else it raises `Misuse`."""
+        return self._told(b"locks", lambda words: {decoded(name): key.decode("ascii") for name, key in zip(words[1::2], words[2::2])})
+
+    def graph(self) -> List[Wait]:
+        """All waits."""
+        return self._told(b"graph", waits_of)
+
+    def counts(self) -> Counts:
+        """What was counted, and how many events are left until the locks have to be opened again."""
+        return self._told(b"counts", lambda words: Counts(*map(int, words[1:])))
+
+    def _told(self, word: bytes, read: Callable[[Answer], R]) -> R:
+        if not isinstance(self._backend, InProcess):
+            raise Misuse(f"{word.decode()} of a service is its operator's: pashkure.Operator")
+        told: R = self._ask(word, read)
+        return told

@@ -1,6 +1,7 @@
-"""The service at a Unix socket, for threads: a connection for each live transaction, from a pool."""
+"""The service at a Unix socket: how it is found, and for threads a connection for each live transaction, from a pool."""
 from __future__ import annotations
 
+import functools
 import math
 import os
 import select
@@ -8,15 +9,92 @@ import socket
 import time
 import weakref
 from time import monotonic
-from typing import Callable, List, Optional, Sequence, Tuple, Union
+from typing import Any, Callable, List, Optional, Sequence, Tuple, Union
 
 from . import backend
-from .errors import Closed, Full, LocksLost, ProtocolError, ServiceRestarted
-from .flows import WOKEN
-from .ways import BY_CLOSE, BY_DROP, BY_FORK, FORGOTTEN, LONGEST, LOST, RESTARTED, Path, Ways, Why, each
+from .backend import BY_CLOSE, BY_DROP, BY_FORK, FORGOTTEN, LOST, RESTARTED, Ending, Why, each, now
+from .errors import CannotConnect, Closed, Full, LocksLost, ProtocolError
+from .flows import Flow
+from .values import seconds
 from .wire import Answer, Ask, Call, Conversation, Party
 
 SIZE = 16384
+Path = Union[str, bytes, "os.PathLike[str]", "os.PathLike[bytes]"]
+LONGEST = 1e6
+"""Seconds that the calls of the system take; more are as good as for ever."""
+
+
+def reason(error: Optional[Exception], limit: Optional[float]) -> Why:
+    """Why a connection is of no use after this error. So many seconds it waited for an answer."""
+    if isinstance(error, ProtocolError):
+        return Why(ProtocolError, str(error))
+    return Why(LocksLost, f"the service did not answer within {limit:g} s", True) if isinstance(error, socket.timeout) else LOST
+
+
+class Ways(Ending):
+    """The ways to one service, by the paths of sockets."""
+
+    def __init__(self, paths: Sequence[Path], connect_timeout: float, reply_timeout: float, tell: Callable[[Optional[Closed]], None]) -> None:
+        if not paths:
+            raise ValueError("the path of a socket is missing")
+        self.paths = [os.fspath(path) for path in paths]
+        self.connect_timeout = seconds(connect_timeout, "connect_timeout")
+        self.reply_timeout = min(seconds(reply_timeout, "reply_timeout"), LONGEST)
+        self.tell = tell
+        self.epoch = 0  # the greatest that was seen
+        self._way = 0  # the place of the path that answered last
+
+    def find(self, deadline: float, is_once: bool, tries: Callable[[Any, float], Any], pauses: Callable[[float], Any]) -> Flow[Any]:
+        """A connection, which one of the ways has. The pauses between the tries are 10 ms to 1 s."""
+        pause = 0.01
+        while True:
+            self.check()
+            failed: List[str] = []
+            for place in [*range(self._way, len(self.paths)), *range(self._way)]:
+                try:
+                    found = yield functools.partial(tries, self.paths[place], deadline)
+                    self._way = place
+                    if self.why is not None:
+                        found.end(self.why)
+                    return found
+                except ProtocolError:
+                    raise
+                except (OSError, Full) as error:
+                    cause = error.with_traceback(None)
+                    failed.append(f"no service at {os.fsdecode(self.paths[place])}: {error}")
+            left = deadline - monotonic()
+            if left <= 0 or is_once:
+                raise CannotConnect("; ".join(failed)) from cause
+            yield functools.partial(pauses, min(pause, left))
+            pause = min(1.0, 2 * pause)
+
+    def limit(self, deadline: float) -> float:
+        """In how many seconds a service has to say who it is: a tenth at least, so that the last try is one."""
+        return max(0.1, min(self.reply_timeout, deadline - monotonic()))
+
+    def hello(self, talk: Conversation, exchange: Callable[[bytes], Any]) -> Flow[int]:
+        """The epoch that the service says, which is asked for it by `exchange`: that sends a line, and returns what comes. Raises `OSError` if
+        the service is of no use, as if a greater epoch was seen."""
+        call = Call(Ask(b"hello"), Party())
+        line = talk.send(call)
+        while call.answer is None:
+            talk.feed((yield functools.partial(exchange, line)))
+            line = b""
+        answer = call.answer
+        if answer[0] != b"hello":
+            raise Full("connections")
+        if answer[1] != b"1":
+            raise ProtocolError(f"the service speaks protocol {answer[1].decode()}, and this package protocol 1")
+        epoch = int(answer[2])
+        if epoch < self.epoch:
+            raise ConnectionError(f"the service's epoch {epoch} is below {self.epoch}, which was seen before: it has to be started anew")
+        is_new, self.epoch = 0 < self.epoch < epoch, max(self.epoch, epoch)
+        if is_new:
+            self.tell(RESTARTED.error())
+        return epoch
+
+    def __str__(self) -> str:
+        return " or ".join(map(os.fsdecode, self.paths))
 
 
 class Socket(socket.socket):
@@ -27,53 +105,30 @@ class Socket(socket.socket):
             self.close()
 
 
-class Session(Party):
-    """A connection with at most one transaction. One thread at a time may call `ask` and `wait`."""
+class Session(backend.Session):
+    """A connection with at most one transaction."""
 
-    is_slow = False
     _pipe: Tuple[int, ...] = ()  # by which a wait is woken
 
     def __init__(self, service: "Service", connection: Socket) -> None:
         super().__init__()
         self.service, self.epoch = service, service.epoch
         self._socket, self._talk = connection, Conversation(self)
-        self._why: Optional[Why] = None
-        self._is_woken = False
         self._poll = select.poll()
         self._poll.register(connection, select.POLLIN)
 
     def ask(self, ask: Ask) -> Answer:
         self.check()
-        call, limit = Call(ask, self), self.service.reply_timeout
         if ask.deadline is not None:
-            limit = max(0.001, min(limit, ask.deadline - monotonic()))
-            self._socket.settimeout(limit)
+            self._socket.settimeout(max(0.001, min(self.service.reply_timeout, ask.deadline - monotonic())))
+        call = Call(ask, self)
         line = self._talk.send(call)
         while call.answer is None:
-            self._take(line, limit)
+            self._take(line)
             line = b""
         if ask.deadline is not None:
             self._socket.settimeout(self.service.reply_timeout)
         return call.answer
-
-    def wait(self, deadline: float) -> Optional[Answer]:
-        pipe = self._pipe or self._prepared()
-        while True:
-            if self.told:
-                return self.told.pop(0)
-            if self._is_woken:
-                self._is_woken = False
-                return WOKEN
-            self.check()
-            left = deadline - monotonic()
-            ready = self._poll.poll(None if left > LONGEST else max(0.0, math.ceil(left * 1000)))
-            if not ready and monotonic() >= deadline:
-                return None
-            for descriptor, _ in ready:
-                if descriptor == pipe[0]:
-                    os.read(descriptor, 64)
-                else:
-                    self._take(b"", self.service.reply_timeout)
 
     def wake(self) -> None:
         self._is_woken = True
@@ -83,85 +138,77 @@ class Session(Party):
         except OSError:
             pass  # it is closed, or many have woken it
 
-    def drop(self) -> None:
-        self.end(BY_DROP)
-
-    def end(self, why: Why) -> Why:
-        """As `drop`, and says why. A thread that reads wakes up. The descriptor is closed when nobody has the session any more."""
-        why = self._why = self._why or why
+    def end(self, why: Why) -> None:
+        """A thread that reads wakes up. The descriptor is closed when nobody has the session any more."""
+        self.why = self.why or why
         try:
             self._socket.shutdown(socket.SHUT_RDWR)
         except OSError:
             pass  # the other side has closed it
-        return why
+
+    def give_back(self) -> None:
+        self.key = b""
+        self.service.idle.append(self)
+        if self.service.why is not None:
+            self.end(self.service.why)
 
     def forget(self) -> None:
         """In the child of a fork: closes its copies, so that only the parent has the connection."""
-        self._why = BY_FORK
+        self.why = BY_FORK
         self.__del__()
 
     def is_idle(self) -> bool:
         """Whether it can be lent: nothing is due, and nothing came. What comes to an idle connection is its end."""
-        return self._why is None and self._talk.is_idle() and not self._poll.poll(0)
+        return self.why is None and self._talk.is_idle() and not self._poll.poll(0)
 
     def check(self) -> None:
-        """Raises if the session is of no use."""
         if self._talk.pending:  # an exception broke off a call, and another one kept it from saying so
             self.drop()
-        if self._why is None and self.epoch < self.service.epoch:
-            self.end((ServiceRestarted, RESTARTED))
-        if self._why is not None:
-            raise self._why[0](self._why[1])
+        if self.why is None and self.epoch < self.service.epoch:
+            self.end(RESTARTED)
+        if self.why is not None:
+            raise self.why.error()
 
     def greet(self) -> None:
         """Asks the service who it is."""
-        call = Call(Ask(b"hello"), Party())
-        try:
-            self._socket.sendall(self._talk.send(call))
-        except BrokenPipeError:
-            pass  # a service that has no room says so unasked
-        while call.answer is None:
-            self._feed()
-        self.epoch = self.service.greet(call.answer)
+        self.epoch = now(self.service.hello(self._talk, self._exchanged))
         self._socket.settimeout(self.service.reply_timeout)
 
-    def _prepared(self) -> Tuple[int, ...]:
-        """For the first wait of the connection: a pipe that wakes it."""
-        self._pipe = os.pipe()
-        for descriptor in self._pipe:
-            os.set_blocking(descriptor, False)
-        self._poll.register(self._pipe[0], select.POLLIN)
-        return self._pipe
+    def _sleep(self, deadline: float) -> None:
+        if not self._pipe:
+            self._pipe = os.pipe()
+            for descriptor in self._pipe:
+                os.set_blocking(descriptor, False)
+            self._poll.register(self._pipe[0], select.POLLIN)
+            return  # somebody may have woken it before there was a pipe
+        left = deadline - monotonic()
+        for descriptor, _ in self._poll.poll(None if left > LONGEST else max(0.0, math.ceil(left * 1000))):
+            if descriptor == self._pipe[0]:
+                os.read(descriptor, 64)
+            else:
+                self._take(b"")
 
-    def _take(self, line: bytes, limit: float) -> None:
+    def _take(self, line: bytes) -> None:
         """Sends a line, if there is one, and takes what comes."""
         try:
-            self._socket.sendall(line)
-            self._feed()
-        except ProtocolError as error:
-            self.end((ProtocolError, str(error)))
-            raise
-        except socket.timeout as error:
-            self.is_slow = True
-            raise self._lost((LocksLost, f"the service did not answer within {limit:g} s")) from error
+            self._talk.feed(self._exchanged(line))
         except OSError as error:
-            raise self._lost(LOST) from error
+            is_new = self.why is None
+            self.end(reason(error, self._socket.gettimeout()))
+            assert self.why is not None
+            if is_new:
+                self.service.tell(self.why.error())
+            raise self.why.error() from error
 
-    def _feed(self) -> None:
+    def _exchanged(self, line: bytes) -> bytes:
+        try:
+            self._socket.sendall(line)
+        except BrokenPipeError:
+            pass  # what the service said before it closed the connection comes
         data = self._socket.recv(SIZE)
         if not data:
             raise ConnectionResetError("it closed the connection")
-        self._talk.feed(data)
-
-    def _lost(self, why: Why) -> Closed:
-        """What to raise, now that the connection is lost. Whether the service was started anew a new connection says, if there is one."""
-        is_new = self._why is None
-        if is_new and why is LOST:
-            self.service.look()
-        kind, text = self.end((ServiceRestarted, RESTARTED) if self.epoch < self.service.epoch else why)
-        if is_new:
-            self.service.tell(kind(text))
-        return kind(text)
+        return data
 
     def __del__(self) -> None:
         if hasattr(self, "_socket"):
@@ -176,13 +223,13 @@ class Service(Ways):
 
     def __init__(self, paths: Sequence[Path], connect_timeout: float, reply_timeout: float, tell: Callable[[Optional[Closed]], None]) -> None:
         super().__init__(paths, connect_timeout, reply_timeout, tell)
-        self._idle: List[Session] = []
+        self.idle: List[Session] = []
         self._all: "weakref.WeakSet[Session]" = weakref.WeakSet()
 
     def session(self, deadline: float) -> Session:
-        while self._idle:
+        while self.idle:
             try:
-                session = self._idle.pop()
+                session = self.idle.pop()
             except IndexError:
                 break  # another thread took it
             if session.epoch >= self.epoch and session.is_idle():
@@ -192,47 +239,27 @@ class Service(Ways):
 
     def new(self, deadline: float) -> Session:
         """A session over a new connection."""
-        session = self._found(min(deadline, monotonic() + self.connect_timeout))
+        session = self._found(deadline, False)
         self.tell(None)
         return session
 
-    def give_back(self, session: backend.Session) -> None:
-        assert isinstance(session, Session)
-        session.key = b""
-        self._idle.append(session)
-        if self.is_closed:
-            session.end(BY_CLOSE)
-
     def close(self) -> None:
-        self.is_closed = True
-        self._idle.clear()
+        self.why = BY_CLOSE
+        self.idle.clear()
         for session in each(self._all):
             session.end(BY_CLOSE)
 
-    def look(self) -> None:
-        """Tries each way once, to learn whether the service was started anew."""
-        try:
-            self._idle.append(self._found(monotonic() + self.connect_timeout, True))
-        except Closed:
-            pass
+    def look(self, lost: Session) -> None:
+        """Tries each way once, to learn whether the service was started anew. Raises `Closed` if there is none."""
+        self.idle.append(self._found(math.inf, True))
 
-    def _found(self, deadline: float, is_once: bool = False) -> Session:
-        """A new connection."""
-        finding = self.find(deadline, Session, is_once)
-        try:
-            step = next(finding)
-            while True:
-                if isinstance(step, float):
-                    time.sleep(step)
-                step = finding.send(None if isinstance(step, float) else self._tried(step, deadline))
-        except StopIteration as end:
-            session: Session = end.value
-        if self.is_closed:
-            session.end(BY_CLOSE)
+    def _found(self, deadline: float, is_once: bool) -> Session:
+        deadline = min(deadline, monotonic() + self.connect_timeout)
+        session: Session = now(self.find(deadline, is_once, self._tried, time.sleep))
         return session
 
-    def _tried(self, path: Union[str, bytes], deadline: float) -> Union[Session, Exception]:
-        """A connection by this way, or why there is none."""
+    def _tried(self, path: Any, deadline: float) -> Session:
+        """A connection by this way."""
         connection = Socket(socket.AF_UNIX)
         connection.settimeout(self.limit(deadline))
         try:
@@ -242,6 +269,6 @@ class Service(Ways):
             FORGOTTEN.add(session)
             session.greet()
             return session
-        except (OSError, Full) as error:
+        except BaseException:
             connection.close()
-            return error
+            raise

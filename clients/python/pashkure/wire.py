@@ -86,9 +86,7 @@ class Conversation:
         self._live: Dict[bytes, Party] = {}
         self._rest = b""
         self._owed = b""
-        self._further: Optional[Call] = None  # whose reply has further lines
-        self._left = 0  # so many
-        self._words: List[bytes] = []  # of this reply, and the lines that came
+        self._words: List[bytes] = []  # of a reply of which further lines are to come, and those that came
 
     def send(self, call: Call) -> bytes:
         """The line of a request. Its reply is due from now on."""
@@ -106,9 +104,7 @@ class Conversation:
         """
         *lines, self._rest = (self._rest + data).split(b"\n")
         for line in lines:
-            if self._further is not None:
-                self._take_further(self._further, line)
-            elif line.startswith(b"* "):
+            if line.startswith(b"* ") and not self._words:
                 self._take_event(line)
             else:
                 self._take_reply(line)
@@ -131,9 +127,9 @@ class Conversation:
 
     def lost(self) -> None:
         """Tells all calls and parties that nothing comes any more."""
-        calls = [*self.pending, *([self._further] if self._further is not None else [])]
+        parties = [*self._live.values(), *(call.party for call in self.pending)]
         self.pending.clear()
-        for party in [*self._live.values(), *(call.party for call in calls)]:
+        for party in parties:
             party.is_told()
 
     def is_idle(self) -> bool:
@@ -144,14 +140,17 @@ class Conversation:
         if not self.pending:
             raise ProtocolError(f"a reply that nobody asked for: {_shown(line)}")
         call = self.pending[0]
-        if not REPLIES[call.ask.word].fullmatch(line):
-            raise ProtocolError(f"the reply to {call.ask.word.decode()}: {_shown(line)}")
-        self.pending.popleft()
-        words = tuple(line.split(b" "))
-        if call.ask.word in LINES and words[0] == call.ask.word and int(words[1]):
-            self._further, self._left, self._words = call, int(words[1]), [*words]
+        word, party, is_further = call.ask.word, call.party, bool(self._words)
+        if not (LINES if is_further else REPLIES)[word].fullmatch(line):
+            raise ProtocolError(f"the reply to {word.decode()}: {_shown(line)}")
+        words, self._words = self._words or line.split(b" "), []
+        if is_further:
+            words.append(line)
+        if word in LINES and words[0] == word and len(words) < 2 + int(words[1]):
+            self._words = words
             return
-        call.answer, party = words, call.party
+        self.pending.popleft()
+        call.answer = tuple(words)
         if words[0] == b"begun":
             party.key = words[1]
             self._live[party.key] = party
@@ -172,16 +171,6 @@ class Conversation:
             del self._live[words[1]]
         party.told.append(words)
         party.is_told()
-
-    def _take_further(self, call: Call, line: bytes) -> None:
-        if not LINES[call.ask.word].fullmatch(line):
-            raise ProtocolError(f"a line behind {call.ask.word.decode()}: {_shown(line)}")
-        self._words.append(line)
-        self._left -= 1
-        if not self._left:
-            self._further = None
-            call.answer = tuple(self._words)
-            call.party.is_told()
 
 
 def _shown(line: bytes) -> str:

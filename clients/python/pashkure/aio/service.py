@@ -1,21 +1,75 @@
-"""The service at a Unix socket, for tasks: one connection for the transactions of all tasks, or a few."""
+"""The service at a Unix socket, for tasks: one connection for the transactions of all tasks, or a few. And what runs flows for tasks."""
 from __future__ import annotations
 
 import asyncio
 import math
 import socket
 from time import monotonic
-from typing import Any, Callable, List, Optional, Sequence, Tuple, TypeVar, Union, cast
+from typing import Any, Callable, List, Optional, Sequence, Tuple, TypeVar, cast
 
-from ..errors import CannotConnect, Closed, Full, LocksLost, ProtocolError, ServiceRestarted
-from ..flows import WOKEN, Flow
-from ..service import SIZE
-from ..ways import BY_CLOSE, BY_FORK, FORGOTTEN, LOST, RESTARTED, Path, Ways, Why
-from ..wire import Answer, Ask, Call, Conversation, Party
-from .waiter import Waiter
+from .. import backend
+from ..backend import BY_CLOSE, BY_FORK, FORGOTTEN, LOST, RESTARTED, Why
+from ..errors import CannotConnect, Closed, LocksLost, ProtocolError
+from ..flows import Flow
+from ..service import SIZE, Path, Ways, reason
+from ..wire import Answer, Ask, Call, Conversation
 
 R = TypeVar("R")
 ENDS = (b"commit", b"abort", b"cancel")
+
+
+async def soon(flow: Flow[R], caller: Any = None) -> R:
+    """As `pashkure.backend.now`, for a task."""
+    try:
+        step = next(flow)
+        while True:
+            try:
+                if isinstance(step, Ask):
+                    answer = await caller._session.ask(step)
+                else:
+                    answer = await (caller._session.wait(step) if isinstance(step, float) else step())
+            except BaseException as error:
+                step = flow.throw(error)
+            else:
+                step = flow.send(answer)
+    except StopIteration as end:
+        result: R = end.value
+        return result
+
+
+class Sleeper(backend.Session):
+    """Where one transaction lives. One task at a time may sleep here."""
+
+    _waiter: "Optional[asyncio.Future[None]]" = None
+
+    def __init__(self, *owner: Any) -> None:
+        super().__init__(*owner)
+        self.loop = asyncio.get_running_loop()
+
+    async def wait(self, deadline: float) -> Optional[Answer]:
+        while True:
+            news = self.news()
+            if news is not None or monotonic() >= deadline:
+                return news
+            await self._sleep(deadline)
+
+    def is_told(self) -> None:
+        """Wakes the task."""
+        if self._waiter is not None and not self._waiter.done():
+            self._waiter.set_result(None)
+
+    def let_go(self) -> None:
+        if not self.loop.is_closed():
+            self.loop.call_soon_threadsafe(self.drop)
+
+    async def _sleep(self, deadline: float) -> None:
+        waiter = self._waiter = self.loop.create_future()
+        timer = self.loop.call_later(max(0.0, deadline - monotonic()), self.is_told) if deadline < math.inf else None
+        try:
+            await waiter
+        finally:
+            if timer is not None:
+                timer.cancel()
 
 
 class Connection(asyncio.Protocol):
@@ -25,29 +79,28 @@ class Connection(asyncio.Protocol):
         self.service, self.own, self.epoch = service, own, service.epoch
         self.loop, self.talk = asyncio.get_running_loop(), Conversation()
         self.why: Optional[Why] = None
-        self.is_slow = False
         self.can_write = asyncio.Event()
         self.can_write.set()
         self._transport: Optional[asyncio.Transport] = None
         self._timer: Optional[asyncio.TimerHandle] = None
 
-    async def opened(self, path: Union[str, bytes]) -> None:
+    async def opened(self, path: Any) -> None:
         """Connects, and asks the service who it is."""
         self.own.setblocking(False)
         self.own.connect(path)
         FORGOTTEN.add(self)
-        hello = Call(Ask(b"hello"), Party())
+        self.epoch = await soon(self.service.hello(self.talk, self._exchanged))
+        await self.loop.create_connection(lambda: self, sock=self.own)
+
+    async def _exchanged(self, line: bytes) -> bytes:
         try:
-            await self.loop.sock_sendall(self.own, self.talk.send(hello))
+            await self.loop.sock_sendall(self.own, line)
         except BrokenPipeError:
             pass  # a service that has no room says so unasked
-        while hello.answer is None:
-            data = await self.loop.sock_recv(self.own, SIZE)
-            if not data:
-                raise ConnectionResetError("it closed the connection")
-            self.talk.feed(data)
-        self.epoch = self.service.greet(hello.answer)
-        await self.loop.create_connection(lambda: self, sock=self.own)
+        data = await self.loop.sock_recv(self.own, SIZE)
+        if not data:
+            raise ConnectionResetError("it closed the connection")
+        return data
 
     def connection_made(self, transport: asyncio.BaseTransport) -> None:
         self._transport = cast(asyncio.Transport, transport)
@@ -57,7 +110,7 @@ class Connection(asyncio.Protocol):
             if self.why is None:
                 self.write(self.talk.feed(data))
         except ProtocolError as error:
-            self.end((ProtocolError, str(error)))
+            self.end(reason(error, None))
 
     def connection_lost(self, error: Optional[Exception]) -> None:
         self.end(LOST)
@@ -78,12 +131,6 @@ class Connection(asyncio.Protocol):
         if data and self.why is None and self._transport is not None:
             self._transport.write(data)
 
-    def is_good(self) -> bool:
-        """Whether it can be used. One of a service of before is closed."""
-        if self.epoch < self.service.epoch:
-            self.end((ServiceRestarted, RESTARTED))
-        return self.why is None
-
     def end(self, why: Why) -> None:
         """Closes the connection. All that wait for it are told."""
         if self.why is not None:
@@ -97,7 +144,7 @@ class Connection(asyncio.Protocol):
         if self._transport is not None:
             self._transport.abort()
         if self in self.service.connections and why is not BY_CLOSE:
-            self.service.tell(why[0](why[1]))
+            self.service.tell(why.error())
         self.can_write.set()
         self.talk.lost()
 
@@ -105,13 +152,6 @@ class Connection(asyncio.Protocol):
         """In the child of a fork: closes its copy."""
         self.why = BY_FORK
         self.own.close()
-
-    async def lost(self) -> Closed:
-        """What to raise, now that the connection is lost. Whether the service was started anew a new connection says, if there is one."""
-        why = self.why or LOST
-        if why is LOST:
-            await self.service.look(self)
-        return ServiceRestarted(RESTARTED) if why is LOST and self.epoch < self.service.epoch else why[0](why[1])
 
     def _time_is_up(self) -> None:
         """Ends the connection if the oldest request has waited for too long."""
@@ -121,83 +161,49 @@ class Connection(asyncio.Protocol):
             if left > 0:
                 self._timer = self.loop.call_later(left, self._time_is_up)
             else:
-                self.is_slow = True
-                self.end((LocksLost, f"the service did not answer within {self.service.reply_timeout:g} s"))
+                self.end(reason(socket.timeout(), self.service.reply_timeout))
 
 
-class Session(Waiter, Party):
-    """One transaction of a connection. One task at a time may call `ask` and `wait`."""
+class Session(Sleeper):
+    """One transaction of a connection."""
 
     def __init__(self, connection: Connection) -> None:
-        super().__init__(connection.loop)
-        Party.__init__(self)
+        super().__init__()
         self.connection, self.epoch = connection, connection.epoch
         self._last: Optional[Call] = None  # the last request
-        self._is_woken = False
-
-    @property
-    def is_slow(self) -> bool:
-        """Whether the service did not answer in time."""
-        return self.connection.is_slow
 
     async def ask(self, ask: Ask) -> Answer:
-        connection = self.connection
+        connection, deadline = self.connection, math.inf if ask.deadline is None else ask.deadline
         while not connection.can_write.is_set() and ask.word not in ENDS:
             await connection.can_write.wait()
-        if not connection.is_good():
-            raise await connection.lost()
-        self._check(ask.word)
+        self.check()
         call = self._last = Call(ask, self)
         connection.send(call)
         while call.answer is None:
-            await self._woken(math.inf if ask.deadline is None else ask.deadline)
-            self._check(ask.word)
-            if call.answer is None and connection.why is not None:
-                raise await connection.lost()
-            if call.answer is None and ask.deadline is not None and monotonic() >= ask.deadline:
-                raise LocksLost(f"the service did not answer {ask.word.decode()} in time")
+            await self._sleep(deadline)
+            if call.answer is None:
+                self.check()
+                if monotonic() >= deadline:
+                    raise LocksLost(f"the service did not answer {ask.word.decode()} in time")
         return call.answer
 
-    async def wait(self, deadline: float) -> Optional[Answer]:
-        while True:
-            self._check(b"")
-            if self.told:
-                return self.told.pop(0)
-            if self._is_woken:
-                self._is_woken = False
-                return WOKEN
-            if not self.connection.is_good():
-                raise await self.connection.lost()
-            if monotonic() >= deadline:
-                return None
-            await self._woken(deadline)
+    def check(self) -> None:
+        if self.epoch < self.connection.service.epoch:
+            self.connection.end(RESTARTED)
+        self.why = self.why or self.connection.why
+        if self.why is not None:
+            raise self.why.error()
 
-    def wake(self) -> None:
-        self._is_woken = True
-        self.is_told()
-
-    def drop(self) -> None:
-        if self.connection.why is None:
+    def end(self, why: Why) -> None:
+        if self.why is None and self.connection.why is None:
+            self.why = why
             self.connection.write(self.connection.talk.drop(self))
+            self.is_told()
 
-    def abandon(self) -> None:
-        """A task was cancelled in a call: what its last request waits for is taken back."""
+    def abandon(self) -> bool:
         if self._last is not None and self.connection.why is None:
             self.connection.write(self.connection.talk.abandon(self._last))
-
-
-async def drive(session: Any, flow: Flow[R]) -> R:
-    """Runs a flow. What an exception leaves behind is the caller's to clean up."""
-    try:
-        step = next(flow)
-        while True:
-            step = flow.send(await session.ask(step) if isinstance(step, Ask) else await session.wait(step))
-    except StopIteration as end:
-        result: R = end.value
-        return result
-    except BaseException:
-        flow.close()
-        raise
+        return True
 
 
 class Service(Ways):
@@ -214,30 +220,26 @@ class Service(Ways):
         self._loop: Optional[asyncio.AbstractEventLoop] = None
 
     async def session(self, deadline: float) -> Session:
-        if self.is_closed:
-            raise Closed(BY_CLOSE[1])
+        self.check()
         self._loop = self._loop or asyncio.get_running_loop()
         if self._loop is not asyncio.get_running_loop():
             raise RuntimeError("these locks were opened in another event loop: each loop needs its own")
         place = self._turn = (self._turn + 1) % len(self.connections)
         connection = self.connections[place]
-        if connection is not None and connection.is_good():
+        if connection is not None and connection.why is None and connection.epoch >= self.epoch:
             return Session(connection)
         return Session(await self._shared(place, deadline))
 
     def close(self) -> None:
-        self.is_closed = True
+        self.why = BY_CLOSE
         for connection in self.connections:
             if connection is not None:
                 connection.end(BY_CLOSE)
 
-    async def look(self, lost: Connection) -> None:
-        """Tries each way once, to learn whether the service was started anew."""
-        if lost in self.connections:
-            try:
-                await self._shared(self.connections.index(lost), math.inf, True)
-            except Closed:
-                pass
+    async def look(self, lost: Session) -> None:
+        """Tries each way once, to learn whether the service was started anew. Raises `Closed` if there is none."""
+        if lost.connection in self.connections:
+            await self._shared(self.connections.index(lost.connection), math.inf, True)
 
     async def _shared(self, place: int, deadline: float, is_once: bool = False) -> Connection:
         """A new connection. All tasks that want one at this time wait for the same."""
@@ -256,27 +258,13 @@ class Service(Ways):
                 raise type(error)(*error.args) from error.__cause__
 
     async def _connected(self, place: int, is_once: bool) -> Connection:
-        connection = self.connections[place] = await self._found(monotonic() + self.connect_timeout, is_once)
+        connection: Connection = await soon(self.find(monotonic() + self.connect_timeout, is_once, self._tried, asyncio.sleep))
+        self.connections[place] = connection
         self.tell(None)
         return connection
 
-    async def _found(self, deadline: float, is_once: bool) -> Connection:
-        """A new connection."""
-        finding = self.find(deadline, Connection, is_once)
-        try:
-            step = next(finding)
-            while True:
-                if isinstance(step, float):
-                    await asyncio.sleep(step)
-                step = finding.send(None if isinstance(step, float) else await self._tried(step, deadline))
-        except StopIteration as end:
-            connection: Connection = end.value
-        if self.is_closed:
-            connection.end(BY_CLOSE)
-        return connection
-
-    async def _tried(self, path: Union[str, bytes], deadline: float) -> Union[Connection, Exception]:
-        """A connection by this way, or why there is none."""
+    async def _tried(self, path: Any, deadline: float) -> Connection:
+        """A connection by this way."""
         connection = Connection(self, socket.socket(socket.AF_UNIX))
         try:
             await asyncio.wait_for(connection.opened(path), self.limit(deadline))
@@ -285,7 +273,5 @@ class Service(Ways):
             connection.end(LOST)
             connection.own.close()
             if isinstance(error, asyncio.TimeoutError):
-                return OSError("no answer")
-            if isinstance(error, (OSError, Full)):
-                return error
+                raise OSError("no answer") from error
             raise
