@@ -72,7 +72,7 @@ class Replies(CCase):
         self.passes(run(self.program("replies"), "long_time", env=env))
         with open(log, encoding="ascii") as file:
             told = re.findall(r"^poll:told=(-?\d+)@", file.read(), re.M)
-        self.assertTrue(told and all(int(time) == 2**31 - 1 for time in told), told)
+        self.assertEqual(set(told), {"-1", str(2**31 - 1)}, "without an end, as for a reply, or the longest time")
 
     def test_faults_are_made(self) -> None:
         """The tests above would show nothing if no call failed."""
