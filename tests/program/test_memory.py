@@ -342,12 +342,12 @@ class Opened(MemoryCase):
         self.assertTrue(8 <= len(sleeps) < 200, sleeps)
         self.assertLess(len(lines), 8 * 1000)
 
-    @each([(4, 16), (64, 16), (64, 1000)])
-    def test_crowd_that_locks_names(self, threads: int, names: int) -> None:
+    @each([("crowd", 4, 16), ("crowd", 64, 16), ("crowd", 64, 1000), ("thin_crowd", 4, 16), ("thin_crowd", 64, 1000)])
+    def test_crowd_that_locks_names(self, way: str, threads: int, names: int) -> None:
         """However many transactions the threads make, the requests are those of the opening and of the starts, and no name has two owners."""
         locks, told = self.built("bench_locks"), []
         for milliseconds in "1", "500":
-            told.append(self.counted("", locks, "crowd", str(threads), str(names), milliseconds))
+            told.append(self.counted("", locks, way, str(threads), str(names), milliseconds))
             self.assertEqual((told[-1].run.status, told[-1].run.err), (0, b""))
         few, many = (int(each.run.out.split()[1]) for each in told)
         self.assertEqual(told[0].counts.own(), told[1].counts.own(), f"{few} and {many} transactions")

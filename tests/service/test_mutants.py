@@ -13,7 +13,7 @@ from typing import NamedTuple
 
 from lib.world import TOP, Case, each
 
-LIMIT = "15"
+LIMIT = "60"
 """Seconds after which a test takes something to have no end. A wrong body may hang; that is how its test fails."""
 EDITS = sorted(glob.glob(os.path.join(TOP, "tests/mutants/*.edit")))
 
