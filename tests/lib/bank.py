@@ -8,6 +8,7 @@ python3 lib/bank.py SOCKET FILE SLOT SEED: moves money between accounts under lo
 """
 from __future__ import annotations
 
+import contextlib
 import mmap
 import os
 import random
@@ -166,11 +167,9 @@ def main() -> None:
     chance, bank, history = random.Random(seed), BankFile(file), History(file, slot)
     with Locks.connect(path, retry=Retry(1000, longest=0.1)) as locks:
         while not bank.is_over():
-            try:
+            with contextlib.suppress(Timeout):
                 locks.run(transfer, bank, history, slot, chance)
                 bank.count(slot)
-            except Timeout:
-                pass
 
 
 if __name__ == "__main__":

@@ -6,18 +6,12 @@ import logging
 import threading
 from typing import Any, Awaitable, Callable
 
-from lib.world import LIMIT, until
+from lib.world import LIMIT, same, until  # noqa: F401
 
 from pashkure import aio
 
 
 logging.getLogger("pashkure").addHandler(logging.NullHandler())  # so that a warning is no line on standard error
-
-
-def same(told: Any, wanted: Any, what: str = "") -> None:
-    """Fails unless both are equal."""
-    if told != wanted:
-        raise AssertionError(f"{what or 'told'}: {told!r}, and {wanted!r} is wanted")
 
 
 def raises(kind: type, call: Callable[..., Any], *args: Any, **kwargs: Any) -> Any:

@@ -3,14 +3,12 @@ from __future__ import annotations
 
 import functools
 import os
-import shutil
 import struct
 import subprocess
 import tempfile
-import unittest
 from typing import Any, NamedTuple, Optional
 
-from lib.world import Case, Run, run
+from lib.world import Case, Run, run, wants, write
 
 SOURCE = os.path.join(os.path.dirname(os.path.abspath(__file__)), "fault.c")
 COUNTS = struct.Struct("7q")
@@ -42,8 +40,7 @@ class Ran(NamedTuple):
 @functools.lru_cache(maxsize=None)
 def library() -> str:
     """The path of the library, which is built once."""
-    if not shutil.which("cc"):
-        raise unittest.SkipTest("no C compiler cc is on the PATH")
+    wants("cc")
     folder = tempfile.TemporaryDirectory(prefix="pashkure.")
     os.chmod(folder.name, 0o755)
     KEPT.append(folder)
@@ -80,8 +77,7 @@ class FaultCase(Case):
         """The same, with what was counted."""
         if not hasattr(self, "counts"):
             self.counts = self.file("counts", bytes(COUNTS.size))
-        with open(self.counts, "wb") as file:
-            file.write(bytes(COUNTS.size))
+        write(self.counts, bytes(COUNTS.size))
         told = run(*command, given=given, env={**os.environ, **variables(rules, counts=self.counts)})
         with open(self.counts, "rb") as file:
             return Ran(told, Counts(*COUNTS.unpack(file.read())))

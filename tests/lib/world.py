@@ -1,8 +1,11 @@
 """What the tests run: the program, a server in front of it, and connections to one."""
 from __future__ import annotations
 
+import contextlib
 import os
+import pty
 import re
+import select
 import shlex
 import shutil
 import signal
@@ -72,8 +75,31 @@ def stop(process: int) -> None:
 
 
 def state(process: int) -> str:
-    with open(f"/proc/{process}/stat", encoding="ascii") as file:
-        return file.read().rpartition(")")[2].split()[0]
+    return read(f"/proc/{process}/stat").rpartition(")")[2].split()[0]
+
+
+def read(path: str) -> str:
+    """The text of a file, with its line ends as they are."""
+    with open(path, encoding="utf-8", newline="") as file:
+        return file.read()
+
+
+def write(path: str, data: str | bytes) -> None:
+    with open(path, "wb") as file:
+        file.write(data if isinstance(data, bytes) else data.encode())
+
+
+def wants(*tools: str) -> None:
+    """Skips the test if one of these commands is missing. (tests/packages says in which package each is.)"""
+    for tool in tools:
+        if not shutil.which(tool):
+            raise unittest.SkipTest(f"no command {tool} is on the PATH")
+
+
+def same(told: Any, wanted: Any, what: str = "") -> None:
+    """Fails unless both are equal."""
+    if told != wanted:
+        raise AssertionError(f"{what or 'told'}: {told!r}, and {wanted!r} is wanted")
 
 
 def each(rows: Iterable[Any]) -> Callable[[Any], Any]:
@@ -142,8 +168,7 @@ class Case(unittest.TestCase):
     def file(self, name: str, data: str | bytes) -> str:
         """The path of a new file with this text."""
         path = self.path(name)
-        with open(path, "wb") as file:
-            file.write(data if isinstance(data, bytes) else data.encode())
+        write(path, data)
         return path
 
     def script(self, text: str) -> str:
@@ -208,17 +233,14 @@ class Server:
 
     def program_pid(self) -> int:
         """The process of the program that it stands in front of."""
-        with open(self._pid_file, encoding="ascii") as file:
-            return int(file.read())
+        return int(read(self._pid_file))
 
     def stderr(self) -> str:
-        with open(self._err, encoding="utf-8") as file:
-            return file.read()
+        return read(self._err)
 
     def memory(self) -> int:
         """Resident memory, in bytes."""
-        with open(f"/proc/{self.process.pid}/statm", encoding="ascii") as file:
-            return int(file.read().split()[1]) * os.sysconf("SC_PAGE_SIZE")
+        return int(read(f"/proc/{self.process.pid}/statm").split()[1]) * os.sysconf("SC_PAGE_SIZE")
 
     def descriptors(self) -> int:
         """How many files the server has open."""
@@ -234,11 +256,32 @@ class Server:
         """Ends the server and its program, whatever they do."""
         if self.process.poll() is None:
             self.process.send_signal(signal.SIGTERM)
-            try:
+            with contextlib.suppress(subprocess.TimeoutExpired):
                 self.process.wait(min(30, LIMIT))
-            except subprocess.TimeoutExpired:
-                self.process.kill()
+        self.process.kill()
         self.process.wait()
+
+
+def typed(command: list[str], text: bytes, environment: Optional[dict[str, str]] = None) -> tuple[int, bytes]:
+    """Runs the command at a terminal of its own, types the text there and then Ctrl-D. Returns its status, and what the terminal shows,
+    with its line ends as newlines."""
+    child, terminal = pty.fork()
+    if child == 0:
+        try:
+            os.execvpe(command[0], command, environment or dict(os.environ))
+        finally:
+            os._exit(127)
+    os.write(terminal, text + b"\x04")
+    shown = b""
+    with contextlib.suppress(OSError):  # the last program that had the terminal open has ended
+        while True:
+            if not select.select([terminal], [], [], LIMIT)[0]:
+                os.kill(child, signal.SIGKILL)
+            if not (piece := os.read(terminal, 4096)):
+                break
+            shown += piece
+    os.close(terminal)
+    return os.waitstatus_to_exitcode(os.waitpid(child, 0)[1]), shown.replace(b"\r\n", b"\n")
 
 
 def answers(path: str) -> bool:

@@ -3,12 +3,10 @@ from __future__ import annotations
 
 import os
 import re
-import shutil
 import subprocess
 import tempfile
-import unittest
 
-from lib.world import TOP, Case, Run, each, run
+from lib.world import TOP, Case, Run, each, read, run, wants
 
 HERE = os.path.join(TOP, "tests", "program")
 SOURCE = f"{HERE}/library.c"
@@ -29,18 +27,12 @@ OF_SLEEPERS = {"TIMED_OUT": 9, "INTERRUPTED": 10, "NOT_ASKED": 11}
 
 
 def text_of(*path: str) -> str:
-    with open(os.path.join(*path), encoding="utf-8") as file:
-        return file.read()
+    return read(os.path.join(*path))
 
 
 HEADER = re.sub(r"/\*.*?\*/", "", text_of(INCLUDE, "pashkure.h"), flags=re.S)
 SOURCES = "".join(text_of(CRATE, name) for name in sorted(os.listdir(CRATE)))
 TESTS = re.findall(r"^TEST\((\w+)\)", text_of(SOURCE), re.M)
-
-
-def wants(tool: str) -> None:
-    if not shutil.which(tool):
-        raise unittest.SkipTest(f"no command {tool} is on the PATH")
 
 
 class HeaderOnly(Case):
@@ -60,8 +52,7 @@ class LibraryCase(Case):
     @classmethod
     def setUpClass(cls) -> None:
         super().setUpClass()
-        for tool in "cc", "nm", "objcopy":
-            wants(tool)
+        wants("cc", "nm", "objcopy")
         scratch = tempfile.TemporaryDirectory(prefix="pashkure.")
         cls.addClassCleanup(scratch.cleanup)
         cls.top = scratch.name

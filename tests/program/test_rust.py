@@ -5,8 +5,8 @@ import os
 import re
 import shutil
 
-from lib.world import CLIENTS, Case, Run, run
-from program.test_library import HEADER, INCLUDE, LibraryCase, text_of, wants
+from lib.world import CLIENTS, Case, Run, run, wants
+from program.test_library import HEADER, INCLUDE, LibraryCase, text_of
 
 CRATE = os.path.join(CLIENTS, "rust")
 HEADERS = HEADER + re.sub(r"/\*.*?\*/", "", text_of(INCLUDE, "pashkure_threads.h"), flags=re.S)

@@ -8,7 +8,7 @@ import shutil
 import signal
 import subprocess
 
-from lib.world import PROGRAM, TOP, Case, each, run
+from lib.world import PROGRAM, TOP, Case, each, read, run
 
 LEFT_OVER = "spent 0 refused 0"
 CROSSWISE_LINES = f"clients finished 1 aborted 1 {LEFT_OVER}\ntable verdicts 1 aborts 1\n"
@@ -193,8 +193,7 @@ class Reports(Case):
         path = self.file("a report", "0" * 100_000)
         told = self.run_program("storm", f"--report={path}")
         self.ends(told, 0, told.out)
-        with open(path, encoding="utf-8") as file:
-            text = file.read()
+        text = read(path)
         self.assertTrue(text.endswith("}\n") and "totals" in json.loads(text), text)
 
     def test_on_a_pipe(self) -> None:

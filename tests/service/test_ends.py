@@ -7,7 +7,7 @@ import socket
 import stat
 import subprocess
 
-from lib.world import LIMIT, PROGRAM, Server, Wire, answers, each, environment, run, stop, until
+from lib.world import LIMIT, PROGRAM, Server, Wire, answers, each, environment, read, run, stop, until, wants, write
 from service.test_server import ServerCase, begun
 
 
@@ -24,11 +24,6 @@ class Clients:
     def are_closed(self, case: ServerCase) -> None:
         """Fails unless each of them is told that its connection is closed."""
         case.assertEqual([wire.all() for wire in self.wires], [b""] * 6)
-
-
-def read(path: str) -> str:
-    with open(path, encoding="ascii", newline="") as file:
-        return file.read()
 
 
 class Ends(ServerCase):
@@ -96,8 +91,7 @@ class Ends(ServerCase):
                 wire.send(b"totals\n" * 1000)
             self.assertEqual(wires[0].lines(1), [b"totals 0 0 0 0"])
             self.assertEqual((server.close(), server.stderr()), (0, ""))
-        with open(statuses, encoding="ascii") as file:
-            self.assertEqual(file.read(), "0\n" * 5)
+        self.assertEqual(read(statuses), "0\n" * 5)
 
     def test_program_that_hangs(self) -> None:
         """A server whose program does not end at the end of its input ends it, with status 0."""
@@ -123,14 +117,12 @@ class Starts(ServerCase):
 
     def test_rights_at_first(self) -> None:
         """The file never has more rights than were asked for, not even when it is made."""
-        if run("sh", "-c", "command -v strace").status:
-            self.skipTest("strace is not on the PATH (Debian's package strace)")
+        wants("strace")
         path, log = self.path("socket"), self.path("log")
         command = ["strace", "-f", "-o", log, "-e", "trace=umask,bind,chmod,fchmod,fchmodat", *self.needs_server(), "--socket", path, "--program", PROGRAM]
         with subprocess.Popen(command, env=environment(), stderr=subprocess.DEVNULL) as child:
             until(lambda: child.poll() is not None or answers(path), "the server answers or ends")
-            with open(log, encoding="ascii") as file:
-                calls = file.read()
+            calls = read(log)
             if "umask(" not in calls:
                 child.kill()
                 self.skipTest("strace cannot trace here")
@@ -149,8 +141,7 @@ class Starts(ServerCase):
         status, told = self.told(self.server(path=path))
         self.assertEqual(status, 1)
         self.assertRegex(told, rf"\A[^\n]*{path}[^\n]*\n\Z")
-        with open(path, encoding="ascii") as file:
-            self.assertEqual(file.read(), "text")
+        self.assertEqual(read(path), "text")
         status, told = self.told(self.server(path=self.path("none") + "/socket"))
         self.assertEqual((status, told.count("\n")), (1, 1), told)
 
@@ -167,8 +158,7 @@ class Starts(ServerCase):
         """At its end a server leaves a file that is another one by now."""
         server = self.server()
         os.unlink(server.path)
-        with open(server.path, "w", encoding="ascii") as file:
-            file.write("mine")
+        write(server.path, "mine")
         self.assertEqual((server.close(), os.path.exists(server.path)), (0, True))
 
     def test_pairs(self) -> None:
@@ -191,8 +181,7 @@ class Starts(ServerCase):
             self.assertEqual((both[1].communicate()[1], both[1].returncode, os.path.exists(path)), ("", 0, False))
             locked.append(os.stat(path + ".lock"))
         self.assertEqual({(status.st_ino, stat.S_IMODE(status.st_mode)) for status in locked}, {(locked[0].st_ino, 0o600)})
-        with open(starts, encoding="ascii") as file:
-            self.assertEqual(file.read(), "started\n" * count)
+        self.assertEqual(read(starts), "started\n" * count)
 
     def test_lock_file(self) -> None:
         """PATH.lock is held by the server alone: not by its program, which may outlive it; a link at its place is not followed."""
@@ -258,7 +247,7 @@ class Epochs(ServerCase):
             if number == 3:
                 os.unlink(path + ".epoch")
             if number == 4:
-                self.write(path + ".epoch", "9000000000000000000\n")
+                write(path + ".epoch", "9000000000000000000\n")
                 last = 9 * 10**18
             now = self.epoch(path=path)
             self.assertGreater(now, last)
@@ -266,10 +255,6 @@ class Epochs(ServerCase):
             self.assertEqual(stat.S_IMODE(os.stat(path + ".epoch").st_mode), 0o600)
             last = now
         self.assertEqual(last, 9 * 10**18 + 2)
-
-    def write(self, path: str, text: str) -> None:
-        with open(path, "w", encoding="ascii") as file:
-            file.write(text)
 
     def test_file_of_its_own(self) -> None:
         path, file = self.path("socket"), self.path("epoch")
@@ -308,7 +293,7 @@ class Epochs(ServerCase):
             os.chown(other, 65534, 65534)
             os.makedirs(folder)
             places += [other]
-            self.write(os.path.join(folder, "socket.lock"), "")
+            write(os.path.join(folder, "socket.lock"), "")
             os.chown(os.path.join(folder, "socket.lock"), 65534, 65534)
             server = self.server(path=os.path.join(folder, "socket"))
             self.assertEqual((server.process.wait(LIMIT), "no file of this user" in server.stderr()), (1, True), server.stderr())

@@ -9,7 +9,6 @@ import math
 import os
 import random
 import re
-import shutil
 import subprocess
 import sys
 import time
@@ -18,7 +17,7 @@ from typing import Any, Callable, Optional
 
 from lib.clients import NO_KEYS, NO_NAMES, NO_TEXTS, raises, same
 from lib.hub import Hub
-from lib.world import PACKAGE, Case, each, environment, run
+from lib.world import PACKAGE, Case, each, environment, read, run, wants
 
 import pashkure
 from pashkure import Aborted, Deadlock, Full, Interrupted, LockError, LocksLost, MustAbort, NotOwner, ProtocolError, Retry, Timeout, aio, flows, wire
@@ -538,13 +537,11 @@ class Forms(Case):
 
     def test_mypy(self) -> None:
         """The package, and a user's program, whose wrong lines are marked with `# wrong`, under `mypy --strict`."""
-        if not shutil.which("mypy"):
-            self.skipTest("no mypy is on the PATH (Debian's package mypy)")
+        wants("mypy")
         program = os.path.join(os.path.dirname(os.path.dirname(os.path.abspath(__file__))), "lib", "typed.py")
         told = run("mypy", "--strict", "--cache-dir", self.path("cache"), program, "pashkure", cwd=PACKAGE, env=environment(MYPYPATH=PACKAGE))
         errors = re.findall(rb"typed\.py:(\d+): error", told.out)
-        with open(program, encoding="utf-8") as file:
-            wanted = [number for number, line in enumerate(file, 1) if "# wrong" in line]
+        wanted = [number for number, line in enumerate(read(program).splitlines(), 1) if "# wrong" in line]
         same((sorted({*map(int, errors)}), told.out.count(b"error:") - len(errors)), (wanted, 0), told.out.decode())
 
 

@@ -11,7 +11,7 @@ import time
 from typing import Any
 
 from lib.faults import FaultCase, variables
-from lib.world import IS_SLOW, LIMIT, TOP, Server, Wire, each, environment, run, stop, until
+from lib.world import IS_SLOW, LIMIT, TOP, Server, Wire, each, environment, read, run, stop, until, wants, write
 from service.test_server import ServerCase, fills
 
 STUB = os.path.join(TOP, "tests", "lib", "stub.py")
@@ -48,8 +48,7 @@ class StubCase(ServerCase):
 
     def words(self) -> list[str]:
         """The words that the program was started with."""
-        with open(self.log, encoding="ascii") as file:
-            return file.readline().split()
+        return read(self.log).partition("\n")[0].split()
 
     def turn(self) -> None:
         """Returns when the server has passed on what it had read before."""
@@ -445,13 +444,11 @@ class Program(StubCase):
         """Three descriptors, and no signal that is blocked or dropped, but those that Python drops itself."""
         told = self.path("told")
         program = self.script("")
-        with open(program, "w", encoding="ascii") as file:
-            file.write(f"#!{sys.executable}\nimport os\nnames = os.listdir('/proc/self/fd')\nwith open({told!r}, 'w') as file:\n"
-                       "    print(len(names), *(line for line in open('/proc/self/status') if line.startswith(('SigBlk', 'SigIgn'))), file=file)\n")  # fmt: skip
+        write(program, f"#!{sys.executable}\nimport os\nnames = os.listdir('/proc/self/fd')\nwith open({told!r}, 'w') as file:\n"
+              "    print(len(names), *(line for line in open('/proc/self/status') if line.startswith(('SigBlk', 'SigIgn'))), file=file)\n")  # fmt: skip
         words = [*self.needs_server(), "--socket", self.path("socket"), "--admin", self.path("admin"), "--program", program]
         self.assertEqual(run(*words, env=environment()).status, 1)
-        with open(told, encoding="ascii") as file:
-            count, _, blocked, _, dropped = file.read().split()
+        count, _, blocked, _, dropped = read(told).split()
         self.assertEqual((int(count), int(blocked, 16), int(dropped, 16) & 0x7EFF_EFFF), (4, 0, 0))  # (the folder itself is open too)
 
 
@@ -485,8 +482,7 @@ class Heartbeat(StubCase, FaultCase):
             self.assertEqual(wire.all(), b"")
         self.assertEqual((server.process.wait(LIMIT), os.path.exists(server.path)), (1, False))
         self.assertEqual(server.stderr(), f"pashkure: no line came on descriptor {self.reads} for 600000 milliseconds\n")
-        with open(self.faults, encoding="ascii") as file:
-            before, jump, behind = file.read().partition(f"boottime:told={jumps}@")
+        before, jump, behind = read(self.faults).partition(f"boottime:told={jumps}@")
         self.assertEqual(("send:" in before, bool(jump), "send:" in behind), (True, True, False))
 
     @each([400, *range(501, 509)])
@@ -507,8 +503,7 @@ class Heartbeat(StubCase, FaultCase):
                 os.write(self.writes, b"beat\n")
                 self.asks(wire, (b"a", b"heard 61"))
             self.assertIsNone(server.process.poll())
-            with open(self.faults, encoding="ascii") as file:
-                self.assertIn("boottime:told=2500@", file.read())
+            self.assertIn("boottime:told=2500@", read(self.faults))
             if not last:
                 os.close(self.writes)
                 self.writes = os.open(os.devnull, os.O_WRONLY)
@@ -555,10 +550,7 @@ class Manager(StubCase):
 
     def test_unit(self) -> None:
         """The unit of examples/ is one that systemd takes."""
-        if run("sh", "-c", "command -v systemd-analyze").status:
-            self.skipTest("systemd-analyze is not on the PATH (Debian's package systemd)")
-        with open(os.path.join(TOP, "examples/pashkure.service"), encoding="ascii") as file:
-            text = file.read()
-        unit = self.file("pashkure.service", text.replace("/usr/local/bin/", "/bin/true #"))
+        wants("systemd-analyze")
+        unit = self.file("pashkure.service", read(os.path.join(TOP, "examples/pashkure.service")).replace("/usr/local/bin/", "/bin/true #"))
         told = run("systemd-analyze", "verify", unit)
         self.assertEqual(told.status, 0, told.err)

@@ -2,6 +2,7 @@
 service for tests."""
 from __future__ import annotations
 
+import contextlib
 import logging
 import os
 import shlex
@@ -93,9 +94,7 @@ class Calls:
     def test_deadlock(self) -> None:
         """A deadlock is told to the one who closes the cycle, and the others go on after its abort"""
         locks = self.locks
-        one, two = locks.transaction(), locks.transaction()
-        one.lock("1")
-        two.lock("2")
+        one, two = locks.transaction("1"), locks.transaction("2")
         thread = Apart(one.lock, "2")
         waits(one)
         same(self.operator.graph(), [Wait(one.key, "2", two.key)])
@@ -137,14 +136,11 @@ class Calls:
                 two.lock("b")
                 thread.append(Apart(one.lock, "b"))
                 waits(one)
-                try:
+                with contextlib.suppress(Deadlock):
                     two.lock("a")
-                except Deadlock:
-                    pass
 
         thread: List[Apart] = []
-        one = locks.transaction()
-        one.lock("a")
+        one = locks.transaction("a")
         raises(MustAbort, swallows)
         same(thread[0].ends(), None)
         one.commit()
@@ -153,8 +149,7 @@ class Calls:
     def test_timeouts(self) -> None:
         """A lock with a timeout gives up after it, not before, and the transaction goes on"""
         locks = self.locks
-        one, two = locks.transaction(), locks.transaction()
-        one.lock("a")
+        one, two = locks.transaction("a"), locks.transaction()
         start = time.monotonic()
         error = raises(Timeout, two.lock, "a", timeout=0.05)
         assert time.monotonic() - start >= 0.05, "it gave up too soon"
@@ -173,9 +168,7 @@ class Calls:
     def test_abort_of_another(self) -> None:
         """A transaction that waits is aborted by another thread, and its `lock` raises `Aborted`"""
         locks = self.locks
-        one, two = locks.transaction(), locks.transaction()
-        one.lock("a")
-        two.lock("b")
+        one, two = locks.transaction("a"), locks.transaction("b")
         thread = Apart(two.lock, "a")
         waits(two)
         two.abort()
@@ -267,10 +260,8 @@ class Calls:
     def test_full(self) -> None:
         """A full table refuses transactions and names as `Full`, and has room again after an end"""
         locks = self.locks
-        txs = [locks.transaction() for _ in range(4)]
+        txs = [locks.transaction(f"{number}") for number in range(4)]
         same(raises(Full, locks.transaction).what, "transactions")
-        for number, tx in enumerate(txs):
-            tx.lock(f"{number}")
         error = raises(Full, txs[0].lock, "more")
         same((error.what, error.is_lasting), ("names", False))
         raises(Full, txs[0].try_lock, "more")
@@ -283,8 +274,7 @@ class Calls:
 
     def test_threads(self) -> None:
         """Sixteen threads change counters under their locks, and no change is lost"""
-        locks = self.locks
-        locks = locks.retrying(Retry(1000, longest=0.05))
+        locks = self.locks.retrying(Retry(1000, longest=0.05))
         counters = {f"counter/{number}": 0 for number in range(5)}
 
         def add(tx: Any, one: str, two: str) -> None:
@@ -302,21 +292,16 @@ class Calls:
                     done.append(1)
 
         done: List[int] = []
-        crowd = [Apart(many, number) for number in range(16)]
-        for thread in crowd:
-            same(thread.ends(), None)
+        same([thread.ends() for thread in [Apart(many, number) for number in range(16)]], [None] * 16)
         same(sum(counters.values()), 0)
         totals = locks.totals()
-        same(totals.committed, len(done))
-        same(totals.begun, totals.committed + totals.aborted)
-        same(totals.deadlocks, totals.aborted)
+        same((totals.committed, totals.begun, totals.deadlocks), (len(done), totals.committed + totals.aborted, totals.aborted))
         same(self.operator.graph(), [])
 
     def test_closing(self) -> None:
         """After `close` every call raises `Closed`, also one that waits"""
         locks = self.locks
-        one, two = locks.transaction(), locks.transaction()
-        one.lock("a")
+        one, two = locks.transaction("a"), locks.transaction()
         thread = Apart(two.lock, "a")
         waits(two)
         locks.close()
@@ -358,8 +343,8 @@ class Calls:
             one.commit()
         events = [(event.kind, event.key, event.names, type(event.error)) for event in told if event.kind != "connect"]
         none = type(None)
-        same(sorted(events, key=str), sorted([("begin", one.key, ("a",), none), ("begin", two.key, (), none), ("lock", two.key, ("b",), none),
-             ("lock", one.key, ("b",), none), ("lock", two.key, ("a",), Deadlock), ("abort", two.key, (), none), ("commit", one.key, (), none)], key=str))  # fmt: skip
+        same((set(events), len(events)), ({("begin", one.key, ("a",), none), ("begin", two.key, (), none), ("lock", two.key, ("b",), none), ("lock", one.key, ("b",), none),
+             ("lock", two.key, ("a",), Deadlock), ("abort", two.key, (), none), ("commit", one.key, (), none)}, 7))  # fmt: skip
         waited = [event for event in told if event.names == ("b",) and event.key == one.key][0]
         same(waited.seconds >= waited.waited >= 0.01, True)
         text = "\n".join(logs.output)

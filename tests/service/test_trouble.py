@@ -3,6 +3,7 @@ are cancelled, and calls of the C library that fail, are short or are late, belo
 from __future__ import annotations
 
 import asyncio
+import contextlib
 import gc
 import os
 import random
@@ -17,7 +18,7 @@ from typing import Any, Callable, List
 
 from lib.clients import Apart, Asyncio, raises, same, waits
 from lib.faults import FaultCase, variables
-from lib.world import LIMIT, SEED, Case, Server, each, environment, run, stop, until
+from lib.world import LIMIT, SEED, Case, Server, each, environment, read, run, stop, until
 
 import pashkure
 from pashkure import (Aborted, CannotConnect, Closed, Deadlock, Interrupted, Locks, LocksLost, NoTransaction, ProtocolError, ServiceRestarted, Timeout,
@@ -37,14 +38,9 @@ class TroubleCase(Case):
         self.addCleanup(locks.ends if isinstance(locks, Asyncio) else locks.close)
         return locks
 
-    def none_is_left(self, locks: Any) -> None:
-        """Returns when no transaction is live."""
-
-        def is_so() -> bool:
-            totals = locks.totals()
-            return bool(totals.begun == totals.committed + totals.aborted)
-
-        until(is_so, "no transaction is live")
+    def none_is_left(self, locks: Any, but: int = 0, of: str = "anyone") -> None:
+        """Returns when no transaction is live but for so many."""
+        until(lambda: (totals := locks.totals()).begun == totals.committed + totals.aborted + but, f"nothing is left of {of}")
 
 
 class Interrupts(TroubleCase):
@@ -68,10 +64,8 @@ class Interrupts(TroubleCase):
     def uses(self) -> None:
         with self.locks.transaction() as tx:
             tx.lock("a", "b")
-            try:
+            with contextlib.suppress(Timeout):
                 tx.lock("held", timeout=0)
-            except Timeout:
-                pass
 
     def at_line(self, count: int) -> bool:
         """Uses the locks, and raises at the line of the package that is the so-manieth. Whether it came so far."""
@@ -99,7 +93,7 @@ class Interrupts(TroubleCase):
 
     def is_whole(self) -> None:
         """Fails unless other threads go on, and what was broken off has left nothing."""
-        until(lambda: self.other.totals().begun == sum(getattr(self.other.totals(), name) for name in ("committed", "aborted")) + 1, f"nothing is left of {self.place}")
+        self.none_is_left(self.other, 1, self.place)
         same(Apart(self.locks.owner, "a").ends(), None)
 
     def test_each_line(self) -> None:
@@ -133,17 +127,14 @@ class Interrupts(TroubleCase):
             while armed[0]:
                 self.uses()
 
-        before = signal.signal(signal.SIGALRM, handler)
-        self.addCleanup(signal.signal, signal.SIGALRM, before)
+        self.addCleanup(signal.signal, signal.SIGALRM, signal.signal(signal.SIGALRM, handler))
         thread, stops = Apart(goes_on), 0
         with warnings.catch_warnings():
             warnings.simplefilter("ignore", ResourceWarning)
             while stops < 1000:
                 stops += 1
-                try:
+                with contextlib.suppress(Stop):
                     uses_while_armed()
-                except Stop:
-                    pass
         over.set()
         self.assertGreater(thread.ends(), 0)
         self.is_whole()
@@ -151,11 +142,8 @@ class Interrupts(TroubleCase):
     def test_commit(self) -> None:
         """A block whose commit is broken off gives its names back."""
         tx = self.locks.transaction("a")
-        try:
-            with tx:
-                tx._call = lambda *args: exec("raise KeyboardInterrupt")  # type: ignore[method-assign]
-        except KeyboardInterrupt:
-            pass
+        with contextlib.suppress(KeyboardInterrupt), tx:
+            tx._call = lambda *args: exec("raise KeyboardInterrupt")  # type: ignore[method-assign]
         same(self.other.owner("a"), None)
 
     def test_within_a_wait(self) -> None:
@@ -165,18 +153,15 @@ class Interrupts(TroubleCase):
         def handler(number: int, frame: Any) -> None:
             raise Stop
 
-        before = signal.signal(signal.SIGUSR1, handler)
-        self.addCleanup(signal.signal, signal.SIGUSR1, before)
+        self.addCleanup(signal.signal, signal.SIGUSR1, signal.signal(signal.SIGUSR1, handler))
 
         def kills() -> None:
             waits(tx)
             signal.pthread_kill(main, signal.SIGUSR1)
 
         thread = Apart(kills)
-        try:
+        with contextlib.suppress(Stop):
             tx.lock("held")
-        except Stop:
-            pass
         thread.ends()
         until(lambda: self.other.owner("a") is None, "its name is free")
         raises(LocksLost, tx.lock, "b")
@@ -193,12 +178,9 @@ class Crowd(TroubleCase):
         def works(number: int) -> None:
             chance = random.Random(number)
             for _ in range(50):
-                try:
-                    with locks.transaction() as tx:
-                        current[number] = tx
-                        tx.lock(*chance.sample("abcd", 2), timeout=chance.choice([None, 0.001, 0.02]))
-                except (Aborted, Deadlock, Interrupted, Timeout):
-                    pass
+                with contextlib.suppress(Aborted, Deadlock, Interrupted, Timeout), locks.transaction() as tx:
+                    current[number] = tx
+                    tx.lock(*chance.sample("abcd", 2), timeout=chance.choice([None, 0.001, 0.02]))
 
         def kills() -> None:
             chance = random.Random(SEED)
@@ -410,15 +392,12 @@ class Hangs(TroubleCase):
             listener.listen()
 
             def serves() -> None:
-                while True:
-                    try:
-                        wire, _ = listener.accept()
-                    except OSError:
-                        return
-                    with wire:
-                        wire.sendall(says)
-                        while says and wire.recv(1000):
-                            pass
+                with contextlib.suppress(OSError):
+                    while True:
+                        with listener.accept()[0] as wire:
+                            wire.sendall(says)
+                            while says and wire.recv(1000):
+                                pass
 
             thread = Apart(serves)
             for _, form in FORMS:
@@ -627,10 +606,8 @@ class Faults(FaultCase):
         log = self.path("log")
         told = run(sys.executable, "-c", text, self.server("--name-bytes", "64").path, env=environment(**variables(FAULTS, seed, log, only="python")))
         self.assertEqual(told, (0, b"17\n" if text is USES else b"16\n", b""))
-        with open(log, encoding="ascii") as file:
-            faults = file.read()
         for fault in "recv:short", "send:short", "recv:EINTR", "send:EINTR":
-            self.assertIn(fault, faults)
+            self.assertIn(fault, read(log))
 
     @each([("one", 1), ("two", 2), ("a new seed", SEED)])
     def test_server(self, name: str, seed: int) -> None:
@@ -640,29 +617,24 @@ class Faults(FaultCase):
         told = run(sys.executable, "-c", USES, server.path, env=environment())
         self.assertEqual(told, (0, b"17\n", b""))
         self.assertEqual((server.close(), server.stderr()), (0, ""))
-        with open(log, encoding="ascii") as file:
-            text = file.read()
         for fault in "read:short", "write:short", "recv:short", "send:short", "recv:EINTR", "send:EINTR", "epoll_wait:EINTR":
-            self.assertIn(fault, text)
+            self.assertIn(fault, read(log))
 
     def test_how_long_poll_waits(self) -> None:
         """A lock with a time of a twentieth of a second does not ask the system to wait for longer."""
         log = self.path("log")
         text = """if True:
-            import sys
+            import contextlib, sys
             from pashkure import Locks, Timeout
             with Locks.connect(sys.argv[1], reply_timeout=100, connect_timeout=100) as locks:
                 one, two = locks.transaction("a"), locks.transaction()
-                try:
+                with contextlib.suppress(Timeout):
                     two.lock("a", timeout=0.05)
-                except Timeout:
-                    pass
                 one.abort()
                 two.abort()
         """
         told = run(sys.executable, "-c", text, self.server().path, env=environment(**variables("poll:told", log=log, only="python")))
         self.assertEqual(told, (0, b"", b""))
-        with open(log, encoding="ascii") as file:
-            waited = [int(time) for time in re.findall(r"poll:told=(-?[0-9]+)@", file.read()) if 0 < int(time) < 50_000]
+        waited = [int(time) for time in re.findall(r"poll:told=(-?[0-9]+)@", read(log)) if 0 < int(time) < 50_000]
         self.assertTrue(waited, "it never waited for a time")
         self.assertLessEqual(max(waited), 51)
