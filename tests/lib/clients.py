@@ -2,6 +2,7 @@
 from __future__ import annotations
 
 import asyncio
+import contextlib
 import logging
 import threading
 from typing import Any, Awaitable, Callable
@@ -90,7 +91,7 @@ class Asyncio:
         self._loop.close()
 
 
-class AsyncioTransaction:
+class AsyncioTransaction(contextlib.AbstractContextManager):
     def __init__(self, locks: Asyncio, tx: aio.Transaction) -> None:
         self._locks, self._tx, self.key = locks, tx, tx.key
 
@@ -99,9 +100,6 @@ class AsyncioTransaction:
 
     def __getattr__(self, name: str) -> Callable[..., Any]:
         return lambda *args, **options: self._locks.result(getattr(self._tx, name)(*args, **options))
-
-    def __enter__(self) -> "AsyncioTransaction":
-        return self
 
     def __exit__(self, *error: Any) -> None:
         self._locks.result(self._tx.__aexit__(*error))

@@ -6,6 +6,7 @@ import os
 import struct
 import subprocess
 import tempfile
+from collections import namedtuple
 from typing import Any, NamedTuple, Optional
 
 from lib.world import Case, Run, run, wants, write
@@ -14,16 +15,8 @@ SOURCE = os.path.join(os.path.dirname(os.path.abspath(__file__)), "fault.c")
 COUNTS = struct.Struct("7q")
 
 
-class Counts(NamedTuple):
+class Counts(namedtuple("Counts", "requests by_starts by_threads refused starts started ended")):
     """What fault.c counts: requests for memory, those of the starts of threads and of threads, the refused ones, and threads."""
-
-    requests: int = 0
-    by_starts: int = 0
-    by_threads: int = 0
-    refused: int = 0
-    starts: int = 0
-    started: int = 0
-    ended: int = 0
 
     def own(self) -> int:
         """The requests that the program made itself. (The C library starts a thread with fewer if it has the memory of one that ended.)"""

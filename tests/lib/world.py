@@ -2,6 +2,7 @@
 from __future__ import annotations
 
 import contextlib
+import glob
 import os
 import pty
 import re
@@ -32,6 +33,18 @@ LIMIT = int(os.environ.get("TESTED_LIMIT") or 600)
 """Seconds after which something is taken to have no end, however slow the machine is."""
 
 sys.path.insert(0, PACKAGE)
+
+
+FLAGS = ["-std=c11", "-Wall", "-Wextra", "-Wpedantic", "-Wshadow", "-Wconversion", "-Werror"]
+
+
+def built_server(path: str, *flags: str) -> str:
+    """Builds it there, of the sources below TESTED_SOURCES if that is in the environment. Returns the path, or nothing if there is no compiler."""
+    if not shutil.which("cc"):
+        return ""
+    sources = glob.glob(os.path.join(os.environ.get("TESTED_SOURCES") or TOP, "server", "*.c"))
+    subprocess.run(["cc", *FLAGS, *(flags or ("-O1",)), "-o", path, *sources], check=True)
+    return path
 
 
 class Run(NamedTuple):
@@ -190,6 +203,11 @@ class Case(unittest.TestCase):
         else:
             self.assertEqual(told.err, wanted[1], "standard error")
         self.assertEqual(told.status, status, "the status")
+        return told
+
+    def passes(self, told: Run) -> Run:
+        """Fails unless a run ended with status 0, and wrote nothing to standard error."""
+        self.assertEqual((told.status, told.err.decode(errors="replace")), (0, ""), told.out)
         return told
 
     def needs_server(self) -> list[str]:

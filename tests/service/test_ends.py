@@ -6,6 +6,7 @@ import signal
 import socket
 import stat
 import subprocess
+from typing import Optional
 
 from lib.world import LIMIT, PROGRAM, Server, Wire, answers, each, environment, read, run, stop, until, wants, write
 from service.test_server import ServerCase, begun
@@ -102,10 +103,15 @@ class Ends(ServerCase):
         self.program_is_over(pid)
 
 
-class Starts(ServerCase):
-    def told(self, server: Server) -> tuple[int, str]:
-        return server.process.wait(LIMIT), server.stderr()
+class StartCase(ServerCase):
+    def does_not_start(self, why: str, *words: str, path: Optional[str] = None) -> None:
+        """Fails unless a server ends with status 1 and a line that says why."""
+        server = self.server(*words, path=path)
+        self.assertEqual(server.process.wait(LIMIT), 1)
+        self.assertRegex(server.stderr(), rf"\A[^\n]*{why}[^\n]*\n\Z")
 
+
+class Starts(StartCase):
     def mode(self, path: str) -> int:
         return stat.S_IMODE(os.stat(path).st_mode)
 
@@ -134,16 +140,12 @@ class Starts(ServerCase):
     def test_path_in_use(self) -> None:
         """A server replaces neither one that answers nor what is no socket."""
         server = self.server()
-        status, told = self.told(self.server(path=server.path))
-        self.assertEqual((status, answers(server.path)), (1, True))
-        self.assertRegex(told, rf"\A[^\n]*{server.path}[^\n]*another server[^\n]*\n\Z")
+        self.does_not_start(rf"{server.path}[^\n]*another server", path=server.path)
+        self.assertTrue(answers(server.path))
         path = self.file("text", "text")
-        status, told = self.told(self.server(path=path))
-        self.assertEqual(status, 1)
-        self.assertRegex(told, rf"\A[^\n]*{path}[^\n]*\n\Z")
+        self.does_not_start(path, path=path)
         self.assertEqual(read(path), "text")
-        status, told = self.told(self.server(path=self.path("none") + "/socket"))
-        self.assertEqual((status, told.count("\n")), (1, 1), told)
+        self.does_not_start("", path=self.path("none") + "/socket")
 
     def test_stale_file(self) -> None:
         """A socket file that nobody answers at is replaced."""
@@ -196,8 +198,7 @@ class Starts(ServerCase):
             os.kill(pid, signal.SIGKILL)
         path, target = self.path("socket"), self.path("target")
         os.symlink(target, path + ".lock")
-        status, told = self.told(self.server(path=path))
-        self.assertEqual((status, told.count("\n"), path in told), (1, 1, True), told)
+        self.does_not_start(path, path=path)
         self.assertEqual((os.path.exists(target), os.path.exists(path)), (False, False))
 
     def test_wrong_words(self) -> None:
@@ -225,14 +226,8 @@ class Starts(ServerCase):
         status = os.stat(path)
         self.assertEqual((status.st_gid, stat.S_IMODE(status.st_mode)), (65534, 0o660))
 
-    def test_seed(self) -> None:
-        """The program draws its seed itself: no list of processes shows it."""
-        words = self.path("words")
-        self.assertEqual(self.server(program=self.script(f'echo "$*" > "{words}"\nexec "{PROGRAM}" "$@"')).close(), 0)
-        self.assertRegex(read(words), r"\Alocks --connections 16385 --epoch \d+\n\Z")
 
-
-class Epochs(ServerCase):
+class Epochs(StartCase):
     def epoch(self, *words: str, path: str) -> int:
         """The epoch that a server gives its program."""
         told = self.path("words")
@@ -269,18 +264,15 @@ class Epochs(ServerCase):
         self.assertFalse(os.path.exists(path + ".epoch"))
         self.assertEqual(self.epoch("--epoch", "7", "--epoch-file", file, path=path), 7)
         self.assertEqual(read(file), "7\n")
-        server = self.server("--epoch", "7", "--epoch-file", file)
-        self.assertEqual((server.process.wait(LIMIT), server.stderr().count("\n"), file in server.stderr()), (1, 1, True), server.stderr())
+        self.does_not_start(file, "--epoch", "7", "--epoch-file", file)
         self.assertEqual(self.epoch("--epoch", "9223372036854775807", "--epoch-file", file, path=path), 2**63 - 1)
-        server = self.server("--epoch-file", file)
-        self.assertEqual((server.process.wait(LIMIT), file in server.stderr()), (1, True), server.stderr())
+        self.does_not_start(file, "--epoch-file", file)
 
     @each(["", "\n", "x", "12 13", "-1", "+1", " 1", "1\n\n", "1\r\n", "9223372036854775807", "18446744073709551617", "1\0", "0x1", "1" * 4096])
     def test_file_that_is_none(self, text: str) -> None:
         """What is no number is left as it is, and the server does not start."""
         file, path = self.file("epoch", text), self.path("socket")
-        server = self.server("--epoch-file", file, path=path)
-        self.assertEqual((server.process.wait(LIMIT), server.stderr().count("\n"), file in server.stderr()), (1, 1, True), server.stderr())
+        self.does_not_start(file, "--epoch-file", file, path=path)
         self.assertEqual((read(file), os.path.exists(path)), (text, False))
 
     def test_files_of_others(self) -> None:
@@ -295,9 +287,7 @@ class Epochs(ServerCase):
             places += [other]
             write(os.path.join(folder, "socket.lock"), "")
             os.chown(os.path.join(folder, "socket.lock"), 65534, 65534)
-            server = self.server(path=os.path.join(folder, "socket"))
-            self.assertEqual((server.process.wait(LIMIT), "no file of this user" in server.stderr()), (1, True), server.stderr())
+            self.does_not_start("no file of this user", path=os.path.join(folder, "socket"))
         for place in places:
-            server = self.server("--epoch-file", place)
-            self.assertEqual((server.process.wait(LIMIT), place in server.stderr()), (1, True), server.stderr())
+            self.does_not_start(place, "--epoch-file", place)
         self.assertEqual(read(target), "1")

@@ -3,6 +3,7 @@ test's own, names and keys, pauses, and that the forms for threads and for tasks
 from __future__ import annotations
 
 import asyncio
+import contextlib
 import inspect
 import itertools
 import math
@@ -97,14 +98,10 @@ class Wire(Case):
             for number, call in enumerate(calls):
                 call.party.is_told = lambda number=number: ended.append(number)  # type: ignore[method-assign, misc]
             party.is_told = lambda: ended.append(99)  # type: ignore[method-assign]
-            try:
-                talk.feed(lines(reply))
-            except ProtocolError:
-                ended.clear()
-                talk.lost()
-                same(sorted({*ended}), [*(number for number, call in enumerate(calls) if call.answer is None), 99], reply)
-            else:
-                self.fail(f"{reply!r} was taken")
+            raises(ProtocolError, talk.feed, lines(reply))
+            ended.clear()
+            talk.lost()
+            same(sorted({*ended}), [*(number for number, call in enumerate(calls) if call.answer is None), 99], reply)
 
     def test_after_the_end(self) -> None:
         """A request of a transaction that has just ended still has its key."""
@@ -159,11 +156,12 @@ class World:
     def ask(self, number: int, line: str) -> None:
         """A request of a client that is not tried."""
         self.send(number, line.encode() + b"\n")
-        words = line.split()
-        party = Party()
-        call = Call(Ask(words[0].encode()), party)
-        self.talks[number].pending.append(call)
+        self.talks[number].pending.append(Call(Ask(line.split()[0].encode()), Party()))
         self.pump()
+
+
+LEFT = object()
+"""What `Place.runs` returns of a flow that was left."""
 
 
 class Place(Party):
@@ -176,37 +174,27 @@ class Place(Party):
 
     def begins(self, flow: Any, moment: int, is_delivered: bool) -> Any:
         """Runs the flow, and leaves it at this moment, before or after the answer came. Whether it had come so far."""
+        with contextlib.suppress(LockError):
+            return self.runs(flow, moment, is_delivered) is LEFT
+        return False
+
+    def runs(self, flow: Any, moment: int = -1, is_delivered: bool = True) -> Any:
+        """Runs the flow to its end, whose value it returns, or up to this moment."""
+        answer = None
         try:
-            step = next(flow)
             for count in itertools.count():
+                step = flow.send(answer)
                 if isinstance(step, Ask):
                     self.last = Call(step, self)
                     self.world.send(self.number, self.talk.send(self.last))
                     if count == moment and not is_delivered:
-                        return True
+                        return LEFT
                     self.world.pump()
                     answer = self.last.answer
                 else:
                     answer = self.told.pop(0) if self.told else None
                 if count == moment:
-                    return True
-                step = flow.send(answer)
-        except (StopIteration, LockError):
-            return False
-
-    def runs(self, flow: Any) -> Any:
-        """Runs the flow to its end."""
-        answer = None
-        try:
-            while True:
-                step = flow.send(answer)
-                if isinstance(step, Ask):
-                    call = Call(step, self)
-                    self.world.send(self.number, self.talk.send(call))
-                    self.world.pump()
-                    answer = call.answer
-                else:
-                    answer = self.told.pop(0) if self.told else None
+                    return LEFT
         except StopIteration as end:
             return end.value
 
@@ -409,7 +397,7 @@ class Arguments(Case):
             self.assertRaises((TypeError, ValueError), Retry, attempts)
 
 
-class FakeLocks:
+class FakeLocks(contextlib.AbstractContextManager, contextlib.AbstractAsyncContextManager):
     """Locks in both forms whose transactions only count, and whose work takes its time by a clock of the test's own."""
 
     def __init__(self, form: Any, retry: Retry) -> None:
@@ -434,14 +422,8 @@ class FakeLocks:
         with unittest.mock.patch("pashkure.calls.monotonic", lambda: self.now):
             return self.locks.run(work) if self.is_plain else asyncio.run(self.locks.run(works))
 
-    def __enter__(self) -> Any:
-        return self
-
     def __exit__(self, *error: Any) -> None:
         self.now += 0.5
-
-    async def __aenter__(self) -> Any:
-        return self
 
     async def __aexit__(self, *error: Any) -> None:
         self.now += 0.5

@@ -400,18 +400,12 @@ class Log(StubCase):
     def test_that_nobody_reads(self) -> None:
         """What standard error has no room for is dropped, and nobody waits."""
         reads, writes = os.pipe()
-        try:
-            self.stubbed(is_quiet=False, stderr=writes)
-            for _ in range(60):
-                self.admin.send(b"say 0 * deadlock " + b"x" * 900 + b"|0 done\n")
-                self.admin.lines(2)
-            long = b"say 0 * deadlock " + b"\xff" * 1000 + b"|0 done\n"
-            for _ in range(40):
-                self.admin.send(long)
-                self.admin.lines(2)
-        finally:
-            os.close(reads)
-            os.close(writes)
+        for end in reads, writes:
+            self.addCleanup(os.close, end)
+        self.stubbed(is_quiet=False, stderr=writes)
+        for text in [b"x" * 900] * 60 + [b"\xff" * 1000] * 40:
+            self.admin.send(b"say 0 * deadlock " + text + b"|0 done\n")
+            self.admin.lines(2)
 
 
 class Program(StubCase):
@@ -434,6 +428,7 @@ class Program(StubCase):
             self.assertRegex(server.stderr(), rf"\A[^\n]* ended with status {status}\n\Z")
 
     def test_options(self) -> None:
+        """Its options are the program's, but no seed: the program draws one, and no list of processes shows it."""
         server = self.stubbed("--transactions", "7", "--names=8", "--name-bytes", "9", "--each", "3", "--epoch", "11", "--connections", "20")
         self.assertEqual(self.words(), "locks --transactions 7 --names 8 --name-bytes 9 --connections 21 --epoch 11 --each 3".split())
         self.assertFalse(os.path.exists(server.path + ".epoch"))

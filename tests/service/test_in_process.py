@@ -14,7 +14,7 @@ from typing import Any, List
 from lib.clients import Apart, Asyncio, raises, same, waits
 from lib.world import PACKAGE, each, environment, run, until
 from program.test_library import LibraryCase
-from service import test_trouble
+from service import test_python, test_trouble
 from service.test_python import OPTIONS, Calls
 
 import build_backend
@@ -173,12 +173,7 @@ class Threads(Inside, ExtensionCase):
         self.addCleanup(locks.close)
         return locks
 
-    def test_dropped(self) -> None:
-        """A transaction that is dropped alive is aborted, with a warning."""
-        tx = self.locks.transaction("a")
-        with self.assertWarns(ResourceWarning):
-            del tx
-        same(self.locks.owner("a"), None)
+    test_dropped = test_python.Threads.test_dropped
 
 
 class Tasks(Inside, ExtensionCase):
@@ -225,7 +220,7 @@ class Installed(LibraryCase):
         """The folder of a wheel that was made so."""
         code = f"import sys, sysconfig; sys.path.insert(0, {PACKAGE!r}); import build_backend; {patch}; print(build_backend.build_wheel('.'))"
         told = run(sys.executable, "-c", code, cwd=self.folder, env=environment(**{"PASHKURE_LIB_DIR": f"{self.top}/lib", **variables}))
-        self.assertEqual((told.status, told.err), (0, b""))
+        self.passes(told)
         with zipfile.ZipFile(pathlib.Path(self.folder, told.out.decode().strip())) as wheel:
             wheel.extractall(f"{self.folder}/installed")
         return told.out.decode().strip()

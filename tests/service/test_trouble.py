@@ -56,10 +56,7 @@ class Interrupts(TroubleCase):
         self.holder, self.place = self.other.transaction("held"), "a moment"
         hook, sys.unraisablehook = sys.unraisablehook, lambda told: None  # exceptions may also come where Python ends an object
         self.addCleanup(setattr, sys, "unraisablehook", hook)
-
-    def tearDown(self) -> None:
-        self.holder.abort()
-        super().tearDown()
+        self.addCleanup(self.holder.abort)
 
     def uses(self) -> None:
         with self.locks.transaction() as tx:
@@ -507,11 +504,8 @@ class Tasks(TroubleCase):
                     except RuntimeError:
                         same(again is begin, True)
             same(await locks.totals(), pashkure.Totals(3, 3, 0, 0))
-            try:
+            with self.assertRaises(NoTransaction):  # it has not begun
                 await locks.transaction().lock("a")
-            except NoTransaction:
-                return
-            self.fail("it has not begun")
 
         self.run_with(main)
 
@@ -528,12 +522,9 @@ class Tasks(TroubleCase):
         async def closes() -> None:
             await locks.close()
             for again in range(2):
-                try:
+                with self.assertRaises(Closed):
                     async with locks:
                         await locks.totals()
-                except Closed:
-                    continue
-                self.fail("it is closed")
 
         with warnings.catch_warnings():
             warnings.simplefilter("ignore", ResourceWarning)  # the connection of the first loop was not closed in its time
