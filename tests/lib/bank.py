@@ -120,13 +120,12 @@ def owned(path: str, slot: int, end: int) -> Iterator[Owned]:
     """What a process owned that had ended at this time."""
     open_since: dict[int, int] = {}
     with open(f"{path}.{slot}", encoding="ascii") as file:
-        for word, moment in map(str.split, file):
+        for word, moment in map(str.split, [*file, f"- {end}"]):
             if word != "-":
                 open_since[int(word)] = int(moment)
-                continue
-            yield from (Owned(account, start, int(moment), slot) for account, start in open_since.items())
-            open_since.clear()
-    yield from (Owned(account, start, end, slot) for account, start in open_since.items())
+            else:
+                yield from (Owned(account, start, int(moment), slot) for account, start in open_since.items())
+                open_since.clear()
 
 
 def overlaps(history: list[Owned]) -> list[tuple[Owned, Owned]]:

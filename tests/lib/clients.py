@@ -91,6 +91,15 @@ class Asyncio:
         self._loop.close()
 
 
+class Opener:
+    """What opens locks that are closed at the end of the test."""
+
+    def opened(self, form: Any, *paths: str, **options: Any) -> Any:
+        locks = form(*paths, **options)
+        self.addCleanup(locks.ends if isinstance(locks, Asyncio) else locks.close)  # type: ignore[attr-defined]
+        return locks
+
+
 class AsyncioTransaction(contextlib.AbstractContextManager):
     def __init__(self, locks: Asyncio, tx: aio.Transaction) -> None:
         self._locks, self._tx, self.key = locks, tx, tx.key
@@ -108,6 +117,13 @@ class AsyncioTransaction(contextlib.AbstractContextManager):
 def waits(tx: Any) -> None:
     """Returns when the transaction waits."""
     until(lambda: tx._tx._state.waits if isinstance(tx, AsyncioTransaction) else tx._state.waits, "the transaction waits")
+
+
+def waiting(tx: Any, *names: str, **options: Any) -> Apart:
+    """A lock in a thread of its own, which waits."""
+    thread = Apart(tx.lock, *names, **options)
+    waits(tx)
+    return thread
 
 
 NO_BYTES = [*range(0x21), 0x7F]

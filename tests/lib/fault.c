@@ -244,7 +244,6 @@ static int faulty(enum call call, int descriptor, long *value)
     } while (0)
 
 ssize_t read(int descriptor, void *buffer, size_t size) { OF_BYTES(READ, descriptor, size, read, descriptor, buffer, (size_t)bytes); }
-
 ssize_t write(int descriptor, const void *buffer, size_t size) { OF_BYTES(WRITE, descriptor, size, write, descriptor, buffer, (size_t)bytes); }
 
 ssize_t readv(int descriptor, const struct iovec *parts, int count)
@@ -256,11 +255,7 @@ ssize_t readv(int descriptor, const struct iovec *parts, int count)
 }
 
 ssize_t recv(int descriptor, void *buffer, size_t size, int flags) { OF_BYTES(RECV, descriptor, size, recv, descriptor, buffer, (size_t)bytes, flags); }
-
-ssize_t send(int descriptor, const void *buffer, size_t size, int flags)
-{
-    OF_BYTES(SEND, descriptor, size, send, descriptor, buffer, (size_t)bytes, flags);
-}
+ssize_t send(int descriptor, const void *buffer, size_t size, int flags) { OF_BYTES(SEND, descriptor, size, send, descriptor, buffer, (size_t)bytes, flags); }
 
 int poll(struct pollfd *files, nfds_t count, int timeout) { OF_BYTES(POLL, -1, timeout, poll, files, count, timeout + 0 * (int)bytes); }
 
@@ -361,13 +356,9 @@ static int refuses(void)
 }
 
 void *malloc(size_t size) { return refuses() ? NULL : __libc_malloc(size); }
-
 void *calloc(size_t count, size_t size) { return refuses() ? NULL : __libc_calloc(count, size); }
-
 void *realloc(void *old, size_t size) { return refuses() ? NULL : __libc_realloc(old, size); }
-
 void *memalign(size_t alignment, size_t size) { return refuses() ? NULL : __libc_memalign(alignment, size); }
-
 void *aligned_alloc(size_t alignment, size_t size) { return refuses() ? NULL : __libc_memalign(alignment, size); }
 
 int posix_memalign(void **result, size_t alignment, size_t size)

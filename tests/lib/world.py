@@ -207,7 +207,7 @@ class Case(unittest.TestCase):
 
     def passes(self, told: Run) -> Run:
         """Fails unless a run ended with status 0, and wrote nothing to standard error."""
-        self.assertEqual((told.status, told.err.decode(errors="replace")), (0, ""), told.out)
+        self.assertEqual((told.status, told.err.decode(errors="replace")), (0, ""), told.out.decode(errors="replace"))
         return told
 
     def needs_server(self) -> list[str]:
@@ -266,16 +266,14 @@ class Server:
 
     def close(self) -> int:
         """Ends the server as its user does, and returns its status."""
-        if self.process.poll() is None:
-            self.process.send_signal(signal.SIGTERM)
+        self.process.terminate()
         return self.process.wait(LIMIT)
 
     def kill(self) -> None:
         """Ends the server and its program, whatever they do."""
-        if self.process.poll() is None:
-            self.process.send_signal(signal.SIGTERM)
-            with contextlib.suppress(subprocess.TimeoutExpired):
-                self.process.wait(min(30, LIMIT))
+        self.process.terminate()
+        with contextlib.suppress(subprocess.TimeoutExpired):
+            self.process.wait(min(30, LIMIT))
         self.process.kill()
         self.process.wait()
 
@@ -328,8 +326,7 @@ class Wire:
         """This many lines. Fails if the connection ends before."""
         parts, have = [self.rest], self.rest.count(b"\n")
         while have < count:
-            data = self.socket.recv(65536)
-            if not data:
+            if not (data := self.socket.recv(65536)):
                 raise AssertionError(f"the connection ended after {b''.join(parts)[-200:]!r}")
             parts.append(data)
             have += data.count(b"\n")
@@ -351,16 +348,11 @@ class Wire:
 
     def all(self) -> bytes:
         """All that comes until the other side closes the connection."""
-        parts = [self.rest]
-        self.rest = b""
-        while True:
-            try:
-                data = self.socket.recv(65536)
-            except ConnectionResetError:
-                data = b""
-            if not data:
-                return b"".join(parts)
-            parts.append(data)
+        parts, self.rest = [self.rest], b""
+        with contextlib.suppress(ConnectionResetError):
+            while data := self.socket.recv(65536):
+                parts.append(data)
+        return b"".join(parts)
 
     def close(self) -> None:
         self.socket.close()

@@ -75,7 +75,7 @@ class Pasted(Case):
     def test_page(self, _: str, commands: str, wanted: str) -> None:
         if "venv" in commands and importlib.util.find_spec("ensurepip") is None:
             self.skipTest("this Python has no ensurepip (Debian's package python3-venv)")
-        wants(*(tool for tool in ("cc", "make", "pkg-config") if f" {tool} " in f" {commands}".replace("(", " ")))
+        wants(*(tool for tool in ("cc", "make", "pkg-config") if re.search(rf"(?<![\w-]){tool} ", commands)))
         commands = commands.replace("/tmp/", f"{self.folder}/")
         if "./mmdetect serve" in commands:
             commands = commands.replace("./mmdetect serve", f"{shlex.join(self.needs_server())} --program {PROGRAM}")

@@ -45,14 +45,11 @@ class Explain(Case):
         try:
             follow.check(lines, self.ends(told, status, told.out).out.decode())
         except AssertionError:
-            self.keeps(name, data)
+            os.makedirs(OUT, exist_ok=True)
+            path = os.path.join(OUT, f"explain.{name.replace(' ', '_')}.script")
+            write(path, data)
+            print(f"the script is {path}; it is of the seed {SEED}, or of 1")
             raise
-
-    def keeps(self, name: str, data: bytes) -> None:
-        os.makedirs(OUT, exist_ok=True)
-        path = os.path.join(OUT, f"explain.{name.replace(' ', '_')}.script")
-        write(path, data)
-        print(f"the script is {path}; it is of the seed {SEED}, or of 1")
 
     def test_graphs(self) -> None:
         """Each graph of random scripts has the nodes, marks and edges of the model, in Mermaid's grammar and in Graphviz's."""

@@ -83,11 +83,12 @@ class Scripts(Case):
     def test_verbose_has_nothing_to_say(self) -> None:
         self.ends(self.run_program("script", "-v", given=FIRST_RUN), 0, FIRST_REPLIES)
 
-    def test_typed_lines(self) -> None:
+    @each([("scripts", [], FIRST_RUN, FIRST_REPLIES),
+           ("requests", ["locks"], b"begin\nlock 0.1 a\nowner a\ncommit 0.1\n", b"begun 0.1\ngranted\nowner 0.1\ncommitted\n")])  # fmt: skip
+    def test_typed_lines(self, name: str, words: list[str], lines: bytes, replies: bytes) -> None:
         """Each reply is there before the next line is given."""
-        with subprocess.Popen([PROGRAM], stdin=subprocess.PIPE, stdout=subprocess.PIPE) as child:
-            assert child.stdin and child.stdout
-            for line, reply in zip(FIRST_RUN.splitlines(True), FIRST_REPLIES.splitlines(True)):
+        with subprocess.Popen([PROGRAM, *words], stdin=subprocess.PIPE, stdout=subprocess.PIPE) as child:
+            for line, reply in zip(lines.splitlines(True), replies.splitlines(True)):
                 child.stdin.write(line)
                 child.stdin.flush()
                 self.assertEqual(child.stdout.readline(), reply)
@@ -121,7 +122,6 @@ class Devices(Case):
         for words, line, reply in ([], b"begin\n", b"no table\n"), (["locks"], b"graph\n", b"graph 0\n"):
             with open(self.file("script", line * 200_000), "rb") as script:
                 with subprocess.Popen([PROGRAM, *words], stdin=script, stdout=subprocess.PIPE, stderr=subprocess.PIPE) as child:
-                    assert child.stdout and child.stderr
                     self.assertEqual(child.stdout.readline(), reply)
                     child.stdout.close()
                     self.assertEqual(child.stderr.read(), b"write fault\n")

@@ -87,18 +87,15 @@ class Service(CCase):
         path = path or self.path("socket")
         return self.server(*LIMITS, *words, "--admin", f"{path}.admin", path=path, **how)
 
-    def path_of_server(self) -> str:
-        return self.started().path
-
     @each([name for name in tests("service") if name not in ("killed", "full")])
     def test_sanitized(self, name: str) -> None:
-        self.passes(run(self.program("service.sanitized"), name, self.path_of_server()))
+        self.passes(run(self.program("service.sanitized"), name, self.started().path))
 
     @each([name for name in tests("service") if name not in ("killed", "full", "limits")])
     def test_with_faults(self, name: str) -> None:
         for seed in SEEDS:
             with self.subTest(seed=seed):
-                self.passes(self.faulty(FAULTS, self.program("service"), name, self.path_of_server(), seed=seed))
+                self.passes(self.faulty(FAULTS, self.program("service"), name, self.started().path, seed=seed))
 
     def test_full(self) -> None:
         self.passes(run(self.program("service.sanitized"), "full", self.started("--connections", "2").path))
@@ -117,7 +114,7 @@ class Service(CCase):
     @each(["bank", "bank.sanitized", "bank with faults"])
     def test_bank(self, name: str) -> None:
         """Two threads move money, and their deadlocks are tried again."""
-        command = [self.program(name.split()[0]), self.path_of_server()]
+        command = [self.program(name.split()[0]), self.started().path]
         told = self.passes(self.faulty(FAULTS, *command) if "faults" in name else run(*command))
         self.assertRegex(told.out, rb"\A2000 transfers; [0-9]+ deadlocks, .*\naccounts/1 has 1000, accounts/2 has 1000\n\Z")
 
@@ -130,7 +127,7 @@ class Service(CCase):
         told = run("cc", *FLAGS, "-fsanitize=thread", "-o", path, f"{CLIENT}/bank.c", f"{CLIENT}/pashkure_remote.c")
         if told.status or run(path).status != 2:
             self.skipTest("this C compiler has no thread sanitizer that runs here (Debian's package libtsan)")
-        self.passes(run(path, self.path_of_server()))
+        self.passes(run(path, self.started().path))
 
 
 class Sources(CCase):

@@ -1,6 +1,7 @@
 """What the front does with lines, numbers and connections, before a program that knows nothing of locks (lib/stub.py) and notes each line."""
 from __future__ import annotations
 
+import contextlib
 import os
 import resource
 import signal
@@ -352,8 +353,7 @@ class Operators(StubCase):
 
     def test_rights(self) -> None:
         self.stubbed("--mode", "666")
-        status = os.stat(self.admin_path)
-        self.assertEqual((stat.S_IMODE(status.st_mode), stat.S_IMODE(os.stat(self.admin_path + ".lock").st_mode)), (0o600, 0o600))
+        self.assertEqual([stat.S_IMODE(os.stat(self.admin_path + end).st_mode) for end in ("", ".lock")], [0o600, 0o600])
 
     def test_path_in_use(self) -> None:
         """A second server does not start at the operator's path of another one."""
@@ -461,15 +461,13 @@ class Heartbeat(StubCase, FaultCase):
 
     def asks_to_the_end(self, wire: Wire, heartbeat: bytes) -> None:
         """Asks until the server has closed the connection."""
-        for _ in range(2_000):
-            os.write(self.writes, heartbeat)
-            try:
+        with contextlib.suppress(BrokenPipeError, ConnectionResetError):
+            for _ in range(2_000):
+                os.write(self.writes, heartbeat)
                 wire.send(b"a\n")
                 if not wire.socket.recv(65536):
                     return
-            except (BrokenPipeError, ConnectionResetError):
-                return
-        self.fail("it goes on")
+            self.fail("it goes on")
 
     def stops(self, server: Server, wires: list[Wire], jumps: int) -> None:
         """Fails unless the server has ended with a line that says why, closed all connections, and sent nothing more when its clock had jumped so often."""

@@ -28,15 +28,12 @@ class Sanitized(FaultCase, ServerCase):
         except subprocess.CalledProcessError:
             cls.front = ""
 
-    def needs_sanitizers(self) -> str:
+    def tries(self, module: str, **env: str) -> None:
         self.needs_server()
         if not self.front or run(self.front, "--help").status != 0:
             self.skipTest("this C compiler has no sanitizers that run here (Debian's package libasan)")
-        return self.front
-
-    def tries(self, module: str, **env: str) -> None:
         words = [sys.executable, os.path.join(TOP, "tests/run"), "--seed", str(SEED), module]
-        told = run(*words, env=environment(**OPTIONS, TESTED_SERVER=self.needs_sanitizers(), TESTED_SANITIZED="yes", **env))
+        told = run(*words, env=environment(**OPTIONS, TESTED_SERVER=self.front, TESTED_SANITIZED="yes", **env))
         self.passes(told)
 
     @each(MODULES)

@@ -16,7 +16,7 @@ import threading
 import warnings
 from typing import Any, Callable, List
 
-from lib.clients import Apart, Asyncio, raises, same, waits
+from lib.clients import Apart, Asyncio, Opener, raises, same, waiting, waits
 from lib.faults import FaultCase, variables
 from lib.world import LIMIT, SEED, Case, Server, each, environment, read, run, stop, until
 
@@ -32,12 +32,7 @@ class Stop(BaseException):
     """What a signal's handler raises."""
 
 
-class TroubleCase(Case):
-    def opened(self, form: Callable[..., Any], *paths: str, **options: Any) -> Any:
-        locks = form(*paths, **options)
-        self.addCleanup(locks.ends if isinstance(locks, Asyncio) else locks.close)
-        return locks
-
+class TroubleCase(Opener, Case):
     def none_is_left(self, locks: Any, but: int = 0, of: str = "anyone") -> None:
         """Returns when no transaction is live but for so many."""
         until(lambda: (totals := locks.totals()).begun == totals.committed + totals.aborted + but, f"nothing is left of {of}")
@@ -205,8 +200,7 @@ class Restarts(TroubleCase):
         server = self.server()
         locks = self.opened(form, server.path)
         txs = [locks.transaction(f"{number}") for number in range(4)]
-        thread = Apart(txs[0].lock, "1")
-        waits(txs[0])
+        thread = waiting(txs[0], "1")
         server = self.again(server)
         self.assertIn(type(thread.ends()), (LocksLost, ServiceRestarted))
         for call in (txs[1].lock, "a"), (txs[1].lock, "a"), (txs[2].commit,):
@@ -329,7 +323,6 @@ class Forks(TroubleCase):
             time.sleep(1000)"""
         wire = self.wire(server)
         with subprocess.Popen([sys.executable, "-c", text], env=environment(), stdout=subprocess.PIPE, text=True) as parent:
-            assert parent.stdout
             child, told = parent.stdout.readline().split(" ", 1)
             try:
                 same((told, wire.ask(b"owner a").split(b" ")[0]), ("['c']\n", b"owner"))
@@ -350,8 +343,7 @@ class Hangs(TroubleCase):
         locks, watch = self.opened(form, server.path, **options), self.opened(Locks.connect, server.path)
         holder = watch.transaction("held")
         txs = [self.opened(form, server.path, **options).transaction(f"{number}") for number in range(4)]
-        waiter = Apart(txs[3].lock, "held", timeout=0.3)
-        waits(txs[3])
+        waiter = waiting(txs[3], "held", timeout=0.3)
         for call, wanted in ((txs[0].lock, "a"), LocksLost), ((txs[1].commit,), LocksLost), ((locks.transaction, "b"), CannotConnect), ((locks.totals,), CannotConnect):
             stop(server.process.pid)
             same(type(Apart(*call).ends()), wanted, str(call))
@@ -403,6 +395,11 @@ class Hangs(TroubleCase):
         thread.ends()
 
 
+def in_tasks(test: Callable[..., Any]) -> Callable[..., Any]:
+    """Makes a test of a coroutine, which is given the locks of a new service."""
+    return lambda self: self.run_with(lambda locks: test(self, locks))
+
+
 class Tasks(TroubleCase):
     """What only tasks have."""
 
@@ -437,77 +434,69 @@ class Tasks(TroubleCase):
         for connections in 1, 3:
             self.run_with(main, connections=connections)
 
-    def test_aborted_begins(self) -> None:
+    @in_tasks
+    async def test_aborted_begins(self, locks: aio.Locks) -> None:
         """A begin that another task aborts, before it is connected or while it waits, raises `Aborted` and leaves no transaction."""
 
         async def begins(tx: Any) -> None:
             async with tx:
                 pass
 
-        async def main(locks: aio.Locks) -> None:
-            unconnected = locks.transaction("a")
-            task = asyncio.ensure_future(begins(unconnected))
-            await asyncio.sleep(0)
-            await unconnected.abort()
+        unconnected = locks.transaction("a")
+        task = asyncio.ensure_future(begins(unconnected))
+        await asyncio.sleep(0)
+        await unconnected.abort()
+        self.assertIsInstance((await asyncio.gather(task, return_exceptions=True))[0], Aborted)
+        async with locks.transaction("b"):
+            waiter = locks.transaction("a", "b")
+            task = asyncio.ensure_future(begins(waiter))
+            while not waiter._state.waits:
+                await asyncio.sleep(0)
+            await waiter.abort()
             self.assertIsInstance((await asyncio.gather(task, return_exceptions=True))[0], Aborted)
-            async with locks.transaction("b"):
-                waiting = locks.transaction("a", "b")
-                task = asyncio.ensure_future(begins(waiting))
-                while not waiting._state.waits:
-                    await asyncio.sleep(0)
-                await waiting.abort()
-                self.assertIsInstance((await asyncio.gather(task, return_exceptions=True))[0], Aborted)
-                same((await locks.owner("a"), (await locks.totals()).aborted), (None, 1))
+            same((await locks.owner("a"), (await locks.totals()).aborted), (None, 1))
 
-        self.run_with(main)
-
-    def test_cancelled_lock(self) -> None:
+    @in_tasks
+    async def test_cancelled_lock(self, locks: aio.Locks) -> None:
         """A lock that is given up waits no longer, dooms nobody, and its transaction goes on."""
-
-        async def main(locks: aio.Locks) -> None:
-            one, two = await locks.transaction("1"), await locks.transaction("2")
-            task = asyncio.ensure_future(one.lock("2"))
-            while not one._state.waits:
-                await asyncio.sleep(0)
-            task.cancel()
-            await asyncio.wait([task])
-            other = asyncio.ensure_future(two.lock("1"))  # no deadlock: nobody waits for `2`
-            while not two._state.waits:
-                await asyncio.sleep(0)
-            await one.lock("3")
-            same(await one.holds(), ["1", "3"])
-            await one.commit()
-            await other
-            await two.commit()
-            three = await locks.transaction("4")
-            commit = asyncio.ensure_future(three.commit())
+        one, two = await locks.transaction("1"), await locks.transaction("2")
+        task = asyncio.ensure_future(one.lock("2"))
+        while not one._state.waits:
             await asyncio.sleep(0)
-            commit.cancel()
-            await asyncio.wait([commit])
-            same((await locks.owner("4"), (await locks.totals()).committed), (None, 3))
+        task.cancel()
+        await asyncio.wait([task])
+        other = asyncio.ensure_future(two.lock("1"))  # no deadlock: nobody waits for `2`
+        while not two._state.waits:
+            await asyncio.sleep(0)
+        await one.lock("3")
+        same(await one.holds(), ["1", "3"])
+        await one.commit()
+        await other
+        await two.commit()
+        three = await locks.transaction("4")
+        commit = asyncio.ensure_future(three.commit())
+        await asyncio.sleep(0)
+        commit.cancel()
+        await asyncio.wait([commit])
+        same((await locks.owner("4"), (await locks.totals()).committed), (None, 3))
 
-        self.run_with(main)
-
-    def test_group(self) -> None:
+    @in_tasks
+    async def test_group(self, locks: aio.Locks) -> None:
         """A transaction serves one task at a time."""
-
-        async def main(locks: aio.Locks) -> None:
-            async with locks.transaction("a") as tx:
-                told = await asyncio.gather(tx.lock("b"), tx.lock("c"), return_exceptions=True)
-                same([type(error) for error in told], [type(None), Waiting])
-            begin = locks.transaction()
-            async with begin:
-                for again in begin, locks.transaction():
-                    try:
-                        async with again:
-                            same(again is begin, False)
-                    except RuntimeError:
-                        same(again is begin, True)
-            same(await locks.totals(), pashkure.Totals(3, 3, 0, 0))
-            with self.assertRaises(NoTransaction):  # it has not begun
-                await locks.transaction().lock("a")
-
-        self.run_with(main)
+        async with locks.transaction("a") as tx:
+            told = await asyncio.gather(tx.lock("b"), tx.lock("c"), return_exceptions=True)
+            same([type(error) for error in told], [type(None), Waiting])
+        begin = locks.transaction()
+        async with begin:
+            for again in begin, locks.transaction():
+                try:
+                    async with again:
+                        same(again is begin, False)
+                except RuntimeError:
+                    same(again is begin, True)
+        same(await locks.totals(), pashkure.Totals(3, 3, 0, 0))
+        with self.assertRaises(NoTransaction):  # it has not begun
+            await locks.transaction().lock("a")
 
     def test_loops(self) -> None:
         """Locks of one loop are of no use in another one; locks that are closed stay closed."""
@@ -532,16 +521,13 @@ class Tasks(TroubleCase):
             del locks
             gc.collect()
 
-    def test_many_requests(self) -> None:
+    @in_tasks
+    async def test_many_requests(self, locks: aio.Locks) -> None:
         """More requests at once than a connection takes all come to their end."""
-
-        async def main(locks: aio.Locks) -> None:
-            txs = [await locks.transaction() for _ in range(200)]
-            await asyncio.gather(*(tx.lock(*(f"{number}/{place}" for place in range(100))) for number, tx in enumerate(txs)))
-            await asyncio.gather(*(tx.commit() for tx in txs))
-            same((await locks.totals()).committed, 200)
-
-        self.run_with(main)
+        txs = [await locks.transaction() for _ in range(200)]
+        await asyncio.gather(*(tx.lock(*(f"{number}/{place}" for place in range(100))) for number, tx in enumerate(txs)))
+        await asyncio.gather(*(tx.commit() for tx in txs))
+        same((await locks.totals()).committed, 200)
 
 
 # A program that uses each call of the client, and says at its end what it saw. It is run with faults below it.
