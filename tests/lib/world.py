@@ -103,10 +103,10 @@ def write(path: str, data: str | bytes) -> None:
 
 
 def wants(*tools: str) -> None:
-    """Skips the test if one of these commands is missing. (tests/packages says in which package each is.)"""
+    """Skips the test if one of these commands is missing."""
     for tool in tools:
         if not shutil.which(tool):
-            raise unittest.SkipTest(f"no command {tool} is on the PATH")
+            raise unittest.SkipTest(f"no command {tool} is on the PATH (tests/packages)")
 
 
 def same(told: Any, wanted: Any, what: str = "") -> None:

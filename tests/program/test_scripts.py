@@ -14,14 +14,14 @@ FIRST_REPLIES = b"ok\nkey 0.1\nkey 1.1\ngranted\ngranted\nwaits 1.1 1.0\nwaits 0
 LONGEST = 16_777_216
 NO_KEY = "K is not two numbers from 0 to 4294967295 with a dot between them"
 WRONG = [
-    ("fly 0.1", "no call has this word"), ("0" * 129, "the line has more than 128 bytes"), ("acquire 0.1", "acquire wants two words, K r, after it, but has 1"),
+    ("fly 0.1", "no call has this word"), ("Begin", "no call has this word"), ("\tbegin", "no call has this word"), ("finish 1", NO_KEY),
+    ("acquire 0. 0", NO_KEY), ("abort 4294967296.1", NO_KEY), ("acquire 0.1", "acquire wants two words, K r, after it, but has 1"),
     ("begin now  please", "begin wants no word after it, but has 2"), ("settle x", "settle wants no word after it, but has 1"),
-    ("owner", "owner wants one word, r, after it, but has 0"), ("finish 1", NO_KEY), ("acquire 0. 0", NO_KEY),
+    ("owner", "owner wants one word, r, after it, but has 0"), ("0" * 129, "the line has more than 128 bytes"),
     ("acquire 0.0 -1", "r is not a whole number from 0 to 4294967295"), ("owner 4294967296\r", "r is not a whole number from 0 to 4294967295"),
     ("table 1 x 9 9", "R is not a whole number from 0 to 4294967295"), ("table 1 1 9 9.", "G is not a whole number from 0 to 4294967295"),
     ("table2 1 1 18446744073709551616 9", "L is not a whole number from 0 to 18446744073709551615"),
-    ("table 1 1 9", "table wants four words, P R L G, after it, but has 3"), ("Begin", "no call has this word"), ("\tbegin", "no call has this word"),
-    ("abort 4294967296.1", NO_KEY),
+    ("table 1 1 9", "table wants four words, P R L G, after it, but has 3"),
 ]  # fmt: skip
 
 
