@@ -6,6 +6,7 @@
  * of four names out of NAMES in rising order; or any, the same in any order. It prints how many requests, or transactions that committed, and
  * how many deadlocks or tries in vain, there were a second. */
 #define _GNU_SOURCE
+#include <poll.h>
 #include <pthread.h>
 #include <stdbool.h>
 #include <stdint.h>
@@ -81,7 +82,8 @@ static void send_text(struct client *client, const char *text, size_t length)
     send_all(client, both, (size_t)kept + length);
 }
 
-/* The next line, without its end. It stays until the next call. */
+/* The next line, without its end. It stays until the next call. The client waits in poll, as those of pgbench do: Linux wakes a client that
+ * waits in recv when the server takes the request, and then again when there is a reply. */
 static char *line_of(struct client *client)
 {
     for (;;) {
@@ -94,6 +96,8 @@ static char *line_of(struct client *client)
         memmove(client->input, from, client->end - client->start);
         client->end -= client->start;
         client->start = 0;
+        struct pollfd file = {.fd = client->socket, .events = POLLIN};
+        must(poll(&file, 1, -1) == 1, "poll");
         ssize_t count = recv(client->socket, client->input + client->end, sizeof client->input - 1 - client->end, 0);
         must(count > 0, "recv");
         client->end += (size_t)count;

@@ -87,11 +87,12 @@ static bool wait_for_line(connection *at, int64_t end)
     return true;
 }
 
-/* The next byte of the line, which is left. If the connection is closed, that is the end of the line. */
+/* The next byte of the line, which is left. If the connection is closed, that is the end of the line. It waits in poll: Linux wakes who waits in
+ * recv when the server takes the request, and then again when there is a reply. */
 static char next_byte(connection *at)
 {
     ssize_t count;
-    if (at->start == at->end && at->is_open) {
+    if (wait_for_line(at, FOREVER) && at->start == at->end && at->is_open) {
         do
             count = recv(at->socket, at->input, sizeof at->input, 0);
         while (count < 0 && errno == EINTR);

@@ -51,7 +51,7 @@ const MAX_THREADS: u32 = 64;
 const MAX_NAMES: u32 = 65_536;
 
 /// How many buckets the `ThinLocks` has.
-const BUCKETS: u32 = 1_048_576;
+const BUCKETS: u32 = 65_536;
 
 /// The number that a word of the command line is; 0 if it is none.
 fn number(word: Option<String>) -> u32 {

@@ -11,6 +11,7 @@ use Rattle.mm_thin.specs.declared.reply.GiveUp.TheVariants.{Done, NotTaken}
 use Rattle.mm_thin.specs.declared.reply.GiveUp.TheVariants as given
 use Rattle.mm_thin.specs.declared.reply.Take.{Take}
 use Rattle.mm_thin.specs.declared.reply.Take.TheVariants.{Taken, Held, Busy, Full, NotThin}
+use Rattle.mm_thin.specs.declared.reply.Take.TheVariants as take
 use Rattle.mm_thin.specs.declared.reply.Look.{Look}
 use Rattle.mm_thin.specs.declared.reply.Look.TheVariants.{NotFat, Fat, IsLent}
 use Rattle.mm_thin.specs.Parts.{WorkerState, OfficeState, bucket_of}
@@ -101,6 +102,7 @@ TakesName w name Taken after =
     (k : ℕ) × (r : RecordView) × (slice_get w.records k ≡ Some r) × (r.taken ≡ []) × (after ≡ with_record w k (with_taken r (bucket_of w.of name) name))
 TakesName w name Held after = (after ≡ w) × HasTaken w.records name
 TakesName w name Busy after = (after ≡ w) × (HasTaken w.records name → ⊥)
+TakesName w name take.Fat after = (after ≡ w) × (HasTaken w.records name → ⊥)
 TakesName w name Full after = (after ≡ w) × (HasTaken w.records name → ⊥) × IsFull w.records
 TakesName w name NotThin after = (after ≡ w) × ((name ≡ []) ⊎ (w.of.bytes < length name))
 

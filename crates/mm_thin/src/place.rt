@@ -1,5 +1,5 @@
 //! A record with what it has taken, so that its owner can read it.
-ghost use Rattle.std.specs.Prelude.{◌≡◌, ◌≢◌, ◌≤◌, ◌<◌, ◌↔◌, [], length, IsTrue, IfSome, IfNone};
+ghost use Rattle.std.specs.Prelude.{◌≡◌, ◌≢◌, ◌≤◌, ◌<◌, ◌↔◌, [], length, IsTrue, IfSome, IfNone, nat_eq};
 ghost use Rattle.mm_thin.specs.Calls.{TakesBucket, LeavesBucket, IsFor, AreLent, AreApart};
 
 use crate::desk_part::DeskPart;
@@ -76,24 +76,24 @@ impl Place {
         }
     }
 
-    /// Takes a bucket for this name, if it is free.
+    /// Takes a bucket for this name, if it is free. Returns the word that it found: 0 if the bucket was free.
     #[inline(always)]
-    pub(crate) fn take(&mut self, steps: &Steps, bucket: usize, name: &[u8]) -> bool
+    pub(crate) fn take(&mut self, steps: &Steps, bucket: usize, name: &[u8]) -> u64
         requires table { self.old.0 ≡ steps.now.table_id }
         requires key { steps.now.key ≡ steps.now.table_id.words }
         requires bucket { bucket < steps.now.table_id.words }
         requires name { length name.now ≤ MAX_THIN_BYTES }
         requires idle { self.old.1.taken ≡ [] }
-        ensures takes { TakesBucket self.old.1 bucket name.now result self.new.1 }
+        ensures takes { TakesBucket self.old.1 bucket name.now (nat_eq result 0) self.new.1 }
         ensures table { self.new.0 ≡ self.old.0 }
     {
-        let is_taken = self.record.take(steps, bucket, name);
-        if is_taken {
+        let word = self.record.take(steps, bucket, name);
+        if word == 0 {
             self.is_taken = true;
             self.bucket = bucket;
             self.name = Text::of(name);
         }
-        is_taken
+        word
     }
 
     /// Gives back what it has taken, if that is thin.

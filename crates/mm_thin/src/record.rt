@@ -1,5 +1,5 @@
 //! A record: a place for the name of one bucket that a transaction has taken.
-ghost use Rattle.std.specs.Prelude.{◌≡◌, ◌≢◌, ◌≤◌, ◌<◌, ℕ, [], ◌∷◌, length};
+ghost use Rattle.std.specs.Prelude.{◌≡◌, ◌≢◌, ◌≤◌, ◌<◌, ℕ, [], ◌∷◌, length, nat_eq};
 ghost use Rattle.mm_thin.specs.Calls.{TakesBucket, GivesUp as GivesBucketUp, AreLent, AreApart};
 
 use crate::desk_part::DeskPart;
@@ -37,21 +37,22 @@ impl Model for Record {
 }
 
 impl Record {
-    /// Takes a bucket for this name, if it is free. One plain write of a text, and one compare-and-swap.
+    /// Takes a bucket for this name, if it is free. Returns the word that it found: 0 if the bucket was free. One plain write of a text, and
+    /// one compare-and-swap.
     #[inline(always)]
-    pub(crate) fn take(&mut self, steps: &Steps, bucket: usize, name: &[u8]) -> bool
+    pub(crate) fn take(&mut self, steps: &Steps, bucket: usize, name: &[u8]) -> u64
         requires table { self.old.0 ≡ steps.now.table_id }
         requires key { steps.now.key ≡ steps.now.table_id.words }
         requires bucket { bucket < steps.now.table_id.words }
         requires name { length name.now ≤ MAX_THIN_BYTES }
         requires idle { self.old.1.taken ≡ [] }
-        ensures takes { TakesBucket self.old.1 bucket name.now result self.new.1 }
+        ensures takes { TakesBucket self.old.1 bucket name.now (nat_eq result 0) self.new.1 }
         ensures table { self.new.0 ≡ self.old.0 }
     {
         let number = u64::from(self.number);
         let _ = steps.exchange(&mut self.seat, number as usize, Text::of(name));
         let word = steps.compare_exchange::<Takes>(&mut self.seat, bucket, 0, number + 4);
-        word == 0
+        word
     }
 
     /// Gives back the bucket that it has taken, if it is thin. One compare-and-swap.

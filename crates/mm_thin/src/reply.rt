@@ -32,8 +32,10 @@ pub enum Take {
     Taken,
     /// The worker has taken it already.
     Held,
-    /// Its bucket is fat, or another record has it, for this name or for another. The office can say more.
+    /// Another record has its bucket, for this name or for another. It may be free soon.
     Busy,
+    /// Its bucket is fat. The office can say more.
+    Fat,
     /// Each record of the worker has taken a bucket.
     Full,
     /// The name has no bytes, or too many.

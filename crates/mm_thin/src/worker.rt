@@ -1,5 +1,5 @@
 //! A transaction's part of the words.
-ghost use Rattle.std.specs.Prelude.{◌≡◌, ◌≤◌, ℕ, [], Some, length, slice_get, IfSome, IfNone};
+ghost use Rattle.std.specs.Prelude.{◌≡◌, ◌≤◌, ℕ, [], Some, length, slice_get, IfSome, IfNone, nat_eq};
 ghost use Rattle.mm_thin.specs.declared.views.RecordView.{RecordView};
 ghost use Rattle.mm_thin.specs.Calls.{IsFor, HasTaken, IsFull, TakesAt, TakesName, LeavesName};
 
@@ -96,22 +96,22 @@ impl Worker {
                 Take::Full
             };
         };
-        if self.take_at(k, name) {
+        let word = self.take_at(k, name);
+        if word == 0 {
             return Take::Taken;
         }
         if self.find(name).is_some() {
-            Take::Held
-        } else {
-            Take::Busy
+            return Take::Held;
         }
+        if word < 4 { Take::Fat } else { Take::Busy }
     }
 
-    /// Takes a name with this record, if its bucket is free.
+    /// Takes a name with this record, if its bucket is free. Returns the word that it found: 0 if the bucket was free.
     #[inline(always)]
-    fn take_at(&mut self, k: usize, name: &[u8]) -> bool
+    fn take_at(&mut self, k: usize, name: &[u8]) -> u64
         requires idle { (r : RecordView) × (slice_get self.old.records k ≡ Some r) × (r.taken ≡ []) }
         requires name { length name.now ≤ self.old.of.bytes }
-        ensures { TakesAt self.old k name.now result self.new }
+        ensures { TakesAt self.old k name.now (nat_eq result 0) self.new }
     {
         let bucket = self.buckets.of(name);
         self.places[k].take(self.buckets.steps(), bucket, name)

@@ -7,7 +7,7 @@ use Rattle.mm_thin.specs.Calls.{HasTaken, TakesName, with_record}
 use Rattle.mm_thin.specs.Views.{with_taken}
 use Rattle.mm_thin.specs.declared.views.RecordView.{RecordView}
 use Rattle.mm_thin.specs.declared.reply.Take.{Take}
-use Rattle.mm_thin.specs.declared.reply.Take.TheVariants.{Taken, Held, Busy, Full, NotThin}
+use Rattle.mm_thin.specs.declared.reply.Take.TheVariants.{Taken, Held, Busy, Fat, Full, NotThin}
 
 within : (rs : List RecordView) (k : ℕ) (r : RecordView) → slice_get rs k ≡ Some r → k < length rs
 within [] k r is = absurd (cc)
@@ -28,5 +28,6 @@ module _ (w : WorkerState) (name : List ℕ) (after : WorkerState) where
   same_at Taken takes = ap (λ (x : WorkerState). x.at) takes.4
   same_at Held takes = ap (λ (x : WorkerState). x.at) takes.0
   same_at Busy takes = ap (λ (x : WorkerState). x.at) takes.0
+  same_at Fat takes = ap (λ (x : WorkerState). x.at) takes.0
   same_at Full takes = ap (λ (x : WorkerState). x.at) takes.0
   same_at NotThin takes = ap (λ (x : WorkerState). x.at) takes.0

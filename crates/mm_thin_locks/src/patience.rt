@@ -4,7 +4,7 @@ ghost use Rattle.mm_thin_locks.specs.Granted.{IsFor};
 
 use crate::hall::Outcome;
 use crate::session::Session;
-use crate::tokens::Granted;
+use crate::tokens::{Granted, take_thinly};
 use crate::transaction::Transaction;
 use mm_locks::{LockError, Patience};
 use std::sync::Wait;
@@ -27,8 +27,13 @@ impl<'s, 'm, R: Wait + Clock> Transaction<'s, 'm, R> {
         if self.is_victim() {
             return Err(LockError::Deadlock);
         }
+        // No clock is read for a name that nobody else has.
+        let why = match take_thinly(&mut self.session.worker, name) {
+            Ok(granted) => return Ok(granted),
+            Err(why) => why,
+        };
         let patience = Patience::new(self.session.rt, limit);
-        match self.begin_wait(name)? {
+        match self.begin_wait(name, why)? {
             Some(granted) => Ok(granted),
             None => sleep_for(self.session, name, patience),
         }

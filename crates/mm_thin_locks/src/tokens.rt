@@ -36,6 +36,7 @@ pub(crate) fn take_thinly<'n>(worker: &mut Worker, name: &'n [u8]) -> Result<Gra
         Take::Taken => Ok(taken(worker, name)),
         Take::Held => Ok(taken(worker, name)),
         Take::Busy => Err(Take::Busy),
+        Take::Fat => Err(Take::Fat),
         Take::Full => Err(Take::Full),
         Take::NotThin => Err(Take::NotThin),
     }

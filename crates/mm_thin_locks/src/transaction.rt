@@ -72,17 +72,17 @@ impl<'s, 'm, R: Wait> Transaction<'s, 'm, R> {
         }
         match take_thinly(&mut self.session.worker, name) {
             Ok(granted) => Ok(granted),
-            Err(_) => self.lock_slowly(name),
+            Err(why) => self.lock_slowly(name, why),
         }
     }
 
-    /// Looks some times more whether the name is free, and then asks the manager for it.
+    /// Looks some times more whether the name is free, if another one has its bucket, and then asks the manager for it.
     #[inline(never)]
-    fn lock_slowly<'n>(&mut self, name: &'n [u8]) -> Result<Granted<'n>, LockError>
+    fn lock_slowly<'n>(&mut self, name: &'n [u8], why: Take) -> Result<Granted<'n>, LockError>
         ensures granted { IfOk result (IsFor self.old.session.now.worker.at name.now) }
         ensures in_time { IfErr result (λ error. error ≢ LockError.TimedOut) }
     {
-        match self.begin_wait(name)? {
+        match self.begin_wait(name, why)? {
             Some(granted) => Ok(granted),
             None => sleep(self.session, name),
         }
@@ -92,15 +92,18 @@ impl<'s, 'm, R: Wait> Transaction<'s, 'm, R> {
     pub(crate) fn begin_wait<'n>(
         &mut self,
         name: &'n [u8],
+        why: Take,
     ) -> Result<Option<Granted<'n>>, LockError>
         ensures granted { IfOk result (λ found. IfSome found (IsFor self.old.session.now.worker.at name.now)) }
         ensures in_time { IfErr result (λ error. error ≢ LockError.TimedOut) }
         ensures at { self.new.session.now.worker.at ≡ self.old.session.now.worker.at }
     {
-        for _ in self.session.rt.forever() {
+        if let Take::Busy = why {
             if let Some(granted) = self.look_again(name) {
                 return Ok(Some(granted));
             }
+        }
+        for _ in self.session.rt.forever() {
             match self.request(name)? {
                 Outcome::Owns(granted) => return Ok(Some(granted)),
                 Outcome::Waits => return Ok(None),

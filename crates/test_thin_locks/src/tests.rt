@@ -1,4 +1,4 @@
-//! One thread with one session and with two, and threads that cross, wait and give up.
+//! One thread with one session and with two, and threads that cross.
 //!
 //! `on_locks` opens the locks, lends them to the threads, and drops them: so no test owns locks.
 
@@ -7,7 +7,7 @@ mod helpers;
 mod together;
 
 use crate::tests::alone::{each_name_is_known, nine_names_and_a_long_one, one_name_by_two};
-use crate::tests::together::{cross_often, sleep_and_wake, time_passes};
+use crate::tests::together::cross_often;
 use mm_thin_locks::{ManagerConfig, ThinLocks, ThinLocksConfig};
 use std::alloc::Global;
 use std::process::Abort;
@@ -23,8 +23,6 @@ enum Work {
     NineNames,
     OneNameByTwo,
     Cross,
-    Sleep,
-    Time,
 }
 
 impl Work {
@@ -41,8 +39,6 @@ impl Work {
             Work::NineNames => nine_names_and_a_long_one(rt, locks),
             Work::OneNameByTwo => one_name_by_two(rt, locks),
             Work::Cross => cross_often(rt, locks, gate, number),
-            Work::Sleep => sleep_and_wake(rt, locks, gate, number),
-            Work::Time => time_passes(rt, locks, gate, number),
         }
     }
 }
@@ -119,14 +115,4 @@ fn test_one_name_by_two(rt: HostRuntime) {
 #[test]
 fn test_threads_that_cross(rt: HostRuntime) {
     commit_together(&rt, rt.alloc(), Work::Cross, 2, 400);
-}
-
-#[test]
-fn test_one_that_sleeps_is_woken(rt: HostRuntime) {
-    commit_together(&rt, rt.alloc(), Work::Sleep, 2, 200);
-}
-
-#[test]
-fn test_time_passes(rt: HostRuntime) {
-    commit_together(&rt, rt.alloc(), Work::Time, 2, 2);
 }

@@ -1,4 +1,4 @@
-use Rattle.std.proofs.Common.{◌≡◌, ◌<◌, ℕ, List, [], Some, length, set, slice_get, ap, subst, ◌∙◌, arith}
+use Rattle.std.proofs.Common.{◌≡◌, ◌<◌, ℕ, List, [], Some, length, set, slice_get, nat_eq, ap, subst, ◌∙◌, arith}
 use Rattle.std.proofs.lemmas.Option.{slice_get_within}
 use Rattle.std.proofs.lemmas.List.{length-map}
 use Rattle.mm_thin.specs.declared.views.RecordView.{RecordView}
@@ -42,8 +42,8 @@ invariant_of-self c =
     let took = c.take.ensures.takes in
     let table = c.take.ensures.table in
     placed_set b c.self.inside.at ps c.args.k old new is table c.self.invariant
-    (taken_number b c.self.inside.at ps c.args.k old new is table c.args.name.now c.of-bucket.result c.of-bucket.ensures.bucket none c.take.result took)
-    (taken_place b c.self.inside.at ps c.args.k old new is table c.args.name.now c.of-bucket.result c.of-bucket.ensures.bucket none c.take.result took)
+    (taken_number b c.self.inside.at ps c.args.k old new is table c.args.name.now c.of-bucket.result c.of-bucket.ensures.bucket none (nat_eq c.take.result 0) took)
+    (taken_place b c.self.inside.at ps c.args.k old new is table c.args.name.now c.of-bucket.result c.of-bucket.ensures.bucket none (nat_eq c.take.result 0) took)
 
 pub returns : goal.returns
 returns c =
@@ -56,5 +56,5 @@ returns c =
     let low = within ps c.args.self.now.records c.args.k idle.0 known idle.1 in
     let is = at_place ps c.args.k old low c.index_mut.ensures.value in
     let none = none_taken ps c.args.self.now.records c.args.k old idle.0 known idle.1 idle.2 is in
-    subst (λ (w : WorkerState). TakesAt w c.args.k c.args.name.now c.take.result (state b c.self.inside.at (set ps c.args.k new))) c.self.view_is
-    (takes_at b c.self.inside.at ps c.args.k old new is c.take.ensures.table c.args.name.now c.of-bucket.result c.of-bucket.ensures.bucket none c.take.result c.take.ensures.takes)
+    subst (λ (w : WorkerState). TakesAt w c.args.k c.args.name.now (nat_eq c.take.result 0) (state b c.self.inside.at (set ps c.args.k new))) c.self.view_is
+    (takes_at b c.self.inside.at ps c.args.k old new is c.take.ensures.table c.args.name.now c.of-bucket.result c.of-bucket.ensures.bucket none (nat_eq c.take.result 0) c.take.ensures.takes)
