@@ -8,6 +8,7 @@ python3 lib/bank.py SOCKET FILE SLOT SEED: moves money between accounts under lo
 """
 from __future__ import annotations
 
+import contextlib
 import mmap
 import os
 import random
@@ -119,13 +120,12 @@ def owned(path: str, slot: int, end: int) -> Iterator[Owned]:
     """What a process owned that had ended at this time."""
     open_since: dict[int, int] = {}
     with open(f"{path}.{slot}", encoding="ascii") as file:
-        for word, moment in map(str.split, file):
+        for word, moment in map(str.split, [*file, f"- {end}"]):
             if word != "-":
                 open_since[int(word)] = int(moment)
-                continue
-            yield from (Owned(account, start, int(moment), slot) for account, start in open_since.items())
-            open_since.clear()
-    yield from (Owned(account, start, end, slot) for account, start in open_since.items())
+            else:
+                yield from (Owned(account, start, int(moment), slot) for account, start in open_since.items())
+                open_since.clear()
 
 
 def overlaps(history: list[Owned]) -> list[tuple[Owned, Owned]]:
@@ -166,11 +166,9 @@ def main() -> None:
     chance, bank, history = random.Random(seed), BankFile(file), History(file, slot)
     with Locks.connect(path, retry=Retry(1000, longest=0.1)) as locks:
         while not bank.is_over():
-            try:
+            with contextlib.suppress(Timeout):
                 locks.run(transfer, bank, history, slot, chance)
                 bank.count(slot)
-            except Timeout:
-                pass
 
 
 if __name__ == "__main__":

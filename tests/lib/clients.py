@@ -2,22 +2,17 @@
 from __future__ import annotations
 
 import asyncio
+import contextlib
 import logging
 import threading
 from typing import Any, Awaitable, Callable
 
-from lib.world import LIMIT, until
+from lib.world import LIMIT, same, until  # noqa: F401
 
 from pashkure import aio
 
 
 logging.getLogger("pashkure").addHandler(logging.NullHandler())  # so that a warning is no line on standard error
-
-
-def same(told: Any, wanted: Any, what: str = "") -> None:
-    """Fails unless both are equal."""
-    if told != wanted:
-        raise AssertionError(f"{what or 'told'}: {told!r}, and {wanted!r} is wanted")
 
 
 def raises(kind: type, call: Callable[..., Any], *args: Any, **kwargs: Any) -> Any:
@@ -96,7 +91,16 @@ class Asyncio:
         self._loop.close()
 
 
-class AsyncioTransaction:
+class Opener:
+    """What opens locks that are closed at the end of the test."""
+
+    def opened(self, form: Any, *paths: str, **options: Any) -> Any:
+        locks = form(*paths, **options)
+        self.addCleanup(locks.ends if isinstance(locks, Asyncio) else locks.close)  # type: ignore[attr-defined]
+        return locks
+
+
+class AsyncioTransaction(contextlib.AbstractContextManager):
     def __init__(self, locks: Asyncio, tx: aio.Transaction) -> None:
         self._locks, self._tx, self.key = locks, tx, tx.key
 
@@ -106,9 +110,6 @@ class AsyncioTransaction:
     def __getattr__(self, name: str) -> Callable[..., Any]:
         return lambda *args, **options: self._locks.result(getattr(self._tx, name)(*args, **options))
 
-    def __enter__(self) -> "AsyncioTransaction":
-        return self
-
     def __exit__(self, *error: Any) -> None:
         self._locks.result(self._tx.__aexit__(*error))
 
@@ -116,6 +117,13 @@ class AsyncioTransaction:
 def waits(tx: Any) -> None:
     """Returns when the transaction waits."""
     until(lambda: tx._tx._state.waits if isinstance(tx, AsyncioTransaction) else tx._state.waits, "the transaction waits")
+
+
+def waiting(tx: Any, *names: str, **options: Any) -> Apart:
+    """A lock in a thread of its own, which waits."""
+    thread = Apart(tx.lock, *names, **options)
+    waits(tx)
+    return thread
 
 
 NO_BYTES = [*range(0x21), 0x7F]

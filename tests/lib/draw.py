@@ -98,19 +98,14 @@ class Scripts:
         return key(table, chance.choice(meant))
 
     def meant(self, table: Table, word: bytes) -> list[int]:
-        if word in (b"acquire", b"finish"):
-            return sorted(table.live - table.wait.keys())
-        if word == b"release":
-            return sorted({process for process in table.owner.values() if process not in table.wait})
-        if word == b"abort":
-            return sorted(table.verdicts)
+        active, waiting = sorted(table.live - table.wait.keys()), sorted(table.wait)
         if word == b"detect":
-            return [process for process in sorted(table.wait) if table.can_detect(process)] or sorted(table.wait)
-        if word == b"state":
-            return sorted(table.live)
+            return [process for process in waiting if table.can_detect(process)] or waiting
         if word == b"transmit":
-            return [process for process in sorted(table.wait) if table.public(table.holder(process)) > table.public(process)] or sorted(table.wait)
-        return sorted(table.wait)
+            return [process for process in waiting if table.public(table.holder(process)) > table.public(process)] or waiting
+        others = {b"acquire": active, b"finish": active, b"release": sorted({*table.owner.values()} - table.wait.keys()), b"abort": sorted(table.verdicts),
+                  b"state": sorted(table.live)}  # fmt: skip
+        return others.get(word, waiting)
 
     def resource(self, word: bytes, parts: list[bytes]) -> bytes:
         table, chance = self.model.table, self.chance
@@ -218,32 +213,22 @@ class Connections(Requests):
 
 def odd(chance: random.Random, line: bytes, longest: int) -> bytes:
     """A line that is seldom: silent, about as long as may be, or with a small fault; some of these are no fault."""
-    words = line.split(b" ")
-    way = chance.randrange(12)
-    if way == 0:
-        return chance.choice(SILENT)
-    if way == 1:
-        return line.ljust(longest + chance.randint(-2, 2)) + chance.choice([b"", b"\r", b"\r\r"])
-    if way == 2:
-        return b"#" * (longest + chance.randint(-1, 2)) + chance.choice([b"", b"\r"])
-    if way == 3:
-        return b" ".join([words[0], *(b"0" * chance.choice([1, 3, 17, 20]) + word for word in words[1:])])
-    if way == 4:
-        return b" ".join(words[:-1])
-    if way == 5:
-        return line + b" 1"
-    if way == 6:
-        return line.upper()
-    if way == 7:
-        return b" ".join([*words[:-1], b"%d" % (2**chance.choice([32, 64]) + chance.randint(-1, 1))])
-    place = chance.randrange(len(line) + 1)
-    if way == 8:
-        return line[:place]
-    if way == 9:
-        return line[:place] + chance.choice(PIECES[1:]).replace(b"\n", b"") + line[place:]
-    if way == 10:
-        return line.replace(b".", chance.choice([b",", b"..", b""]), 1)
-    return line[:place] + bytes([chance.choice([byte for byte in range(256) if byte != 10])]) + line[place:]
+    words, place = line.split(b" "), chance.randrange(len(line) + 1)
+    ways = [
+        lambda: chance.choice(SILENT),
+        lambda: line.ljust(longest + chance.randint(-2, 2)) + chance.choice([b"", b"\r", b"\r\r"]),
+        lambda: b"#" * (longest + chance.randint(-1, 2)) + chance.choice([b"", b"\r"]),
+        lambda: b" ".join([words[0], *(b"0" * chance.choice([1, 3, 17, 20]) + word for word in words[1:])]),
+        lambda: b" ".join(words[:-1]),
+        lambda: line + b" 1",
+        lambda: line.upper(),
+        lambda: b" ".join([*words[:-1], b"%d" % (2 ** chance.choice([32, 64]) + chance.randint(-1, 1))]),
+        lambda: line[:place],
+        lambda: line[:place] + chance.choice(PIECES[1:]).replace(b"\n", b"") + line[place:],
+        lambda: line.replace(b".", chance.choice([b",", b"..", b""]), 1),
+        lambda: line[:place] + bytes([chance.choice([byte for byte in range(256) if byte != 10])]) + line[place:],
+    ]
+    return chance.choice(ways)()
 
 
 def changed(chance: random.Random, data: bytes) -> bytes:

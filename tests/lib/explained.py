@@ -20,20 +20,14 @@ GREATEST = re.compile(rf"the greatest private label on it is {L}, that of {K}")
 GOES = re.compile(rf"resource (\d+) goes to {K}, which waited the longest for it")
 FREE = re.compile(r"resource (\d+) is free")
 OWNS = re.compile(rf"{K} owns resource (\d+) now")
-OTHERS = [
-    re.compile(part)
-    for part in (
-        r"processes \d+, resources \d+, label limit \d+, generation limit \d+",
-        rf"its holder {K} shows {L}, which is not greater than {L}",
-        r"it has its verdict already",
-        rf"no verdict: its label is {L}, and its holder {K} shows {L}",
-        rf"no verdict: its public label {L} is another's, its private one is {L}",
-        r"no label to raise, and no verdict to give",
-        rf"{K} waits for nothing; private label {L}, public label {L}",
-        rf"{K} waits(?: under a verdict)?, for resource \d+; private label {L}, public label {L}",
-        r".*; nothing changes",
-    )
-]
+OTHERS = [re.compile(part) for part in (
+    r"processes \d+, resources \d+, label limit \d+, generation limit \d+", r".*; nothing changes",
+    rf"its holder {K} shows {L}, which is not greater than {L}", r"it has its verdict already",
+    rf"no verdict: its label is {L}, and its holder {K} shows {L}", r"no label to raise, and no verdict to give",
+    rf"no verdict: its public label {L} is another's, its private one is {L}",
+    rf"{K} waits for nothing; private label {L}, public label {L}",
+    rf"{K} waits(?: under a verdict)?, for resource \d+; private label {L}, public label {L}",
+)]  # fmt: skip
 
 
 @dataclass

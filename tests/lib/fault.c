@@ -59,6 +59,7 @@ struct rule {
     enum kind kind;
     int error;
     long value, at, after, percent; /* 0: none */
+    const char *name; /* of its kind or its error */
 };
 
 struct counts {
@@ -97,7 +98,7 @@ static unsigned long long mixed(unsigned long long a, unsigned long long b, unsi
 /* Reads a rule. A word that is none ends the program: a test that injects nothing shows nothing. */
 static void add_rule(char *text)
 {
-    struct rule rule = {CALLS, ANYWHERE, 0, 0, 0, 0, 0, 0};
+    struct rule rule = {.call = CALLS, .where = ANYWHERE};
     char *kind = strchr(text, ':'), *when, *value, *where;
     size_t place;
     if (kind == NULL || rule_count == MOST_RULES)
@@ -116,6 +117,7 @@ static void add_rule(char *text)
         *value++ = '\0';
         rule.value = atol(value);
     }
+    rule.name = kind;
     for (place = 0; place < CALLS; place++)
         if (strcmp(call_names[place], text) == 0)
             rule.call = (enum call)place;
@@ -168,26 +170,16 @@ __attribute__((constructor)) static void begin(void)
     is_ready = 1;
 }
 
-static void note(const struct rule *rule, const char *kind, long value, long place)
+static void note(const struct rule *rule, long value, long place)
 {
     char line[128], where[16] = "";
     if (log_file < 0)
         return;
     if (rule->where != ANYWHERE)
         snprintf(where, sizeof where, rule->where == IN_THREADS ? "/thread" : "/%d", rule->where);
-    int length = snprintf(line, sizeof line, "%s%s:%s=%ld@%ld\n", call_names[rule->call], where, kind, value, place);
+    int length = snprintf(line, sizeof line, "%s%s:%s=%ld@%ld\n", call_names[rule->call], where, rule->name, value, place);
     if (REAL(write)(log_file, line, (size_t)length) < 0)
         abort();
-}
-
-static const char *name_of(const struct rule *rule)
-{
-    size_t place = 0;
-    if (rule->kind != ERROR)
-        return rule->kind == SHORT ? "short" : rule->kind == LATE ? "late" : rule->kind == JUMP ? "jump" : "told";
-    while (errors[place].number != rule->error)
-        place++;
-    return errors[place].name;
 }
 
 /* Whether a rule is for calls with this descriptor. */
@@ -234,7 +226,7 @@ static int faulty(enum call call, int descriptor, long *value)
         else
             error = rule->error;
         if (rule->kind != JUMP || rule->at != 0)
-            note(rule, name_of(rule), drawn, place);
+            note(rule, drawn, place);
     }
     return error;
 }
@@ -252,7 +244,6 @@ static int faulty(enum call call, int descriptor, long *value)
     } while (0)
 
 ssize_t read(int descriptor, void *buffer, size_t size) { OF_BYTES(READ, descriptor, size, read, descriptor, buffer, (size_t)bytes); }
-
 ssize_t write(int descriptor, const void *buffer, size_t size) { OF_BYTES(WRITE, descriptor, size, write, descriptor, buffer, (size_t)bytes); }
 
 ssize_t readv(int descriptor, const struct iovec *parts, int count)
@@ -264,11 +255,7 @@ ssize_t readv(int descriptor, const struct iovec *parts, int count)
 }
 
 ssize_t recv(int descriptor, void *buffer, size_t size, int flags) { OF_BYTES(RECV, descriptor, size, recv, descriptor, buffer, (size_t)bytes, flags); }
-
-ssize_t send(int descriptor, const void *buffer, size_t size, int flags)
-{
-    OF_BYTES(SEND, descriptor, size, send, descriptor, buffer, (size_t)bytes, flags);
-}
+ssize_t send(int descriptor, const void *buffer, size_t size, int flags) { OF_BYTES(SEND, descriptor, size, send, descriptor, buffer, (size_t)bytes, flags); }
 
 int poll(struct pollfd *files, nfds_t count, int timeout) { OF_BYTES(POLL, -1, timeout, poll, files, count, timeout + 0 * (int)bytes); }
 
@@ -359,10 +346,8 @@ static int refuses(void)
     if (!is_ready)
         return 0;
     atomic_fetch_add(&counts->requests, 1);
-    if (is_starting)
-        atomic_fetch_add(&counts->by_starts, 1);
-    if (is_started)
-        atomic_fetch_add(&counts->by_threads, 1);
+    atomic_fetch_add(&counts->by_starts, is_starting);
+    atomic_fetch_add(&counts->by_threads, is_started);
     if (faulty(MALLOC, -1, &none) == 0)
         return 0;
     atomic_fetch_add(&counts->refused, 1);
@@ -371,13 +356,9 @@ static int refuses(void)
 }
 
 void *malloc(size_t size) { return refuses() ? NULL : __libc_malloc(size); }
-
 void *calloc(size_t count, size_t size) { return refuses() ? NULL : __libc_calloc(count, size); }
-
 void *realloc(void *old, size_t size) { return refuses() ? NULL : __libc_realloc(old, size); }
-
 void *memalign(size_t alignment, size_t size) { return refuses() ? NULL : __libc_memalign(alignment, size); }
-
 void *aligned_alloc(size_t alignment, size_t size) { return refuses() ? NULL : __libc_memalign(alignment, size); }
 
 int posix_memalign(void **result, size_t alignment, size_t size)

@@ -3,29 +3,20 @@ from __future__ import annotations
 
 import functools
 import os
-import shutil
 import struct
 import subprocess
 import tempfile
-import unittest
+from collections import namedtuple
 from typing import Any, NamedTuple, Optional
 
-from lib.world import Case, Run, run
+from lib.world import Case, Run, run, wants, write
 
 SOURCE = os.path.join(os.path.dirname(os.path.abspath(__file__)), "fault.c")
 COUNTS = struct.Struct("7q")
 
 
-class Counts(NamedTuple):
+class Counts(namedtuple("Counts", "requests by_starts by_threads refused starts started ended")):
     """What fault.c counts: requests for memory, those of the starts of threads and of threads, the refused ones, and threads."""
-
-    requests: int = 0
-    by_starts: int = 0
-    by_threads: int = 0
-    refused: int = 0
-    starts: int = 0
-    started: int = 0
-    ended: int = 0
 
     def own(self) -> int:
         """The requests that the program made itself. (The C library starts a thread with fewer if it has the memory of one that ended.)"""
@@ -42,8 +33,7 @@ class Ran(NamedTuple):
 @functools.lru_cache(maxsize=None)
 def library() -> str:
     """The path of the library, which is built once."""
-    if not shutil.which("cc"):
-        raise unittest.SkipTest("no C compiler cc is on the PATH")
+    wants("cc")
     folder = tempfile.TemporaryDirectory(prefix="pashkure.")
     os.chmod(folder.name, 0o755)
     KEPT.append(folder)
@@ -80,8 +70,7 @@ class FaultCase(Case):
         """The same, with what was counted."""
         if not hasattr(self, "counts"):
             self.counts = self.file("counts", bytes(COUNTS.size))
-        with open(self.counts, "wb") as file:
-            file.write(bytes(COUNTS.size))
+        write(self.counts, bytes(COUNTS.size))
         told = run(*command, given=given, env={**os.environ, **variables(rules, counts=self.counts)})
         with open(self.counts, "rb") as file:
             return Ran(told, Counts(*COUNTS.unpack(file.read())))

@@ -3,10 +3,11 @@ from __future__ import annotations
 
 import copy
 from dataclasses import dataclass
-from typing import Any, Iterator, Optional
+from typing import Iterator, Optional
 
 from lib import explained as text
 from lib.table import Key, Script, Table, arguments, lines_of, shown
+from lib.world import same
 
 WIDTH = 100
 
@@ -33,12 +34,6 @@ def lines(data: bytes) -> Iterator[Line]:
         values = arguments(words) if is_call else None
         key = values[0] if values and isinstance(values[0], tuple) else None
         yield Line(line.decode("latin-1"), reply, words[0].decode() if is_call else "", key, copy.deepcopy(script.table))
-
-
-def same(told: Any, wanted: Any, what: str) -> None:
-    """Fails unless both are equal."""
-    if told != wanted:
-        raise AssertionError(f"{what}: {told!r}, and {wanted!r} is wanted")
 
 
 class Follower:

@@ -4,11 +4,8 @@ from __future__ import annotations
 import re
 from dataclasses import dataclass, field
 
-MERMAID_HEAD = [
-    "flowchart LR",
-    "    classDef cycle stroke:#c00000,stroke-width:3px",
-    "    classDef victim fill:#ffd0d0,stroke:#c00000,stroke-width:3px",
-]
+MERMAID_HEAD = ["flowchart LR", "    classDef cycle stroke:#c00000,stroke-width:3px",
+                "    classDef victim fill:#ffd0d0,stroke:#c00000,stroke-width:3px"]  # fmt: skip
 # what may stand between the double quotes of a text of Mermaid: no quote, and of a tag a line break alone
 TEXT = r'"((?:[^"<>&;]|<br/>)+)"'
 NODE = r"([A-Za-z][A-Za-z0-9_]*)"

@@ -41,33 +41,27 @@ class Result(unittest.TestResult):
               f" --seed {os.environ.get('TESTED_SEED', '1')} {test.id().rsplit('.', 2)[0]}", flush=True)  # fmt: skip
 
     def addError(self, test: unittest.TestCase, err: tuple) -> None:
-        super().addError(test, err)
-        self.tells(test, "".join(traceback.format_exception(*err)))
+        self.addFailure(test, err)
         if not isinstance(test, unittest.TestCase):  # what is set up for a class or a module
             self.counts["failed"] += 1
 
     def addFailure(self, test: unittest.TestCase, err: tuple) -> None:
-        super().addFailure(test, err)
         self.tells(test, "".join(traceback.format_exception(*err)))
 
     def addSubTest(self, test: unittest.TestCase, subtest: unittest.TestCase, err: tuple | None) -> None:
-        super().addSubTest(test, subtest, err)
         if err is not None:
             self.tells(test, f"{subtest}\n" + "".join(traceback.format_exception(*err)))
 
     def addSkip(self, test: unittest.TestCase, reason: str) -> None:
-        super().addSkip(test, reason)
         if self.kind == "passed":
             self.kind = "skipped"
             print(f"skipped: {test.id()}: {reason}", flush=True)
 
     def addExpectedFailure(self, test: unittest.TestCase, err: tuple) -> None:
-        super().addExpectedFailure(test, err)
         self.kind = "known"
         print(f"known: {test.id()}: {test.shortDescription() or 'it fails, as is known'}", flush=True)
 
     def addUnexpectedSuccess(self, test: unittest.TestCase) -> None:
-        super().addUnexpectedSuccess(test)
         self.tells(test, "it passes: take its mark expectedFailure away")
 
 

@@ -3,33 +3,26 @@ from __future__ import annotations
 
 import os
 import random
-from typing import Callable, Iterator, Optional
+from typing import Any, Callable, Iterator, NamedTuple, Optional
 
 from lib import draw, hub, service, table
-from lib.world import OUT, PROGRAM, TOP, run
+from lib.world import OUT, PROGRAM, TOP, run, write
 
 CORPUS = os.path.join(TOP, "tests", "corpus")
 LENGTHS = [30, 100, 300, 300, 1000]
 
 
-class Subject:
-    """What is searched: how inputs are drawn, what the program is called with, and what it is to answer."""
+class Subject(NamedTuple):
+    """What is searched: how inputs are drawn, what they are to be answered with, and the command of the program that an input asks for."""
 
-    name = ""
-    words: list[bytes] = []
+    name: str
+    words: list[bytes]
+    draws: Callable[[random.Random], Any]
+    wanted: Callable[[bytes], tuple[int, bytes]]
+    command: Callable[[bytes], list[str]]
 
     def drawn(self, chance: random.Random) -> bytes:
-        raise NotImplementedError
-
-    def wanted(self, data: bytes) -> tuple[int, bytes]:
-        raise NotImplementedError
-
-    def command(self, data: bytes) -> list[str]:
-        raise NotImplementedError
-
-    def size(self, data: bytes) -> int:
-        """How much of a search an input is: its lines."""
-        return data.count(b"\n") + 1
+        return self.draws(chance).draw(chance.choice(LENGTHS))
 
     def corpus(self) -> list[str]:
         """The paths of the inputs that are kept, of which each was the answer to a search once, or stands on a page."""
@@ -59,52 +52,22 @@ class Subject:
         return f"status {told.status} ({status} by the model), errors {told.err[:200]!r}; from line {place - 1} on {said[0]!r} ({said[1]!r} by the model)"
 
 
-class Scripts(Subject):
-    name = "scripts"
-    words = list(table.FORMS)
-
-    def drawn(self, chance: random.Random) -> bytes:
-        return draw.Scripts(chance).draw(chance.choice(LENGTHS))
-
-    def wanted(self, data: bytes) -> tuple[int, bytes]:
-        return table.answers(data)
-
-    def command(self, data: bytes) -> list[str]:
-        return [PROGRAM]
+def of_requests(data: bytes) -> list[str]:
+    limits = service.limits_of(data).items()
+    return [PROGRAM, "locks", *(word for name, value in limits for word in ("--" + name.replace("_", "-"), str(value)))]
 
 
-class Requests(Subject):
-    name = "requests"
-    words = list(service.FORMS)
-
-    def drawn(self, chance: random.Random) -> bytes:
-        return draw.Requests(chance).draw(chance.choice(LENGTHS))
-
-    def wanted(self, data: bytes) -> tuple[int, bytes]:
-        return service.answers(data)
-
-    def command(self, data: bytes) -> list[str]:
-        limits = service.limits_of(data).items()
-        return [PROGRAM, "locks", *(word for name, value in limits for word in ("--" + name.replace("_", "-"), str(value)))]
+def of_connections(data: bytes) -> list[str]:
+    given = service.given_by(data)
+    options = [word for name in ("each", "epoch") if name in given for word in (f"--{name}", str(given[name]))]
+    return [*of_requests(data), "--connections", str(hub.CONNECTIONS), *options]
 
 
-class Connections(Requests):
-    name = "connections"
-    words = [*service.FORMS, *hub.FURTHER, b"0 ", b"1 ", b"- 1", b"- "]
-
-    def drawn(self, chance: random.Random) -> bytes:
-        return draw.Connections(chance).draw(chance.choice(LENGTHS))
-
-    def wanted(self, data: bytes) -> tuple[int, bytes]:
-        return hub.answers(data)
-
-    def command(self, data: bytes) -> list[str]:
-        given = service.given_by(data)
-        options = [word for name in ("each", "epoch") if name in given for word in (f"--{name}", str(given[name]))]
-        return [*super().command(data), "--connections", str(hub.CONNECTIONS), *options]
-
-
-SUBJECTS = [Scripts(), Requests(), Connections()]
+SUBJECTS = [
+    Subject("scripts", list(table.FORMS), draw.Scripts, table.answers, lambda data: [PROGRAM]),
+    Subject("requests", list(service.FORMS), draw.Requests, service.answers, of_requests),
+    Subject("connections", [*service.FORMS, *hub.FURTHER, b"0 ", b"1 ", b"- 1", b"- "], draw.Connections, hub.answers, of_connections),
+]
 
 
 def read(path: str) -> bytes:
@@ -117,7 +80,7 @@ def inputs(subject: Subject, seed: int, lines: int) -> Iterator[bytes]:
     chance, done = random.Random(f"{subject.name} {seed}"), 0
     while done < lines:
         data = subject.input(chance)
-        done += subject.size(data)
+        done += data.count(b"\n") + 1
         yield data
 
 
@@ -149,8 +112,7 @@ def kept(subject: Subject, data: bytes, seed: object) -> str:
     data = shortest(data, lambda given: subject.difference(given) is not None)
     os.makedirs(OUT, exist_ok=True)
     path = os.path.join(OUT, f"{subject.name}.{seed}")
-    with open(path, "wb") as file:
-        file.write(data)
+    write(path, data)
     return f"{subject.difference(data)}\n  cut short, the input is {path}: put it into {os.path.relpath(CORPUS, TOP)}/{subject.name}/ under a name of its own"
 
 

@@ -1,8 +1,12 @@
 """What the tests run: the program, a server in front of it, and connections to one."""
 from __future__ import annotations
 
+import contextlib
+import glob
 import os
+import pty
 import re
+import select
 import shlex
 import shutil
 import signal
@@ -29,6 +33,18 @@ LIMIT = int(os.environ.get("TESTED_LIMIT") or 600)
 """Seconds after which something is taken to have no end, however slow the machine is."""
 
 sys.path.insert(0, PACKAGE)
+
+
+FLAGS = ["-std=c11", "-Wall", "-Wextra", "-Wpedantic", "-Wshadow", "-Wconversion", "-Werror"]
+
+
+def built_server(path: str, *flags: str) -> str:
+    """Builds it there, of the sources below TESTED_SOURCES if that is in the environment. Returns the path, or nothing if there is no compiler."""
+    if not shutil.which("cc"):
+        return ""
+    sources = glob.glob(os.path.join(os.environ.get("TESTED_SOURCES") or TOP, "server", "*.c"))
+    subprocess.run(["cc", *FLAGS, *(flags or ("-O1",)), "-o", path, *sources], check=True)
+    return path
 
 
 class Run(NamedTuple):
@@ -72,8 +88,31 @@ def stop(process: int) -> None:
 
 
 def state(process: int) -> str:
-    with open(f"/proc/{process}/stat", encoding="ascii") as file:
-        return file.read().rpartition(")")[2].split()[0]
+    return read(f"/proc/{process}/stat").rpartition(")")[2].split()[0]
+
+
+def read(path: str) -> str:
+    """The text of a file, with its line ends as they are."""
+    with open(path, encoding="utf-8", newline="") as file:
+        return file.read()
+
+
+def write(path: str, data: str | bytes) -> None:
+    with open(path, "wb") as file:
+        file.write(data if isinstance(data, bytes) else data.encode())
+
+
+def wants(*tools: str) -> None:
+    """Skips the test if one of these commands is missing."""
+    for tool in tools:
+        if not shutil.which(tool):
+            raise unittest.SkipTest(f"no command {tool} is on the PATH (tests/packages)")
+
+
+def same(told: Any, wanted: Any, what: str = "") -> None:
+    """Fails unless both are equal."""
+    if told != wanted:
+        raise AssertionError(f"{what or 'told'}: {told!r}, and {wanted!r} is wanted")
 
 
 def each(rows: Iterable[Any]) -> Callable[[Any], Any]:
@@ -142,8 +181,7 @@ class Case(unittest.TestCase):
     def file(self, name: str, data: str | bytes) -> str:
         """The path of a new file with this text."""
         path = self.path(name)
-        with open(path, "wb") as file:
-            file.write(data if isinstance(data, bytes) else data.encode())
+        write(path, data)
         return path
 
     def script(self, text: str) -> str:
@@ -165,6 +203,11 @@ class Case(unittest.TestCase):
         else:
             self.assertEqual(told.err, wanted[1], "standard error")
         self.assertEqual(told.status, status, "the status")
+        return told
+
+    def passes(self, told: Run) -> Run:
+        """Fails unless a run ended with status 0, and wrote nothing to standard error."""
+        self.assertEqual((told.status, told.err.decode(errors="replace")), (0, ""), told.out.decode(errors="replace"))
         return told
 
     def needs_server(self) -> list[str]:
@@ -208,17 +251,14 @@ class Server:
 
     def program_pid(self) -> int:
         """The process of the program that it stands in front of."""
-        with open(self._pid_file, encoding="ascii") as file:
-            return int(file.read())
+        return int(read(self._pid_file))
 
     def stderr(self) -> str:
-        with open(self._err, encoding="utf-8") as file:
-            return file.read()
+        return read(self._err)
 
     def memory(self) -> int:
         """Resident memory, in bytes."""
-        with open(f"/proc/{self.process.pid}/statm", encoding="ascii") as file:
-            return int(file.read().split()[1]) * os.sysconf("SC_PAGE_SIZE")
+        return int(read(f"/proc/{self.process.pid}/statm").split()[1]) * os.sysconf("SC_PAGE_SIZE")
 
     def descriptors(self) -> int:
         """How many files the server has open."""
@@ -226,19 +266,38 @@ class Server:
 
     def close(self) -> int:
         """Ends the server as its user does, and returns its status."""
-        if self.process.poll() is None:
-            self.process.send_signal(signal.SIGTERM)
+        self.process.terminate()
         return self.process.wait(LIMIT)
 
     def kill(self) -> None:
         """Ends the server and its program, whatever they do."""
-        if self.process.poll() is None:
-            self.process.send_signal(signal.SIGTERM)
-            try:
-                self.process.wait(min(30, LIMIT))
-            except subprocess.TimeoutExpired:
-                self.process.kill()
+        self.process.terminate()
+        with contextlib.suppress(subprocess.TimeoutExpired):
+            self.process.wait(min(30, LIMIT))
+        self.process.kill()
         self.process.wait()
+
+
+def typed(command: list[str], text: bytes, environment: Optional[dict[str, str]] = None) -> tuple[int, bytes]:
+    """Runs the command at a terminal of its own, types the text there and then Ctrl-D. Returns its status, and what the terminal shows,
+    with its line ends as newlines."""
+    child, terminal = pty.fork()
+    if child == 0:
+        try:
+            os.execvpe(command[0], command, environment or dict(os.environ))
+        finally:
+            os._exit(127)
+    os.write(terminal, text + b"\x04")
+    shown = b""
+    with contextlib.suppress(OSError):  # the last program that had the terminal open has ended
+        while True:
+            if not select.select([terminal], [], [], LIMIT)[0]:
+                os.kill(child, signal.SIGKILL)
+            if not (piece := os.read(terminal, 4096)):
+                break
+            shown += piece
+    os.close(terminal)
+    return os.waitstatus_to_exitcode(os.waitpid(child, 0)[1]), shown.replace(b"\r\n", b"\n")
 
 
 def answers(path: str) -> bool:
@@ -267,8 +326,7 @@ class Wire:
         """This many lines. Fails if the connection ends before."""
         parts, have = [self.rest], self.rest.count(b"\n")
         while have < count:
-            data = self.socket.recv(65536)
-            if not data:
+            if not (data := self.socket.recv(65536)):
                 raise AssertionError(f"the connection ended after {b''.join(parts)[-200:]!r}")
             parts.append(data)
             have += data.count(b"\n")
@@ -290,16 +348,11 @@ class Wire:
 
     def all(self) -> bytes:
         """All that comes until the other side closes the connection."""
-        parts = [self.rest]
-        self.rest = b""
-        while True:
-            try:
-                data = self.socket.recv(65536)
-            except ConnectionResetError:
-                data = b""
-            if not data:
-                return b"".join(parts)
-            parts.append(data)
+        parts, self.rest = [self.rest], b""
+        with contextlib.suppress(ConnectionResetError):
+            while data := self.socket.recv(65536):
+                parts.append(data)
+        return b"".join(parts)
 
     def close(self) -> None:
         self.socket.close()

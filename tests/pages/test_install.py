@@ -34,8 +34,7 @@ class Install(Case):
 
     @classmethod
     def setUpClass(cls) -> None:
-        missing = [name for name in ("venv", "ensurepip") if importlib.util.find_spec(name) is None]
-        if missing:
+        if None in map(importlib.util.find_spec, ("venv", "ensurepip")):
             return
         cls.scratch = tempfile.TemporaryDirectory(prefix="pashkure.")
         cls.addClassCleanup(cls.scratch.cleanup)

@@ -10,11 +10,11 @@ import signal
 import subprocess
 import sys
 
-from lib.world import LIMIT, PROGRAM, TOP, Case, each, run, slow
+from lib.world import LIMIT, PROGRAM, TOP, Case, each, read, run, slow, wants
 
 
 def text_of(name: str) -> str:
-    return pathlib.Path(TOP, name).read_text(encoding="utf-8")
+    return read(os.path.join(TOP, name))
 
 
 def anchor(title: str) -> str:
@@ -26,28 +26,27 @@ BLOCK = re.compile(r"^<!-- tested by tests/pages -->\n```sh\n(.*?)^```$.*?^```\n
 PASTED = [(f"{page} {number}", *block) for page in ("README.md", "docs/SERVICE.md", "clients/python/README.md", "clients/c/README.md")
           for number, block in enumerate(BLOCK.findall(text_of(page)), 1)]  # fmt: skip
 COMMANDS = sorted(page for page in ["README.md", *(f"docs/{name}" for name in os.listdir(f"{TOP}/docs") if name.endswith(".md"))]
-                  if re.search(r"^```(text|sh)?\n\$ ", pathlib.Path(TOP, page).read_text(encoding="utf-8"), re.M))  # fmt: skip
+                  if re.search(r"^```(text|sh)?\n\$ ", text_of(page), re.M))  # fmt: skip
 NEEDS = {"docs/THREADS.md": "crates/example_bank/out/example_bank"}
 PIP = {"PIP_NO_INDEX": "1", "PIP_CONFIG_FILE": os.devnull, "PYTHONDONTWRITEBYTECODE": "1"}
 
 
 class Pages(Case):
-    def passes(self, *command: str) -> None:
-        told = run(sys.executable, *command, cwd=TOP)
-        self.assertEqual((told.status, told.err), (0, b""), told.out)
+    def checks(self, *command: str) -> None:
+        told = self.passes(run(sys.executable, *command, cwd=TOP))
         self.assertRegex(told.out.splitlines()[-1], rb"^[0-9]+ passed, 0 failed$")
 
     @each([("docs/contracts",), ("docs/citations",), ("bench/tables", "--check")])
     def test_sources(self, *command: str) -> None:
         """The contracts in the pages are those of the sources, what the pages name is there, and tables have the numbers that were measured."""
-        self.passes(*command)
+        self.checks(*command)
 
     @each(COMMANDS)
     def test_commands(self, page: str) -> None:
         """The commands in a page print what it says."""
         if page in NEEDS and not os.path.exists(os.path.join(TOP, NEEDS[page])):
             self.skipTest(f"no program {NEEDS[page]}")
-        self.passes("docs/commands", "--program", PROGRAM, page)
+        self.checks("docs/commands", "--program", PROGRAM, page)
 
     def test_questions(self) -> None:
         """Each question of a new reader has a page and a heading that answers it."""
@@ -65,7 +64,7 @@ class Pages(Case):
 
     def test_tour(self) -> None:
         """The tour has what the program explains."""
-        self.passes("docs/make_tour", "--check", "--program", PROGRAM)
+        self.checks("docs/make_tour", "--check", "--program", PROGRAM)
 
 
 class Pasted(Case):
@@ -76,10 +75,7 @@ class Pasted(Case):
     def test_page(self, _: str, commands: str, wanted: str) -> None:
         if "venv" in commands and importlib.util.find_spec("ensurepip") is None:
             self.skipTest("this Python has no ensurepip (Debian's package python3-venv)")
-        if " cc " in f" {commands}" and run("sh", "-c", "command -v cc").status:
-            self.skipTest("no C compiler cc is on the PATH")
-        if "pkg-config" in commands and run("sh", "-c", "command -v make && command -v pkg-config").status:
-            self.skipTest("make or pkg-config is not on the PATH (Debian's packages make and pkg-config)")
+        wants(*(tool for tool in ("cc", "make", "pkg-config") if re.search(rf"(?<![\w-]){tool} ", commands)))
         commands = commands.replace("/tmp/", f"{self.folder}/")
         if "./mmdetect serve" in commands:
             commands = commands.replace("./mmdetect serve", f"{shlex.join(self.needs_server())} --program {PROGRAM}")

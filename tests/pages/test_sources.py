@@ -6,7 +6,7 @@ import re
 import sys
 from typing import Iterator
 
-from lib.world import TOP, Case, each
+from lib.world import TOP, Case, each, read
 
 sys.path.insert(0, os.path.join(TOP, "docs"))
 from sources import CLAUSE, FUNCTION, closing, owners, signature_end  # noqa: E402
@@ -20,14 +20,13 @@ LOOPS = re.compile(r"\b(for|while|loop)\b(?!\s*<)")
 NAME = re.compile(r"(?:\b(\w+)::)?\b([A-Za-z_]\w*)(?:(!)\s*[(\[{]|(?:::<[^()]*?>)?\()")
 
 
-def read(path: str) -> str:
-    with open(os.path.join(TOP, "crates", path), encoding="utf-8") as file:
-        return re.sub(r"//[^\n]*", "", file.read())
+def code_of(path: str) -> str:
+    return re.sub(r"//[^\n]*", "", read(os.path.join(TOP, "crates", path)))
 
 
 def bodies(path: str) -> Iterator[tuple[str, str]]:
     """Each function of a source with its type, and its body without what is a proof."""
-    text = read(path)
+    text = code_of(path)
     places = list(owners(text))
     for match in FUNCTION.finditer(text):
         of = next((name for begin, end, name, _ in places if begin < match.start() < end), "")
@@ -51,8 +50,7 @@ class ConstantTime(Case):
     it calls by name is a function further down, or one of the standard library that has no loop. So there is no recursion either."""
 
     def functions(self) -> list[tuple[str, str]]:
-        with open(os.path.join(TOP, "tests/pages/constant_time.txt"), encoding="ascii") as file:
-            lines = [line.split() for line in file if not line.startswith("#")]
+        lines = [line.split() for line in read(f"{TOP}/tests/pages/constant_time.txt").splitlines() if not line.startswith("#")]
         return [(path, name) for path, *names in lines for name in names]
 
     def test_calls_are_listed(self) -> None:
@@ -96,7 +94,7 @@ class NoLock(Case):
 
     def test_shared(self) -> None:
         """Each function there that names the lock opens the table, ends it, or is given a handle that may wait."""
-        shared = read("mm_shared/src/shared.rt")
+        shared = code_of("mm_shared/src/shared.rt")
         for name, text in functions_of(shared):
             if re.search(r"\b(lock|YieldingMutex|Guard|Mutex)\b", text):
                 self.assertTrue(name in ("new", "into_inside") or "R: Wait>" in text, name)
@@ -106,7 +104,7 @@ class NoLock(Case):
 
     def test_lock(self) -> None:
         """What is within a lock is private to mm_mutex, and whoever takes one there is given such a handle."""
-        lock = read("mm_mutex/src/lib.rt")
+        lock = code_of("mm_mutex/src/lib.rt")
         for name in "YieldingMutex", "Guard":
             fields = re.search(rf"struct {name}<[^{{]*{{(.*?)\n}}", lock, re.S)
             assert fields
@@ -117,7 +115,7 @@ class NoLock(Case):
 
     def test_look(self) -> None:
         """What the file of peek and scan names is neither a lock nor a handle, nor a name that it has from elsewhere."""
-        shared, look = read("mm_shared/src/shared.rt"), read("mm_shared/src/look.rt")
+        shared, look = code_of("mm_shared/src/shared.rt"), code_of("mm_shared/src/look.rt")
         for name in "peek", "scan":
             self.assertIn(f"pub fn {name}(", look)
             self.assertNotIn(f"fn {name}", shared)

@@ -1,13 +1,7 @@
 /* The C library, a behaviour of its header a test: `library NAME` runs one, `library` all. Linked with -Wl,--wrap=malloc,--wrap=free. */
 #include "pashkure.h"
 
-#include <stdio.h>
-#include <stdlib.h>
-#include <string.h>
-
-#define CHECK(condition) ((condition) ? (void)0 : fails(#condition, __LINE__))
-#define GIVES(call, wanted) gives(call, wanted, #call, __LINE__)
-#define TEST(name) static void name(void)
+#include "check.h"
 
 static unsigned long mallocs, bytes, frees, refused; /* `refused`: this request for memory is refused, counted from 1 */
 
@@ -27,19 +21,6 @@ void __wrap_free(void *memory)
 {
     frees += memory != NULL;
     __real_free(memory);
-}
-
-static void fails(const char *what, int line)
-{
-    fprintf(stderr, "library.c:%d: %s\n", line, what);
-    exit(1);
-}
-
-static void gives(pashkure_result told, pashkure_result wanted, const char *call, int line)
-{
-    if (told == wanted) return;
-    fprintf(stderr, "library.c:%d: %s: %d (%s), and %d is wanted\n", line, call, told, pashkure_message(told), wanted);
-    exit(1);
 }
 
 static pashkure opened(uint32_t transactions, uint32_t names)
@@ -147,44 +128,25 @@ TEST(closed_manager)
     GIVES(pashkure_begin(&locks, &key), PASHKURE_NOT_OPEN);
 }
 
-/* An open with one member changed. */
-static pashkure_result opens(uint32_t header, uint32_t transactions, uint32_t names, uint32_t name_bytes, uint64_t reserved)
-{
-    pashkure locks = PASHKURE_CLOSED;
-    pashkure_config config = PASHKURE_CONFIG;
-    pashkure_result told;
-    config.header = header;
-    config.transactions = transactions;
-    config.names = names;
-    config.name_bytes = name_bytes;
-    config.reserved = reserved;
-    told = pashkure_open(&locks, &config);
-    CHECK((told == PASHKURE_OK) == (locks.manager != NULL));
-    pashkure_close(&locks);
-    return told;
-}
-
 TEST(refused_open)
 {
+    const uint32_t is = PASHKURE_VERSION;
+    const struct { pashkure_config config; pashkure_result result; } rows[] = {
+        {{is, 1, 1, 1, 0, 0}, PASHKURE_OK}, {{is, 65536, 65536, 1024, 0, 0}, PASHKURE_OK}, {{is + 1, 1, 1, 1, 0, 0}, PASHKURE_OK},
+        {{is + 1000, 1, 1, 1, 0, 0}, PASHKURE_BAD_VERSION}, {{is + 1000000, 1, 1, 1, 0, 0}, PASHKURE_BAD_VERSION}, {{is - 1, 0, 0, 0, 0, 1}, PASHKURE_BAD_VERSION},
+        {{is, 0, 0, 0, 0, 1}, PASHKURE_BAD_TRANSACTIONS}, {{is, 65537, 1, 1, 0, 0}, PASHKURE_BAD_TRANSACTIONS}, {{is, 1, 0, 0, 0, 1}, PASHKURE_BAD_NAMES},
+        {{is, 1, 65537, 1, 0, 0}, PASHKURE_BAD_NAMES}, {{is, 1, 1, 0, 0, 1}, PASHKURE_BAD_NAME_BYTES}, {{is, 1, 1, 1025, 0, 0}, PASHKURE_BAD_NAME_BYTES},
+        {{is, 1, 1, 1, 0, 1}, PASHKURE_BAD_RESERVED}, {{0, 0, 0, 0, 0, 0}, PASHKURE_BAD_VERSION},
+    };
     pashkure locks = PASHKURE_CLOSED, was;
     pashkure_config config = PASHKURE_CONFIG, zero;
     pashkure_key key;
     memset(&zero, 0, sizeof zero);
-    GIVES(pashkure_open(&locks, &zero), PASHKURE_BAD_VERSION);
-    GIVES(opens(PASHKURE_VERSION, 1, 1, 1, 0), PASHKURE_OK);
-    GIVES(opens(PASHKURE_VERSION, 65536, 65536, 1024, 0), PASHKURE_OK);
-    GIVES(opens(PASHKURE_VERSION + 1, 1, 1, 1, 0), PASHKURE_OK);
-    GIVES(opens(PASHKURE_VERSION + 1000, 1, 1, 1, 0), PASHKURE_BAD_VERSION);
-    GIVES(opens(PASHKURE_VERSION + 1000000, 1, 1, 1, 0), PASHKURE_BAD_VERSION);
-    GIVES(opens(PASHKURE_VERSION - 1, 0, 0, 0, 1), PASHKURE_BAD_VERSION);
-    GIVES(opens(PASHKURE_VERSION, 0, 0, 0, 1), PASHKURE_BAD_TRANSACTIONS);
-    GIVES(opens(PASHKURE_VERSION, 65537, 1, 1, 0), PASHKURE_BAD_TRANSACTIONS);
-    GIVES(opens(PASHKURE_VERSION, 1, 0, 0, 1), PASHKURE_BAD_NAMES);
-    GIVES(opens(PASHKURE_VERSION, 1, 65537, 1, 0), PASHKURE_BAD_NAMES);
-    GIVES(opens(PASHKURE_VERSION, 1, 1, 0, 1), PASHKURE_BAD_NAME_BYTES);
-    GIVES(opens(PASHKURE_VERSION, 1, 1, 1025, 0), PASHKURE_BAD_NAME_BYTES);
-    GIVES(opens(PASHKURE_VERSION, 1, 1, 1, 1), PASHKURE_BAD_RESERVED);
-    CHECK(locks.manager == NULL && locks.state == 0);
+    for (size_t i = 0; i < sizeof rows / sizeof *rows; i++) {
+        GIVES(pashkure_open(&locks, &rows[i].config), rows[i].result);
+        CHECK((rows[i].result == PASHKURE_OK) == (locks.manager != NULL) && (locks.manager != NULL || locks.state == 0));
+        pashkure_close(&locks);
+    }
     GIVES(pashkure_open(&locks, &config), PASHKURE_OK);
     key = begun(&locks);
     was = locks;
@@ -448,20 +410,13 @@ TEST(messages)
     for (int result = 0; result < 96; result++) printf("%d %s\n", result, pashkure_message((pashkure_result)result));
 }
 
-static const struct { const char *name; void (*run)(void); } TESTS[] = {
-#define ROW(name) {#name, name}
+static const struct test TESTS[] = {
     ROW(version), ROW(closed_manager), ROW(refused_open), ROW(transactions), ROW(requests), ROW(order_of_waiters), ROW(deadlock_by_names), ROW(cancelled_wait),
     ROW(behind_a_victim), ROW(cancelled_wait_of_who_aborts), ROW(names), ROW(moved_and_opened_again), ROW(memory), ROW(bytes_of_an_open), ROW(messages),
 };
 
 int main(int count, char **words)
 {
-    size_t ran = 0;
-    for (size_t i = 0; i < sizeof TESTS / sizeof *TESTS; i++) {
-        if (count > 1 && strcmp(words[1], TESTS[i].name) != 0) continue;
-        TESTS[i].run();
-        ran++;
-    }
-    CHECK(ran > 0);
-    return 0;
+    (void)count;
+    return tested(TESTS, sizeof TESTS / sizeof *TESTS, words);
 }

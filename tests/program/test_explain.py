@@ -3,12 +3,10 @@ from __future__ import annotations
 
 import os
 import random
-import shutil
 
 from lib import draw, explained, follow, graphs
 from lib.table import lines_of, shown
-from lib.terminal import typed
-from lib.world import OUT, PROGRAM, SEED, Case, each, run
+from lib.world import OUT, PROGRAM, SEED, Case, each, run, typed, wants, write
 
 LONGEST = 16_777_216
 CALLS = b"table 3 3 100 9\nbegin\nbegin\nacquire 0.1 0\nacquire 1.1 1\nacquire 0.1 1\nacquire 1.1 0\nsettle\n"
@@ -47,15 +45,11 @@ class Explain(Case):
         try:
             follow.check(lines, self.ends(told, status, told.out).out.decode())
         except AssertionError:
-            self.keeps(name, data)
+            os.makedirs(OUT, exist_ok=True)
+            path = os.path.join(OUT, f"explain.{name.replace(' ', '_')}.script")
+            write(path, data)
+            print(f"the script is {path}; it is of the seed {SEED}, or of 1")
             raise
-
-    def keeps(self, name: str, data: bytes) -> None:
-        os.makedirs(OUT, exist_ok=True)
-        path = os.path.join(OUT, f"explain.{name.replace(' ', '_')}.script")
-        with open(path, "wb") as file:
-            file.write(data)
-        print(f"the script is {path}; it is of the seed {SEED}, or of 1")
 
     def test_graphs(self) -> None:
         """Each graph of random scripts has the nodes, marks and edges of the model, in Mermaid's grammar and in Graphviz's."""
@@ -72,8 +66,7 @@ class Explain(Case):
 
     def test_graphviz(self) -> None:
         """Graphviz takes a graph without a word."""
-        if not shutil.which("dot"):
-            self.skipTest("Graphviz's command dot is not installed")
+        wants("dot")
         for seed in range(20):
             data, _, status = script(f"dot {seed}", 120)
             told = run("dot", "-Tsvg", given=self.explains("--dot", "--all", given=data, status=status).encode())

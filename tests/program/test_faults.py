@@ -7,7 +7,7 @@ import subprocess
 
 from lib import search
 from lib.faults import FaultCase, variables
-from lib.world import LIMIT, PROGRAM, SEED, TOP, Run, each, run, state, until
+from lib.world import LIMIT, PROGRAM, SEED, TOP, Run, each, read, run, state, until
 
 CROSSWISE = os.path.join(TOP, "examples/workloads/crosswise.json")
 CROSSWISE_LINES = b"clients finished 1 aborted 1 spent 0 refused 0\ntable verdicts 1 aborts 1\n"
@@ -59,8 +59,7 @@ class Refused(FaultCase):
         """Runs the program with calls of so many bytes, of which the one of this place fails. Returns also what the log has of calls after it."""
         log = self.file("log", b"")
         told = run(PROGRAM, *command, given=given, env={**os.environ, **variables(f"{call}:short={piece} {call}:{fault}@{place}", log=log)})
-        with open(log, encoding="ascii") as file:
-            return told, file.read().partition(f"{fault}=0@{place}\n")[2].splitlines()
+        return told, read(log).partition(f"{fault}=0@{place}\n")[2].splitlines()
 
     @each([("", b"begin\n", b"no table\n"), ("locks", b"begin\n", b"begun 0.1\n"), ("explain", b"begin\n", b"    1  begin  no table\n")])
     def test_read(self, words: str, given: bytes, out: bytes) -> None:
@@ -144,7 +143,6 @@ class Interrupted(FaultCase):
         with open(self.file("script", b"begin\n" * 60_000), "rb") as script:
             with subprocess.Popen([PROGRAM], stdin=script, stdout=writes, stderr=subprocess.PIPE) as child:
                 os.close(writes)
-                assert child.stderr
                 self.is_asleep_or_over(child)
                 out = b""
                 while piece := os.read(reads, 65536):

@@ -2,9 +2,8 @@
 from __future__ import annotations
 
 import re
-import shutil
 
-from lib.world import PROGRAM, Case, run
+from lib.world import PROGRAM, Case, run, wants
 
 SEED, FIRST = 0, b"U\x9e\xc7X\xb6\xac`\xbd"
 """A seed, and the first eight bytes of names of 16 bytes that have one hash under it.
@@ -31,6 +30,5 @@ class Seeds(Case):
     def test_seed_decides(self) -> None:
         """Names that were chosen to share one list of the hash of a seed do so with that seed, and not with another one: the program then makes
         half a million comparisons, so it executes ten times as many instructions."""
-        if shutil.which("valgrind") is None:
-            self.skipTest("valgrind is not on the PATH (Debian's package valgrind)")
+        wants("valgrind")
         self.assertGreater(self.instructions(SEED), 4 * self.instructions(SEED + 1))

@@ -9,8 +9,7 @@ import shutil
 import signal
 import subprocess
 
-from lib.terminal import typed
-from lib.world import LIMIT, PROGRAM, TOP, Case, Run, each, run, until
+from lib.world import LIMIT, PROGRAM, TOP, Case, Run, each, read, run, state, typed, until, wants, write
 
 # A try prints what it was given, and has no answer while 'mute' is there. A build proves one crate, and then waits, with a process below
 # it, while 'held' is there; it fails if 'refuses' is there. The program prints its sources, its words and its input.
@@ -59,30 +58,26 @@ class Checkout(Case):
         super().setUp()
         self.top, self.fake = self.path("checkout"), self.path("fake")
         self.work = self.path("work")
-        for folder in ("bin", "tmp", "c"):
-            os.makedirs(f"{self.fake}/{folder}")
-        os.makedirs(f"{self.work}")
-        for crate in ("mm_low", "mm_other", "mm_detect", "pashkure", "example_script"):
-            os.makedirs(f"{self.top}/crates/{crate}/src")
+        crates = [f"{self.top}/crates/{crate}/src" for crate in ("mm_low", "mm_other", "mm_detect", "pashkure", "example_script")]
+        for folder in (self.work, *(f"{self.fake}/{name}" for name in ("bin", "tmp", "c")), *crates, f"{self.top}/crates/mm_detect/must-fail"):
+            os.makedirs(folder)
         shutil.copytree(os.path.join(TOP, "wrapper"), f"{self.top}/wrapper")
         shutil.copy(os.path.join(TOP, "mmdetect"), self.top)
         self.low = f"{self.top}/crates/mm_low/src/lib.rt"
-        os.makedirs(f"{self.top}/crates/mm_detect/must-fail")
         for path, text in (("crates.txt", "mm_low:\nmm_other:\nexample_script: mm_low\nmm_detect: mm_low kit # the program\npashkure staticlib: mm_low\n"),
                            ("HANDLES", "Handles allowed: none.\n"), ("crates/mm_low/src/lib.rt", "low\n"),
                            ("crates/mm_detect/src/main.rt", "main\n"), ("crates/pashkure/src/lib.rt", "calls\n"), ("crates/mm_detect/must-fail/one.edit", "edit\n")):  # fmt: skip
-            self.writes(f"{self.top}/{path}", text)
-        self.writes(f"{self.fake}/version", "kit-1\n")
-        self.writes(f"{self.fake}/calls", "")
-        self.writes(f"{self.fake}/bin/rt", RT)
-        self.writes(f"{self.fake}/bin/rattle", RATTLE)
-        self.writes(f"{self.fake}/c/liblibc_c.a", "heap\n")
-        for name in "rt", "rattle":
-            os.chmod(f"{self.fake}/bin/{name}", 0o755)
+            write(f"{self.top}/{path}", text)
+        write(f"{self.fake}/version", "kit-1\n")
+        write(f"{self.fake}/calls", "")
+        write(f"{self.fake}/c/liblibc_c.a", "heap\n")
+        self.program("rt", RT)
+        self.program("rattle", RATTLE)
 
-    def writes(self, path: str, text: str) -> None:
-        with open(path, "w", encoding="ascii") as file:
-            file.write(text)
+    def program(self, name: str, text: str) -> None:
+        """A command of the toolchain, or in its place."""
+        write(f"{self.fake}/bin/{name}", text)
+        os.chmod(f"{self.fake}/bin/{name}", 0o755)
 
     def env(self, build: str = "", path: str = "") -> dict[str, str]:
         return {**os.environ, "PATH": path or f"{self.fake}/bin:{os.environ['PATH']}", "TMPDIR": f"{self.fake}/tmp", "MMDETECT_BUILD": build}
@@ -97,9 +92,8 @@ class Checkout(Case):
         return told
 
     def called(self, calls: str) -> None:
-        with open(f"{self.fake}/calls", encoding="ascii") as file:
-            self.assertEqual(file.read().split(), calls.split(), "calls of the toolchain")
-        self.writes(f"{self.fake}/calls", "")
+        self.assertEqual(read(f"{self.fake}/calls").split(), calls.split(), "calls of the toolchain")
+        write(f"{self.fake}/calls", "")
 
     def proved(self) -> None:
         self.gives(0, "", None, "ci", "prove")
@@ -121,7 +115,7 @@ class Tries(Checkout):
     def test_file(self) -> None:
         """A file that a word names is given to a try."""
         path = f"{self.work}/work.json"
-        self.writes(path, "{}\n")
+        write(path, "{}\n")
         self.gives(1, f"tried mm_detect try --data work.json={path} -- threads work.json -v \n", COMPLAINT, "try", "threads", path, "-v")
         told = self.wrapped("explain", "work.json", cwd=self.work)
         self.ends(told, 1, f"tried mm_detect try --data work.json={path} -- explain work.json \n", COMPLAINT)
@@ -133,10 +127,7 @@ class Tries(Checkout):
         self.assertIn(b"tried example_script try -- typed", shown)
 
     def test_help(self) -> None:
-        texts = {}
-        for name in "help.txt", "help/prove.txt", "help/serve.txt", "help/library.txt":
-            with open(os.path.join(TOP, "wrapper", name), encoding="utf-8") as file:
-                texts[name] = file.read()
+        texts = {name: read(f"{TOP}/wrapper/{name}") for name in ("help.txt", "help/prove.txt", "help/serve.txt", "help/library.txt")}
         own = "\nCommands of ./mmdetect alone:\n"
         for word in "prove", "serve", "library":
             own += f"  {word:9}{texts[f'help/{word}.txt'].splitlines()[0]}\n"
@@ -146,11 +137,9 @@ class Tries(Checkout):
 
     def test_pipe_that_stays_open(self) -> None:
         reads, writes = os.pipe()
-        try:
-            self.ends(self.wrapped("locks", stdin=reads), 126, "", PROVE_FIRST)
-        finally:
-            os.close(reads)
-            os.close(writes)
+        self.ends(self.wrapped("locks", stdin=reads), 126, "", PROVE_FIRST)
+        for end in reads, writes:
+            os.close(end)
 
     def test_more_than_a_mebibyte(self) -> None:
         self.ends(self.wrapped(given=bytes(1_048_577)), 126, "", PROVE_FIRST)
@@ -159,7 +148,7 @@ class Tries(Checkout):
         self.gives(126, "", PROVE_FIRST, "", "storm", "--report", f"{self.work}/report")
 
     def test_no_answer(self) -> None:
-        self.writes(f"{self.fake}/mute", "")
+        write(f"{self.fake}/mute", "")
         self.gives(126, "", f"{TRIED}checked: no-answer: it takes long\nrun=no-answer proved=no\n{PROVE_FIRST}", "try")
 
     def test_nothing_may_be(self) -> None:
@@ -168,21 +157,15 @@ class Tries(Checkout):
 
     def test_answers_as_the_program(self) -> None:
         """One try of these sources answers each script as the program does."""
-        if not shutil.which("rt"):
-            self.skipTest("the command rt of the toolchain is not on the PATH")
+        wants("rt")
         cases, statuses = self.path("cases"), {}
         os.makedirs(cases)
-        scripts = {os.path.basename(path): path for path in glob.glob(os.path.join(TOP, "examples/*.script"))}
-        for name, text in ("empty", ""), ("malformed", "fly\nbegin"):
-            scripts[name] = self.file(name, text)
-        for name, path in scripts.items():
-            name = name.replace(".script", "")
-            shutil.copy(path, f"{cases}/{name}")
-            with open(path, "rb") as script:
-                told = self.run_program(stdin=script)
+        scripts = {os.path.basename(path)[: -len(".script")]: read(path) for path in glob.glob(os.path.join(TOP, "examples/*.script"))}
+        for name, text in {**scripts, "empty": "", "malformed": "fly\nbegin"}.items():
+            told = self.run_program(given=text)
             statuses[name] = told.status
-            with open(f"{cases}/{name}.stdout", "wb") as out:
-                out.write(told.out)
+            write(f"{cases}/{name}", text)
+            write(f"{cases}/{name}.stdout", told.out)
         told = run("rt", "try", "--cases", cases, cwd=os.path.join(TOP, "crates/example_script"))
         for name, status in statuses.items():
             self.assertRegex(told.err.decode(), rf"(?m)^case={name} run=ended status={status} .*output=expected", told.out.decode())
@@ -197,20 +180,18 @@ class Proofs(Checkout):
                   "hour on four processors\nmmdetect: 1 of 3 crates proved, mm_low just now; N s\nmmdetect: 2 of 3 crates proved, mm_detect just now; "
                   "N s\nmmdetect: proved and built in N s\n")  # fmt: skip
         self.called("ci")
-        with open(f"{self.fake}/staged", encoding="ascii") as file:
-            self.assertEqual(file.read().split(), ["./HANDLES", "./crates.txt", "./crates/mm_detect/src/main.rt", "./crates/mm_low/src/lib.rt",
-                                                  "./crates/pashkure/src/lib.rt"])  # fmt: skip
+        self.assertEqual(read(f"{self.fake}/staged").split(), ["./HANDLES", "./crates.txt", "./crates/mm_detect/src/main.rt", "./crates/mm_low/src/lib.rt",
+                         "./crates/pashkure/src/lib.rt"])  # fmt: skip
 
     def test_library(self) -> None:
         """It is that of the proved build, and of no other sources. What it writes, test_library tries."""
         self.gives(2, "", "mmdetect: usage: mmdetect library [DIR]\n", "", "library", self.work, "b")
         self.gives(126, "", PROVE_FIRST, "", "library", self.work)
         self.proved()
-        with open(f"{self.top}/crates/pashkure/out/libpashkure.a", encoding="utf-8") as file:
-            made = file.read()
+        made = read(f"{self.top}/crates/pashkure/out/libpashkure.a")
         self.assertIn("--extern mm_low=", made)
         self.assertIn("--crate-type staticlib", made)
-        self.writes(f"{self.top}/crates/pashkure/src/lib.rt", "other calls\n")
+        write(f"{self.top}/crates/pashkure/src/lib.rt", "other calls\n")
         self.gives(126, "", PROVE_FIRST, "", "library", self.work)
         self.assertEqual(os.listdir(self.work), [])
 
@@ -219,35 +200,34 @@ class Proofs(Checkout):
         self.proved()
         self.gives(0, "low main script begin\n", "", "", "script")
         self.gives(0, "", "mmdetect: the program of these sources is proved and built\n", "", "prove")
-        self.writes(f"{self.top}/crates/mm_other/src/lib.rt", "other\n")
+        write(f"{self.top}/crates/mm_other/src/lib.rt", "other\n")
         self.gives(0, "low main script begin\n", "", "", "script")
 
         def builds(out: str) -> None:
             self.gives(0, f"{out} script begin\n", None, "ci", "script", build="proved")
 
-        self.writes(self.low, "lower\n")
+        write(self.low, "lower\n")
         os.utime(self.low, (0, 0))
         builds("lower main")
-        self.writes(f"{self.top}/crates/mm_low/src/more.rt", "more\n")
+        write(f"{self.top}/crates/mm_low/src/more.rt", "more\n")
         builds("lower more main")
         os.unlink(f"{self.top}/crates/mm_low/src/more.rt")
         builds("lower main")
-        self.writes(f"{self.fake}/version", "kit-2\n")
+        write(f"{self.fake}/version", "kit-2\n")
         builds("lower main")
-        self.writes(f"{self.top}/crates/mm_detect/out/mm_detect", "#!/bin/sh\necho other\n")
+        write(f"{self.top}/crates/mm_detect/out/mm_detect", "#!/bin/sh\necho other\n")
         builds("lower main")
 
     def test_build_that_fails(self) -> None:
-        self.writes(f"{self.fake}/refuses", "")
+        write(f"{self.fake}/refuses", "")
         told = self.gives(126, "", None, "ci", "prove")
         log = re.search(r"^mmdetect: the build failed; what the toolchain said is in (.*)$", told.err.decode(), re.M)
         assert log, told.err
-        with open(log[1], encoding="utf-8") as file:
-            self.assertIn("  fn one: not proved\n", file)
+        self.assertIn("\n  fn one: not proved\n", read(log[1]))
 
     def starts(self) -> "subprocess.Popen[bytes]":
         """A build is under way in the background, where it gets each signal."""
-        self.writes(f"{self.fake}/held", "")
+        write(f"{self.fake}/held", "")
         self.err = self.path("err")
 
         def signals() -> None:
@@ -258,19 +238,15 @@ class Proofs(Checkout):
             child = subprocess.Popen([f"{self.top}/mmdetect"], env=self.env("proved"), stdin=subprocess.DEVNULL, stdout=subprocess.PIPE, stderr=err,
                                      preexec_fn=signals)  # fmt: skip
         self.addCleanup(child.kill)
-        until(lambda: "1 of 3 crates proved" in self.told(), "a crate is proved")
+        until(lambda: "1 of 3 crates proved" in read(self.err), "a crate is proved")
         return child
-
-    def told(self) -> str:
-        with open(self.err, encoding="utf-8") as file:
-            return file.read()
 
     def test_source_that_changes_meanwhile(self) -> None:
         child = self.starts()
-        self.writes(self.low, "second\n")
+        write(self.low, "second\n")
         os.unlink(f"{self.fake}/held")
         self.assertEqual((child.communicate(timeout=LIMIT)[0], child.returncode), (b"low main  \n", 0))
-        self.assertIn("mmdetect: a source changed while the program was built: the next call builds again\n", self.told())
+        self.assertIn("mmdetect: a source changed while the program was built: the next call builds again\n", read(self.err))
         self.called("ci")
         self.gives(0, "second main script begin\n", None, "ci", "script", build="proved")
 
@@ -280,10 +256,9 @@ class Proofs(Checkout):
         child = self.starts()
         child.send_signal(signal.Signals[name])
         self.assertEqual((child.communicate(timeout=LIMIT)[0], child.returncode), (b"", 128 + signal.Signals[name]))
-        self.assertIn(f"mmdetect: the build was ended by {name}\n", self.told())
-        with open(f"{self.fake}/processes", encoding="ascii") as file:
-            for process in file.read().split():
-                until(lambda process=process: is_over(process), "what the build started has ended")
+        self.assertIn(f"mmdetect: the build was ended by {name}\n", read(self.err))
+        for process in read(f"{self.fake}/processes").split():
+            until(lambda process=process: is_over(process), "what the build started has ended")
         self.assertEqual(os.listdir(f"{self.fake}/tmp"), [])
 
     def test_no_toolchain(self) -> None:
@@ -291,7 +266,7 @@ class Proofs(Checkout):
         self.proved()
         path = ":".join(folder for folder in os.environ["PATH"].split(":") if not os.path.exists(f"{folder}/rt"))
         self.ends(self.wrapped("script", path=path), 0, "low main script begin\n")
-        self.writes(self.low, "last\n")
+        write(self.low, "last\n")
         for word in "prove", "script":
             self.ends(self.wrapped(word, path=path), 127, "", "mmdetect: the command rt of the Rattle toolchain is not on the PATH\n")
 
@@ -311,8 +286,7 @@ class Proofs(Checkout):
 
 def is_over(process: str) -> bool:
     try:
-        with open(f"/proc/{process}/stat", encoding="ascii") as file:
-            return file.read().rpartition(")")[2].split()[0] in "XZ"
+        return state(int(process)) in "XZ"
     except OSError:
         return True
 
@@ -323,22 +297,17 @@ class Serves(Checkout):
     def setUp(self) -> None:
         super().setUp()
         os.makedirs(f"{self.top}/server")
-        self.writes(f"{self.top}/server/main.c", '#include "text.h"\nint main(int n, char **w) { puts(TEXT); while (*++w) puts(*w); return n > 20; }\n')
+        write(f"{self.top}/server/main.c", '#include "text.h"\nint main(int n, char **w) { puts(TEXT); while (*++w) puts(*w); return n > 20; }\n')
         self.text("one")
         self.front = f"{self.top}/crates/mm_detect/out/pashkure-serve"
-        self.writes(f"{self.fake}/bin/cc", f'#!/bin/sh\necho cc >> "{self.fake}/calls"\nexec {shutil.which("cc")} "$@"\n')
-        os.chmod(f"{self.fake}/bin/cc", 0o755)
+        self.program("cc", f'#!/bin/sh\necho cc >> "{self.fake}/calls"\nexec {shutil.which("cc")} "$@"\n')
 
     def text(self, text: str) -> None:
-        self.writes(f"{self.top}/server/text.h", f'#include <stdio.h>\n#define TEXT "{text}"\n')
-
-    def needs_cc(self) -> None:
-        if not shutil.which("cc"):
-            self.skipTest("no C compiler cc is on the PATH")
+        write(f"{self.top}/server/text.h", f'#include <stdio.h>\n#define TEXT "{text}"\n')
 
     def test_proved_program(self) -> None:
         """It is built for its sources, and started with the proved program unless another one is named."""
-        self.needs_cc()
+        wants("cc")
         self.proved()
         words, program = ["serve", "--socket", "x y", "--quiet"], f"{self.top}/crates/mm_detect/out/mm_detect"
         self.gives(0, f"one\n--program\n{program}\n--socket\nx y\n--quiet\n", "", "cc", *words)
@@ -349,7 +318,7 @@ class Serves(Checkout):
 
     def test_nothing_proved(self) -> None:
         """Nothing is tried or proved. Another program needs no proof."""
-        self.needs_cc()
+        wants("cc")
         for build in "", "proved", "never":
             self.gives(126, "", PROVE_FIRST, "", "serve", "--socket", "x", build=build)
         self.gives(0, "one\n--program\nother\n", "", "cc", "serve", "--program", "other")
@@ -362,12 +331,12 @@ class Serves(Checkout):
             os.symlink(str(shutil.which(name)), os.path.join(bare, name))
         words = ["serve", "--program", "other"]
         self.ends(self.wrapped(*words, path=bare), 127, "", "mmdetect: the server is built by a C compiler, and no command cc is on the PATH\n")
-        self.needs_cc()
+        wants("cc")
         self.gives(0, "one\n--program\nother\n", "", "cc", *words)
         self.ends(self.wrapped(*words, path=bare), 0, "one\n--program\nother\n")
 
     def test_compiler_that_fails(self) -> None:
-        self.needs_cc()
+        wants("cc")
         self.text('" ! "')
         told = self.gives(126, "", None, "cc", "serve", "--program", "other")
         self.assertTrue(told.err.endswith(b"mmdetect: cc did not build the server\n"), told.err)
@@ -418,9 +387,8 @@ class Desk(Checkout):
 
     def test_version_without_git(self) -> None:
         os.makedirs(f"{self.top}/crates/mm_command/src")
-        shutil.copy(os.path.join(TOP, "crates/mm_command/src/version.rt"), f"{self.top}/crates/mm_command/src")
-        with open(f"{self.top}/crates/mm_command/src/version.rt", encoding="utf-8") as file:
-            version = re.search(r'^pub const VERSION: &str = "(.*)";$', file.read(), re.M)
+        path = shutil.copy(os.path.join(TOP, "crates/mm_command/src/version.rt"), f"{self.top}/crates/mm_command/src")
+        version = re.search(r'^pub const VERSION: &str = "(.*)";$', read(path), re.M)
         assert version
         self.ends(self.wrapped("--version"), 0, f"mmdetect {version[1]}\n")
         with open("/dev/full", "wb") as full:
@@ -434,9 +402,9 @@ class Gate(Checkout):
         os.makedirs(f"{self.top}/tests", exist_ok=True)
         for name in "run_tests", "tests/times":
             shutil.copy(os.path.join(TOP, name), f"{self.top}/{name}")
-        for path, text in (f"{self.fake}/bin/rt", rt), (f"{self.top}/tests/run", tests):
-            self.writes(path, f"#!/bin/sh\n{text}\n")
-            os.chmod(path, 0o755)
+        for name, text in ("rt", rt), ("tests", tests):
+            self.program(name, f"#!/bin/sh\n{text}\n")
+        shutil.copy(f"{self.fake}/bin/tests", f"{self.top}/tests/run")
         return run(f"{self.top}/run_tests", *words, env=self.env())
 
     def test_sum(self) -> None:

@@ -3,12 +3,10 @@ from __future__ import annotations
 
 import os
 import re
-import shutil
 import subprocess
 import tempfile
-import unittest
 
-from lib.world import TOP, Case, Run, each, run
+from lib.world import TOP, Case, each, read, run, wants
 
 HERE = os.path.join(TOP, "tests", "program")
 SOURCE = f"{HERE}/library.c"
@@ -29,18 +27,12 @@ OF_SLEEPERS = {"TIMED_OUT": 9, "INTERRUPTED": 10, "NOT_ASKED": 11}
 
 
 def text_of(*path: str) -> str:
-    with open(os.path.join(*path), encoding="utf-8") as file:
-        return file.read()
+    return read(os.path.join(*path))
 
 
 HEADER = re.sub(r"/\*.*?\*/", "", text_of(INCLUDE, "pashkure.h"), flags=re.S)
 SOURCES = "".join(text_of(CRATE, name) for name in sorted(os.listdir(CRATE)))
 TESTS = re.findall(r"^TEST\((\w+)\)", text_of(SOURCE), re.M)
-
-
-def wants(tool: str) -> None:
-    if not shutil.which(tool):
-        raise unittest.SkipTest(f"no command {tool} is on the PATH")
 
 
 class HeaderOnly(Case):
@@ -60,8 +52,7 @@ class LibraryCase(Case):
     @classmethod
     def setUpClass(cls) -> None:
         super().setUpClass()
-        for tool in "cc", "nm", "objcopy":
-            wants(tool)
+        wants("cc", "nm", "objcopy")
         scratch = tempfile.TemporaryDirectory(prefix="pashkure.")
         cls.addClassCleanup(scratch.cleanup)
         cls.top = scratch.name
@@ -69,13 +60,15 @@ class LibraryCase(Case):
         if cls.written.status:
             raise AssertionError(cls.written)
 
-    def built(self, source: str, *flags: str, archive: bool = True) -> str:
-        """A program of this source, linked with the archive or the shared object."""
-        to = self.path("program")
-        library = [f"{self.top}/lib/libpashkure.a"] if archive else [f"-L{self.top}/lib", "-lpashkure", f"-Wl,-rpath,{self.top}/lib"]
-        command = ["cc", "-std=c11", "-O1", "-g", *FLAGS, *flags, f"-I{self.top}/include", "-o", to, source, *library]
-        subprocess.run(command, check=True)
+    @classmethod
+    def compiled(cls, to: str, *words: str, archive: bool = True) -> str:
+        """A program at this path, linked with the archive or the shared object."""
+        library = [f"{cls.top}/lib/libpashkure.a"] if archive else [f"-L{cls.top}/lib", "-lpashkure", f"-Wl,-rpath,{cls.top}/lib"]
+        subprocess.run(["cc", "-std=c11", "-O1", "-g", *FLAGS, f"-I{cls.top}/include", "-o", to, *words, *library], check=True)
         return to
+
+    def built(self, *words: str, archive: bool = True) -> str:
+        return self.compiled(self.path("program"), *words, archive=archive)
 
     def symbols(self, *words: str) -> set[str]:
         told = run("nm", "--defined-only", *words)
@@ -159,13 +152,7 @@ class Behaviour(LibraryCase):
         super().setUpClass()
         cls.programs = {}
         for kind, flags in ("plain", []), ("sanitized", SANITIZED):
-            cls.programs[kind] = f"{cls.top}/{kind}"
-            command = ["cc", "-std=c11", "-O1", "-g", *FLAGS, *flags, "-Wl,--wrap=malloc,--wrap=free", f"-I{cls.top}/include", "-o", cls.programs[kind],
-                       SOURCE, f"{cls.top}/lib/libpashkure.a"]  # fmt: skip
-            subprocess.run(command, check=True)
-
-    def passes(self, told: Run) -> None:
-        self.assertEqual((told.status, told.err.decode(errors="replace")), (0, ""))
+            cls.programs[kind] = cls.compiled(f"{cls.top}/{kind}", *flags, "-Wl,--wrap=malloc,--wrap=free", SOURCE)
 
     @each(TESTS)
     def test_sanitized(self, name: str) -> None:
@@ -220,8 +207,7 @@ class Linked(LibraryCase):
     def test_pkg_config(self) -> None:
         wants("pkg-config")
         env = {**os.environ, "PKG_CONFIG_PATH": f"{self.top}/lib/pkgconfig"}
-        told = run("pkg-config", "--cflags", "--libs", "pashkure", env=env)
-        self.assertEqual((told.status, told.err), (0, b""))
+        told = self.passes(run("pkg-config", "--cflags", "--libs", "pashkure", env=env))
         places = [os.path.normpath(word[2:]) for word in told.out.decode().split() if word[:2] in ("-I", "-L")]
         self.assertEqual(places, [f"{self.top}/include", f"{self.top}/lib"])
         self.ends(run("pkg-config", "--modversion", "pashkure", env=env), 0, "0.1.0\n")

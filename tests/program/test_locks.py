@@ -1,9 +1,7 @@
 """The lock service over pipes. What is wanted here was worked out by hand from docs/SERVICE.md."""
 from __future__ import annotations
 
-import subprocess
-
-from lib.world import PROGRAM, Case, each
+from lib.world import Case, each
 
 LONG = "x" * 1024
 TAKEN = ["begin: begun 0.1", "begin: begun 1.1", "lock 0.1 a: granted"]
@@ -78,18 +76,6 @@ class Answers(Case):
 
     def test_line_of_a_million_bytes(self) -> None:
         self.ends(self.run_program("locks", given="begin\nowner " + "x" * 1_000_000 + "\nstatus 0.1\n"), 1, "begun 0.1\nmalformed\nactive\n")
-
-    def test_typed_requests(self) -> None:
-        """Each reply is there before the next request is given."""
-        with subprocess.Popen([PROGRAM, "locks"], stdin=subprocess.PIPE, stdout=subprocess.PIPE) as child:
-            assert child.stdin and child.stdout
-            for line, reply in ("begin", "begun 0.1"), ("lock 0.1 a", "granted"), ("owner a", "owner 0.1"), ("commit 0.1", "committed"):
-                child.stdin.write(line.encode() + b"\n")
-                child.stdin.flush()
-                self.assertEqual(child.stdout.readline(), reply.encode() + b"\n")
-            child.stdin.close()
-            self.assertEqual(child.stdout.read(), b"")
-        self.assertEqual(child.returncode, 0)
 
     def test_long_replies(self) -> None:
         """A transaction owns 3,000 names, and 3,000 wait for it: more than the program holds of a reply."""

@@ -10,7 +10,7 @@ import resource
 from typing import Callable, Optional
 
 from lib.faults import FaultCase, variables
-from lib.world import LIMIT, PROGRAM, TOP, Run, each, run
+from lib.world import LIMIT, PROGRAM, TOP, Run, each, read, run
 
 REFUSED, AMPLE = "refused", "as with ample memory"
 NO_MEMORY = b"refused 10 Memory\n"
@@ -21,44 +21,11 @@ ENDS = re.compile(rb"clients finished (\d+) aborted (\d+) spent (\d+) refused (\
 Judge = Callable[[Run], Optional[str]]
 TABLE = b"table 64 128 1000000 1000000\n"
 # Two transactions that wait for each other, the second of which is aborted. Their processes are the next ones to be given again.
-CALLS = """begin
-begin
-acquire 0.{0} 0
-acquire 1.{0} 1
-acquire 0.{0} 1
-give_up 0.{0}
-acquire 0.{0} 1
-acquire 1.{0} 0
-transmit 0.{0}
-detect 1.{0}
-settle
-state 1.{0}
-owner 0
-abort 1.{0}
-release 0.{0} 0
-finish 0.{0}
-totals
-"""
+CALLS = ("begin\nbegin\nacquire 0.{0} 0\nacquire 1.{0} 1\nacquire 0.{0} 1\ngive_up 0.{0}\nacquire 0.{0} 1\nacquire 1.{0} 0\ntransmit 0.{0}\n"
+         "detect 1.{0}\nsettle\nstate 1.{0}\nowner 0\nabort 1.{0}\nrelease 0.{0} 0\nfinish 0.{0}\ntotals\n")  # fmt: skip
 # Two transactions that lock names and deadlock, one whose abort comes later, and each request that reads.
-LOCKS = b"""begin
-begin
-begin
-lock 0.1 a
-lock 1.1 b
-lock 0.1 b
-lock 1.1 a
-abort 1.1
-unlock 0.1 a
-try 2.1 a
-lock 2.1 b
-cancel 2.1
-holds 0.1
-graph
-status 2.1
-owner b
-commit 0.1
-totals
-"""
+LOCKS = (b"begin\nbegin\nbegin\nlock 0.1 a\nlock 1.1 b\nlock 0.1 b\nlock 1.1 a\nabort 1.1\nunlock 0.1 a\ntry 2.1 a\nlock 2.1 b\ncancel 2.1\n"
+         b"holds 0.1\ngraph\nstatus 2.1\nowner b\ncommit 0.1\ntotals\n")  # fmt: skip
 CONNECTIONS = b"1 begin a b\n2 begin\n2 lock 1.1 c a\n1 lock 0.1 c\n0 list\n0 graph\n0 counts\n1 hello\n1 cycle 0.1\n1 holds 0.1\n2 fence 1.1 c\n0 abort 0.1\n- 1\n- 2\n"
 # One transaction owns a name for good, and another one in each round.
 ROUND = "begin\nlock 1.{0} z\ngraph\ncancel 1.{0}\nlock 1.{0} a\ntry 1.{0} b\nunlock 1.{0} b\nholds 1.{0}\nstatus 1.{0}\nowner a\nlock 1.{0} z\nabort 1.{0}\ntotals\n"
@@ -127,8 +94,7 @@ class MemoryCase(FaultCase):
 
     def with_turns(self, name: str, turns: int) -> tuple[str, int]:
         """A copy of an example with so many turns, and how many clients it has."""
-        with open(f"{EXAMPLES}/{name}", encoding="ascii") as file:
-            workload = json.load(file)
+        workload = json.loads(read(f"{EXAMPLES}/{name}"))
         return self.file(name, json.dumps({**workload, "turns": turns})), len(workload["clients"])
 
     def ample(self, *command: str, given: bytes = b"") -> Run:
@@ -335,8 +301,7 @@ class Opened(MemoryCase):
         locks, log = self.built("bench_locks"), self.file("log", b"")
         told = run(locks, "sleep", "9", "1", "500", env={**os.environ, **variables("futex:told yield:told", log=log)})
         self.assertEqual((told.status, told.err, told.out.split()[1:]), (0, b"", [b"9", b"0", b"0"]))
-        with open(log, encoding="ascii") as file:
-            lines = file.read().splitlines()
+        lines = read(log).splitlines()
         sleeps = [line for line in lines if line.startswith("futex")]
         self.assertEqual([line for line in sleeps if "told=-" not in line], [], "a sleep with a time")
         self.assertTrue(8 <= len(sleeps) < 200, sleeps)

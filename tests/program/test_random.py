@@ -20,18 +20,10 @@ class Kept(Case):
 
 
 class Drawn(Case):
-    def searches(self, subject: search.Subject, seed: int) -> None:
+    @each([(f"{subject.name} of {name}", subject, seed) for name, seed in (("one seed", 1), ("a new seed", SEED)) for subject in search.SUBJECTS])
+    def test_drawn(self, name: str, subject: search.Subject, seed: int) -> None:
         wrong = search.search(subject, seed, LINES)
-        if wrong is not None:
-            self.fail(f"of the seed {seed}: {wrong}\n  again: tests/run -k {self.id().rpartition('.')[2]} --seed {seed}")
-
-    @each([(subject.name, subject) for subject in search.SUBJECTS])
-    def test_one_seed(self, name: str, subject: search.Subject) -> None:
-        self.searches(subject, 1)
-
-    @each([(subject.name, subject) for subject in search.SUBJECTS])
-    def test_new_seed(self, name: str, subject: search.Subject) -> None:
-        self.searches(subject, SEED)
+        self.assertIsNone(wrong, f"of the seed {seed}: {wrong}\n  again: tests/run -k {self.id().rpartition('.')[2]} --seed {seed}")
 
     @each([(subject.name, subject) for subject in search.SUBJECTS])
     def test_what_is_drawn(self, name: str, subject: search.Subject) -> None:

@@ -5,8 +5,8 @@ import os
 import re
 import shutil
 
-from lib.world import CLIENTS, Case, Run, run
-from program.test_library import HEADER, INCLUDE, LibraryCase, text_of, wants
+from lib.world import CLIENTS, Case, Run, run, wants
+from program.test_library import HEADER, INCLUDE, LibraryCase, text_of
 
 CRATE = os.path.join(CLIENTS, "rust")
 HEADERS = HEADER + re.sub(r"/\*.*?\*/", "", text_of(INCLUDE, "pashkure_threads.h"), flags=re.S)
@@ -85,8 +85,7 @@ class Crate(LibraryCase):
 
     def test_bank(self) -> None:
         """No money is lost."""
-        told = self.cargo("run", "--quiet", "--example", "bank", PASHKURE_LIB_DIR=f"{self.top}/lib")
-        self.assertEqual((told.status, told.err), (0, b""))
+        told = self.passes(self.cargo("run", "--quiet", "--example", "bank", PASHKURE_LIB_DIR=f"{self.top}/lib"))
         self.assertRegex(told.out, rb"^8000 transfers; [0-9]+ deadlocks, each tried again\nall accounts together have 8000\n$")
 
     def test_found_by_pkg_config(self) -> None:

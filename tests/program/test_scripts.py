@@ -7,44 +7,34 @@ import os
 import re
 import subprocess
 
-from lib.world import PROGRAM, TOP, Case, each
+from lib.world import PROGRAM, TOP, Case, each, read
 
 FIRST_RUN = b"table 4 4 100 9\nbegin\nbegin\nacquire 0.1 0\nacquire 1.1 1\nacquire 0.1 1\nacquire 1.1 0\nstate 0.1\nstate 1.1\n"
 FIRST_REPLIES = b"ok\nkey 0.1\nkey 1.1\ngranted\ngranted\nwaits 1.1 1.0\nwaits 0.1 2.1\nwaiting 1 1.0 1.0\nwaiting 0 2.1 2.1\n"
 LONGEST = 16_777_216
 NO_KEY = "K is not two numbers from 0 to 4294967295 with a dot between them"
 WRONG = [
-    ("fly 0.1", "no call has this word"),
-    ("0" * 129, "the line has more than 128 bytes"),
-    ("acquire 0.1", "acquire wants two words, K r, after it, but has 1"),
-    ("begin now  please", "begin wants no word after it, but has 2"),
-    ("settle x", "settle wants no word after it, but has 1"),
-    ("owner", "owner wants one word, r, after it, but has 0"),
-    ("finish 1", NO_KEY),
-    ("acquire 0. 0", NO_KEY),
-    ("acquire 0.0 -1", "r is not a whole number from 0 to 4294967295"),
-    ("owner 4294967296\r", "r is not a whole number from 0 to 4294967295"),
-    ("table 1 x 9 9", "R is not a whole number from 0 to 4294967295"),
+    ("fly 0.1", "no call has this word"), ("Begin", "no call has this word"), ("\tbegin", "no call has this word"), ("finish 1", NO_KEY),
+    ("acquire 0. 0", NO_KEY), ("abort 4294967296.1", NO_KEY), ("acquire 0.1", "acquire wants two words, K r, after it, but has 1"),
+    ("begin now  please", "begin wants no word after it, but has 2"), ("settle x", "settle wants no word after it, but has 1"),
+    ("owner", "owner wants one word, r, after it, but has 0"), ("0" * 129, "the line has more than 128 bytes"),
+    ("acquire 0.0 -1", "r is not a whole number from 0 to 4294967295"), ("owner 4294967296\r", "r is not a whole number from 0 to 4294967295"),
+    ("table 1 x 9 9", "R is not a whole number from 0 to 4294967295"), ("table 1 1 9 9.", "G is not a whole number from 0 to 4294967295"),
     ("table2 1 1 18446744073709551616 9", "L is not a whole number from 0 to 18446744073709551615"),
-    ("table 1 1 9 9.", "G is not a whole number from 0 to 4294967295"),
     ("table 1 1 9", "table wants four words, P R L G, after it, but has 3"),
-    ("Begin", "no call has this word"),
-    ("\tbegin", "no call has this word"),
-    ("abort 4294967296.1", NO_KEY),
-]
+]  # fmt: skip
 
 
 def worked() -> list[tuple[str, bytes, bytes, int]]:
     """The worked scripts of the crate test_support: a name, the script, its replies, and how many lines are malformed."""
     row = r'Row \{\s*name: ("(?:[^"\\]|\\.)*"),\s*input: ("(?:[^"\\]|\\.)*"),\s*output: ("(?:[^"\\]|\\.)*"),\s*\}'
-    with open(os.path.join(TOP, "crates/test_support/src/rows.rt"), encoding="utf-8") as file:
-        text = file.read()
+    text = read(os.path.join(TOP, "crates/test_support/src/rows.rt"))
     rows = re.findall(row, text)
     count = sum(map(int, re.findall(r"static \w+: \[Row; (\d+)\]", text)))
     assert len(rows) == count, f"{len(rows)} of {count} scripts are read"
     # (of escapes these texts have only such as Python writes in the same way)
-    read = [[ast.literal_eval("b" + literal) for literal in row] for row in rows]
-    return [(name.decode(), script, replies, replies.count(b"malformed\n")) for name, script, replies in read]
+    texts = [[ast.literal_eval("b" + literal) for literal in row] for row in rows]
+    return [(name.decode(), script, replies, replies.count(b"malformed\n")) for name, script, replies in texts]
 
 
 class Worked(Case):
@@ -60,8 +50,7 @@ class Worked(Case):
     @each(sorted(map(os.path.basename, glob.glob(os.path.join(TOP, "examples/*.script")))))
     def test_examples(self, name: str) -> None:
         path = os.path.join(TOP, "examples", name)
-        with open(path, "rb") as script, open(path.replace(".script", ".replies"), "rb") as replies:
-            self.ends(self.run_program(given=script.read()), 0, replies.read())
+        self.ends(self.run_program(given=read(path)), 0, read(path.replace(".script", ".replies")))
 
 
 class Scripts(Case):
@@ -94,11 +83,12 @@ class Scripts(Case):
     def test_verbose_has_nothing_to_say(self) -> None:
         self.ends(self.run_program("script", "-v", given=FIRST_RUN), 0, FIRST_REPLIES)
 
-    def test_typed_lines(self) -> None:
+    @each([("scripts", [], FIRST_RUN, FIRST_REPLIES),
+           ("requests", ["locks"], b"begin\nlock 0.1 a\nowner a\ncommit 0.1\n", b"begun 0.1\ngranted\nowner 0.1\ncommitted\n")])  # fmt: skip
+    def test_typed_lines(self, name: str, words: list[str], lines: bytes, replies: bytes) -> None:
         """Each reply is there before the next line is given."""
-        with subprocess.Popen([PROGRAM], stdin=subprocess.PIPE, stdout=subprocess.PIPE) as child:
-            assert child.stdin and child.stdout
-            for line, reply in zip(FIRST_RUN.splitlines(True), FIRST_REPLIES.splitlines(True)):
+        with subprocess.Popen([PROGRAM, *words], stdin=subprocess.PIPE, stdout=subprocess.PIPE) as child:
+            for line, reply in zip(lines.splitlines(True), replies.splitlines(True)):
                 child.stdin.write(line)
                 child.stdin.flush()
                 self.assertEqual(child.stdout.readline(), reply)
@@ -122,11 +112,16 @@ class Scripts(Case):
 class Devices(Case):
     """Devices that fail, of scripts, help and the lock service."""
 
+    def opened_folder(self) -> int:
+        """A folder, opened to be read as a file."""
+        folder = os.open("/", os.O_RDONLY)
+        self.addCleanup(os.close, folder)
+        return folder
+
     def test_pipe_that_closes_early(self) -> None:
         for words, line, reply in ([], b"begin\n", b"no table\n"), (["locks"], b"graph\n", b"graph 0\n"):
             with open(self.file("script", line * 200_000), "rb") as script:
                 with subprocess.Popen([PROGRAM, *words], stdin=script, stdout=subprocess.PIPE, stderr=subprocess.PIPE) as child:
-                    assert child.stdout and child.stderr
                     self.assertEqual(child.stdout.readline(), reply)
                     child.stdout.close()
                     self.assertEqual(child.stderr.read(), b"write fault\n")
@@ -141,27 +136,13 @@ class Devices(Case):
 
     @each(["", "locks", "explain"])
     def test_input_that_cannot_be_read(self, words: str) -> None:
-        with _directory() as folder:
-            self.ends(self.run_program(*words.split(), stdin=folder), 3, b"", "read fault\n")
+        self.ends(self.run_program(*words.split(), stdin=self.opened_folder()), 3, b"", "read fault\n")
         self.ends(self.run_program(*words.split(), stdin=None, preexec_fn=lambda: os.close(0)), 3, b"", "read fault\n")
 
     def test_read_fault_with_verbose(self) -> None:
-        with _directory() as folder:
-            told = self.run_program("script", "--verbose", stdin=folder)
+        told = self.run_program("script", "--verbose", stdin=self.opened_folder())
         self.ends(told, 3, b"", told.err)
         self.assertRegex(told.err, rb"(?s)^line 1: .*\nread fault\n\Z")
 
     def test_read_fault_that_cannot_be_told(self) -> None:
-        with _directory() as folder:
-            self.ends(self.run_program(stdin=folder, stderr=None, preexec_fn=lambda: os.close(2)), 3)
-
-
-class _directory:
-    """A folder, opened to be read as a file."""
-
-    def __enter__(self) -> int:
-        self.descriptor = os.open("/", os.O_RDONLY)
-        return self.descriptor
-
-    def __exit__(self, *error: object) -> None:
-        os.close(self.descriptor)
+        self.ends(self.run_program(stdin=self.opened_folder(), stderr=None, preexec_fn=lambda: os.close(2)), 3)

@@ -7,7 +7,7 @@ import os
 import re
 from typing import Any
 
-from lib.world import TOP, Case, each
+from lib.world import TOP, Case, each, read
 
 TURNS = 10_000_000
 USUAL = {"seed": 1, "clients": 8, "transmitters": 2, "resources": 8, "acquires": 4, "transactions": 1}
@@ -62,8 +62,7 @@ class Storms(Case):
         assert lines, told.out
         numbers = list(map(int, lines.groups()))
         self.assertEqual(told.status, 5 if numbers[2] + numbers[3] else 0)
-        with open(path, encoding="utf-8") as file:
-            text = file.read()
+        text = read(path)
         report = json.loads(text)
         ends, totals = report["ends"], report["totals"]
         self.assertTrue(text.endswith("}\n"))

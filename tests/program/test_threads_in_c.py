@@ -2,21 +2,16 @@
 from __future__ import annotations
 
 import re
-import subprocess
 import unittest
 
 from lib.world import TOP, Run, each, run
 from program import test_library
-from program.test_library import FLAGS, HERE, INCLUDE, text_of
+from program.test_library import HERE, INCLUDE, text_of
 
 SOURCE = f"{HERE}/threads.c"
 TESTS = re.findall(r"^TEST\((\w+)\)", text_of(SOURCE), re.M)
-ROW_STORE = b"""\
-rows 0 and 1 have 0 and 0, after 1 deadlock
-row 4: the name was not granted in time
-rows 2, 3 and 4 have 1, 0 and 1
-row 5: the request was interrupted
-"""
+ROW_STORE = (b"rows 0 and 1 have 0 and 0, after 1 deadlock\nrow 4: the name was not granted in time\n"
+             b"rows 2, 3 and 4 have 1, 0 and 1\nrow 5: the request was interrupted\n")  # fmt: skip
 WRAPPED = "-Wl," + ",".join(f"--wrap={name}" for name in re.findall(r"^WRAP\([^,]+, (\w+),", text_of(SOURCE), re.M))
 
 
@@ -24,16 +19,7 @@ class Threads(test_library.LibraryCase):
     @classmethod
     def setUpClass(cls) -> None:
         super().setUpClass()
-        cls.program = f"{cls.top}/plain"
-        cls.compiles(cls.program, SOURCE)
-
-    @classmethod
-    def compiles(cls, to: str, *words: str) -> None:
-        command = ["cc", "-std=c11", "-O1", "-g", "-pthread", *FLAGS, WRAPPED, f"-I{cls.top}/include", "-o", to, *words, f"{cls.top}/lib/libpashkure.a"]
-        subprocess.run(command, check=True)
-
-    def passes(self, told: Run) -> None:
-        self.assertEqual((told.status, told.err.decode(errors="replace")), (0, ""))
+        cls.program = cls.compiled(f"{cls.top}/plain", "-pthread", WRAPPED, SOURCE)
 
     @each(TESTS)
     def test_plain(self, name: str) -> None:
@@ -45,15 +31,10 @@ class Threads(test_library.LibraryCase):
         flags = [f"-fsanitize={kind}", "-fno-sanitize-recover=all"]
         if run("cc", *flags, "-o", self.path("empty"), self.file("empty.c", "int main(void) { return 0; }\n")).status:
             raise unittest.SkipTest(f"the compiler has no -fsanitize={kind}")
-        program = self.path("program")
-        self.compiles(program, *flags, SOURCE, f"{INCLUDE}/pashkure_threads.c")
-        self.passes(run(program))
+        self.passes(run(self.built("-pthread", WRAPPED, *flags, SOURCE, f"{INCLUDE}/pashkure_threads.c")))
 
     def example(self, name: str) -> Run:
-        program = self.path(name)
-        words = ["-std=c99", *FLAGS, "-pthread", f"-I{self.top}/include", "-o", program, f"{TOP}/examples/{name}.c", f"{self.top}/lib/libpashkure.a"]
-        subprocess.run(["cc", *words], check=True)
-        return run(program)
+        return run(self.built("-std=c99", "-pthread", f"{TOP}/examples/{name}.c"))
 
     def test_row_store(self) -> None:
         """It finds its deadlock, and says who waited for whom; its time-out and its interrupt are told."""

@@ -5,7 +5,7 @@ import os
 import re
 import subprocess
 
-from lib.world import TOP, Case, each
+from lib.world import TOP, Case, each, read
 
 PARTS = ["script", "threads", "storm", "locks", "explain"]
 CROSSWISE = os.path.join(TOP, "examples/workloads/crosswise.json")
@@ -29,9 +29,8 @@ TOLD = {
 }  # fmt: skip
 
 
-def text_of(name: str) -> bytes:
-    with open(os.path.join(TOP, name), "rb") as file:
-        return file.read()
+def text_of(name: str) -> str:
+    return read(os.path.join(TOP, name))
 
 
 class Help(Case):
@@ -48,19 +47,19 @@ class Help(Case):
 
     @each(sorted(TOLD))
     def test_what_it_tells(self, part: str) -> None:
-        text = text_of(f"wrapper/help/{part}.txt").decode()
+        text = text_of(f"wrapper/help/{part}.txt")
         for told in ["Exit statuses:", *TOLD[part]]:
             self.assertIn(told, text)
 
     def test_subcommands(self) -> None:
         """The launcher's help has a line for each of them."""
         for part in PARTS:
-            self.assertIn(f"  {part} ", text_of("wrapper/help.txt").decode())
+            self.assertIn(f"  {part} ", text_of("wrapper/help.txt"))
 
 
 def words_of(table: str) -> list[str]:
     """The words of a table of the sources. It is proved that no others are read."""
-    text = text_of(f"crates/{table}").decode()
+    text = text_of(f"crates/{table}")
     rows = re.search(r"const FORMS.*?^\];", text, re.M | re.S)
     assert rows
     return re.findall(r'^ *(?:\(|word: )"([a-z_0-9]*)"', rows[0], re.M)
@@ -68,7 +67,7 @@ def words_of(table: str) -> list[str]:
 
 def words_in(part: str) -> list[str]:
     """The words that a help lists."""
-    text = re.search(r"their replies:\n(.*?)^$", text_of(f"wrapper/help/{part}.txt").decode(), re.M | re.S)
+    text = re.search(r"their replies:\n(.*?)^$", text_of(f"wrapper/help/{part}.txt"), re.M | re.S)
     assert text
     return re.findall(r"^  ([a-z_0-9]+) ", text[1], re.M)
 
@@ -79,7 +78,7 @@ class Words(Case):
         from lib.service import FORMS
 
         words = words_of("mm_service/src/requests.rt")
-        page = re.search(r"^### Requests(.*?)^### ", text_of("docs/SERVICE.md").decode(), re.M | re.S)
+        page = re.search(r"^### Requests(.*?)^### ", text_of("docs/SERVICE.md"), re.M | re.S)
         assert page
         self.assertEqual(words_in("locks"), words)
         self.assertEqual(re.findall(r"^\| `([a-z]+)[ `]", page[1], re.M), words)
@@ -90,8 +89,8 @@ class Words(Case):
         from lib.hub import FURTHER
 
         words = words_of("mm_connections/src/forms.rt")
-        text = re.search(r"Further requests:\n(.*?)^The operator", text_of("wrapper/help/locks.txt").decode(), re.M | re.S)
-        page = re.search(r"^Further requests:(.*?)^A fence ", text_of("docs/SERVICE.md").decode(), re.M | re.S)
+        text = re.search(r"Further requests:\n(.*?)^The operator", text_of("wrapper/help/locks.txt"), re.M | re.S)
+        page = re.search(r"^Further requests:(.*?)^A fence ", text_of("docs/SERVICE.md"), re.M | re.S)
         assert text and page
         self.assertEqual(re.findall(r"^  ([a-z]+) ", text[1], re.M), words)
         self.assertEqual(re.findall(r"^\| `([a-z]+)[ `]", page[1], re.M), words)
@@ -116,7 +115,7 @@ class Words(Case):
 
 class Version(Case):
     def version(self) -> str:
-        version = re.search(r'^pub const VERSION: &str = "(.*)";$', text_of("crates/mm_command/src/version.rt").decode(), re.M)
+        version = re.search(r'^pub const VERSION: &str = "(.*)";$', text_of("crates/mm_command/src/version.rt"), re.M)
         assert version
         return version[1]
 

@@ -8,7 +8,7 @@ import shutil
 import signal
 import subprocess
 
-from lib.world import PROGRAM, TOP, Case, each, run
+from lib.world import PROGRAM, TOP, Case, each, read, run
 
 LEFT_OVER = "spent 0 refused 0"
 CROSSWISE_LINES = f"clients finished 1 aborted 1 {LEFT_OVER}\ntable verdicts 1 aborts 1\n"
@@ -65,10 +65,8 @@ TEXTS: list[tuple[str, str | bytes, str | None]] = [
     *((f"a word {step}", changed(STEP, step), WORD) for step in ('["fly",0]', '["Meet",2]', '["meet ",2]')),
     *((f"a number {step}", changed(STEP, step), NUMBER) for step in ('["meet",-1]', '["acquire",1.0]', '["meet",4294967296]', '["meet","2"]')),
     ("a last step", changed('["acquire",0]]]}', "7]]}"), "client 2, step 3: not an array of a word and a number"),
-    ("no clients", of_clients(0, 0), NO_CLIENTS),
-    ("65 clients", of_clients(65, 0), NO_CLIENTS),
-    ("65 clients of 257 steps", of_clients(65, 257), NO_CLIENTS),
-    ("257 steps", of_clients(1, 257), "client 1 is not an array of at most 256 steps"),
+    ("no clients", of_clients(0, 0), NO_CLIENTS), ("65 clients", of_clients(65, 0), NO_CLIENTS),
+    ("65 clients of 257 steps", of_clients(65, 257), NO_CLIENTS), ("257 steps", of_clients(1, 257), "client 1 is not an array of at most 256 steps"),
     ("clients that are a number", changed('"clients":[', '"clients":8,"others":['), NO_CLIENTS),
     ("a client that is an object", changed('[["acquire",1],["meet",2],["acquire",0]]', "{}"), "client 2 is not an array of at most 256 steps"),
     # (columns are those at which the text was changed, or one past what is too large or too deep)
@@ -79,15 +77,11 @@ TEXTS: list[tuple[str, str | bytes, str | None]] = [
     ("half a letter", changed("]]]}", ']]],"other":"\\ud800"}'), f"line 1, column 206: {UNREADABLE}"),
     ("half a word", changed("]]]}", ']]]\n,\n\n  "other":tru}'), f"line 4, column 11: {UNREADABLE}"),
     ("a zero in front", changed("10000000", "01"), f"line 1, column 95: {UNREADABLE}"),
-    ("a mark of byte order", changed("{", "\ufeff{"), f"line 1, column 1: {UNREADABLE}"),
-    ("an array", "[]", "the file is not a JSON object"),
-    ("a number alone", "7", "the file is not a JSON object"),
-    ("nothing", "", f"line 1, column 0: {TOO_SOON}"),
-    ("a first part", '{"processes":2,', f"line 1, column 15: {TOO_SOON}"),
-    ("as deep as can be", nested(126), None),
+    ("a mark of byte order", changed("{", "\ufeff{"), f"line 1, column 1: {UNREADABLE}"), ("an array", "[]", "the file is not a JSON object"),
+    ("a number alone", "7", "the file is not a JSON object"), ("nothing", "", f"line 1, column 0: {TOO_SOON}"),
+    ("a first part", '{"processes":2,', f"line 1, column 15: {TOO_SOON}"), ("as deep as can be", nested(126), None),
     ("too deep", nested(127), f"line 1, column 333: {UNREADABLE}"),
-    ("a byte that is no text", CROSSWISE.encode() + b"\xff", f"line 1, column 198: {UNREADABLE}"),
-    ("as long as can be", CROSSWISE.ljust(1_048_576), None),
+    ("a byte that is no text", CROSSWISE.encode() + b"\xff", f"line 1, column 198: {UNREADABLE}"), ("as long as can be", CROSSWISE.ljust(1_048_576), None),
     ("a byte too long", CROSSWISE.ljust(1_048_577), "the file is longer than 1048576 bytes"),
 ]  # fmt: skip
 
@@ -173,7 +167,6 @@ class Workloads(Case):
         """A run that takes long says how far it is. (It is ended as soon as it has said so, however many turns are left.)"""
         path = self.file("workload", workload([[["meet", 2]]], processes=1, resources=1, label_limit=9, transmitters=0, turns=1_000_000_000))
         with subprocess.Popen([PROGRAM, "threads", "--verbose", path], stdout=subprocess.PIPE, stderr=subprocess.PIPE) as child:
-            assert child.stderr
             for line in child.stderr:
                 if b"after 1 s: clients ended 0 of 1" in line:
                     break
@@ -193,8 +186,7 @@ class Reports(Case):
         path = self.file("a report", "0" * 100_000)
         told = self.run_program("storm", f"--report={path}")
         self.ends(told, 0, told.out)
-        with open(path, encoding="utf-8") as file:
-            text = file.read()
+        text = read(path)
         self.assertTrue(text.endswith("}\n") and "totals" in json.loads(text), text)
 
     def test_on_a_pipe(self) -> None:

@@ -3,20 +3,16 @@
 #define _POSIX_C_SOURCE 200809L
 #include "pashkure_threads.h"
 
+#include "check.h"
+
 #include <errno.h>
 #include <pthread.h>
 #include <sched.h>
 #include <signal.h>
 #include <stdatomic.h>
-#include <stdio.h>
-#include <stdlib.h>
-#include <string.h>
 #include <time.h>
 #include <unistd.h>
 
-#define CHECK(condition) ((condition) ? (void)0 : fails(#condition, __LINE__))
-#define GIVES(call, wanted) gives(call, wanted, #call, __LINE__)
-#define TEST(name) static void name(void)
 enum { SHORT = 1000000 };
 static const int64_t LONG = INT64_MAX - 1; /* a time that does not end while a test runs */
 
@@ -78,13 +74,6 @@ WRAP(int, pthread_cond_timedwait, pthread_cond_t *news, pthread_mutex_t *mutex, 
     untils[0] = untils[1];
     untils[1] = *until;
     return told == ETIMEDOUT && has_time ? 0 : told;
-}
-
-static void fails(const char *what, int line) { fprintf(stderr, "threads.c:%d: %s\n", line, what), _exit(1); }
-
-static void gives(pashkure_result told, pashkure_result wanted, const char *call, int line)
-{
-    if (told != wanted) fprintf(stderr, "threads.c:%d: %s: %d, and %d is wanted\n", line, call, told, wanted), _exit(1);
 }
 
 static pashkure_key begun(void)
@@ -514,21 +503,14 @@ TEST(crowd)
     shut();
 }
 
-static const struct { const char *name; void (*run)(void); } TESTS[] = {
-#define ROW(name) {#name, name}
+static const struct test TESTS[] = {
     ROW(memory), ROW(refusals), ROW(order_of_sleepers), ROW(time_out), ROW(deadlock), ROW(behind_a_victim), ROW(interrupt),
     ROW(several_names), ROW(wake_calls), ROW(one_request_at_a_time), ROW(hold), ROW(crowd),
 };
 
 int main(int count, char **words)
 {
-    size_t ran = 0;
+    (void)count;
     alarm(300);
-    for (size_t i = 0; i < sizeof TESTS / sizeof *TESTS; i++) {
-        if (count > 1 && strcmp(words[1], TESTS[i].name) != 0) continue;
-        TESTS[i].run();
-        ran++;
-    }
-    CHECK(ran > 0);
-    return 0;
+    return tested(TESTS, sizeof TESTS / sizeof *TESTS, words);
 }

@@ -34,23 +34,18 @@ static bool same(pashkure_remote_transaction some, pashkure_remote_transaction o
     return some.slot == other.slot && some.generation == other.generation && some.opening == other.opening;
 }
 
-struct test {
-    const char *name;
-    void (*run)(void);
-};
+struct test { const char *name; void (*run)(void); };
 
 #define TEST(name) {#name, test_##name}
 
 /* Runs the test of this name. The status of the program. */
 static int tested(const struct test *tests, size_t count, const char *name)
 {
-    size_t place;
-    for (place = 0; place < count; place++) {
-        if (strcmp(tests[place].name, name) == 0) {
-            tests[place].run();
-            return failed > 0;
-        }
-    }
-    fprintf(stderr, "no test %s\n", name);
-    return 2;
+    for (; count > 0 && strcmp(tests->name, name) != 0; count--)
+        tests++;
+    if (count > 0)
+        tests->run();
+    else
+        fprintf(stderr, "no test %s\n", name);
+    return count > 0 ? failed > 0 : 2;
 }

@@ -42,10 +42,7 @@ static void answered(const char *replies, bool is_end)
         shutdown(there, SHUT_WR);
 }
 
-static void replies(const char *text)
-{
-    answered(text, false);
-}
+static void replies(const char *text) { answered(text, false); }
 
 /* What the client sent. */
 static const char *all_sent(void)
@@ -61,15 +58,10 @@ static const char *all_sent(void)
     return bytes;
 }
 
-static bool sent(const char *wanted)
-{
-    return strcmp(all_sent(), wanted) == 0;
-}
+static bool sent(const char *wanted) { return strcmp(all_sent(), wanted) == 0; }
 
 /* What the other end reads, and what it says then. The last one has no request: it is said when all others are. */
-struct turn {
-    const char *request, *reply;
-};
+struct turn { const char *request, *reply; };
 
 static pthread_t other_end;
 
@@ -333,10 +325,7 @@ static void test_reads(void)
     GIVES(PROTOCOL, pashkure_remote_fence_of(&here, first, "a", &fence));
 }
 
-static void add_name(void *context, const char *name)
-{
-    strcat(strcat(context, name), " ");
-}
+static void add_name(void *context, const char *name) { strcat(strcat(context, name), " "); }
 
 static void add_wait(void *context, const pashkure_remote_wait_for *wait)
 {

@@ -22,11 +22,7 @@ static key begun(pashkure_remote_connection *connection)
     return transaction;
 }
 
-static void count_wait(void *context, const pashkure_remote_wait_for *wait)
-{
-    (void)wait;
-    ++*(int *)context;
-}
+static void count_wait(void *context, const pashkure_remote_wait_for *wait) { *(int *)context += wait->name[0] != '\0'; }
 
 /* Connects the operator, whose socket is at the service's path and `.admin`. */
 static void open_operator(pashkure_remote_connection *operator)

@@ -9,6 +9,7 @@ import threading
 from typing import Iterator
 
 from lib.draw import Requests, any_bytes, odd
+from lib.search import read
 from lib.world import IS_SLOW, PROGRAM, SEED, Case, Server, Wire, each, run, until
 
 CLIENTS = 6
@@ -117,10 +118,6 @@ class Between(Case):
         program = self.script(f'echo "$*" > "{self.words}"; tee "{self.given}" | "{PROGRAM}" "$@" | tee "{self.written}"')
         return self.server("--transactions", "16", "--names", "12", "--name-bytes", "64", "--each", "5", "--admin", self.admin, program=program)
 
-    def read(self, path: str) -> bytes:
-        with open(path, "rb") as file:
-            return file.read()
-
     @each([("one seed", 1), ("a new seed", SEED)])
     def test_interleaved(self, name: str, seed: int) -> None:
         server = self.recorded()
@@ -136,7 +133,7 @@ class Between(Case):
         until(lambda: self.all_have_left(operator), "all have left")
         self.assertEqual((server.close(), server.stderr()), (0, ""))
         sessions = {each.sent[0]: each for client in clients for each in client.sessions}
-        given, written = split(self.read(self.given)), split(self.read(self.written))
+        given, written = split(read(self.given)), split(read(self.written))
         found = 0
         for number in given.keys() - {b"0"}:
             self.assertEqual(len(given[number]), len(written[number]), f"hang-ups of {number!r}")
@@ -166,6 +163,6 @@ class Between(Case):
         self.assertEqual(heard, told[: len(heard)] if session.is_cut else told)
 
     def is_written_by_the_program_alone(self) -> None:
-        alone = run(PROGRAM, *self.read(self.words).decode().split(), given=self.read(self.given))
-        self.assertEqual(alone.out, self.read(self.written))
+        alone = run(PROGRAM, *read(self.words).decode().split(), given=read(self.given))
+        self.assertEqual(alone.out, read(self.written))
         self.assertNotIn(alone.status, (-signal.SIGSEGV, 3, 4))

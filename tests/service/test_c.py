@@ -9,7 +9,7 @@ import tempfile
 from typing import Any
 
 from lib.faults import FaultCase, variables
-from lib.world import CLIENTS, LIMIT, SEED, TOP, Run, Server, each, run
+from lib.world import CLIENTS, LIMIT, SEED, TOP, Server, each, read, run, wants
 
 HERE = os.path.join(TOP, "tests", "service")
 CLIENT = os.path.join(CLIENTS, "c")
@@ -22,8 +22,7 @@ SEEDS = [1, 2, 3, SEED]
 
 
 def tests(name: str) -> list[str]:
-    with open(f"{HERE}/{name}.c", encoding="utf-8") as file:
-        return re.findall(r"\bTEST\((\w+)\)", file.read())
+    return re.findall(r"\bTEST\((\w+)\)", read(f"{HERE}/{name}.c"))
 
 
 class CCase(FaultCase):
@@ -39,10 +38,6 @@ class CCase(FaultCase):
     @classmethod
     def program(cls, name: str) -> str:
         return os.path.join(cls.scratch.name, name)
-
-    def passes(self, told: Run) -> Run:
-        self.assertEqual((told.status, told.err.decode(errors="replace")), (0, ""))
-        return told
 
 
 class Replies(CCase):
@@ -70,21 +65,18 @@ class Replies(CCase):
         log = self.path("log")
         env = {**os.environ, **variables("poll:told recv:short=10", log=log)}  # so that it reads `waits 1.1`, and then has to wait
         self.passes(run(self.program("replies"), "long_time", env=env))
-        with open(log, encoding="ascii") as file:
-            told = re.findall(r"^poll:told=(-?\d+)@", file.read(), re.M)
+        told = re.findall(r"^poll:told=(-?\d+)@", read(log), re.M)
         self.assertEqual(set(told), {"-1", str(2**31 - 1)}, "without an end, as for a reply, or the longest time")
 
     def test_faults_are_made(self) -> None:
         """The tests above would show nothing if no call failed."""
         log = self.path("log")
         self.passes(run(self.program("replies"), "words", env={**os.environ, **variables(FAULTS, log=log)}))
-        with open(log, encoding="ascii") as file:
-            rules = file.read()
+        rules = read(log)
         self.assertTrue("EINTR" in rules and "recv:short" in rules, rules)
         again = self.path("again")
         self.passes(run(self.program("replies"), "words", env={**os.environ, **variables(rules, log=again)}))
-        with open(again, encoding="ascii") as file:
-            self.assertEqual(file.read(), rules, "a log is done again")
+        self.assertEqual(read(again), rules, "a log is done again")
 
 
 class Service(CCase):
@@ -95,18 +87,15 @@ class Service(CCase):
         path = path or self.path("socket")
         return self.server(*LIMITS, *words, "--admin", f"{path}.admin", path=path, **how)
 
-    def path_of_server(self) -> str:
-        return self.started().path
-
     @each([name for name in tests("service") if name not in ("killed", "full")])
     def test_sanitized(self, name: str) -> None:
-        self.passes(run(self.program("service.sanitized"), name, self.path_of_server()))
+        self.passes(run(self.program("service.sanitized"), name, self.started().path))
 
     @each([name for name in tests("service") if name not in ("killed", "full", "limits")])
     def test_with_faults(self, name: str) -> None:
         for seed in SEEDS:
             with self.subTest(seed=seed):
-                self.passes(self.faulty(FAULTS, self.program("service"), name, self.path_of_server(), seed=seed))
+                self.passes(self.faulty(FAULTS, self.program("service"), name, self.started().path, seed=seed))
 
     def test_full(self) -> None:
         self.passes(run(self.program("service.sanitized"), "full", self.started("--connections", "2").path))
@@ -125,7 +114,7 @@ class Service(CCase):
     @each(["bank", "bank.sanitized", "bank with faults"])
     def test_bank(self, name: str) -> None:
         """Two threads move money, and their deadlocks are tried again."""
-        command = [self.program(name.split()[0]), self.path_of_server()]
+        command = [self.program(name.split()[0]), self.started().path]
         told = self.passes(self.faulty(FAULTS, *command) if "faults" in name else run(*command))
         self.assertRegex(told.out, rb"\A2000 transfers; [0-9]+ deadlocks, .*\naccounts/1 has 1000, accounts/2 has 1000\n\Z")
 
@@ -138,7 +127,7 @@ class Service(CCase):
         told = run("cc", *FLAGS, "-fsanitize=thread", "-o", path, f"{CLIENT}/bank.c", f"{CLIENT}/pashkure_remote.c")
         if told.status or run(path).status != 2:
             self.skipTest("this C compiler has no thread sanitizer that runs here (Debian's package libtsan)")
-        self.passes(run(path, self.path_of_server()))
+        self.passes(run(path, self.started().path))
 
 
 class Sources(CCase):
@@ -152,14 +141,12 @@ class Sources(CCase):
 
     def test_page(self) -> None:
         """What the page shows of C is C."""
-        with open(f"{CLIENT}/README.md", encoding="utf-8") as file:
-            for code in re.findall(r"^```c\n(.*?)^```$", file.read(), re.M | re.S):
-                self.passes(run("cc", *FLAGS, "-c", "-o", os.devnull, self.file("page.c", code)))
+        for code in re.findall(r"^```c\n(.*?)^```$", read(f"{CLIENT}/README.md"), re.M | re.S):
+            self.passes(run("cc", *FLAGS, "-c", "-o", os.devnull, self.file("page.c", code)))
 
     def test_install(self) -> None:
         """A program is compiled with what pkg-config says of a library that was installed below a folder."""
-        if not shutil.which("make") or not shutil.which("pkg-config"):
-            self.skipTest("make or pkg-config is not on the PATH (Debian's packages make and pkg-config)")
+        wants("make", "pkg-config")
         top, bank = self.path("root"), self.path("bank")
         self.passes(run("make", "-s", "-C", CLIENT, "install", f"OUT={self.path('out')}", f"DESTDIR={top}", "PREFIX=/opt/pashkure"))
         files = sorted(os.path.relpath(os.path.join(folder, name), f"{top}/opt/pashkure") for folder, _, names in os.walk(top) for name in names)

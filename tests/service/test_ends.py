@@ -6,8 +6,9 @@ import signal
 import socket
 import stat
 import subprocess
+from typing import Optional
 
-from lib.world import LIMIT, PROGRAM, Server, Wire, answers, each, environment, run, stop, until
+from lib.world import LIMIT, PROGRAM, Server, Wire, answers, each, environment, read, run, stop, until, wants, write
 from service.test_server import ServerCase, begun
 
 
@@ -24,11 +25,6 @@ class Clients:
     def are_closed(self, case: ServerCase) -> None:
         """Fails unless each of them is told that its connection is closed."""
         case.assertEqual([wire.all() for wire in self.wires], [b""] * 6)
-
-
-def read(path: str) -> str:
-    with open(path, encoding="ascii", newline="") as file:
-        return file.read()
 
 
 class Ends(ServerCase):
@@ -96,8 +92,7 @@ class Ends(ServerCase):
                 wire.send(b"totals\n" * 1000)
             self.assertEqual(wires[0].lines(1), [b"totals 0 0 0 0"])
             self.assertEqual((server.close(), server.stderr()), (0, ""))
-        with open(statuses, encoding="ascii") as file:
-            self.assertEqual(file.read(), "0\n" * 5)
+        self.assertEqual(read(statuses), "0\n" * 5)
 
     def test_program_that_hangs(self) -> None:
         """A server whose program does not end at the end of its input ends it, with status 0."""
@@ -108,10 +103,15 @@ class Ends(ServerCase):
         self.program_is_over(pid)
 
 
-class Starts(ServerCase):
-    def told(self, server: Server) -> tuple[int, str]:
-        return server.process.wait(LIMIT), server.stderr()
+class StartCase(ServerCase):
+    def does_not_start(self, why: str, *words: str, path: Optional[str] = None) -> None:
+        """Fails unless a server ends with status 1 and a line that says why."""
+        server = self.server(*words, path=path)
+        self.assertEqual(server.process.wait(LIMIT), 1)
+        self.assertRegex(server.stderr(), rf"\A[^\n]*{why}[^\n]*\n\Z")
 
+
+class Starts(StartCase):
     def mode(self, path: str) -> int:
         return stat.S_IMODE(os.stat(path).st_mode)
 
@@ -123,14 +123,12 @@ class Starts(ServerCase):
 
     def test_rights_at_first(self) -> None:
         """The file never has more rights than were asked for, not even when it is made."""
-        if run("sh", "-c", "command -v strace").status:
-            self.skipTest("strace is not on the PATH (Debian's package strace)")
+        wants("strace")
         path, log = self.path("socket"), self.path("log")
         command = ["strace", "-f", "-o", log, "-e", "trace=umask,bind,chmod,fchmod,fchmodat", *self.needs_server(), "--socket", path, "--program", PROGRAM]
         with subprocess.Popen(command, env=environment(), stderr=subprocess.DEVNULL) as child:
             until(lambda: child.poll() is not None or answers(path), "the server answers or ends")
-            with open(log, encoding="ascii") as file:
-                calls = file.read()
+            calls = read(log)
             if "umask(" not in calls:
                 child.kill()
                 self.skipTest("strace cannot trace here")
@@ -142,17 +140,12 @@ class Starts(ServerCase):
     def test_path_in_use(self) -> None:
         """A server replaces neither one that answers nor what is no socket."""
         server = self.server()
-        status, told = self.told(self.server(path=server.path))
-        self.assertEqual((status, answers(server.path)), (1, True))
-        self.assertRegex(told, rf"\A[^\n]*{server.path}[^\n]*another server[^\n]*\n\Z")
+        self.does_not_start(rf"{server.path}[^\n]*another server", path=server.path)
+        self.assertTrue(answers(server.path))
         path = self.file("text", "text")
-        status, told = self.told(self.server(path=path))
-        self.assertEqual(status, 1)
-        self.assertRegex(told, rf"\A[^\n]*{path}[^\n]*\n\Z")
-        with open(path, encoding="ascii") as file:
-            self.assertEqual(file.read(), "text")
-        status, told = self.told(self.server(path=self.path("none") + "/socket"))
-        self.assertEqual((status, told.count("\n")), (1, 1), told)
+        self.does_not_start(path, path=path)
+        self.assertEqual(read(path), "text")
+        self.does_not_start("", path=self.path("none") + "/socket")
 
     def test_stale_file(self) -> None:
         """A socket file that nobody answers at is replaced."""
@@ -167,8 +160,7 @@ class Starts(ServerCase):
         """At its end a server leaves a file that is another one by now."""
         server = self.server()
         os.unlink(server.path)
-        with open(server.path, "w", encoding="ascii") as file:
-            file.write("mine")
+        write(server.path, "mine")
         self.assertEqual((server.close(), os.path.exists(server.path)), (0, True))
 
     def test_pairs(self) -> None:
@@ -191,8 +183,7 @@ class Starts(ServerCase):
             self.assertEqual((both[1].communicate()[1], both[1].returncode, os.path.exists(path)), ("", 0, False))
             locked.append(os.stat(path + ".lock"))
         self.assertEqual({(status.st_ino, stat.S_IMODE(status.st_mode)) for status in locked}, {(locked[0].st_ino, 0o600)})
-        with open(starts, encoding="ascii") as file:
-            self.assertEqual(file.read(), "started\n" * count)
+        self.assertEqual(read(starts), "started\n" * count)
 
     def test_lock_file(self) -> None:
         """PATH.lock is held by the server alone: not by its program, which may outlive it; a link at its place is not followed."""
@@ -207,8 +198,7 @@ class Starts(ServerCase):
             os.kill(pid, signal.SIGKILL)
         path, target = self.path("socket"), self.path("target")
         os.symlink(target, path + ".lock")
-        status, told = self.told(self.server(path=path))
-        self.assertEqual((status, told.count("\n"), path in told), (1, 1, True), told)
+        self.does_not_start(path, path=path)
         self.assertEqual((os.path.exists(target), os.path.exists(path)), (False, False))
 
     def test_wrong_words(self) -> None:
@@ -236,14 +226,8 @@ class Starts(ServerCase):
         status = os.stat(path)
         self.assertEqual((status.st_gid, stat.S_IMODE(status.st_mode)), (65534, 0o660))
 
-    def test_seed(self) -> None:
-        """The program draws its seed itself: no list of processes shows it."""
-        words = self.path("words")
-        self.assertEqual(self.server(program=self.script(f'echo "$*" > "{words}"\nexec "{PROGRAM}" "$@"')).close(), 0)
-        self.assertRegex(read(words), r"\Alocks --connections 16385 --epoch \d+\n\Z")
 
-
-class Epochs(ServerCase):
+class Epochs(StartCase):
     def epoch(self, *words: str, path: str) -> int:
         """The epoch that a server gives its program."""
         told = self.path("words")
@@ -258,7 +242,7 @@ class Epochs(ServerCase):
             if number == 3:
                 os.unlink(path + ".epoch")
             if number == 4:
-                self.write(path + ".epoch", "9000000000000000000\n")
+                write(path + ".epoch", "9000000000000000000\n")
                 last = 9 * 10**18
             now = self.epoch(path=path)
             self.assertGreater(now, last)
@@ -266,10 +250,6 @@ class Epochs(ServerCase):
             self.assertEqual(stat.S_IMODE(os.stat(path + ".epoch").st_mode), 0o600)
             last = now
         self.assertEqual(last, 9 * 10**18 + 2)
-
-    def write(self, path: str, text: str) -> None:
-        with open(path, "w", encoding="ascii") as file:
-            file.write(text)
 
     def test_file_of_its_own(self) -> None:
         path, file = self.path("socket"), self.path("epoch")
@@ -284,18 +264,15 @@ class Epochs(ServerCase):
         self.assertFalse(os.path.exists(path + ".epoch"))
         self.assertEqual(self.epoch("--epoch", "7", "--epoch-file", file, path=path), 7)
         self.assertEqual(read(file), "7\n")
-        server = self.server("--epoch", "7", "--epoch-file", file)
-        self.assertEqual((server.process.wait(LIMIT), server.stderr().count("\n"), file in server.stderr()), (1, 1, True), server.stderr())
+        self.does_not_start(file, "--epoch", "7", "--epoch-file", file)
         self.assertEqual(self.epoch("--epoch", "9223372036854775807", "--epoch-file", file, path=path), 2**63 - 1)
-        server = self.server("--epoch-file", file)
-        self.assertEqual((server.process.wait(LIMIT), file in server.stderr()), (1, True), server.stderr())
+        self.does_not_start(file, "--epoch-file", file)
 
     @each(["", "\n", "x", "12 13", "-1", "+1", " 1", "1\n\n", "1\r\n", "9223372036854775807", "18446744073709551617", "1\0", "0x1", "1" * 4096])
     def test_file_that_is_none(self, text: str) -> None:
         """What is no number is left as it is, and the server does not start."""
         file, path = self.file("epoch", text), self.path("socket")
-        server = self.server("--epoch-file", file, path=path)
-        self.assertEqual((server.process.wait(LIMIT), server.stderr().count("\n"), file in server.stderr()), (1, 1, True), server.stderr())
+        self.does_not_start(file, "--epoch-file", file, path=path)
         self.assertEqual((read(file), os.path.exists(path)), (text, False))
 
     def test_files_of_others(self) -> None:
@@ -308,11 +285,9 @@ class Epochs(ServerCase):
             os.chown(other, 65534, 65534)
             os.makedirs(folder)
             places += [other]
-            self.write(os.path.join(folder, "socket.lock"), "")
+            write(os.path.join(folder, "socket.lock"), "")
             os.chown(os.path.join(folder, "socket.lock"), 65534, 65534)
-            server = self.server(path=os.path.join(folder, "socket"))
-            self.assertEqual((server.process.wait(LIMIT), "no file of this user" in server.stderr()), (1, True), server.stderr())
+            self.does_not_start("no file of this user", path=os.path.join(folder, "socket"))
         for place in places:
-            server = self.server("--epoch-file", place)
-            self.assertEqual((server.process.wait(LIMIT), place in server.stderr()), (1, True), server.stderr())
+            self.does_not_start(place, "--epoch-file", place)
         self.assertEqual(read(target), "1")

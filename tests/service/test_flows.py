@@ -3,13 +3,13 @@ test's own, names and keys, pauses, and that the forms for threads and for tasks
 from __future__ import annotations
 
 import asyncio
+import contextlib
 import inspect
 import itertools
 import math
 import os
 import random
 import re
-import shutil
 import subprocess
 import sys
 import time
@@ -18,7 +18,7 @@ from typing import Any, Callable, Optional
 
 from lib.clients import NO_KEYS, NO_NAMES, NO_TEXTS, raises, same
 from lib.hub import Hub
-from lib.world import PACKAGE, Case, each, environment, run
+from lib.world import PACKAGE, Case, each, environment, read, run, wants
 
 import pashkure
 from pashkure import Aborted, Deadlock, Full, Interrupted, LockError, LocksLost, MustAbort, NotOwner, ProtocolError, Retry, Timeout, aio, flows, wire
@@ -98,14 +98,10 @@ class Wire(Case):
             for number, call in enumerate(calls):
                 call.party.is_told = lambda number=number: ended.append(number)  # type: ignore[method-assign, misc]
             party.is_told = lambda: ended.append(99)  # type: ignore[method-assign]
-            try:
-                talk.feed(lines(reply))
-            except ProtocolError:
-                ended.clear()
-                talk.lost()
-                same(sorted({*ended}), [*(number for number, call in enumerate(calls) if call.answer is None), 99], reply)
-            else:
-                self.fail(f"{reply!r} was taken")
+            raises(ProtocolError, talk.feed, lines(reply))
+            ended.clear()
+            talk.lost()
+            same(sorted({*ended}), [*(number for number, call in enumerate(calls) if call.answer is None), 99], reply)
 
     def test_after_the_end(self) -> None:
         """A request of a transaction that has just ended still has its key."""
@@ -121,21 +117,16 @@ class Wire(Case):
             names = [name[:1024] for name in names]
             state, sent = flows.State(), []
             for flow in flows.begin(state, names, math.inf), flows.lock(state, names, math.inf):
-                asked, answer = [], None
-                while True:
-                    try:
+                asked, answer, party = [], None, Party()
+                with contextlib.suppress(StopIteration):
+                    while True:
                         ask: Any = flow.send(answer)
-                    except StopIteration:
-                        break
-                    party = Party()
-                    party.key = b"" if ask.word == b"begin" else b"65535.4294967295"
-                    line = Conversation().send(Call(ask, party))
-                    self.assertLessEqual(len(line), wire.LONGEST + 1)
-                    asked += ask.names
-                    sent.append(len(line))
-                    answer = (b"begun", b"65535.4294967295") if ask.word == b"begin" else (b"granted",)
+                        party.key = b"" if ask.word == b"begin" else b"65535.4294967295"
+                        sent.append(len(Conversation().send(Call(ask, party))))
+                        asked += ask.names
+                        answer = (b"begun", b"65535.4294967295") if ask.word == b"begin" else (b"granted",)
                 same(asked, names)
-            self.assertGreater(max(sent), 1000 - size % 1000)
+            self.assertTrue(1000 - size % 1000 < max(sent) <= wire.LONGEST + 1, sent)
 
 
 class World:
@@ -160,11 +151,12 @@ class World:
     def ask(self, number: int, line: str) -> None:
         """A request of a client that is not tried."""
         self.send(number, line.encode() + b"\n")
-        words = line.split()
-        party = Party()
-        call = Call(Ask(words[0].encode()), party)
-        self.talks[number].pending.append(call)
+        self.talks[number].pending.append(Call(Ask(line.split()[0].encode()), Party()))
         self.pump()
+
+
+LEFT = object()
+"""What `Place.runs` returns of a flow that was left."""
 
 
 class Place(Party):
@@ -177,37 +169,27 @@ class Place(Party):
 
     def begins(self, flow: Any, moment: int, is_delivered: bool) -> Any:
         """Runs the flow, and leaves it at this moment, before or after the answer came. Whether it had come so far."""
+        with contextlib.suppress(LockError):
+            return self.runs(flow, moment, is_delivered) is LEFT
+        return False
+
+    def runs(self, flow: Any, moment: int = -1, is_delivered: bool = True) -> Any:
+        """Runs the flow to its end, whose value it returns, or up to this moment."""
+        answer = None
         try:
-            step = next(flow)
             for count in itertools.count():
+                step = flow.send(answer)
                 if isinstance(step, Ask):
                     self.last = Call(step, self)
                     self.world.send(self.number, self.talk.send(self.last))
                     if count == moment and not is_delivered:
-                        return True
+                        return LEFT
                     self.world.pump()
                     answer = self.last.answer
                 else:
                     answer = self.told.pop(0) if self.told else None
                 if count == moment:
-                    return True
-                step = flow.send(answer)
-        except (StopIteration, LockError):
-            return False
-
-    def runs(self, flow: Any) -> Any:
-        """Runs the flow to its end."""
-        answer = None
-        try:
-            while True:
-                step = flow.send(answer)
-                if isinstance(step, Ask):
-                    call = Call(step, self)
-                    self.world.send(self.number, self.talk.send(call))
-                    self.world.pump()
-                    answer = call.answer
-                else:
-                    answer = self.told.pop(0) if self.told else None
+                    return LEFT
         except StopIteration as end:
             return end.value
 
@@ -410,7 +392,7 @@ class Arguments(Case):
             self.assertRaises((TypeError, ValueError), Retry, attempts)
 
 
-class FakeLocks:
+class FakeLocks(contextlib.AbstractContextManager, contextlib.AbstractAsyncContextManager):
     """Locks in both forms whose transactions only count, and whose work takes its time by a clock of the test's own."""
 
     def __init__(self, form: Any, retry: Retry) -> None:
@@ -435,14 +417,8 @@ class FakeLocks:
         with unittest.mock.patch("pashkure.calls.monotonic", lambda: self.now):
             return self.locks.run(work) if self.is_plain else asyncio.run(self.locks.run(works))
 
-    def __enter__(self) -> Any:
-        return self
-
     def __exit__(self, *error: Any) -> None:
         self.now += 0.5
-
-    async def __aenter__(self) -> Any:
-        return self
 
     async def __aexit__(self, *error: Any) -> None:
         self.now += 0.5
@@ -538,13 +514,11 @@ class Forms(Case):
 
     def test_mypy(self) -> None:
         """The package, and a user's program, whose wrong lines are marked with `# wrong`, under `mypy --strict`."""
-        if not shutil.which("mypy"):
-            self.skipTest("no mypy is on the PATH (Debian's package mypy)")
+        wants("mypy")
         program = os.path.join(os.path.dirname(os.path.dirname(os.path.abspath(__file__))), "lib", "typed.py")
         told = run("mypy", "--strict", "--cache-dir", self.path("cache"), program, "pashkure", cwd=PACKAGE, env=environment(MYPYPATH=PACKAGE))
         errors = re.findall(rb"typed\.py:(\d+): error", told.out)
-        with open(program, encoding="utf-8") as file:
-            wanted = [number for number, line in enumerate(file, 1) if "# wrong" in line]
+        wanted = [number for number, line in enumerate(read(program).splitlines(), 1) if "# wrong" in line]
         same((sorted({*map(int, errors)}), told.out.count(b"error:") - len(errors)), (wanted, 0), told.out.decode())
 
 

@@ -1,6 +1,7 @@
 """What the front does with lines, numbers and connections, before a program that knows nothing of locks (lib/stub.py) and notes each line."""
 from __future__ import annotations
 
+import contextlib
 import os
 import resource
 import signal
@@ -11,7 +12,7 @@ import time
 from typing import Any
 
 from lib.faults import FaultCase, variables
-from lib.world import IS_SLOW, LIMIT, TOP, Server, Wire, each, environment, run, stop, until
+from lib.world import IS_SLOW, LIMIT, TOP, Server, Wire, each, environment, read, run, stop, until, wants, write
 from service.test_server import ServerCase, fills
 
 STUB = os.path.join(TOP, "tests", "lib", "stub.py")
@@ -48,8 +49,7 @@ class StubCase(ServerCase):
 
     def words(self) -> list[str]:
         """The words that the program was started with."""
-        with open(self.log, encoding="ascii") as file:
-            return file.readline().split()
+        return read(self.log).partition("\n")[0].split()
 
     def turn(self) -> None:
         """Returns when the server has passed on what it had read before."""
@@ -353,8 +353,7 @@ class Operators(StubCase):
 
     def test_rights(self) -> None:
         self.stubbed("--mode", "666")
-        status = os.stat(self.admin_path)
-        self.assertEqual((stat.S_IMODE(status.st_mode), stat.S_IMODE(os.stat(self.admin_path + ".lock").st_mode)), (0o600, 0o600))
+        self.assertEqual([stat.S_IMODE(os.stat(self.admin_path + end).st_mode) for end in ("", ".lock")], [0o600, 0o600])
 
     def test_path_in_use(self) -> None:
         """A second server does not start at the operator's path of another one."""
@@ -401,18 +400,12 @@ class Log(StubCase):
     def test_that_nobody_reads(self) -> None:
         """What standard error has no room for is dropped, and nobody waits."""
         reads, writes = os.pipe()
-        try:
-            self.stubbed(is_quiet=False, stderr=writes)
-            for _ in range(60):
-                self.admin.send(b"say 0 * deadlock " + b"x" * 900 + b"|0 done\n")
-                self.admin.lines(2)
-            long = b"say 0 * deadlock " + b"\xff" * 1000 + b"|0 done\n"
-            for _ in range(40):
-                self.admin.send(long)
-                self.admin.lines(2)
-        finally:
-            os.close(reads)
-            os.close(writes)
+        for end in reads, writes:
+            self.addCleanup(os.close, end)
+        self.stubbed(is_quiet=False, stderr=writes)
+        for text in [b"x" * 900] * 60 + [b"\xff" * 1000] * 40:
+            self.admin.send(b"say 0 * deadlock " + text + b"|0 done\n")
+            self.admin.lines(2)
 
 
 class Program(StubCase):
@@ -435,6 +428,7 @@ class Program(StubCase):
             self.assertRegex(server.stderr(), rf"\A[^\n]* ended with status {status}\n\Z")
 
     def test_options(self) -> None:
+        """Its options are the program's, but no seed: the program draws one, and no list of processes shows it."""
         server = self.stubbed("--transactions", "7", "--names=8", "--name-bytes", "9", "--each", "3", "--epoch", "11", "--connections", "20")
         self.assertEqual(self.words(), "locks --transactions 7 --names 8 --name-bytes 9 --connections 21 --epoch 11 --each 3".split())
         self.assertFalse(os.path.exists(server.path + ".epoch"))
@@ -445,13 +439,11 @@ class Program(StubCase):
         """Three descriptors, and no signal that is blocked or dropped, but those that Python drops itself."""
         told = self.path("told")
         program = self.script("")
-        with open(program, "w", encoding="ascii") as file:
-            file.write(f"#!{sys.executable}\nimport os\nnames = os.listdir('/proc/self/fd')\nwith open({told!r}, 'w') as file:\n"
-                       "    print(len(names), *(line for line in open('/proc/self/status') if line.startswith(('SigBlk', 'SigIgn'))), file=file)\n")  # fmt: skip
+        write(program, f"#!{sys.executable}\nimport os\nnames = os.listdir('/proc/self/fd')\nwith open({told!r}, 'w') as file:\n"
+              "    print(len(names), *(line for line in open('/proc/self/status') if line.startswith(('SigBlk', 'SigIgn'))), file=file)\n")  # fmt: skip
         words = [*self.needs_server(), "--socket", self.path("socket"), "--admin", self.path("admin"), "--program", program]
         self.assertEqual(run(*words, env=environment()).status, 1)
-        with open(told, encoding="ascii") as file:
-            count, _, blocked, _, dropped = file.read().split()
+        count, _, blocked, _, dropped = read(told).split()
         self.assertEqual((int(count), int(blocked, 16), int(dropped, 16) & 0x7EFF_EFFF), (4, 0, 0))  # (the folder itself is open too)
 
 
@@ -469,15 +461,13 @@ class Heartbeat(StubCase, FaultCase):
 
     def asks_to_the_end(self, wire: Wire, heartbeat: bytes) -> None:
         """Asks until the server has closed the connection."""
-        for _ in range(2_000):
-            os.write(self.writes, heartbeat)
-            try:
+        with contextlib.suppress(BrokenPipeError, ConnectionResetError):
+            for _ in range(2_000):
+                os.write(self.writes, heartbeat)
                 wire.send(b"a\n")
                 if not wire.socket.recv(65536):
                     return
-            except (BrokenPipeError, ConnectionResetError):
-                return
-        self.fail("it goes on")
+            self.fail("it goes on")
 
     def stops(self, server: Server, wires: list[Wire], jumps: int) -> None:
         """Fails unless the server has ended with a line that says why, closed all connections, and sent nothing more when its clock had jumped so often."""
@@ -485,8 +475,7 @@ class Heartbeat(StubCase, FaultCase):
             self.assertEqual(wire.all(), b"")
         self.assertEqual((server.process.wait(LIMIT), os.path.exists(server.path)), (1, False))
         self.assertEqual(server.stderr(), f"pashkure: no line came on descriptor {self.reads} for 600000 milliseconds\n")
-        with open(self.faults, encoding="ascii") as file:
-            before, jump, behind = file.read().partition(f"boottime:told={jumps}@")
+        before, jump, behind = read(self.faults).partition(f"boottime:told={jumps}@")
         self.assertEqual(("send:" in before, bool(jump), "send:" in behind), (True, True, False))
 
     @each([400, *range(501, 509)])
@@ -507,8 +496,7 @@ class Heartbeat(StubCase, FaultCase):
                 os.write(self.writes, b"beat\n")
                 self.asks(wire, (b"a", b"heard 61"))
             self.assertIsNone(server.process.poll())
-            with open(self.faults, encoding="ascii") as file:
-                self.assertIn("boottime:told=2500@", file.read())
+            self.assertIn("boottime:told=2500@", read(self.faults))
             if not last:
                 os.close(self.writes)
                 self.writes = os.open(os.devnull, os.O_WRONLY)
@@ -555,10 +543,7 @@ class Manager(StubCase):
 
     def test_unit(self) -> None:
         """The unit of examples/ is one that systemd takes."""
-        if run("sh", "-c", "command -v systemd-analyze").status:
-            self.skipTest("systemd-analyze is not on the PATH (Debian's package systemd)")
-        with open(os.path.join(TOP, "examples/pashkure.service"), encoding="ascii") as file:
-            text = file.read()
-        unit = self.file("pashkure.service", text.replace("/usr/local/bin/", "/bin/true #"))
+        wants("systemd-analyze")
+        unit = self.file("pashkure.service", read(os.path.join(TOP, "examples/pashkure.service")).replace("/usr/local/bin/", "/bin/true #"))
         told = run("systemd-analyze", "verify", unit)
         self.assertEqual(told.status, 0, told.err)

@@ -11,10 +11,10 @@ import unittest.mock
 import zipfile
 from typing import Any, List
 
-from lib.clients import Apart, Asyncio, raises, same, waits
+from lib.clients import Apart, Asyncio, raises, same, waiting, waits
 from lib.world import PACKAGE, each, environment, run, until
 from program.test_library import LibraryCase
-from service import test_trouble
+from service import test_python, test_trouble
 from service.test_python import OPTIONS, Calls
 
 import build_backend
@@ -75,8 +75,7 @@ class Inside(Calls):
         """All waits, all owners and all counts, of a manager in each state."""
         same((self.locks.graph(), self.locks.locks(), self.locks.counts()), ([], {}, Counts(0, 0, 0, 0, 0, 0, 0, LABELS, EVENTS)))
         one, two = self.locks.transaction("b", "a"), self.locks.transaction("\udcff")
-        thread = Apart(two.lock, "a")
-        waits(two)
+        thread = waiting(two, "a")
         same(self.locks.graph(), [Wait(two.key, "a", one.key)])
         raises(Deadlock, one.lock, "\udcff")
         same(set(self.locks.graph()), {Wait(two.key, "a", one.key), Wait(one.key, "\udcff", two.key)})
@@ -97,8 +96,7 @@ class Inside(Calls):
     def test_unlock(self) -> None:
         """A name that is unlocked is given to the one that waits for it, which wakes up."""
         one, two = self.locks.transaction("a"), self.locks.transaction("b")
-        thread = Apart(two.lock, "a")
-        waits(two)
+        thread = waiting(two, "a")
         one.unlock("a")
         same(thread.ends(), None)
         same((one.holds(), two.holds()), ([], ["a", "b"]))
@@ -108,8 +106,7 @@ class Inside(Calls):
     def test_abort_behind_a_victim(self) -> None:
         """Whoever is aborted while it waits behind a victim keeps its names until that one is aborted."""
         one, two = self.locks.transaction("1"), self.locks.transaction("2")
-        thread = Apart(one.lock, "2")
-        waits(one)
+        thread = waiting(one, "2")
         raises(Deadlock, two.lock, "1")
         one.abort()
         same(type(thread.ends()), Aborted)
@@ -139,8 +136,7 @@ class Inside(Calls):
         backend = self.operator.backend
         for end in "commit", "abort":
             one, two = self.locks.transaction("a"), self.locks.transaction("b")
-            thread = Apart(two.lock, "a")
-            waits(two)
+            thread = waiting(two, "a")
             getattr(one, end)()
             thread.ends()
             getattr(two, end)()
@@ -168,21 +164,15 @@ class Inside(Calls):
 
 
 class Threads(Inside, ExtensionCase):
-    def opened(self, **options: Any) -> Locks:
-        locks = Locks.in_process(**options)
-        self.addCleanup(locks.close)
-        return locks
+    form = Locks.in_process
 
-    def test_dropped(self) -> None:
-        """A transaction that is dropped alive is aborted, with a warning."""
-        tx = self.locks.transaction("a")
-        with self.assertWarns(ResourceWarning):
-            del tx
-        same(self.locks.owner("a"), None)
+    test_dropped = test_python.Threads.test_dropped
 
 
 class Tasks(Inside, ExtensionCase):
     """The same with asyncio."""
+
+    form = Asyncio
 
     def test_cancelled_when_granted(self) -> None:
         """A request that is cancelled when it has just been granted owns its name, and the next one waits nevertheless."""
@@ -202,19 +192,13 @@ class Tasks(Inside, ExtensionCase):
 
         asyncio.run(case())
 
-    def opened(self, **options: Any) -> Any:
-        locks = Asyncio(**options)
-        self.addCleanup(locks.ends)
-        return locks
-
 
 class Interrupts(test_trouble.Interrupts, ExtensionCase):
     """An exception of a signal, at any moment."""
 
     def setUp(self) -> None:
         ExtensionCase.setUp(self)
-        self.locks = self.other = Locks.in_process()
-        self.addCleanup(self.locks.close)
+        self.locks = self.other = self.opened(Locks.in_process)
         self.has_hook()
 
 
@@ -225,7 +209,7 @@ class Installed(LibraryCase):
         """The folder of a wheel that was made so."""
         code = f"import sys, sysconfig; sys.path.insert(0, {PACKAGE!r}); import build_backend; {patch}; print(build_backend.build_wheel('.'))"
         told = run(sys.executable, "-c", code, cwd=self.folder, env=environment(**{"PASHKURE_LIB_DIR": f"{self.top}/lib", **variables}))
-        self.assertEqual((told.status, told.err), (0, b""))
+        self.passes(told)
         with zipfile.ZipFile(pathlib.Path(self.folder, told.out.decode().strip())) as wheel:
             wheel.extractall(f"{self.folder}/installed")
         return told.out.decode().strip()

@@ -11,7 +11,7 @@ import sys
 import tempfile
 from typing import NamedTuple
 
-from lib.world import TOP, Case, each
+from lib.world import TOP, Case, each, read, write
 
 LIMIT = "60"
 """Seconds after which a test takes something to have no end. A wrong body may hang; that is how its test fails."""
@@ -28,10 +28,9 @@ class Edit(NamedTuple):
 def edit_of(path: str) -> Edit:
     """An edit in the form of the must-fail edits: lines `file:`, `test:`, `old:` and `new:`, of which the last two may come again."""
     parts: dict[str, list[str]] = {"file": [], "test": [], "old": [], "new": []}
-    with open(path, encoding="utf-8") as file:
-        for line in file:
-            word, _, text = line.rstrip("\n").partition(": ")
-            parts[word].append(text)
+    for line in read(path).splitlines():
+        word, _, text = line.partition(": ")
+        parts[word].append(text)
     return Edit(*("\n".join(parts[word]) for word in Edit._fields))
 
 
@@ -42,12 +41,10 @@ def tried(path: str) -> tuple[int, str]:
     with tempfile.TemporaryDirectory(prefix="pashkure.") as folder:
         shutil.copytree(os.path.join(TOP, part), os.path.join(folder, part), ignore=shutil.ignore_patterns("__pycache__", "out"))
         file_changed = os.path.join(folder, edit.file)
-        with open(file_changed, encoding="utf-8") as file:
-            text = file.read()
+        text = read(file_changed)
         if text.count(edit.old) != 1:
             return -1, f"what is to be changed stands {text.count(edit.old)} times in {edit.file}"
-        with open(file_changed, "w", encoding="utf-8") as file:
-            file.write(text.replace(edit.old, edit.new))
+        write(file_changed, text.replace(edit.old, edit.new))
         command = [sys.executable, os.path.join(TOP, "tests/run"), "-k", edit.test, "--seed", os.environ["TESTED_SEED"], edit.test.rsplit(".", 2)[0]]
         changed = {"TESTED_SOURCES": folder, "TESTED_SERVER": ""} if part == "server" else {"TESTED_CLIENTS": os.path.join(folder, part)}
         environment = {**os.environ, **changed, "TESTED_LIMIT": LIMIT}

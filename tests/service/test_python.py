@@ -2,13 +2,14 @@
 service for tests."""
 from __future__ import annotations
 
+import contextlib
 import logging
 import os
 import shlex
 import time
 from typing import Any, List
 
-from lib.clients import Apart, Asyncio, raises, same, waits
+from lib.clients import Apart, Asyncio, Opener, raises, same, waiting
 from lib.world import PROGRAM, Case, until
 
 from pashkure import (Aborted, Closed, Counts, Deadlock, Event, Full, Interrupted, Locks, Misuse, MustAbort, NameTooLong, NotOwner, NoTransaction,
@@ -17,20 +18,25 @@ from pashkure import (Aborted, Closed, Counts, Deadlock, Event, Full, Interrupte
 OPTIONS = {"test_names": {"name_bytes": 20}, "test_full": {"transactions": 4, "names": 4}}
 
 
-class Calls:
+class Calls(Opener):
     """The cases that threads and asyncio have in common."""
 
     locks: Any
+    form: Any
+    paths: List[str] = []
     connected = ("connected",)  # what is logged at the start
 
     def setUp(self) -> None:
         super().setUp()  # type: ignore[misc]
         words = [word for name, value in OPTIONS.get(self._testMethodName, {}).items() for word in ("--" + name.replace("_", "-"), str(value))]  # type: ignore[attr-defined]
         self.admin = self.path("admin")  # type: ignore[attr-defined]
-        self.socket = self.server("--admin", self.admin, *words).path  # type: ignore[attr-defined]
+        self.paths = [self.server("--admin", self.admin, *words).path]  # type: ignore[attr-defined]
         self.operator = Operator(self.admin)
         self.addCleanup(self.operator.close)  # type: ignore[attr-defined]
-        self.locks = self.opened()  # type: ignore[attr-defined]
+        self.locks = self.opened()
+
+    def opened(self, **options: Any) -> Any:  # type: ignore[override]
+        return super().opened(self.form, *self.paths, **options)
 
     def test_calls(self) -> None:
         """Locks are granted, held, busy, unlocked, and read"""
@@ -77,8 +83,7 @@ class Calls:
         two = locks.transaction("d")
         same(raises(Timeout, two.lock, "b", "a", "c", timeout=0.01).name, "a")
         same(two.holds(), ["b", "d"])
-        thread = Apart(one.lock, "d")
-        waits(one)
+        thread = waiting(one, "d")
         same(raises(Deadlock, two.lock, "e", "a", "f").name, "a")
         two.abort()
         same(thread.ends(), None)
@@ -93,11 +98,8 @@ class Calls:
     def test_deadlock(self) -> None:
         """A deadlock is told to the one who closes the cycle, and the others go on after its abort"""
         locks = self.locks
-        one, two = locks.transaction(), locks.transaction()
-        one.lock("1")
-        two.lock("2")
-        thread = Apart(one.lock, "2")
-        waits(one)
+        one, two = locks.transaction("1"), locks.transaction("2")
+        thread = waiting(one, "2")
         same(self.operator.graph(), [Wait(one.key, "2", two.key)])
         same(one.status(), Status("waiting", "2", two.key))
         error = raises(Deadlock, two.lock, "1")
@@ -135,16 +137,12 @@ class Calls:
         def swallows() -> None:
             with locks.transaction() as two:
                 two.lock("b")
-                thread.append(Apart(one.lock, "b"))
-                waits(one)
-                try:
+                thread.append(waiting(one, "b"))
+                with contextlib.suppress(Deadlock):
                     two.lock("a")
-                except Deadlock:
-                    pass
 
         thread: List[Apart] = []
-        one = locks.transaction()
-        one.lock("a")
+        one = locks.transaction("a")
         raises(MustAbort, swallows)
         same(thread[0].ends(), None)
         one.commit()
@@ -153,8 +151,7 @@ class Calls:
     def test_timeouts(self) -> None:
         """A lock with a timeout gives up after it, not before, and the transaction goes on"""
         locks = self.locks
-        one, two = locks.transaction(), locks.transaction()
-        one.lock("a")
+        one, two = locks.transaction("a"), locks.transaction()
         start = time.monotonic()
         error = raises(Timeout, two.lock, "a", timeout=0.05)
         assert time.monotonic() - start >= 0.05, "it gave up too soon"
@@ -163,8 +160,7 @@ class Calls:
         two.lock("b", timeout=0.05)
         raises(Timeout, two.lock, "a", timeout=0)
         same(two.status().state, "active")
-        thread = Apart(two.lock, "a", timeout=1000)
-        waits(two)
+        thread = waiting(two, "a", timeout=1000)
         one.commit()
         same(thread.ends(), None)
         same(two.holds(), ["a", "b"])
@@ -173,11 +169,8 @@ class Calls:
     def test_abort_of_another(self) -> None:
         """A transaction that waits is aborted by another thread, and its `lock` raises `Aborted`"""
         locks = self.locks
-        one, two = locks.transaction(), locks.transaction()
-        one.lock("a")
-        two.lock("b")
-        thread = Apart(two.lock, "a")
-        waits(two)
+        one, two = locks.transaction("a"), locks.transaction("b")
+        thread = waiting(two, "a")
         two.abort()
         same(type(thread.ends()), Aborted)
         until(lambda: locks.owner("b") is None, "its name is free, though the one before it goes on")
@@ -196,8 +189,7 @@ class Calls:
         """A wait is interrupted by another thread, or the next one if it does not wait, once, and the transaction goes on."""
         locks = self.locks
         one, two = locks.transaction("a"), locks.transaction("b")
-        thread = Apart(two.lock, "a")
-        waits(two)
+        thread = waiting(two, "a")
         two.interrupt()
         same(type(thread.ends()), Interrupted)
         two.interrupt()
@@ -213,8 +205,7 @@ class Calls:
         locks, operator = self.locks, self.operator
         deadlocks = operator.deadlocks()
         one, two = locks.transaction("1"), locks.transaction("2")
-        thread = Apart(one.lock, "2")
-        waits(one)
+        thread = waiting(one, "2")
         raises(Deadlock, two.lock, "1")
         same(next(deadlocks), (Wait(two.key, "1", one.key), Wait(one.key, "2", two.key)))
         live = operator.transactions()
@@ -227,8 +218,7 @@ class Calls:
         raises(Aborted, two.lock, "3")
         raises(NoTransaction, two.lock, "3")
         three = locks.transaction()
-        thread = Apart(three.lock, "1")
-        waits(three)
+        thread = waiting(three, "1")
         operator.abort(three.key)
         same(type(thread.ends()), Aborted)
         raises(NoTransaction, operator.status, "4294967295.4294967295")
@@ -267,10 +257,8 @@ class Calls:
     def test_full(self) -> None:
         """A full table refuses transactions and names as `Full`, and has room again after an end"""
         locks = self.locks
-        txs = [locks.transaction() for _ in range(4)]
+        txs = [locks.transaction(f"{number}") for number in range(4)]
         same(raises(Full, locks.transaction).what, "transactions")
-        for number, tx in enumerate(txs):
-            tx.lock(f"{number}")
         error = raises(Full, txs[0].lock, "more")
         same((error.what, error.is_lasting), ("names", False))
         raises(Full, txs[0].try_lock, "more")
@@ -283,8 +271,7 @@ class Calls:
 
     def test_threads(self) -> None:
         """Sixteen threads change counters under their locks, and no change is lost"""
-        locks = self.locks
-        locks = locks.retrying(Retry(1000, longest=0.05))
+        locks = self.locks.retrying(Retry(1000, longest=0.05))
         counters = {f"counter/{number}": 0 for number in range(5)}
 
         def add(tx: Any, one: str, two: str) -> None:
@@ -302,23 +289,17 @@ class Calls:
                     done.append(1)
 
         done: List[int] = []
-        crowd = [Apart(many, number) for number in range(16)]
-        for thread in crowd:
-            same(thread.ends(), None)
+        same([thread.ends() for thread in [Apart(many, number) for number in range(16)]], [None] * 16)
         same(sum(counters.values()), 0)
         totals = locks.totals()
-        same(totals.committed, len(done))
-        same(totals.begun, totals.committed + totals.aborted)
-        same(totals.deadlocks, totals.aborted)
+        same((totals.committed, totals.begun, totals.deadlocks), (len(done), totals.committed + totals.aborted, totals.aborted))
         same(self.operator.graph(), [])
 
     def test_closing(self) -> None:
         """After `close` every call raises `Closed`, also one that waits"""
         locks = self.locks
-        one, two = locks.transaction(), locks.transaction()
-        one.lock("a")
-        thread = Apart(two.lock, "a")
-        waits(two)
+        one, two = locks.transaction("a"), locks.transaction()
+        thread = waiting(two, "a")
         locks.close()
         same(type(thread.ends()), Closed)
         for call in (one.lock, "b"), (two.commit,), (locks.transaction,), (locks.totals,):
@@ -330,8 +311,7 @@ class Calls:
     def test_waiting(self) -> None:
         """A second thread that calls a transaction which waits is told so."""
         one, two = self.locks.transaction("a"), self.locks.transaction()
-        thread = Apart(two.lock, "a")
-        waits(two)
+        thread = waiting(two, "a")
         for call in (two.lock, "b"), (two.commit,), (two.holds,):
             raises(Waiting, *call)
         one.commit()
@@ -358,8 +338,8 @@ class Calls:
             one.commit()
         events = [(event.kind, event.key, event.names, type(event.error)) for event in told if event.kind != "connect"]
         none = type(None)
-        same(sorted(events, key=str), sorted([("begin", one.key, ("a",), none), ("begin", two.key, (), none), ("lock", two.key, ("b",), none),
-             ("lock", one.key, ("b",), none), ("lock", two.key, ("a",), Deadlock), ("abort", two.key, (), none), ("commit", one.key, (), none)], key=str))  # fmt: skip
+        same((set(events), len(events)), ({("begin", one.key, ("a",), none), ("begin", two.key, (), none), ("lock", two.key, ("b",), none), ("lock", one.key, ("b",), none),
+             ("lock", two.key, ("a",), Deadlock), ("abort", two.key, (), none), ("commit", one.key, (), none)}, 7))  # fmt: skip
         waited = [event for event in told if event.names == ("b",) and event.key == one.key][0]
         same(waited.seconds >= waited.waited >= 0.01, True)
         text = "\n".join(logs.output)
@@ -368,10 +348,7 @@ class Calls:
 
 
 class Threads(Calls, Case):
-    def opened(self, **options: Any) -> Locks:
-        locks = Locks.connect(self.socket, **options)
-        self.addCleanup(locks.close)
-        return locks
+    form = Locks.connect
 
     def test_abort_in_the_block(self) -> None:
         """A block whose own thread aborts its transaction ends without an exception."""
@@ -390,10 +367,7 @@ class Threads(Calls, Case):
 class Tasks(Calls, Case):
     """The same with the asyncio client."""
 
-    def opened(self, **options: Any) -> Any:
-        locks = Asyncio(self.socket, **options)
-        self.addCleanup(locks.ends)
-        return locks
+    form = Asyncio
 
 
 class Testing(Case):

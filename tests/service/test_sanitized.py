@@ -7,12 +7,12 @@ import sys
 import tempfile
 
 from lib.faults import FaultCase, variables
-from lib.front import SANITIZED, built
-from lib.world import SEED, TOP, each, environment, run
+from lib.world import SEED, TOP, built_server, each, environment, run
 from service.test_server import ServerCase
 
 MODULES = ["service.test_front", "service.test_ends", "service.test_server", "service.test_between"]
 FAULTS = "read:short%30 write:short%30 recv:short%30 send:short%30 recv:EINTR%10 send:EINTR%10 write:EINTR%10 read:EINTR%10 epoll_wait:EINTR%10 accept:EINTR%20"
+FLAGS = ["-g", "-O1", "-fsanitize=address,undefined", "-fno-sanitize-recover=all", "-fno-omit-frame-pointer", "-static-libasan"]
 OPTIONS = {"ASAN_OPTIONS": "quarantine_size_mb=1:detect_stack_use_after_return=0", "UBSAN_OPTIONS": "print_stacktrace=1"}
 
 
@@ -24,20 +24,17 @@ class Sanitized(FaultCase, ServerCase):
         cls.addClassCleanup(folder.cleanup)
         cls.front = os.path.join(folder.name, "pashkure-serve")
         try:
-            built(cls.front, *SANITIZED, "-static-libasan")
+            built_server(cls.front, *FLAGS)
         except subprocess.CalledProcessError:
             cls.front = ""
 
-    def needs_sanitizers(self) -> str:
+    def tries(self, module: str, **env: str) -> None:
         self.needs_server()
         if not self.front or run(self.front, "--help").status != 0:
             self.skipTest("this C compiler has no sanitizers that run here (Debian's package libasan)")
-        return self.front
-
-    def tries(self, module: str, **env: str) -> None:
         words = [sys.executable, os.path.join(TOP, "tests/run"), "--seed", str(SEED), module]
-        told = run(*words, env=environment(**OPTIONS, TESTED_SERVER=self.needs_sanitizers(), TESTED_SANITIZED="yes", **env))
-        self.assertEqual((told.status, told.err), (0, b""), told.out.decode(errors="replace"))
+        told = run(*words, env=environment(**OPTIONS, TESTED_SERVER=self.front, TESTED_SANITIZED="yes", **env))
+        self.passes(told)
 
     @each(MODULES)
     def test_module(self, module: str) -> None:

@@ -3,6 +3,7 @@ are cancelled, and calls of the C library that fail, are short or are late, belo
 from __future__ import annotations
 
 import asyncio
+import contextlib
 import gc
 import os
 import random
@@ -15,9 +16,9 @@ import threading
 import warnings
 from typing import Any, Callable, List
 
-from lib.clients import Apart, Asyncio, raises, same, waits
+from lib.clients import Apart, Asyncio, Opener, raises, same, waiting, waits
 from lib.faults import FaultCase, variables
-from lib.world import LIMIT, SEED, Case, Server, each, environment, run, stop, until
+from lib.world import LIMIT, SEED, Case, Server, each, environment, read, run, stop, until
 
 import pashkure
 from pashkure import (Aborted, CannotConnect, Closed, Deadlock, Interrupted, Locks, LocksLost, NoTransaction, ProtocolError, ServiceRestarted, Timeout,
@@ -31,20 +32,10 @@ class Stop(BaseException):
     """What a signal's handler raises."""
 
 
-class TroubleCase(Case):
-    def opened(self, form: Callable[..., Any], *paths: str, **options: Any) -> Any:
-        locks = form(*paths, **options)
-        self.addCleanup(locks.ends if isinstance(locks, Asyncio) else locks.close)
-        return locks
-
-    def none_is_left(self, locks: Any) -> None:
-        """Returns when no transaction is live."""
-
-        def is_so() -> bool:
-            totals = locks.totals()
-            return bool(totals.begun == totals.committed + totals.aborted)
-
-        until(is_so, "no transaction is live")
+class TroubleCase(Opener, Case):
+    def none_is_left(self, locks: Any, but: int = 0, of: str = "anyone") -> None:
+        """Returns when no transaction is live but for so many."""
+        until(lambda: (totals := locks.totals()).begun == totals.committed + totals.aborted + but, f"nothing is left of {of}")
 
 
 class Interrupts(TroubleCase):
@@ -60,18 +51,13 @@ class Interrupts(TroubleCase):
         self.holder, self.place = self.other.transaction("held"), "a moment"
         hook, sys.unraisablehook = sys.unraisablehook, lambda told: None  # exceptions may also come where Python ends an object
         self.addCleanup(setattr, sys, "unraisablehook", hook)
-
-    def tearDown(self) -> None:
-        self.holder.abort()
-        super().tearDown()
+        self.addCleanup(self.holder.abort)
 
     def uses(self) -> None:
         with self.locks.transaction() as tx:
             tx.lock("a", "b")
-            try:
+            with contextlib.suppress(Timeout):
                 tx.lock("held", timeout=0)
-            except Timeout:
-                pass
 
     def at_line(self, count: int) -> bool:
         """Uses the locks, and raises at the line of the package that is the so-manieth. Whether it came so far."""
@@ -99,7 +85,7 @@ class Interrupts(TroubleCase):
 
     def is_whole(self) -> None:
         """Fails unless other threads go on, and what was broken off has left nothing."""
-        until(lambda: self.other.totals().begun == sum(getattr(self.other.totals(), name) for name in ("committed", "aborted")) + 1, f"nothing is left of {self.place}")
+        self.none_is_left(self.other, 1, self.place)
         same(Apart(self.locks.owner, "a").ends(), None)
 
     def test_each_line(self) -> None:
@@ -133,17 +119,14 @@ class Interrupts(TroubleCase):
             while armed[0]:
                 self.uses()
 
-        before = signal.signal(signal.SIGALRM, handler)
-        self.addCleanup(signal.signal, signal.SIGALRM, before)
+        self.addCleanup(signal.signal, signal.SIGALRM, signal.signal(signal.SIGALRM, handler))
         thread, stops = Apart(goes_on), 0
         with warnings.catch_warnings():
             warnings.simplefilter("ignore", ResourceWarning)
             while stops < 1000:
                 stops += 1
-                try:
+                with contextlib.suppress(Stop):
                     uses_while_armed()
-                except Stop:
-                    pass
         over.set()
         self.assertGreater(thread.ends(), 0)
         self.is_whole()
@@ -151,11 +134,8 @@ class Interrupts(TroubleCase):
     def test_commit(self) -> None:
         """A block whose commit is broken off gives its names back."""
         tx = self.locks.transaction("a")
-        try:
-            with tx:
-                tx._call = lambda *args: exec("raise KeyboardInterrupt")  # type: ignore[method-assign]
-        except KeyboardInterrupt:
-            pass
+        with contextlib.suppress(KeyboardInterrupt), tx:
+            tx._call = lambda *args: exec("raise KeyboardInterrupt")  # type: ignore[method-assign]
         same(self.other.owner("a"), None)
 
     def test_within_a_wait(self) -> None:
@@ -165,18 +145,15 @@ class Interrupts(TroubleCase):
         def handler(number: int, frame: Any) -> None:
             raise Stop
 
-        before = signal.signal(signal.SIGUSR1, handler)
-        self.addCleanup(signal.signal, signal.SIGUSR1, before)
+        self.addCleanup(signal.signal, signal.SIGUSR1, signal.signal(signal.SIGUSR1, handler))
 
         def kills() -> None:
             waits(tx)
             signal.pthread_kill(main, signal.SIGUSR1)
 
         thread = Apart(kills)
-        try:
+        with contextlib.suppress(Stop):
             tx.lock("held")
-        except Stop:
-            pass
         thread.ends()
         until(lambda: self.other.owner("a") is None, "its name is free")
         raises(LocksLost, tx.lock, "b")
@@ -193,12 +170,9 @@ class Crowd(TroubleCase):
         def works(number: int) -> None:
             chance = random.Random(number)
             for _ in range(50):
-                try:
-                    with locks.transaction() as tx:
-                        current[number] = tx
-                        tx.lock(*chance.sample("abcd", 2), timeout=chance.choice([None, 0.001, 0.02]))
-                except (Aborted, Deadlock, Interrupted, Timeout):
-                    pass
+                with contextlib.suppress(Aborted, Deadlock, Interrupted, Timeout), locks.transaction() as tx:
+                    current[number] = tx
+                    tx.lock(*chance.sample("abcd", 2), timeout=chance.choice([None, 0.001, 0.02]))
 
         def kills() -> None:
             chance = random.Random(SEED)
@@ -226,8 +200,7 @@ class Restarts(TroubleCase):
         server = self.server()
         locks = self.opened(form, server.path)
         txs = [locks.transaction(f"{number}") for number in range(4)]
-        thread = Apart(txs[0].lock, "1")
-        waits(txs[0])
+        thread = waiting(txs[0], "1")
         server = self.again(server)
         self.assertIn(type(thread.ends()), (LocksLost, ServiceRestarted))
         for call in (txs[1].lock, "a"), (txs[1].lock, "a"), (txs[2].commit,):
@@ -350,7 +323,6 @@ class Forks(TroubleCase):
             time.sleep(1000)"""
         wire = self.wire(server)
         with subprocess.Popen([sys.executable, "-c", text], env=environment(), stdout=subprocess.PIPE, text=True) as parent:
-            assert parent.stdout
             child, told = parent.stdout.readline().split(" ", 1)
             try:
                 same((told, wire.ask(b"owner a").split(b" ")[0]), ("['c']\n", b"owner"))
@@ -371,8 +343,7 @@ class Hangs(TroubleCase):
         locks, watch = self.opened(form, server.path, **options), self.opened(Locks.connect, server.path)
         holder = watch.transaction("held")
         txs = [self.opened(form, server.path, **options).transaction(f"{number}") for number in range(4)]
-        waiter = Apart(txs[3].lock, "held", timeout=0.3)
-        waits(txs[3])
+        waiter = waiting(txs[3], "held", timeout=0.3)
         for call, wanted in ((txs[0].lock, "a"), LocksLost), ((txs[1].commit,), LocksLost), ((locks.transaction, "b"), CannotConnect), ((locks.totals,), CannotConnect):
             stop(server.process.pid)
             same(type(Apart(*call).ends()), wanted, str(call))
@@ -410,21 +381,23 @@ class Hangs(TroubleCase):
             listener.listen()
 
             def serves() -> None:
-                while True:
-                    try:
-                        wire, _ = listener.accept()
-                    except OSError:
-                        return
-                    with wire:
-                        wire.sendall(says)
-                        while says and wire.recv(1000):
-                            pass
+                with contextlib.suppress(OSError):
+                    while True:
+                        with listener.accept()[0] as wire:
+                            wire.sendall(says)
+                            while says and wire.recv(1000):
+                                pass
 
             thread = Apart(serves)
             for _, form in FORMS:
                 raises(wanted, self.opened(form, path, connect_timeout=0.01 if not says else LIMIT).totals)
             listener.shutdown(socket.SHUT_RDWR)
         thread.ends()
+
+
+def in_tasks(test: Callable[..., Any]) -> Callable[..., Any]:
+    """Makes a test of a coroutine, which is given the locks of a new service."""
+    return lambda self: self.run_with(lambda locks: test(self, locks))
 
 
 class Tasks(TroubleCase):
@@ -461,80 +434,69 @@ class Tasks(TroubleCase):
         for connections in 1, 3:
             self.run_with(main, connections=connections)
 
-    def test_aborted_begins(self) -> None:
+    @in_tasks
+    async def test_aborted_begins(self, locks: aio.Locks) -> None:
         """A begin that another task aborts, before it is connected or while it waits, raises `Aborted` and leaves no transaction."""
 
         async def begins(tx: Any) -> None:
             async with tx:
                 pass
 
-        async def main(locks: aio.Locks) -> None:
-            unconnected = locks.transaction("a")
-            task = asyncio.ensure_future(begins(unconnected))
-            await asyncio.sleep(0)
-            await unconnected.abort()
+        unconnected = locks.transaction("a")
+        task = asyncio.ensure_future(begins(unconnected))
+        await asyncio.sleep(0)
+        await unconnected.abort()
+        self.assertIsInstance((await asyncio.gather(task, return_exceptions=True))[0], Aborted)
+        async with locks.transaction("b"):
+            waiter = locks.transaction("a", "b")
+            task = asyncio.ensure_future(begins(waiter))
+            while not waiter._state.waits:
+                await asyncio.sleep(0)
+            await waiter.abort()
             self.assertIsInstance((await asyncio.gather(task, return_exceptions=True))[0], Aborted)
-            async with locks.transaction("b"):
-                waiting = locks.transaction("a", "b")
-                task = asyncio.ensure_future(begins(waiting))
-                while not waiting._state.waits:
-                    await asyncio.sleep(0)
-                await waiting.abort()
-                self.assertIsInstance((await asyncio.gather(task, return_exceptions=True))[0], Aborted)
-                same((await locks.owner("a"), (await locks.totals()).aborted), (None, 1))
+            same((await locks.owner("a"), (await locks.totals()).aborted), (None, 1))
 
-        self.run_with(main)
-
-    def test_cancelled_lock(self) -> None:
+    @in_tasks
+    async def test_cancelled_lock(self, locks: aio.Locks) -> None:
         """A lock that is given up waits no longer, dooms nobody, and its transaction goes on."""
-
-        async def main(locks: aio.Locks) -> None:
-            one, two = await locks.transaction("1"), await locks.transaction("2")
-            task = asyncio.ensure_future(one.lock("2"))
-            while not one._state.waits:
-                await asyncio.sleep(0)
-            task.cancel()
-            await asyncio.wait([task])
-            other = asyncio.ensure_future(two.lock("1"))  # no deadlock: nobody waits for `2`
-            while not two._state.waits:
-                await asyncio.sleep(0)
-            await one.lock("3")
-            same(await one.holds(), ["1", "3"])
-            await one.commit()
-            await other
-            await two.commit()
-            three = await locks.transaction("4")
-            commit = asyncio.ensure_future(three.commit())
+        one, two = await locks.transaction("1"), await locks.transaction("2")
+        task = asyncio.ensure_future(one.lock("2"))
+        while not one._state.waits:
             await asyncio.sleep(0)
-            commit.cancel()
-            await asyncio.wait([commit])
-            same((await locks.owner("4"), (await locks.totals()).committed), (None, 3))
+        task.cancel()
+        await asyncio.wait([task])
+        other = asyncio.ensure_future(two.lock("1"))  # no deadlock: nobody waits for `2`
+        while not two._state.waits:
+            await asyncio.sleep(0)
+        await one.lock("3")
+        same(await one.holds(), ["1", "3"])
+        await one.commit()
+        await other
+        await two.commit()
+        three = await locks.transaction("4")
+        commit = asyncio.ensure_future(three.commit())
+        await asyncio.sleep(0)
+        commit.cancel()
+        await asyncio.wait([commit])
+        same((await locks.owner("4"), (await locks.totals()).committed), (None, 3))
 
-        self.run_with(main)
-
-    def test_group(self) -> None:
+    @in_tasks
+    async def test_group(self, locks: aio.Locks) -> None:
         """A transaction serves one task at a time."""
-
-        async def main(locks: aio.Locks) -> None:
-            async with locks.transaction("a") as tx:
-                told = await asyncio.gather(tx.lock("b"), tx.lock("c"), return_exceptions=True)
-                same([type(error) for error in told], [type(None), Waiting])
-            begin = locks.transaction()
-            async with begin:
-                for again in begin, locks.transaction():
-                    try:
-                        async with again:
-                            same(again is begin, False)
-                    except RuntimeError:
-                        same(again is begin, True)
-            same(await locks.totals(), pashkure.Totals(3, 3, 0, 0))
-            try:
-                await locks.transaction().lock("a")
-            except NoTransaction:
-                return
-            self.fail("it has not begun")
-
-        self.run_with(main)
+        async with locks.transaction("a") as tx:
+            told = await asyncio.gather(tx.lock("b"), tx.lock("c"), return_exceptions=True)
+            same([type(error) for error in told], [type(None), Waiting])
+        begin = locks.transaction()
+        async with begin:
+            for again in begin, locks.transaction():
+                try:
+                    async with again:
+                        same(again is begin, False)
+                except RuntimeError:
+                    same(again is begin, True)
+        same(await locks.totals(), pashkure.Totals(3, 3, 0, 0))
+        with self.assertRaises(NoTransaction):  # it has not begun
+            await locks.transaction().lock("a")
 
     def test_loops(self) -> None:
         """Locks of one loop are of no use in another one; locks that are closed stay closed."""
@@ -549,12 +511,9 @@ class Tasks(TroubleCase):
         async def closes() -> None:
             await locks.close()
             for again in range(2):
-                try:
+                with self.assertRaises(Closed):
                     async with locks:
                         await locks.totals()
-                except Closed:
-                    continue
-                self.fail("it is closed")
 
         with warnings.catch_warnings():
             warnings.simplefilter("ignore", ResourceWarning)  # the connection of the first loop was not closed in its time
@@ -562,16 +521,13 @@ class Tasks(TroubleCase):
             del locks
             gc.collect()
 
-    def test_many_requests(self) -> None:
+    @in_tasks
+    async def test_many_requests(self, locks: aio.Locks) -> None:
         """More requests at once than a connection takes all come to their end."""
-
-        async def main(locks: aio.Locks) -> None:
-            txs = [await locks.transaction() for _ in range(200)]
-            await asyncio.gather(*(tx.lock(*(f"{number}/{place}" for place in range(100))) for number, tx in enumerate(txs)))
-            await asyncio.gather(*(tx.commit() for tx in txs))
-            same((await locks.totals()).committed, 200)
-
-        self.run_with(main)
+        txs = [await locks.transaction() for _ in range(200)]
+        await asyncio.gather(*(tx.lock(*(f"{number}/{place}" for place in range(100))) for number, tx in enumerate(txs)))
+        await asyncio.gather(*(tx.commit() for tx in txs))
+        same((await locks.totals()).committed, 200)
 
 
 # A program that uses each call of the client, and says at its end what it saw. It is run with faults below it.
@@ -627,10 +583,8 @@ class Faults(FaultCase):
         log = self.path("log")
         told = run(sys.executable, "-c", text, self.server("--name-bytes", "64").path, env=environment(**variables(FAULTS, seed, log, only="python")))
         self.assertEqual(told, (0, b"17\n" if text is USES else b"16\n", b""))
-        with open(log, encoding="ascii") as file:
-            faults = file.read()
         for fault in "recv:short", "send:short", "recv:EINTR", "send:EINTR":
-            self.assertIn(fault, faults)
+            self.assertIn(fault, read(log))
 
     @each([("one", 1), ("two", 2), ("a new seed", SEED)])
     def test_server(self, name: str, seed: int) -> None:
@@ -640,29 +594,24 @@ class Faults(FaultCase):
         told = run(sys.executable, "-c", USES, server.path, env=environment())
         self.assertEqual(told, (0, b"17\n", b""))
         self.assertEqual((server.close(), server.stderr()), (0, ""))
-        with open(log, encoding="ascii") as file:
-            text = file.read()
         for fault in "read:short", "write:short", "recv:short", "send:short", "recv:EINTR", "send:EINTR", "epoll_wait:EINTR":
-            self.assertIn(fault, text)
+            self.assertIn(fault, read(log))
 
     def test_how_long_poll_waits(self) -> None:
         """A lock with a time of a twentieth of a second does not ask the system to wait for longer."""
         log = self.path("log")
         text = """if True:
-            import sys
+            import contextlib, sys
             from pashkure import Locks, Timeout
             with Locks.connect(sys.argv[1], reply_timeout=100, connect_timeout=100) as locks:
                 one, two = locks.transaction("a"), locks.transaction()
-                try:
+                with contextlib.suppress(Timeout):
                     two.lock("a", timeout=0.05)
-                except Timeout:
-                    pass
                 one.abort()
                 two.abort()
         """
         told = run(sys.executable, "-c", text, self.server().path, env=environment(**variables("poll:told", log=log, only="python")))
         self.assertEqual(told, (0, b"", b""))
-        with open(log, encoding="ascii") as file:
-            waited = [int(time) for time in re.findall(r"poll:told=(-?[0-9]+)@", file.read()) if 0 < int(time) < 50_000]
+        waited = [int(time) for time in re.findall(r"poll:told=(-?[0-9]+)@", read(log)) if 0 < int(time) < 50_000]
         self.assertTrue(waited, "it never waited for a time")
         self.assertLessEqual(max(waited), 51)
