@@ -5,7 +5,7 @@ use Rattle.mm_lists.specs.Members.{Among}
 use Rattle.mm_rules.specs.TableState.{owner_of}
 use Rattle.mm_manager.specs.LockState.{LockState}
 use Rattle.mm_desk.specs.Desk.{DeskState}
-use Rattle.mm_desk.specs.Calls.{IsLentTo, NumberIsFree, NoLoansOf}
+use Rattle.mm_desk.specs.Calls.{NumberIsFree, NoLoansOf}
 use Rattle.mm_desk.proofs.Counts.{count_is}
 use Rattle.mm_desk.proofs.Cuts.{index_of}
 use Rattle.mm_desk.proofs.Keeps.{same_both, free_still, no_loans}
