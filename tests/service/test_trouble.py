@@ -153,7 +153,7 @@ class Interrupts(TroubleCase):
         tx = self.locks.transaction("a")
         try:
             with tx:
-                tx._call = lambda *args: exec("raise KeyboardInterrupt")  # type: ignore[method-assign]
+                tx._within = lambda *args: exec("raise KeyboardInterrupt")  # type: ignore[method-assign]
         except KeyboardInterrupt:
             pass
         same(self.other.owner("a"), None)

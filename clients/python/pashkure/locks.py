@@ -3,14 +3,12 @@ from __future__ import annotations
 
 import inspect
 import threading
-import time
 from typing import TYPE_CHECKING, Callable, Optional, TypeVar
 
-from .backend import now
+from .backend import OnEvent, Watch, now, slept
 from .calls import Calls, Opened
 from .service import Path, Service
 from .values import Name, Retry, all_encoded, seconds
-from .watch import OnEvent, Watch
 
 if TYPE_CHECKING:
     from typing_extensions import Concatenate, ParamSpec
@@ -31,7 +29,6 @@ class Transaction(Calls):
     `status`. If an exception of a signal breaks off a call, the transaction is aborted, and its next call raises `LocksLost`.
     """
 
-    _drive = staticmethod(now)
     _who = staticmethod(threading.get_ident)
 
     def __enter__(self) -> "Transaction":
@@ -39,14 +36,7 @@ class Transaction(Calls):
         return self
 
     def __exit__(self, *error: object) -> None:
-        if error[0] is not None:
-            self.abort()
-        elif self._is_aborted or not self._state.is_over:
-            try:
-                self.commit()
-            except BaseException:
-                self.abort()
-                raise
+        self._exit(*error)
 
 
 class Locks(Opened):
@@ -56,7 +46,7 @@ class Locks(Opened):
     """
 
     _kind = Transaction
-    _pause = staticmethod(time.sleep)
+    _pause = staticmethod(slept)
 
     @classmethod
     def connect(cls, *paths: Path, connect_timeout: float = 5.0, reply_timeout: float = 10.0, retry: Retry = Retry(), on_event: OnEvent = None,
@@ -90,7 +80,7 @@ class Locks(Opened):
         if is_coroutine(work):
             raise TypeError(f"{work!r} is a coroutine function: use pashkure.aio")
 
-        def attempt() -> R:
+        async def attempt() -> R:
             with self.transaction() as tx:
                 result = work(tx, *args, **kwargs)
                 if inspect.iscoroutine(result):
@@ -98,7 +88,7 @@ class Locks(Opened):
                     raise TypeError(f"{work!r} returned a coroutine: use pashkure.aio")
                 return result
 
-        return self._again(attempt)
+        return now(lambda: self._attempts(attempt))
 
     def close(self) -> None:
         """Closes all connections, and waits for nothing. Live transactions are aborted, and their calls raise `Closed`."""

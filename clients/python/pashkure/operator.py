@@ -4,11 +4,11 @@ from __future__ import annotations
 import math
 from typing import Callable, Iterator, List, Tuple, TypeVar
 
+from .backend import Watch, now
 from .flows import cycle_of, status_of, waits_of
 from .locks import Transaction
 from .service import Path, Service
 from .values import Client, Counts, Live, Status, Wait, decoded, key_bytes
-from .watch import Watch
 from .wire import Answer, Ask
 
 R = TypeVar("R")
@@ -52,12 +52,12 @@ class Operator:
 
     def deadlocks(self) -> Iterator[Tuple[Wait, ...]]:
         """Each deadlock from now on, as its waits, the victim's first, over a connection of its own. Raises `Closed` at its end."""
-        session = self._service.new(math.inf)
+        session = now(self._service.new, math.inf)
 
         def told() -> Iterator[Tuple[Wait, ...]]:
             try:
                 while True:
-                    words = session.wait(math.inf)
+                    words = now(session.wait, math.inf)
                     if words is not None:
                         yield cycle_of(words[1:])
             finally:

@@ -1,20 +1,17 @@
 """The service at a Unix socket: how it is found, and for threads a connection for each live transaction, from a pool."""
 from __future__ import annotations
 
-import functools
 import math
 import os
 import select
 import socket
-import time
 import weakref
 from time import monotonic
 from typing import Any, Callable, List, Optional, Sequence, Tuple, Union
 
 from . import backend
-from .backend import BY_CLOSE, BY_DROP, BY_FORK, FORGOTTEN, LOST, RESTARTED, Ending, Why, each, now
+from .backend import BY_CLOSE, BY_DROP, BY_FORK, FORGOTTEN, LOST, RESTARTED, Ending, Why, each, slept
 from .errors import CannotConnect, Closed, Full, LocksLost, ProtocolError
-from .flows import Flow
 from .values import seconds
 from .wire import Answer, Ask, Call, Conversation, Party
 
@@ -44,7 +41,7 @@ class Ways(Ending):
         self.epoch = 0  # the greatest that was seen
         self._way = 0  # the place of the path that answered last
 
-    def find(self, deadline: float, is_once: bool, tries: Callable[[Any, float], Any], pauses: Callable[[float], Any]) -> Flow[Any]:
+    async def find(self, deadline: float, is_once: bool, tries: Callable[[Any, float], Any], pauses: Callable[[float], Any]) -> Any:
         """A connection, which one of the ways has. The pauses between the tries are 10 ms to 1 s."""
         pause = 0.01
         while True:
@@ -52,7 +49,7 @@ class Ways(Ending):
             failed: List[str] = []
             for place in [*range(self._way, len(self.paths)), *range(self._way)]:
                 try:
-                    found = yield functools.partial(tries, self.paths[place], deadline)
+                    found = await tries(self.paths[place], deadline)
                     self._way = place
                     if self.why is not None:
                         found.end(self.why)
@@ -65,20 +62,20 @@ class Ways(Ending):
             left = deadline - monotonic()
             if left <= 0 or is_once:
                 raise CannotConnect("; ".join(failed)) from cause
-            yield functools.partial(pauses, min(pause, left))
+            await pauses(min(pause, left))
             pause = min(1.0, 2 * pause)
 
     def limit(self, deadline: float) -> float:
         """In how many seconds a service has to say who it is: a tenth at least, so that the last try is one."""
         return max(0.1, min(self.reply_timeout, deadline - monotonic()))
 
-    def hello(self, talk: Conversation, exchange: Callable[[bytes], Any]) -> Flow[int]:
+    async def hello(self, talk: Conversation, exchange: Callable[[bytes], Any]) -> int:
         """The epoch that the service says, which is asked for it by `exchange`: that sends a line, and returns what comes. Raises `OSError` if
         the service is of no use, as if a greater epoch was seen."""
         call = Call(Ask(b"hello"), Party())
         line = talk.send(call)
         while call.answer is None:
-            talk.feed((yield functools.partial(exchange, line)))
+            talk.feed(await exchange(line))
             line = b""
         answer = call.answer
         if answer[0] != b"hello":
@@ -117,14 +114,14 @@ class Session(backend.Session):
         self._poll = select.poll()
         self._poll.register(connection, select.POLLIN)
 
-    def ask(self, ask: Ask) -> Answer:
+    async def ask(self, ask: Ask) -> Answer:
         self.check()
         if ask.deadline is not None:
             self._socket.settimeout(max(0.001, min(self.service.reply_timeout, ask.deadline - monotonic())))
         call = Call(ask, self)
         line = self._talk.send(call)
         while call.answer is None:
-            self._take(line)
+            await self._take(line)
             line = b""
         if ask.deadline is not None:
             self._socket.settimeout(self.service.reply_timeout)
@@ -169,12 +166,12 @@ class Session(backend.Session):
         if self.why is not None:
             raise self.why.error()
 
-    def greet(self) -> None:
+    async def greet(self) -> None:
         """Asks the service who it is."""
-        self.epoch = now(self.service.hello(self._talk, self._exchanged))
+        self.epoch = await self.service.hello(self._talk, self._exchanged)
         self._socket.settimeout(self.service.reply_timeout)
 
-    def _sleep(self, deadline: float) -> None:
+    async def _sleep(self, deadline: float) -> None:
         if not self._pipe:
             self._pipe = os.pipe()
             for descriptor in self._pipe:
@@ -186,12 +183,12 @@ class Session(backend.Session):
             if descriptor == self._pipe[0]:
                 os.read(descriptor, 64)
             else:
-                self._take(b"")
+                await self._take(b"")
 
-    def _take(self, line: bytes) -> None:
+    async def _take(self, line: bytes) -> None:
         """Sends a line, if there is one, and takes what comes."""
         try:
-            self._talk.feed(self._exchanged(line))
+            self._talk.feed(await self._exchanged(line))
         except OSError as error:
             is_new = self.why is None
             self.end(reason(error, self._socket.gettimeout()))
@@ -200,7 +197,7 @@ class Session(backend.Session):
                 self.service.tell(self.why.error())
             raise self.why.error() from error
 
-    def _exchanged(self, line: bytes) -> bytes:
+    async def _exchanged(self, line: bytes) -> bytes:
         try:
             self._socket.sendall(line)
         except BrokenPipeError:
@@ -226,7 +223,7 @@ class Service(Ways):
         self.idle: List[Session] = []
         self._all: "weakref.WeakSet[Session]" = weakref.WeakSet()
 
-    def session(self, deadline: float) -> Session:
+    async def session(self, deadline: float) -> Session:
         while self.idle:
             try:
                 session = self.idle.pop()
@@ -235,11 +232,11 @@ class Service(Ways):
             if session.epoch >= self.epoch and session.is_idle():
                 return session
             session.end(BY_DROP)
-        return self.new(deadline)
+        return await self.new(deadline)
 
-    def new(self, deadline: float) -> Session:
+    async def new(self, deadline: float) -> Session:
         """A session over a new connection."""
-        session = self._found(deadline, False)
+        session = await self._found(deadline, False)
         self.tell(None)
         return session
 
@@ -249,16 +246,15 @@ class Service(Ways):
         for session in each(self._all):
             session.end(BY_CLOSE)
 
-    def look(self, lost: Session) -> None:
+    async def look(self, lost: Session) -> None:
         """Tries each way once, to learn whether the service was started anew. Raises `Closed` if there is none."""
-        self.idle.append(self._found(math.inf, True))
+        self.idle.append(await self._found(math.inf, True))
 
-    def _found(self, deadline: float, is_once: bool) -> Session:
-        deadline = min(deadline, monotonic() + self.connect_timeout)
-        session: Session = now(self.find(deadline, is_once, self._tried, time.sleep))
+    async def _found(self, deadline: float, is_once: bool) -> Session:
+        session: Session = await self.find(min(deadline, monotonic() + self.connect_timeout), is_once, self._tried, slept)
         return session
 
-    def _tried(self, path: Any, deadline: float) -> Session:
+    async def _tried(self, path: Any, deadline: float) -> Session:
         """A connection by this way."""
         connection = Socket(socket.AF_UNIX)
         connection.settimeout(self.limit(deadline))
@@ -267,7 +263,7 @@ class Service(Ways):
             session = Session(self, connection)
             self._all.add(session)
             FORGOTTEN.add(session)
-            session.greet()
+            await session.greet()
             return session
         except BaseException:
             connection.close()

@@ -5,12 +5,12 @@ import asyncio
 import inspect
 from typing import TYPE_CHECKING, Any, Awaitable, Callable, Dict, Generator, List, Optional, TypeVar
 
+from ..backend import OnEvent, Watch
 from ..calls import Calls, Opened
 from ..service import Path
 from ..values import Counts, Fence, Name, Retry, Status, Totals, Wait, all_encoded, seconds
-from ..watch import OnEvent, Watch
 from .in_process import InProcess
-from .service import Service, soon
+from .service import Service
 
 if TYPE_CHECKING:
     from typing_extensions import Concatenate, ParamSpec
@@ -34,8 +34,10 @@ class Transaction(Calls):
     transaction goes on; `holds` says whether the name was granted in that moment. A cancelled `commit` or `abort` was sent, and counts.
     """
 
-    _drive = staticmethod(soon)  # type: ignore[assignment]
     _who = staticmethod(asyncio.current_task)
+
+    async def _drive(self, flow: Callable[..., Awaitable[R]], *args: Any) -> R:  # type: ignore[override]
+        return await flow(*args)
 
     # fmt: off
     if TYPE_CHECKING:  # what `Calls` does
@@ -57,14 +59,7 @@ class Transaction(Calls):
         return self
 
     async def __aexit__(self, *error: object) -> None:
-        if error[0] is not None:
-            await self.abort()
-        elif self._is_aborted or not self._state.is_over:
-            try:
-                await self.commit()
-            except BaseException:
-                await self.abort()
-                raise
+        await self._exit(*error)
 
 
 class Locks(Opened):
@@ -112,7 +107,7 @@ class Locks(Opened):
                 value: R = await result
                 return value
 
-        return await self._again(attempt)
+        return await self._attempts(attempt)
 
     # fmt: off
     if TYPE_CHECKING:  # what `Opened` does

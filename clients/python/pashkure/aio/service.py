@@ -1,40 +1,19 @@
-"""The service at a Unix socket, for tasks: one connection for the transactions of all tasks, or a few. And what runs flows for tasks."""
+"""The service at a Unix socket, for tasks: one connection for the transactions of all tasks, or a few."""
 from __future__ import annotations
 
 import asyncio
 import math
 import socket
 from time import monotonic
-from typing import Any, Callable, List, Optional, Sequence, Tuple, TypeVar, cast
+from typing import Any, Callable, List, Optional, Sequence, Tuple, cast
 
 from .. import backend
 from ..backend import BY_CLOSE, BY_FORK, FORGOTTEN, LOST, RESTARTED, Why
 from ..errors import CannotConnect, Closed, LocksLost, ProtocolError
-from ..flows import Flow
 from ..service import SIZE, Path, Ways, reason
 from ..wire import Answer, Ask, Call, Conversation
 
-R = TypeVar("R")
 ENDS = (b"commit", b"abort", b"cancel")
-
-
-async def soon(flow: Flow[R], caller: Any = None) -> R:
-    """As `pashkure.backend.now`, for a task."""
-    try:
-        step = next(flow)
-        while True:
-            try:
-                if isinstance(step, Ask):
-                    answer = await caller._session.ask(step)
-                else:
-                    answer = await (caller._session.wait(step) if isinstance(step, float) else step())
-            except BaseException as error:
-                step = flow.throw(error)
-            else:
-                step = flow.send(answer)
-    except StopIteration as end:
-        result: R = end.value
-        return result
 
 
 class Sleeper(backend.Session):
@@ -45,13 +24,6 @@ class Sleeper(backend.Session):
     def __init__(self, *owner: Any) -> None:
         super().__init__(*owner)
         self.loop = asyncio.get_running_loop()
-
-    async def wait(self, deadline: float) -> Optional[Answer]:
-        while True:
-            news = self.news()
-            if news is not None or monotonic() >= deadline:
-                return news
-            await self._sleep(deadline)
 
     def is_told(self) -> None:
         """Wakes the task."""
@@ -89,7 +61,7 @@ class Connection(asyncio.Protocol):
         self.own.setblocking(False)
         self.own.connect(path)
         FORGOTTEN.add(self)
-        self.epoch = await soon(self.service.hello(self.talk, self._exchanged))
+        self.epoch = await self.service.hello(self.talk, self._exchanged)
         await self.loop.create_connection(lambda: self, sock=self.own)
 
     async def _exchanged(self, line: bytes) -> bytes:
@@ -258,7 +230,7 @@ class Service(Ways):
                 raise type(error)(*error.args) from error.__cause__
 
     async def _connected(self, place: int, is_once: bool) -> Connection:
-        connection: Connection = await soon(self.find(monotonic() + self.connect_timeout, is_once, self._tried, asyncio.sleep))
+        connection: Connection = await self.find(monotonic() + self.connect_timeout, is_once, self._tried, asyncio.sleep)
         self.connections[place] = connection
         self.tell(None)
         return connection
