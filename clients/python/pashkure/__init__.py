@@ -11,8 +11,7 @@
 """
 from .errors import (Aborted, BadName, CannotConnect, Closed, Deadlock, Full, Interrupted, LockError, LocksLost, Misuse, MustAbort,
                      NameTooLong, NotOwner, NoTransaction, ProtocolError, ServiceRestarted, Timeout, Waiting)  # fmt: skip
-from .locks import Locks, Transaction
-from .operator import Operator
+from .locks import Locks, Operator, Transaction
 from .values import Client, Counts, Event, Fence, Live, Name, Retry, Status, Totals, Wait
 
 __version__ = "0.1.0"

@@ -76,7 +76,10 @@ class Calls:
 
     def status(self) -> Status:
         """What the transaction does. Any thread or task may call it; while it waits, this is known here, and nothing is asked."""
-        return self._drive(self._status)
+        waits = self._state.waits
+        if waits is not None:
+            return self._drive(flows.known, waits)
+        return self._ask(b"status", flows.status_of)
 
     def commit(self, timeout: Optional[float] = None) -> None:
         """Ends the transaction. All that it owns is given back. If no reply comes in time, this raises `LocksLost`."""
@@ -119,27 +122,13 @@ class Calls:
         result: R = self._drive(self._within, kind, names, flow, *args)
         return result
 
-    def _exit(self, *error: object) -> Any:
-        """The end of its block."""
-        return self._drive(self._leaves, error[0] is None)
-
-    async def _leaves(self, is_well: bool) -> None:
-        """Commits it, or aborts it at an exception."""
+    async def _leaves(self, *error: object) -> None:
+        """The end of its block: it is committed, or aborted at an exception."""
         try:
-            if is_well and (self._is_aborted or not self._state.is_over):
+            if error[0] is None and (self._is_aborted or not self._state.is_over):
                 await self._within("commit", (), flows.commit, None)
-        except BaseException:
-            is_well = False
-            raise
         finally:
-            if not is_well:
-                await self._ends()
-
-    async def _status(self) -> Status:
-        if self._state.waits is not None:
-            return self._state.waits
-        status: Status = await self._within("", (), flows.asked, Ask(b"status"), flows.status_of)
-        return status
+            await self._ends()
 
     async def _over(self, state: flows.State, deadline: float, flow: Callable[..., Any], *args: Any) -> Any:
         """This flow, over a session that is lent, or over another one if that is lost before anything was done."""
@@ -153,7 +142,7 @@ class Calls:
             except LocksLost as lost:
                 if state.key:
                     raise
-                self._drop()
+                self._part("drop")
                 if state.session.why.is_slow:
                     raise CannotConnect(str(lost)) from lost
 
@@ -176,8 +165,7 @@ class Calls:
             raise error from told.__cause__
         finally:
             if self._state.is_over:
-                for session in self._take():
-                    session.give_back()
+                self._part("give_back")
             self._busy.release()
             self._watch.call(kind, self._state, names, start, error)
             del error  # which has this frame
@@ -190,7 +178,7 @@ class Calls:
             self._state.is_unsettled, self._state.is_over = not is_last, is_last  # a commit was sent; refused, it is an abort
         is_lost = False
         if isinstance(error, Closed) or not isinstance(error, LockError) and not self._state.is_unsettled:
-            is_lost = self._drop() and session.why is LOST
+            is_lost = self._part("drop") and session.why is LOST
         if self._is_aborted and isinstance(error, LocksLost):
             return Aborted("another thread or task aborted the transaction")
         if is_lost and session.epoch >= self._backend.epoch:  # whether the service was started anew a new connection says
@@ -210,34 +198,27 @@ class Calls:
         self._is_aborted = not is_free or self._who() != self._own
         try:
             if is_free and self._right and await flows.abort(state):
-                for session in self._take():
-                    session.give_back()
+                self._part("give_back")
         except Closed:
             pass
         finally:
             state.is_over = True
-            self._drop()
+            self._part("drop")
             if is_free:
                 self._busy.release()
             self._watch.call("abort", state, (), start, None)
 
-    def _take(self) -> List[Any]:
-        """The session, if this call is the one that ends the transaction."""
+    def _part(self, how: str) -> bool:
+        """Parts with the session in this way, if this call is the one that ends the transaction. Whether it is."""
         try:
-            return [self._right.pop()]
+            session = self._right.pop()
         except IndexError:
-            return []
-
-    def _drop(self) -> bool:
-        taken = self._take()
-        for session in taken:
-            session.drop()
-        return bool(taken)
+            return False
+        getattr(session, how)()
+        return True
 
     def __del__(self) -> None:
-        if self._right:
-            for session in self._take():
-                session.let_go()
+        if self._part("let_go"):
             warnings.warn(f"{self!r} was dropped alive, and is aborted: use `with`, commit or abort", ResourceWarning, source=self)
 
     def __repr__(self) -> str:

@@ -160,6 +160,11 @@ async def abort(state: State) -> bool:
     return words[0] != b"later"
 
 
+async def known(status: Status) -> Status:
+    """What need not be asked."""
+    return status
+
+
 def _refused(state: State, words: Answer) -> LockError:
     """What a refusal says. This side did not end a live transaction."""
     return _aborted(state) if words[-1] == b"no-transaction" and state.key else refusal(words[-1])

@@ -1,14 +1,17 @@
-"""Locks and transactions, for threads."""
+"""Locks and transactions, for threads, and the operator's socket (`mmdetect serve --admin PATH`)."""
 from __future__ import annotations
 
 import inspect
+import math
 import threading
-from typing import TYPE_CHECKING, Callable, Optional, TypeVar
+from typing import TYPE_CHECKING, Callable, Iterator, List, Optional, Tuple, TypeVar
 
 from .backend import OnEvent, Watch, now, slept
 from .calls import Calls, Opened
+from .flows import cycle_of, status_of, waits_of
 from .service import Path, Service
-from .values import Name, Retry, all_encoded, seconds
+from .values import Client, Counts, Live, Name, Retry, Status, Wait, all_encoded, decoded, key_bytes, seconds
+from .wire import Answer, Ask
 
 if TYPE_CHECKING:
     from typing_extensions import Concatenate, ParamSpec
@@ -36,7 +39,7 @@ class Transaction(Calls):
         return self
 
     def __exit__(self, *error: object) -> None:
-        self._exit(*error)
+        now(self._leaves, *error)
 
 
 class Locks(Opened):
@@ -77,7 +80,7 @@ class Locks(Opened):
         `Deadlock`, and each other exception, is raised. So the work locks first and changes things then, or undoes what it changed.
         It is not run again after `LocksLost`: it may have changed things while somebody else owned the names.
         """
-        if is_coroutine(work):
+        if any(map(inspect.iscoroutinefunction, (work, getattr(getattr(work, "func", work), "__call__", None)))):
             raise TypeError(f"{work!r} is a coroutine function: use pashkure.aio")
 
         async def attempt() -> R:
@@ -101,7 +104,70 @@ class Locks(Opened):
         self.close()
 
 
-def is_coroutine(work: object) -> bool:
-    """Whether a call of it only makes a coroutine."""
-    work = getattr(work, "func", work)  # of a functools.partial
-    return inspect.iscoroutinefunction(work) or inspect.iscoroutinefunction(getattr(work, "__call__", None))
+class Operator:
+    """What only the operator may ask, at a socket whose clients see all transactions. Connects at first use. All threads may use it."""
+
+    def __init__(self, path: Path, *, connect_timeout: float = 5.0, reply_timeout: float = 10.0) -> None:
+        self._watch = Watch()
+        self._service = Service((path,), connect_timeout, reply_timeout, self._watch.connection)
+
+    def transactions(self) -> List[Live]:
+        """All live transactions."""
+        return self._ask(b"list", lambda words: [_live(*line.split(b" ")[1:]) for line in words[2:]])
+
+    def status(self, key: str) -> Status:
+        """What the transaction with this key does."""
+        return self._ask(b"status", status_of, key_bytes(key))
+
+    def holds(self, key: str) -> List[str]:
+        """The names that the transaction with this key owns, in the order of their bytes."""
+        return self._ask(b"holds", lambda words: [decoded(word) for word in words[1:]], key_bytes(key))
+
+    def abort(self, key: str) -> bool:
+        """Aborts the transaction with this key: its call that waits, or its next one, raises `Aborted`. Whether it has ended now, and not only
+        when its wait ends."""
+        return self._ask(b"abort", lambda words: words[0] == b"aborted", key_bytes(key))
+
+    def graph(self) -> List[Wait]:
+        """All waits."""
+        return self._ask(b"graph", waits_of)
+
+    def counts(self) -> Counts:
+        """What the service has counted."""
+        return self._ask(b"counts", lambda words: Counts(*map(int, words[1:])))
+
+    def clients(self) -> List[Client]:
+        """Who is connected."""
+        return self._ask(b"clients", lambda words: [Client(*map(int, line.split(b" ")[1:])) for line in words[2:]])
+
+    def deadlocks(self) -> Iterator[Tuple[Wait, ...]]:
+        """Each deadlock from now on, as its waits, the victim's first, over a connection of its own. Raises `Closed` at its end."""
+        session = now(self._service.new, math.inf)
+
+        def told() -> Iterator[Tuple[Wait, ...]]:
+            try:
+                while True:
+                    words = now(session.wait, math.inf)
+                    if words is not None:
+                        yield cycle_of(words[1:])
+            finally:
+                session.drop()
+
+        return told()
+
+    def close(self) -> None:
+        """Closes the connections."""
+        self._service.close()
+
+    def _ask(self, word: bytes, read: Callable[[Answer], R], *names: bytes) -> R:
+        return Transaction(self._service, self._watch)._plain(Ask(word, names), read)
+
+    def __enter__(self) -> "Operator":
+        return self
+
+    def __exit__(self, *error: object) -> None:
+        self.close()
+
+
+def _live(key: bytes, client: bytes, *status: bytes) -> Live:
+    return Live(key.decode("ascii"), None if client == b"-" else int(client), status_of(status))

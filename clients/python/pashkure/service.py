@@ -31,6 +31,10 @@ def reason(error: Optional[Exception], limit: Optional[float]) -> Why:
 class Ways(Ending):
     """The ways to one service, by the paths of sockets."""
 
+    _tried: Callable[[Any, float], Any]
+    """A connection by this way."""
+    _pause: Callable[[float], Any]
+
     def __init__(self, paths: Sequence[Path], connect_timeout: float, reply_timeout: float, tell: Callable[[Optional[Closed]], None]) -> None:
         if not paths:
             raise ValueError("the path of a socket is missing")
@@ -41,15 +45,15 @@ class Ways(Ending):
         self.epoch = 0  # the greatest that was seen
         self._way = 0  # the place of the path that answered last
 
-    async def find(self, deadline: float, is_once: bool, tries: Callable[[Any, float], Any], pauses: Callable[[float], Any]) -> Any:
+    async def find(self, deadline: float, is_once: bool) -> Any:
         """A connection, which one of the ways has. The pauses between the tries are 10 ms to 1 s."""
-        pause = 0.01
+        pause, deadline = 0.01, min(deadline, monotonic() + self.connect_timeout)
         while True:
             self.check()
             failed: List[str] = []
             for place in [*range(self._way, len(self.paths)), *range(self._way)]:
                 try:
-                    found = await tries(self.paths[place], deadline)
+                    found = await self._tried(self.paths[place], deadline)
                     self._way = place
                     if self.why is not None:
                         found.end(self.why)
@@ -62,7 +66,7 @@ class Ways(Ending):
             left = deadline - monotonic()
             if left <= 0 or is_once:
                 raise CannotConnect("; ".join(failed)) from cause
-            await pauses(min(pause, left))
+            await self._pause(min(pause, left))
             pause = min(1.0, 2 * pause)
 
     def limit(self, deadline: float) -> float:
@@ -110,7 +114,7 @@ class Session(backend.Session):
     def __init__(self, service: "Service", connection: Socket) -> None:
         super().__init__()
         self.service, self.epoch = service, service.epoch
-        self._socket, self._talk = connection, Conversation(self)
+        self._socket, self.talk = connection, Conversation(self)
         self._poll = select.poll()
         self._poll.register(connection, select.POLLIN)
 
@@ -119,7 +123,7 @@ class Session(backend.Session):
         if ask.deadline is not None:
             self._socket.settimeout(max(0.001, min(self.service.reply_timeout, ask.deadline - monotonic())))
         call = Call(ask, self)
-        line = self._talk.send(call)
+        line = self.talk.send(call)
         while call.answer is None:
             await self._take(line)
             line = b""
@@ -156,20 +160,15 @@ class Session(backend.Session):
 
     def is_idle(self) -> bool:
         """Whether it can be lent: nothing is due, and nothing came. What comes to an idle connection is its end."""
-        return self.why is None and self._talk.is_idle() and not self._poll.poll(0)
+        return self.why is None and self.talk.is_idle() and not self._poll.poll(0)
 
     def check(self) -> None:
-        if self._talk.pending:  # an exception broke off a call, and another one kept it from saying so
+        if self.talk.pending:  # an exception broke off a call, and another one kept it from saying so
             self.drop()
         if self.why is None and self.epoch < self.service.epoch:
             self.end(RESTARTED)
         if self.why is not None:
             raise self.why.error()
-
-    async def greet(self) -> None:
-        """Asks the service who it is."""
-        self.epoch = await self.service.hello(self._talk, self._exchanged)
-        self._socket.settimeout(self.service.reply_timeout)
 
     async def _sleep(self, deadline: float) -> None:
         if not self._pipe:
@@ -188,7 +187,7 @@ class Session(backend.Session):
     async def _take(self, line: bytes) -> None:
         """Sends a line, if there is one, and takes what comes."""
         try:
-            self._talk.feed(await self._exchanged(line))
+            self.talk.feed(await self.exchanged(line))
         except OSError as error:
             is_new = self.why is None
             self.end(reason(error, self._socket.gettimeout()))
@@ -197,7 +196,7 @@ class Session(backend.Session):
                 self.service.tell(self.why.error())
             raise self.why.error() from error
 
-    async def _exchanged(self, line: bytes) -> bytes:
+    async def exchanged(self, line: bytes) -> bytes:
         try:
             self._socket.sendall(line)
         except BrokenPipeError:
@@ -218,8 +217,10 @@ class Session(backend.Session):
 class Service(Ways):
     """A service that many processes share."""
 
-    def __init__(self, paths: Sequence[Path], connect_timeout: float, reply_timeout: float, tell: Callable[[Optional[Closed]], None]) -> None:
-        super().__init__(paths, connect_timeout, reply_timeout, tell)
+    _pause = staticmethod(slept)
+
+    def __init__(self, *options: Any) -> None:
+        super().__init__(*options)
         self.idle: List[Session] = []
         self._all: "weakref.WeakSet[Session]" = weakref.WeakSet()
 
@@ -236,7 +237,7 @@ class Service(Ways):
 
     async def new(self, deadline: float) -> Session:
         """A session over a new connection."""
-        session = await self._found(deadline, False)
+        session: Session = await self.find(deadline, False)
         self.tell(None)
         return session
 
@@ -248,14 +249,9 @@ class Service(Ways):
 
     async def look(self, lost: Session) -> None:
         """Tries each way once, to learn whether the service was started anew. Raises `Closed` if there is none."""
-        self.idle.append(await self._found(math.inf, True))
-
-    async def _found(self, deadline: float, is_once: bool) -> Session:
-        session: Session = await self.find(min(deadline, monotonic() + self.connect_timeout), is_once, self._tried, slept)
-        return session
+        self.idle.append(await self.find(math.inf, True))
 
     async def _tried(self, path: Any, deadline: float) -> Session:
-        """A connection by this way."""
         connection = Socket(socket.AF_UNIX)
         connection.settimeout(self.limit(deadline))
         try:
@@ -263,7 +259,8 @@ class Service(Ways):
             session = Session(self, connection)
             self._all.add(session)
             FORGOTTEN.add(session)
-            await session.greet()
+            session.epoch = await self.hello(session.talk, session.exchanged)
+            connection.settimeout(self.reply_timeout)
             return session
         except BaseException:
             connection.close()

@@ -181,9 +181,10 @@ class Session(Sleeper):
 class Service(Ways):
     """A service that many processes share, for the tasks of one loop."""
 
-    def __init__(self, paths: Sequence[Path], connect_timeout: float, reply_timeout: float, connections: int,
-                 tell: Callable[[Optional[Closed]], None]) -> None:  # fmt: skip
-        super().__init__(paths, connect_timeout, reply_timeout, tell)
+    _pause = staticmethod(asyncio.sleep)
+
+    def __init__(self, connections: int, *options: Any) -> None:
+        super().__init__(*options)
         if connections < 1:
             raise ValueError(f"connections is at least 1, not {connections}")
         self.connections: List[Optional[Connection]] = [None] * connections
@@ -230,13 +231,12 @@ class Service(Ways):
                 raise type(error)(*error.args) from error.__cause__
 
     async def _connected(self, place: int, is_once: bool) -> Connection:
-        connection: Connection = await self.find(monotonic() + self.connect_timeout, is_once, self._tried, asyncio.sleep)
+        connection: Connection = await self.find(math.inf, is_once)
         self.connections[place] = connection
         self.tell(None)
         return connection
 
     async def _tried(self, path: Any, deadline: float) -> Connection:
-        """A connection by this way."""
         connection = Connection(self, socket.socket(socket.AF_UNIX))
         try:
             await asyncio.wait_for(connection.opened(path), self.limit(deadline))
