@@ -13,7 +13,7 @@ from . import flows
 from .backend import LOST, RESTARTED, Watch, now
 from .errors import Aborted, CannotConnect, Closed, Deadlock, LockError, LocksLost, MustAbort, NoTransaction, Waiting
 from .in_process import Manages
-from .values import Fence, Name, Retry, Status, Totals, all_encoded, decoded, seconds
+from .values import Fence, Name, Retry, Status, Totals, decoded, encoded, seconds
 from .wire import Answer, Ask
 
 L = TypeVar("L", bound="Opened")
@@ -54,7 +54,7 @@ class Calls:
         keeps what it owns. If a transaction for which it waits, directly or over others, was told of a deadlock and has yet to be aborted,
         the request cannot be taken back. Then this is tried again after short pauses, until that one is aborted or the name is granted.
         """
-        deadline, data = monotonic() + seconds(timeout), all_encoded(names)
+        deadline, data = monotonic() + seconds(timeout), tuple(map(encoded, names))
         return self._call("lock", data, flows.lock, data, deadline)
 
     def try_lock(self, name: Name) -> bool:
@@ -100,7 +100,7 @@ class Calls:
             self._state.session.wake()
 
     def _ask(self, word: bytes, read: Callable[[Answer], R], *names: Name) -> R:
-        return self._call("", (), flows.asked, Ask(word, all_encoded(names)), read)
+        return self._call("", (), flows.asked, Ask(word, tuple(map(encoded, names))), read)
 
     def _plain(self, ask: Ask, read: Callable[[Answer], R]) -> R:
         """What a request without a transaction says. None begins."""
@@ -176,9 +176,8 @@ class Calls:
         is_last = kind in ("begin", "commit") or not self._state.key
         if not isinstance(error, LockError) and self._right and session.abandon():
             self._state.is_unsettled, self._state.is_over = not is_last, is_last  # a commit was sent; refused, it is an abort
-        is_lost = False
-        if isinstance(error, Closed) or not isinstance(error, LockError) and not self._state.is_unsettled:
-            is_lost = self._part("drop") and session.why is LOST
+        is_dead = isinstance(error, Closed) or not isinstance(error, LockError) and not self._state.is_unsettled
+        is_lost = is_dead and self._part("drop") and session.why is LOST
         if self._is_aborted and isinstance(error, LocksLost):
             return Aborted("another thread or task aborted the transaction")
         if is_lost and session.epoch >= self._backend.epoch:  # whether the service was started anew a new connection says
@@ -249,7 +248,7 @@ class Opened(Manages):
         return self._ask(b"totals", lambda words: Totals(*map(int, words[1:])))
 
     def _ask(self, word: bytes, read: Callable[[Answer], R], *names: Name) -> R:
-        return self._kind(self._backend, self._watch)._plain(Ask(word, all_encoded(names)), read)
+        return self._kind(self._backend, self._watch)._plain(Ask(word, tuple(map(encoded, names))), read)
 
     async def _attempts(self, attempt: Callable[[], Awaitable[R]]) -> R:
         """What an attempt returns, which is made again after a deadlock."""

@@ -10,8 +10,8 @@ from dataclasses import dataclass
 from time import monotonic
 from typing import Any, Callable, List, Optional, Sequence, Tuple, TypeVar
 
-from .errors import Aborted, Closed, Deadlock, Interrupted, LockError, ProtocolError, Timeout, refusal
-from .values import Status, Wait, decoded
+from .errors import Aborted, Closed, Deadlock, Interrupted, LockError, ProtocolError, Timeout, Wait, refusal
+from .values import Status, decoded
 from .wire import LONGEST, Answer, Ask, cut
 
 R = TypeVar("R")
@@ -96,7 +96,7 @@ async def _waited(state: State, name: str, holder: str, deadline: float) -> None
         state.waits = None
         state.waited += monotonic() - start
     if told[0] == b"aborted":
-        raise _aborted(state)
+        raise _refused(state, told)
 
 
 async def _told(state: State, name: str, holder: str, deadline: float) -> Answer:
@@ -166,11 +166,9 @@ async def known(status: Status) -> Status:
 
 
 def _refused(state: State, words: Answer) -> LockError:
-    """What a refusal says. This side did not end a live transaction."""
-    return _aborted(state) if words[-1] == b"no-transaction" and state.key else refusal(words[-1])
-
-
-def _aborted(state: State) -> LockError:
+    """What a refusal says, or the end of a wait. This side did not end a live transaction."""
+    if words[0] == b"refused" and (words[-1] != b"no-transaction" or not state.key):
+        return refusal(words[-1])
     state.is_over = True
     return Aborted("somebody else aborted the transaction, and all that it owned is given back")
 

@@ -10,9 +10,9 @@ from typing import Any, Callable, Dict, List, Optional, Sequence, Type, TypeVar
 
 from . import backend
 from .backend import BY_CLOSE, BY_FORK, FORGOTTEN, OnEvent, Watch, Why, each
-from .errors import Misuse
+from .errors import Misuse, Wait
 from .flows import waits_of
-from .values import Counts, Retry, Wait, decoded
+from .values import Counts, Retry, decoded
 from .wire import Answer, Ask
 
 L = TypeVar("L", bound="Manages")

@@ -4,19 +4,21 @@ from __future__ import annotations
 import inspect
 import math
 import threading
-from typing import TYPE_CHECKING, Callable, Iterator, List, Optional, Tuple, TypeVar
+from typing import TYPE_CHECKING, Any, Callable, Iterator, List, Optional, Tuple, TypeVar
 
 from .backend import OnEvent, Watch, now, slept
 from .calls import Calls, Opened
+from .errors import Wait
 from .flows import cycle_of, status_of, waits_of
 from .service import Path, Service
-from .values import Client, Counts, Live, Name, Retry, Status, Wait, all_encoded, decoded, key_bytes, seconds
+from .values import Client, Counts, Live, Name, Retry, Status, decoded, encoded, key_bytes, seconds
 from .wire import Answer, Ask
 
 if TYPE_CHECKING:
     from typing_extensions import Concatenate, ParamSpec
 
     P = ParamSpec("P")
+C = TypeVar("C", bound="Closes")
 R = TypeVar("R")
 
 
@@ -42,7 +44,23 @@ class Transaction(Calls):
         now(self._leaves, *error)
 
 
-class Locks(Opened):
+class Closes:
+    """What is closed at the end of a `with` statement."""
+
+    _backend: Any
+
+    def close(self) -> None:
+        """Closes all connections, and waits for nothing. Live transactions are aborted, and their calls raise `Closed`."""
+        self._backend.close()
+
+    def __enter__(self: C) -> C:
+        return self
+
+    def __exit__(self, *error: object) -> None:
+        self.close()
+
+
+class Locks(Closes, Opened):
     """Exclusive locks on names, for transactions. All threads may use one object, and each process of a fork.
 
     `Locks.connect` makes one for a service, and `Locks.in_process` one without. In a `with` statement it is closed at the end.
@@ -69,7 +87,7 @@ class Locks(Opened):
 
     def transaction(self, *names: Name, timeout: Optional[float] = None) -> Transaction:
         """Begins a transaction, and locks the names in their order. At an exception, as `Deadlock` or `Timeout`, none is left."""
-        tx = Transaction(self._backend, self._watch, all_encoded(names), seconds(timeout))
+        tx = Transaction(self._backend, self._watch, tuple(map(encoded, names)), seconds(timeout))
         tx._begin()
         return tx
 
@@ -93,23 +111,13 @@ class Locks(Opened):
 
         return now(lambda: self._attempts(attempt))
 
-    def close(self) -> None:
-        """Closes all connections, and waits for nothing. Live transactions are aborted, and their calls raise `Closed`."""
-        self._backend.close()
 
-    def __enter__(self) -> "Locks":
-        return self
-
-    def __exit__(self, *error: object) -> None:
-        self.close()
-
-
-class Operator:
+class Operator(Closes):
     """What only the operator may ask, at a socket whose clients see all transactions. Connects at first use. All threads may use it."""
 
     def __init__(self, path: Path, *, connect_timeout: float = 5.0, reply_timeout: float = 10.0) -> None:
         self._watch = Watch()
-        self._service = Service((path,), connect_timeout, reply_timeout, self._watch.connection)
+        self._backend = Service((path,), connect_timeout, reply_timeout, self._watch.connection)
 
     def transactions(self) -> List[Live]:
         """All live transactions."""
@@ -142,7 +150,7 @@ class Operator:
 
     def deadlocks(self) -> Iterator[Tuple[Wait, ...]]:
         """Each deadlock from now on, as its waits, the victim's first, over a connection of its own. Raises `Closed` at its end."""
-        session = now(self._service.new, math.inf)
+        session = now(self._backend.new, math.inf)
 
         def told() -> Iterator[Tuple[Wait, ...]]:
             try:
@@ -155,18 +163,8 @@ class Operator:
 
         return told()
 
-    def close(self) -> None:
-        """Closes the connections."""
-        self._service.close()
-
     def _ask(self, word: bytes, read: Callable[[Answer], R], *names: bytes) -> R:
-        return Transaction(self._service, self._watch)._plain(Ask(word, names), read)
-
-    def __enter__(self) -> "Operator":
-        return self
-
-    def __exit__(self, *error: object) -> None:
-        self.close()
+        return Transaction(self._backend, self._watch)._plain(Ask(word, names), read)
 
 
 def _live(key: bytes, client: bytes, *status: bytes) -> Live:

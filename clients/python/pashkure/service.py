@@ -1,6 +1,7 @@
 """The service at a Unix socket: how it is found, and for threads a connection for each live transaction, from a pool."""
 from __future__ import annotations
 
+import contextlib
 import math
 import os
 import select
@@ -32,7 +33,7 @@ class Ways(Ending):
     """The ways to one service, by the paths of sockets."""
 
     _tried: Callable[[Any, float], Any]
-    """A connection by this way."""
+    """A connection by this way. In so many seconds a service has to say who it is: a tenth at least, so that the last try is one."""
     _pause: Callable[[float], Any]
 
     def __init__(self, paths: Sequence[Path], connect_timeout: float, reply_timeout: float, tell: Callable[[Optional[Closed]], None]) -> None:
@@ -53,7 +54,7 @@ class Ways(Ending):
             failed: List[str] = []
             for place in [*range(self._way, len(self.paths)), *range(self._way)]:
                 try:
-                    found = await self._tried(self.paths[place], deadline)
+                    found = await self._tried(self.paths[place], max(0.1, min(self.reply_timeout, deadline - monotonic())))
                     self._way = place
                     if self.why is not None:
                         found.end(self.why)
@@ -68,10 +69,6 @@ class Ways(Ending):
                 raise CannotConnect("; ".join(failed)) from cause
             await self._pause(min(pause, left))
             pause = min(1.0, 2 * pause)
-
-    def limit(self, deadline: float) -> float:
-        """In how many seconds a service has to say who it is: a tenth at least, so that the last try is one."""
-        return max(0.1, min(self.reply_timeout, deadline - monotonic()))
 
     async def hello(self, talk: Conversation, exchange: Callable[[bytes], Any]) -> int:
         """The epoch that the service says, which is asked for it by `exchange`: that sends a line, and returns what comes. Raises `OSError` if
@@ -115,8 +112,8 @@ class Session(backend.Session):
         super().__init__()
         self.service, self.epoch = service, service.epoch
         self._socket, self.talk = connection, Conversation(self)
-        self._poll = select.poll()
-        self._poll.register(connection, select.POLLIN)
+        self.poll = select.poll()
+        self.poll.register(connection, select.POLLIN)
 
     async def ask(self, ask: Ask) -> Answer:
         self.check()
@@ -133,19 +130,15 @@ class Session(backend.Session):
 
     def wake(self) -> None:
         self._is_woken = True
-        try:
+        with contextlib.suppress(OSError):  # it is closed, or many have woken it
             if self._pipe:
                 os.write(self._pipe[1], b"w")
-        except OSError:
-            pass  # it is closed, or many have woken it
 
     def end(self, why: Why) -> None:
         """A thread that reads wakes up. The descriptor is closed when nobody has the session any more."""
         self.why = self.why or why
-        try:
+        with contextlib.suppress(OSError):  # the other side has closed it
             self._socket.shutdown(socket.SHUT_RDWR)
-        except OSError:
-            pass  # the other side has closed it
 
     def give_back(self) -> None:
         self.key = b""
@@ -158,27 +151,22 @@ class Session(backend.Session):
         self.why = BY_FORK
         self.__del__()
 
-    def is_idle(self) -> bool:
-        """Whether it can be lent: nothing is due, and nothing came. What comes to an idle connection is its end."""
-        return self.why is None and self.talk.is_idle() and not self._poll.poll(0)
-
     def check(self) -> None:
         if self.talk.pending:  # an exception broke off a call, and another one kept it from saying so
             self.drop()
         if self.why is None and self.epoch < self.service.epoch:
             self.end(RESTARTED)
-        if self.why is not None:
-            raise self.why.error()
+        super().check()
 
     async def _sleep(self, deadline: float) -> None:
         if not self._pipe:
             self._pipe = os.pipe()
             for descriptor in self._pipe:
                 os.set_blocking(descriptor, False)
-            self._poll.register(self._pipe[0], select.POLLIN)
+            self.poll.register(self._pipe[0], select.POLLIN)
             return  # somebody may have woken it before there was a pipe
         left = deadline - monotonic()
-        for descriptor, _ in self._poll.poll(None if left > LONGEST else max(0.0, math.ceil(left * 1000))):
+        for descriptor, _ in self.poll.poll(None if left > LONGEST else max(0.0, math.ceil(left * 1000))):
             if descriptor == self._pipe[0]:
                 os.read(descriptor, 64)
             else:
@@ -189,12 +177,11 @@ class Session(backend.Session):
         try:
             self.talk.feed(await self.exchanged(line))
         except OSError as error:
-            is_new = self.why is None
-            self.end(reason(error, self._socket.gettimeout()))
-            assert self.why is not None
+            is_new, why = self.why is None, self.why or reason(error, self._socket.gettimeout())
+            self.end(why)
             if is_new:
-                self.service.tell(self.why.error())
-            raise self.why.error() from error
+                self.service.tell(why.error())
+            raise why.error() from error
 
     async def exchanged(self, line: bytes) -> bytes:
         try:
@@ -230,8 +217,8 @@ class Service(Ways):
                 session = self.idle.pop()
             except IndexError:
                 break  # another thread took it
-            if session.epoch >= self.epoch and session.is_idle():
-                return session
+            if session.why is None and session.epoch >= self.epoch and session.talk.is_idle() and not session.poll.poll(0):
+                return session  # what comes to an idle connection is its end
             session.end(BY_DROP)
         return await self.new(deadline)
 
@@ -251,9 +238,9 @@ class Service(Ways):
         """Tries each way once, to learn whether the service was started anew. Raises `Closed` if there is none."""
         self.idle.append(await self.find(math.inf, True))
 
-    async def _tried(self, path: Any, deadline: float) -> Session:
+    async def _tried(self, path: Any, limit: float) -> Session:
         connection = Socket(socket.AF_UNIX)
-        connection.settimeout(self.limit(deadline))
+        connection.settimeout(limit)
         try:
             connection.connect(path)
             session = Session(self, connection)

@@ -69,12 +69,11 @@ class Party:
 class Call:
     """A request that was sent, and its answer once that is there."""
 
-    __slots__ = ("ask", "party", "answer", "is_abandoned", "since")
+    answer: Optional[Answer] = None
+    is_abandoned = False
 
     def __init__(self, ask: Ask, party: Party) -> None:
         self.ask, self.party, self.since = ask, party, monotonic()
-        self.answer: Optional[Answer] = None
-        self.is_abandoned = False
 
 
 class Conversation:

@@ -15,8 +15,9 @@ from typing import TYPE_CHECKING, Any, Awaitable, Callable, Dict, Generator, Lis
 
 from ..backend import OnEvent, Watch
 from ..calls import Calls, Opened
+from ..errors import Wait
 from ..service import Path
-from ..values import Counts, Fence, Name, Retry, Status, Totals, Wait, all_encoded, seconds
+from ..values import Counts, Fence, Name, Retry, Status, Totals, encoded, seconds
 from .in_process import InProcess
 from .service import Service
 
@@ -96,7 +97,7 @@ class Locks(Opened):
     def transaction(self, *names: Name, timeout: Optional[float] = None) -> Transaction:
         """A transaction, which begins by `async with` or by `await`, and then locks the names in their order. At an exception of that, as
         `Deadlock` or `Timeout`, and if the task is cancelled, none is left."""
-        return Transaction(self._backend, self._watch, all_encoded(names), seconds(timeout))
+        return Transaction(self._backend, self._watch, tuple(map(encoded, names)), seconds(timeout))
 
     async def run(self, work: "Callable[Concatenate[Transaction, P], Awaitable[R]]", *args: "P.args", **kwargs: "P.kwargs") -> R:
         """Awaits `work(tx, *args, **kwargs)` in a transaction of its own, and returns what it returns.

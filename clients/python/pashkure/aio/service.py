@@ -163,8 +163,7 @@ class Session(Sleeper):
         if self.epoch < self.connection.service.epoch:
             self.connection.end(RESTARTED)
         self.why = self.why or self.connection.why
-        if self.why is not None:
-            raise self.why.error()
+        super().check()
 
     def end(self, why: Why) -> None:
         if self.why is None and self.connection.why is None:
@@ -199,15 +198,14 @@ class Service(Ways):
             raise RuntimeError("these locks were opened in another event loop: each loop needs its own")
         place = self._turn = (self._turn + 1) % len(self.connections)
         connection = self.connections[place]
-        if connection is not None and connection.why is None and connection.epoch >= self.epoch:
-            return Session(connection)
-        return Session(await self._shared(place, deadline))
+        if connection is None or connection.why is not None or connection.epoch < self.epoch:
+            connection = await self._shared(place, deadline)
+        return Session(connection)
 
     def close(self) -> None:
         self.why = BY_CLOSE
-        for connection in self.connections:
-            if connection is not None:
-                connection.end(BY_CLOSE)
+        for connection in filter(None, self.connections):
+            connection.end(BY_CLOSE)
 
     async def look(self, lost: Session) -> None:
         """Tries each way once, to learn whether the service was started anew. Raises `Closed` if there is none."""
@@ -236,10 +234,10 @@ class Service(Ways):
         self.tell(None)
         return connection
 
-    async def _tried(self, path: Any, deadline: float) -> Connection:
+    async def _tried(self, path: Any, limit: float) -> Connection:
         connection = Connection(self, socket.socket(socket.AF_UNIX))
         try:
-            await asyncio.wait_for(connection.opened(path), self.limit(deadline))
+            await asyncio.wait_for(connection.opened(path), limit)
             return connection
         except BaseException as error:
             connection.end(LOST)
