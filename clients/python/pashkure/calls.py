@@ -76,10 +76,7 @@ class Calls:
 
     def status(self) -> Status:
         """What the transaction does. Any thread or task may call it; while it waits, this is known here, and nothing is asked."""
-        waits = self._state.waits
-        if waits is not None:
-            return self._drive(flows.known, waits)
-        return self._ask(b"status", flows.status_of)
+        return self._drive(self._status)
 
     def commit(self, timeout: Optional[float] = None) -> None:
         """Ends the transaction. All that it owns is given back. If no reply comes in time, this raises `LocksLost`."""
@@ -121,6 +118,11 @@ class Calls:
     def _call(self, kind: str, names: Sequence[bytes], flow: Callable[..., Awaitable[R]], *args: Any) -> R:
         result: R = self._drive(self._within, kind, names, flow, *args)
         return result
+
+    async def _status(self) -> Status:
+        waits = self._state.waits
+        status: Status = await self._within("", (), flows.asked, Ask(b"status"), flows.status_of) if waits is None else waits
+        return status
 
     async def _leaves(self, *error: object) -> None:
         """The end of its block: it is committed, or aborted at an exception."""

@@ -160,11 +160,6 @@ async def abort(state: State) -> bool:
     return words[0] != b"later"
 
 
-async def known(status: Status) -> Status:
-    """What need not be asked."""
-    return status
-
-
 def _refused(state: State, words: Answer) -> LockError:
     """What a refusal says, or the end of a wait. This side did not end a live transaction."""
     if words[0] == b"refused" and (words[-1] != b"no-transaction" or not state.key):
