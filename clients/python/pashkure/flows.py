@@ -87,39 +87,33 @@ async def _deadlock(state: State, name: bytes, holder: bytes) -> Deadlock:
 
 
 async def _waited(state: State, name: str, holder: str, deadline: float) -> None:
-    """Returns when the wait was granted."""
+    """Returns when the wait was granted. At the deadline, and if it is interrupted, the request is taken back, and this raises."""
     state.waits = Status("waiting", name, holder)
-    start = monotonic()
+    start, pause, is_tried = monotonic(), SHORTEST, False
+    warns, until = start + state.slow_wait, deadline
     try:
-        told = await _told(state, name, holder, deadline)
+        while True:
+            told: Optional[Answer] = None if state.is_interrupted and not is_tried else await state.session.wait(min(until, warns))
+            if told is not None and told != WOKEN:
+                break
+            now = monotonic()
+            if now >= warns and state.warn is not None:
+                state.warn(state.key, name, holder, now - start)
+                warns = math.inf
+            if now < until and not state.is_interrupted:
+                continue
+            words: Answer = await state.session.ask(Ask(b"cancel"))
+            if words[0] == b"cancelled":
+                is_interrupted, state.is_interrupted = state.is_interrupted, False
+                raise Interrupted(f"the wait for {name!r} was interrupted") if is_interrupted else Timeout(name)
+            # What is refused has ended before, which this side was told before this reply.
+            until = monotonic() + pause if words[0] == b"carried" else math.inf
+            is_tried, pause = True, min(LONGEST_PAUSE, pause * 2)
     finally:
         state.waits = None
         state.waited += monotonic() - start
     if told[0] == b"aborted":
         raise _refused(state, told)
-
-
-async def _told(state: State, name: str, holder: str, deadline: float) -> Answer:
-    """How the wait ended. At the deadline, and if it is interrupted, the request is taken back, and this raises."""
-    start, pause, is_tried = monotonic(), SHORTEST, False
-    warns, until = start + state.slow_wait, deadline
-    while True:
-        told: Optional[Answer] = None if state.is_interrupted and not is_tried else await state.session.wait(min(until, warns))
-        if told is not None and told != WOKEN:
-            return told
-        now = monotonic()
-        if now >= warns and state.warn is not None:
-            state.warn(state.key, name, holder, now - start)
-            warns = math.inf
-        if now < until and not state.is_interrupted:
-            continue
-        words: Answer = await state.session.ask(Ask(b"cancel"))
-        if words[0] == b"cancelled":
-            is_interrupted, state.is_interrupted = state.is_interrupted, False
-            raise Interrupted(f"the wait for {name!r} was interrupted") if is_interrupted else Timeout(name)
-        # What is refused has ended before, which this side was told before this reply.
-        until = monotonic() + pause if words[0] == b"carried" else math.inf
-        is_tried, pause = True, min(LONGEST_PAUSE, pause * 2)
 
 
 async def settle(state: State) -> None:

@@ -66,8 +66,7 @@ class Transaction(Calls):
         await self._begin()
         return self
 
-    async def __aexit__(self, *error: object) -> None:
-        await self._leaves(*error)
+    __aexit__ = Calls._leaves
 
 
 class Locks(Opened):

@@ -5,7 +5,7 @@ import asyncio
 import math
 import socket
 from time import monotonic
-from typing import Any, Callable, List, Optional, Sequence, Tuple, cast
+from typing import Any, Callable, List, Optional, Sequence, Tuple
 
 from .. import backend
 from ..backend import BY_CLOSE, BY_FORK, FORGOTTEN, LOST, RESTARTED, Why
@@ -44,13 +44,12 @@ class Sleeper(backend.Session):
                 timer.cancel()
 
 
-class Connection(asyncio.Protocol):
+class Connection(asyncio.Protocol, backend.Ending):
     """One connection, for any number of transactions."""
 
     def __init__(self, service: "Service", own: socket.socket) -> None:
         self.service, self.own, self.epoch = service, own, service.epoch
         self.loop, self.talk = asyncio.get_running_loop(), Conversation()
-        self.why: Optional[Why] = None
         self.can_write = asyncio.Event()
         self.can_write.set()
         self._transport: Optional[asyncio.Transport] = None
@@ -62,7 +61,7 @@ class Connection(asyncio.Protocol):
         self.own.connect(path)
         FORGOTTEN.add(self)
         self.epoch = await self.service.hello(self.talk, self._exchanged)
-        await self.loop.create_connection(lambda: self, sock=self.own)
+        self._transport, _ = await self.loop.create_connection(lambda: self, sock=self.own)
 
     async def _exchanged(self, line: bytes) -> bytes:
         try:
@@ -73,9 +72,6 @@ class Connection(asyncio.Protocol):
         if not data:
             raise ConnectionResetError("it closed the connection")
         return data
-
-    def connection_made(self, transport: asyncio.BaseTransport) -> None:
-        self._transport = cast(asyncio.Transport, transport)
 
     def data_received(self, data: bytes) -> None:
         try:
