@@ -12,7 +12,7 @@ import random
 import re
 import subprocess
 import sys
-import time
+import types
 import unittest.mock
 from typing import Any, Callable, Optional
 
@@ -22,9 +22,9 @@ from lib.world import PACKAGE, Case, each, environment, read, run, wants
 
 import pashkure
 from pashkure import Aborted, Deadlock, Full, Interrupted, LockError, LocksLost, MustAbort, NotOwner, ProtocolError, Retry, Timeout, aio, flows, wire
+from pashkure.backend import Watch
 from pashkure.locks import Transaction
 from pashkure.values import encoded, key_bytes
-from pashkure.watch import Watch
 from pashkure.wire import Ask, Call, Conversation, Party
 
 DIALOGUE = [
@@ -115,7 +115,7 @@ class Wire(Case):
         for size in 1, 100, 1023, 1024:
             names = [b"%d/" % number + b"x" * size for number in range(300)]
             names = [name[:1024] for name in names]
-            state, sent = flows.State(), []
+            state, sent = flows.State(session=STEPS), []
             for flow in flows.begin(state, names, math.inf), flows.lock(state, names, math.inf):
                 asked, answer, party = [], None, Party()
                 with contextlib.suppress(StopIteration):
@@ -127,6 +127,19 @@ class Wire(Case):
                         answer = (b"begun", b"65535.4294967295") if ask.word == b"begin" else (b"granted",)
                 same(asked, names)
             self.assertTrue(1000 - size % 1000 < max(sent) <= wire.LONGEST + 1, sent)
+
+
+class Steps:
+    """A session whose calls are what a flow is seen to await; it is sent what they return."""
+
+    @types.coroutine
+    def ask(self, step: Any) -> Any:
+        return (yield step)
+
+    wait = ask
+
+
+STEPS = Steps()
 
 
 class World:
@@ -177,6 +190,10 @@ class Place(Party):
         """Runs the flow to its end, whose value it returns, or up to this moment."""
         answer = None
         try:
+<<<<<<< HEAD
+=======
+            step = flow.send(None)
+>>>>>>> 97e746b62ff27b227500440578616c5c37933120
             for count in itertools.count():
                 step = flow.send(answer)
                 if isinstance(step, Ask):
@@ -209,7 +226,7 @@ class Left(Case):
         """A begin that is left leaves no transaction."""
         for moment, is_delivered in itertools.product(range(6), (False, True)):
             world, place = self.world()
-            flow = flows.begin(flows.State(), [name.encode() for name in names], -math.inf)
+            flow = flows.begin(flows.State(session=STEPS), [name.encode() for name in names], -math.inf)
             if place.begins(flow, moment, is_delivered):
                 flow.close()
                 world.send(1, place.talk.drop(place))
@@ -223,7 +240,7 @@ class Left(Case):
         deadline = -math.inf if name == "time is up" else math.inf
         for moment, is_delivered in itertools.product(range(6), (False, True)):
             world, place = self.world()
-            state = flows.State()
+            state = flows.State(session=STEPS)
             place.runs(flows.begin(state, [b"one"], math.inf))
             if name == "deadlock":
                 world.ask(3, "lock 1.1 one")
@@ -252,7 +269,7 @@ class Left(Case):
     def test_carried(self) -> None:
         """A lock that cannot be taken back is taken back before the next request."""
         world, place = self.world()
-        state = flows.State()
+        state = flows.State(session=STEPS)
         place.runs(flows.begin(state, [], math.inf))
         flow = flows.lock(state, [b"three"], math.inf)
         self.assertTrue(place.begins(flow, 0, True))
@@ -275,7 +292,7 @@ class Clock(Case):
     def told(self, *steps: Any, deadline: float = 10.0, interrupts: int = -1, slow: float = math.inf) -> Any:
         """Runs a lock whose answers these are, and returns how it ended. A number is a time at which the wait returns nothing."""
         now, self.warned, self.asked, self.untils = [0.0], [], [], []
-        state = flows.State(slow, lambda *told: self.warned.append(told))
+        state = flows.State(slow, lambda *told: self.warned.append(told), STEPS)
         with unittest.mock.patch("pashkure.flows.monotonic", lambda: now[0]):
             flow, answer = flows.lock(state, [b"a"], deadline), None
             try:
@@ -412,9 +429,10 @@ class FakeLocks(contextlib.AbstractContextManager, contextlib.AbstractAsyncConte
         async def sleeps(seconds: float) -> None:
             self.pauses.append(seconds)
 
-        same(type(self.locks)._pause, time.sleep if self.is_plain else asyncio.sleep)
-        self.locks._pause = self.pauses.append if self.is_plain else sleeps
-        with unittest.mock.patch("pashkure.calls.monotonic", lambda: self.now):
+        if not self.is_plain:
+            same(type(self.locks)._pause, asyncio.sleep)
+            self.locks._pause = sleeps
+        with unittest.mock.patch("pashkure.calls.monotonic", lambda: self.now), unittest.mock.patch("pashkure.backend.sleep", self.pauses.append):
             return self.locks.run(work) if self.is_plain else asyncio.run(self.locks.run(works))
 
     def __exit__(self, *error: Any) -> None:

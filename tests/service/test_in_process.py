@@ -152,7 +152,7 @@ class Inside(Calls):
             try:
                 inner, moved = getattr(locks, "_locks", locks), getattr(tx, "_tx", tx)
                 raises(Closed, inner._backend.new, lambda owner: None)
-                raises(Closed, moved._session.check)
+                raises(Closed, moved._state.session.check)
                 del inner, moved
                 status = 0
             finally:

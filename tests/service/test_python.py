@@ -2,7 +2,11 @@
 service for tests."""
 from __future__ import annotations
 
+<<<<<<< HEAD
 import contextlib
+=======
+import gc
+>>>>>>> 97e746b62ff27b227500440578616c5c37933120
 import logging
 import os
 import shlex
@@ -357,7 +361,9 @@ class Threads(Calls, Case):
         same(self.locks.totals(), Totals(1, 0, 1, 0))
 
     def test_dropped(self) -> None:
-        """A transaction that is dropped alive is aborted, with a warning."""
+        """A transaction that is dropped alive is aborted, with a warning, before the garbage collector finds its session."""
+        gc.disable()
+        self.addCleanup(gc.enable)
         tx = self.locks.transaction("a")
         with self.assertWarns(ResourceWarning):
             del tx

@@ -135,7 +135,7 @@ class Interrupts(TroubleCase):
         """A block whose commit is broken off gives its names back."""
         tx = self.locks.transaction("a")
         with contextlib.suppress(KeyboardInterrupt), tx:
-            tx._call = lambda *args: exec("raise KeyboardInterrupt")  # type: ignore[method-assign]
+            tx._within = lambda *args: exec("raise KeyboardInterrupt")  # type: ignore[method-assign]
         same(self.other.owner("a"), None)
 
     def test_within_a_wait(self) -> None:

@@ -10,10 +10,9 @@
 `pashkure.aio` has the same for asyncio. `mmdetect serve --socket PATH` serves the locks.
 """
 from .errors import (Aborted, BadName, CannotConnect, Closed, Deadlock, Full, Interrupted, LockError, LocksLost, Misuse, MustAbort,
-                     NameTooLong, NotOwner, NoTransaction, ProtocolError, ServiceRestarted, Timeout, Waiting)  # fmt: skip
-from .locks import Locks, Transaction
-from .operator import Operator
-from .values import Client, Counts, Event, Fence, Live, Name, Retry, Status, Totals, Wait
+                     NameTooLong, NotOwner, NoTransaction, ProtocolError, ServiceRestarted, Timeout, Wait, Waiting)  # fmt: skip
+from .locks import Locks, Operator, Transaction
+from .values import Client, Counts, Event, Fence, Live, Name, Retry, Status, Totals
 
 __version__ = "0.1.0"
 __all__ = ["Aborted", "BadName", "CannotConnect", "Client", "Closed", "Counts", "Deadlock", "Event", "Fence", "Full", "Interrupted", "Live",

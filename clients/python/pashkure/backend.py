@@ -1,16 +1,20 @@
-"""The seam below the flows: where a transaction lives, and what runs flows there. What lends such places has `session`, `look` and `close`."""
+"""The seam below the flows: where a transaction lives, and what is told of it. What lends such places has `session`, `look` and `close`."""
 from __future__ import annotations
 
+import logging
 import os
 import weakref
-from time import monotonic
-from typing import Any, Callable, Iterable, List, NamedTuple, Optional, Type, TypeVar
+from time import monotonic, sleep
+from typing import Any, Callable, Coroutine, Iterable, List, NamedTuple, Optional, Sequence, Type, TypeVar
 
-from .errors import Closed, LocksLost, ServiceRestarted
-from .flows import WOKEN, Flow
+from .errors import Closed, Deadlock, LocksLost, ServiceRestarted
+from .flows import WOKEN, State
+from .values import Event, decoded, seconds
 from .wire import Answer, Ask, Party
 
 R = TypeVar("R")
+log = logging.getLogger("pashkure")
+OnEvent = Optional[Callable[[Event], None]]
 
 
 class Why(NamedTuple):
@@ -46,26 +50,48 @@ def each(items: Iterable[R]) -> List[R]:
 os.register_at_fork(after_in_child=lambda: [item.forget() for item in each(FORGOTTEN)])
 
 
-def now(flow: Flow[R], caller: Any = None) -> R:
-    """Runs a flow, whose requests and waits are those of the caller's session. What a step raises is raised in the flow."""
+def now(flow: Callable[..., Coroutine[Any, Any, R]], *args: Any) -> R:
+    """Runs a flow of a thread."""
     try:
-        step = next(flow)
-        while True:
-            try:
-                if isinstance(step, Ask):
-                    answer = caller._session.ask(step)
-                else:
-                    answer = caller._session.wait(step) if isinstance(step, float) else step()
-            except BaseException as error:
-                step = flow.throw(error)
-            else:
-                step = flow.send(answer)
+        flow(*args).send(None)
     except StopIteration as end:
-        result: R = end.value
-        return result
-    except BaseException:
-        flow.close()  # if the exception of a signal came between two steps
-        raise
+        return end.value  # type: ignore[no-any-return]
+    raise RuntimeError("a flow of a thread was suspended")
+
+
+async def slept(time: float) -> None:
+    """Pauses a thread."""
+    sleep(time)
+
+
+class Watch:
+    """Tells of calls and connections."""
+
+    def __init__(self, on_event: OnEvent = None, slow_wait: Optional[float] = None) -> None:
+        self._on_event, self.slow_wait = on_event, seconds(slow_wait, "slow_wait")
+
+    def connection(self, error: Optional[Closed]) -> None:
+        """A connection was made, or it was lost."""
+        log.log(logging.INFO if error is None else logging.WARNING, "%s", "connected" if error is None else error)
+        self._tell(Event("connect") if error is None else Event("lost", error=error))
+
+    def call(self, kind: str, state: State, names: Sequence[bytes], start: float, error: Optional[BaseException]) -> None:
+        """A call of a transaction has ended."""
+        if isinstance(error, Deadlock):
+            log.info("deadlock: %s", error)
+        if kind and state.key and self._on_event is not None:
+            waited = state.waited if kind in ("begin", "lock") else 0.0
+            self._tell(Event(kind, state.key.decode("ascii"), tuple(map(decoded, names)), monotonic() - start, waited, error))  # type: ignore[arg-type]
+
+    def slow(self, key: bytes, name: str, holder: str, waited: float) -> None:
+        log.warning("%s has waited for %r of %s for %.1f s", key.decode("ascii"), name, holder, waited)
+
+    def _tell(self, event: Event) -> None:
+        if self._on_event is not None:
+            try:
+                self._on_event(event)
+            except Exception:
+                log.exception("on_event raised an exception")
 
 
 class Ending:
@@ -80,7 +106,7 @@ class Ending:
 
 
 class Session(Party, Ending):
-    """Where one transaction lives. One thread at a time may call `ask` and `wait`; in `pashkure.aio` one task, which awaits them."""
+    """Where one transaction lives. One thread or task at a time may call `ask` and `wait`."""
 
     epoch = 0
     """The number of the service's start."""
@@ -93,13 +119,13 @@ class Session(Party, Ending):
     _sleep: Callable[[float], Any]
     """Returns when there may be news, and at the deadline."""
 
-    def wait(self, deadline: float) -> Any:
+    async def wait(self, deadline: float) -> Optional[Answer]:
         """How the wait of its transaction ended: granted or aborted. `WOKEN` after `wake`; none at the deadline, a time of `monotonic`."""
         while True:
             news = self.news()
             if news is not None or monotonic() >= deadline:
                 return news
-            self._sleep(deadline)
+            await self._sleep(deadline)
 
     def news(self) -> Optional[Answer]:
         """What `wait` returns, if it need not wait for that."""

@@ -1,22 +1,19 @@
-"""The calls that threads and tasks have in common. Each makes a flow, and `_drive` runs it: now, or when it is awaited."""
+"""The calls that threads and tasks have in common. Each is a flow, which `_drive` runs: now, or when it is awaited."""
 from __future__ import annotations
 
 import contextlib
 import copy
-import functools
 import math
 import threading
 import warnings
 from time import monotonic
-from typing import Any, Callable, List, Optional, Sequence, Tuple, Type, TypeVar
+from typing import Any, Awaitable, Callable, Coroutine, List, Optional, Sequence, Tuple, Type, TypeVar
 
 from . import flows
-from .backend import LOST, RESTARTED
+from .backend import LOST, RESTARTED, Watch, now
 from .errors import Aborted, CannotConnect, Closed, Deadlock, LockError, LocksLost, MustAbort, NoTransaction, Waiting
-from .flows import Flow
 from .in_process import Manages
-from .values import Fence, Name, Retry, Status, Totals, all_encoded, decoded, seconds
-from .watch import Watch
+from .values import Fence, Name, Retry, Status, Totals, decoded, encoded, seconds
 from .wire import Answer, Ask
 
 L = TypeVar("L", bound="Opened")
@@ -26,18 +23,16 @@ R = TypeVar("R")
 class Calls:
     """A transaction, which owns the names that it locks until it ends. The types are those for threads."""
 
-    _drive: Callable[[Flow[R], Any], R]
     _who: Callable[[], Any]
     """The thread or the task that calls this."""
 
     _own: Any = None  # the one that began it
-    _session: Any = None
     _right: List[Any] = []  # the session: who takes it out may end the transaction
     _is_aborted = False  # by another thread or task
 
     def __init__(self, backend: Any, watch: Watch, names: Tuple[bytes, ...] = (), timeout: float = math.inf) -> None:
         self._backend, self._watch, self._names, self._timeout = backend, watch, names, timeout
-        self._state = watch.state()
+        self._state = flows.State(watch.slow_wait, watch.slow)
         self._busy = threading.Lock()  # held within a call, and never waited for
 
     @property
@@ -48,7 +43,7 @@ class Calls:
     @property
     def epoch(self) -> int:
         """The number of the service's start. It rises."""
-        return int(self._session.epoch)
+        return int(self._state.session.epoch)
 
     def lock(self, *names: Name, timeout: Optional[float] = None) -> None:
         """Returns when the transaction owns the names, which it asks for in their order. Until then only its thread, or task, waits.
@@ -59,8 +54,8 @@ class Calls:
         keeps what it owns. If a transaction for which it waits, directly or over others, was told of a deadlock and has yet to be aborted,
         the request cannot be taken back. Then this is tried again after short pauses, until that one is aborted or the name is granted.
         """
-        deadline, data = monotonic() + seconds(timeout), all_encoded(names)
-        return self._call("lock", flows.lock(self._state, data, deadline), data)
+        deadline, data = monotonic() + seconds(timeout), tuple(map(encoded, names))
+        return self._call("lock", data, flows.lock, data, deadline)
 
     def try_lock(self, name: Name) -> bool:
         """Whether the transaction owns the name now: it did, or nobody did. It never waits for another transaction."""
@@ -81,62 +76,79 @@ class Calls:
 
     def status(self) -> Status:
         """What the transaction does. Any thread or task may call it; while it waits, this is known here, and nothing is asked."""
-        waits = self._state.waits
-        return self._drive(flows.known(waits), self) if waits is not None else self._ask(b"status", flows.status_of)
+        return self._drive(self._status)
 
     def commit(self, timeout: Optional[float] = None) -> None:
         """Ends the transaction. All that it owns is given back. If no reply comes in time, this raises `LocksLost`."""
         deadline = None if timeout is None else monotonic() + seconds(timeout)
-        return self._call("commit", flows.commit(self._state, deadline))
+        return self._call("commit", (), flows.commit, deadline)
 
     def abort(self) -> None:
         """Ends the transaction, whatever it does. All that it owns is given back. Nothing happens if it has ended.
 
         Any thread or task may call it. If another one waits in a call, that call raises `Aborted` at once.
         """
-        return self._drive(self._ends(), self)
+        return self._drive(self._ends)
 
     def interrupt(self) -> None:
         """The wait of the transaction, or its next one, raises `Interrupted`, once. Any thread may call it; in asyncio, any task."""
         self._state.is_interrupted = True
-        if self._session is not None:
-            self._session.wake()
+        if self._state.session is not None:
+            self._state.session.wake()
 
     def _ask(self, word: bytes, read: Callable[[Answer], R], *names: Name) -> R:
-        return self._call("", flows.asked(self._state, Ask(word, all_encoded(names)), read))
+        return self._call("", (), flows.asked, Ask(word, tuple(map(encoded, names))), read)
 
     def _plain(self, ask: Ask, read: Callable[[Answer], R]) -> R:
         """What a request without a transaction says. None begins."""
         self._own = "nobody"
-        return self._call("", self._over(lambda: flows.plain(self._state, ask, read), math.inf))
+        result: R = self._call("", (), self._over, math.inf, flows.asked, ask, read)
+        return result
 
     def _begin(self) -> Any:
         """Begins it."""
         if self._own is not None:
             raise RuntimeError("it has begun: call `transaction` for each transaction")
         self._own, deadline = self._who(), monotonic() + self._timeout
-        return self._call("begin", self._over(lambda: flows.begin(self._state, self._names, deadline), deadline), self._names)
+        return self._call("begin", self._names, self._over, deadline, flows.begin, self._names, deadline)
 
-    def _call(self, kind: str, flow: Flow[R], names: Sequence[bytes] = ()) -> R:
-        return self._drive(self._within(kind, flow, names), self)
+    def _drive(self, flow: Callable[..., Coroutine[Any, Any, R]], *args: Any) -> R:
+        return now(flow, *args)
 
-    def _over(self, flow: Callable[[], Flow[R]], deadline: float) -> Flow[R]:
+    def _call(self, kind: str, names: Sequence[bytes], flow: Callable[..., Awaitable[R]], *args: Any) -> R:
+        result: R = self._drive(self._within, kind, names, flow, *args)
+        return result
+
+    async def _status(self) -> Status:
+        waits = self._state.waits
+        status: Status = await self._within("", (), flows.asked, Ask(b"status"), flows.status_of) if waits is None else waits
+        return status
+
+    async def _leaves(self, *error: object) -> None:
+        """The end of its block: it is committed, or aborted at an exception."""
+        try:
+            if error[0] is None and (self._is_aborted or not self._state.is_over):
+                await self._within("commit", (), flows.commit, None)
+        finally:
+            await self._ends()
+
+    async def _over(self, state: flows.State, deadline: float, flow: Callable[..., Any], *args: Any) -> Any:
         """This flow, over a session that is lent, or over another one if that is lost before anything was done."""
         while True:
-            self._session = yield functools.partial(self._backend.session, deadline)
-            self._right = [self._session]
+            state.session = await self._backend.session(deadline)
+            self._right = [state.session]
             if self._is_aborted:
                 raise Aborted("another task aborted the transaction before it had begun")
             try:
-                return (yield from flow())
+                return await flow(state, *args)
             except LocksLost as lost:
-                if self._state.key:
+                if state.key:
                     raise
-                self._drop()
-                if self._session.why.is_slow:
+                self._part("drop")
+                if state.session.why.is_slow:
                     raise CannotConnect(str(lost)) from lost
 
-    def _within(self, kind: str, flow: Flow[R], names: Sequence[bytes] = ()) -> Flow[R]:
+    async def _within(self, kind: str, names: Sequence[bytes], flow: Callable[..., Any], *args: Any) -> Any:
         """This flow, as one call, beside which there is no other one. Whatever ends it, nothing stays that nobody wants."""
         if self._own is None:
             raise NoTransaction("the transaction has not begun: use `async with`, or `await`")
@@ -146,40 +158,39 @@ class Calls:
             raise Aborted("another call aborts it") if self._is_aborted else Waiting("another thread or task is inside a call of this transaction")
         start, error = monotonic(), None
         try:
-            result = yield from flow
+            result = await flow(self._state, *args)
             self._is_aborted = self._is_aborted and not self._state.is_over  # a commit that was made counts
             return result
         except BaseException as told:
             error = told
-            error = yield from self._after(kind, told)
+            error = await self._after(kind, told)
             raise error from told.__cause__
         finally:
             if self._state.is_over:
-                for session in self._take():
-                    session.give_back()
+                self._part("give_back")
             self._busy.release()
             self._watch.call(kind, self._state, names, start, error)
             del error  # which has this frame
 
-    def _after(self, kind: str, error: BaseException) -> Flow[BaseException]:
+    async def _after(self, kind: str, error: BaseException) -> BaseException:
         """Cleans up after a call that this ended: one of its own exceptions or one of a signal, or its task was cancelled. What to raise."""
+        session = self._state.session
         is_last = kind in ("begin", "commit") or not self._state.key
-        if not isinstance(error, LockError) and self._right and self._session.abandon():
+        if not isinstance(error, LockError) and self._right and session.abandon():
             self._state.is_unsettled, self._state.is_over = not is_last, is_last  # a commit was sent; refused, it is an abort
-        is_lost = False
-        if isinstance(error, Closed) or not isinstance(error, LockError) and not self._state.is_unsettled:
-            is_lost = self._drop() and self._session.why is LOST
+        is_dead = isinstance(error, Closed) or not isinstance(error, LockError) and not self._state.is_unsettled
+        is_lost = is_dead and self._part("drop") and session.why is LOST
         if self._is_aborted and isinstance(error, LocksLost):
             return Aborted("another thread or task aborted the transaction")
-        if is_lost and self._session.epoch >= self._backend.epoch:  # whether the service was started anew a new connection says
+        if is_lost and session.epoch >= self._backend.epoch:  # whether the service was started anew a new connection says
             with contextlib.suppress(Closed):
-                yield functools.partial(self._backend.look, self._session)
-        if is_lost and self._session.epoch < self._backend.epoch:
-            self._session.why = RESTARTED
+                await self._backend.look(session)
+        if is_lost and session.epoch < self._backend.epoch:
+            session.why = RESTARTED
             return RESTARTED.error()
         return error
 
-    def _ends(self) -> Flow[None]:
+    async def _ends(self) -> None:
         """Aborts it. If another thread or task is in a call of it, this waits for nothing."""
         state = self._state
         if state.is_over or self._own is None:
@@ -187,35 +198,28 @@ class Calls:
         is_free, start = self._busy.acquire(False), monotonic()
         self._is_aborted = not is_free or self._who() != self._own
         try:
-            if is_free and self._right and (yield from flows.abort(state)):
-                for session in self._take():
-                    session.give_back()
+            if is_free and self._right and await flows.abort(state):
+                self._part("give_back")
         except Closed:
             pass
         finally:
             state.is_over = True
-            self._drop()
+            self._part("drop")
             if is_free:
                 self._busy.release()
             self._watch.call("abort", state, (), start, None)
 
-    def _take(self) -> List[Any]:
-        """The session, if this call is the one that ends the transaction."""
+    def _part(self, how: str) -> bool:
+        """Parts with the session in this way, if this call is the one that ends the transaction. Whether it is."""
         try:
-            return [self._right.pop()]
+            session = self._right.pop()
         except IndexError:
-            return []
-
-    def _drop(self) -> bool:
-        taken = self._take()
-        for session in taken:
-            session.drop()
-        return bool(taken)
+            return False
+        getattr(session, how)()
+        return True
 
     def __del__(self) -> None:
-        if self._right:
-            for session in self._take():
-                session.let_go()
+        if self._part("let_go"):
             warnings.warn(f"{self!r} was dropped alive, and is aborted: use `with`, commit or abort", ResourceWarning, source=self)
 
     def __repr__(self) -> str:
@@ -246,23 +250,19 @@ class Opened(Manages):
         return self._ask(b"totals", lambda words: Totals(*map(int, words[1:])))
 
     def _ask(self, word: bytes, read: Callable[[Answer], R], *names: Name) -> R:
-        return self._kind(self._backend, self._watch)._plain(Ask(word, all_encoded(names)), read)
+        return self._kind(self._backend, self._watch)._plain(Ask(word, tuple(map(encoded, names))), read)
 
-    def _again(self, attempt: Callable[[], R]) -> R:
+    async def _attempts(self, attempt: Callable[[], Awaitable[R]]) -> R:
         """What an attempt returns, which is made again after a deadlock."""
-        return self._kind._drive(self._attempts(attempt), None)
-
-    def _attempts(self, attempt: Callable[[], R]) -> Flow[R]:
         number = 0
         while True:
             start, number = monotonic(), number + 1
             try:
-                result: R = yield attempt
-                return result
+                return await attempt()
             except BaseException as error:
                 if number >= self._retry.attempts or not is_deadlock(error):
                     raise
-            yield functools.partial(self._pause, self._retry.pause(number, monotonic() - start))
+            await self._pause(self._retry.pause(number, monotonic() - start))
 
     def __repr__(self) -> str:
         return f"<Locks {self._backend}>"

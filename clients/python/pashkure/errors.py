@@ -1,10 +1,16 @@
-"""The exceptions of the package. Each is a `LockError`, and can be pickled."""
+"""The exceptions of the package, and what one of them tells. Each is a `LockError`, and can be pickled."""
 from __future__ import annotations
 
-from typing import TYPE_CHECKING, Sequence, Tuple
+from dataclasses import dataclass
+from typing import Sequence, Tuple
 
-if TYPE_CHECKING:
-    from .values import Wait
+
+@dataclass(frozen=True)
+class Wait:
+    """The transaction `key` waits for `name`, which `holder` owns. Behind the last wait of a cycle that was cut, the holder is ".."."""
+    key: str
+    name: str
+    holder: str
 
 
 class LockError(Exception):
@@ -19,10 +25,10 @@ class Deadlock(LockError):
     the cycle, this transaction's first, at most 16 of them.
     """
 
-    def __init__(self, name: str, holder: str, cycle: Sequence["Wait"] = ()) -> None:
+    def __init__(self, name: str, holder: str, cycle: Sequence[Wait] = ()) -> None:
         super().__init__(name, holder, tuple(cycle))
         self.name, self.holder = name, holder
-        self.cycle: Tuple["Wait", ...] = tuple(cycle)
+        self.cycle: Tuple[Wait, ...] = tuple(cycle)
 
     def __str__(self) -> str:
         waits = ", ".join(f"{wait.key} waits for {wait.name!r}" for wait in self.cycle)

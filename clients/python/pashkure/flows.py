@@ -1,22 +1,20 @@
 """What each call does, step by step, for threads and for tasks alike. Nothing here reads, writes or sleeps.
 
-A flow is a generator. It yields an `Ask`, and is sent the answer; or it yields a time, and is sent how the wait of its transaction ended,
-`WOKEN`, or nothing at that time; or it yields a call, and is sent what that returns. It returns what the call returns, and raises what the
-call raises. `pashkure.backend.now` runs it for a thread, and `pashkure.aio.service.soon` for a task.
+A flow is a coroutine, which awaits its transaction's session (`pashkure.backend.Session`) alone. That of a thread never suspends it:
+`pashkure.backend.now` runs it to its end.
 """
 from __future__ import annotations
 
 import math
 from dataclasses import dataclass
 from time import monotonic
-from typing import Any, Callable, Generator, List, Optional, Sequence, Tuple, TypeVar, Union
+from typing import Any, Callable, List, Optional, Sequence, Tuple, TypeVar
 
-from .errors import Aborted, Closed, Deadlock, Interrupted, LockError, ProtocolError, Timeout, refusal
-from .values import Status, Wait, decoded
+from .errors import Aborted, Closed, Deadlock, Interrupted, LockError, ProtocolError, Timeout, Wait, refusal
+from .values import Status, decoded
 from .wire import LONGEST, Answer, Ask, cut
 
 R = TypeVar("R")
-Flow = Generator[Union[Ask, float, Callable[[], Any]], Any, R]
 WOKEN: Answer = (b"woken",)
 """The wait was not ended: somebody called `wake`."""
 OWNED = (b"granted", b"held")
@@ -29,6 +27,7 @@ class State:
 
     slow_wait: float = math.inf
     warn: Optional[Callable[[bytes, str, str, float], None]] = None
+    session: Any = None
     key: bytes = b""
     waits: Optional[Status] = None  # while it waits
     waited: float = 0.0  # how long the last call waited
@@ -37,36 +36,36 @@ class State:
     is_unsettled: bool = False  # a call was left, so it may wait for what nobody wants
 
 
-def begin(state: State, names: Sequence[bytes], deadline: float) -> Flow[None]:
+async def begin(state: State, names: Sequence[bytes], deadline: float) -> None:
     """Begins a transaction that owns these names. Where it cannot own all, none is left."""
     part = names[: cut(names, LONGEST - len(b"begin"))] if names else ()
-    words: Answer = yield Ask(b"begin", tuple(part))
+    words: Answer = await state.session.ask(Ask(b"begin", tuple(part)))
     state.is_over = words[0] != b"begun"
     if state.is_over:
         raise refusal(words[-1])
     state.key = words[1]
     try:
         if part:
-            owned = yield from _owned(state, part, words[2:], deadline)
-            yield from lock(state, names[owned:], deadline)
+            owned = await _owned(state, part, words[2:], deadline)
+            await lock(state, names[owned:], deadline)
     except LockError as error:
         if not state.is_over and not isinstance(error, Closed):
-            yield from abort(state)
+            await abort(state)
         raise
 
 
-def lock(state: State, names: Sequence[bytes], deadline: float) -> Flow[None]:
+async def lock(state: State, names: Sequence[bytes], deadline: float) -> None:
     """Locks the names in their order. What is owned at an exception stays owned."""
     state.waited = 0.0
     if state.is_unsettled:
-        yield from settle(state)
+        await settle(state)
     while names:
         part = names if len(names) == 1 else names[: cut(names, LONGEST - len(b"lock ") - len(state.key))]
-        words: Answer = yield Ask(b"lock", tuple(part))
-        names = names[len(part) if words[0] in OWNED else (yield from _owned(state, part, words, deadline)) :]
+        words: Answer = await state.session.ask(Ask(b"lock", tuple(part)))
+        names = names[len(part) if words[0] in OWNED else (await _owned(state, part, words, deadline)) :]
 
 
-def _owned(state: State, names: Sequence[bytes], words: Answer, deadline: float) -> Flow[int]:
+async def _owned(state: State, names: Sequence[bytes], words: Answer, deadline: float) -> int:
     """How many of the names that it asked for are owned, after its wait if need be. Raises what else the answer says."""
     if not words or words[0] in OWNED:
         return len(names)
@@ -74,113 +73,91 @@ def _owned(state: State, names: Sequence[bytes], words: Answer, deadline: float)
     if place >= len(names):
         raise ProtocolError(f"the service told of name {place} of {len(names)}")
     if words[0] == b"waits":
-        yield from _waited(state, decoded(names[place]), words[-1].decode("ascii"), deadline)
+        await _waited(state, decoded(names[place]), words[-1].decode("ascii"), deadline)
         return place + 1
     if words[0] == b"deadlock":
-        raise (yield from _deadlock(names[place], words[-1]))
+        raise (await _deadlock(state, names[place], words[-1]))
     raise _refused(state, words)
 
 
-def _deadlock(name: bytes, holder: bytes) -> Flow[Deadlock]:
+async def _deadlock(state: State, name: bytes, holder: bytes) -> Deadlock:
     """What to raise after a deadlock, once the cycle was read."""
-    words: Answer = yield Ask(b"cycle")
+    words: Answer = await state.session.ask(Ask(b"cycle"))
     return Deadlock(decoded(name), holder.decode("ascii"), cycle_of(words[1:]) if words[0] == b"cycle" else ())
 
 
-def _waited(state: State, name: str, holder: str, deadline: float) -> Flow[None]:
-    """Returns when the wait was granted."""
+async def _waited(state: State, name: str, holder: str, deadline: float) -> None:
+    """Returns when the wait was granted. At the deadline, and if it is interrupted, the request is taken back, and this raises."""
     state.waits = Status("waiting", name, holder)
-    start = monotonic()
+    start, pause, is_tried = monotonic(), SHORTEST, False
+    warns, until = start + state.slow_wait, deadline
     try:
-        told = yield from _told(state, name, holder, deadline)
+        while True:
+            told: Optional[Answer] = None if state.is_interrupted and not is_tried else await state.session.wait(min(until, warns))
+            if told is not None and told != WOKEN:
+                break
+            now = monotonic()
+            if now >= warns and state.warn is not None:
+                state.warn(state.key, name, holder, now - start)
+                warns = math.inf
+            if now < until and not state.is_interrupted:
+                continue
+            words: Answer = await state.session.ask(Ask(b"cancel"))
+            if words[0] == b"cancelled":
+                is_interrupted, state.is_interrupted = state.is_interrupted, False
+                raise Interrupted(f"the wait for {name!r} was interrupted") if is_interrupted else Timeout(name)
+            # What is refused has ended before, which this side was told before this reply.
+            until = monotonic() + pause if words[0] == b"carried" else math.inf
+            is_tried, pause = True, min(LONGEST_PAUSE, pause * 2)
     finally:
         state.waits = None
         state.waited += monotonic() - start
     if told[0] == b"aborted":
-        raise _aborted(state)
+        raise _refused(state, told)
 
 
-def _told(state: State, name: str, holder: str, deadline: float) -> Flow[Answer]:
-    """How the wait ended. At the deadline, and if it is interrupted, the request is taken back, and this raises."""
-    start, pause, is_tried = monotonic(), SHORTEST, False
-    warns, until = start + state.slow_wait, deadline
-    while True:
-        told: Optional[Answer] = None if state.is_interrupted and not is_tried else (yield min(until, warns))
-        if told is not None and told != WOKEN:
-            return told
-        now = monotonic()
-        if now >= warns and state.warn is not None:
-            state.warn(state.key, name, holder, now - start)
-            warns = math.inf
-        if now < until and not state.is_interrupted:
-            continue
-        words: Answer = yield Ask(b"cancel")
-        if words[0] == b"cancelled":
-            is_interrupted, state.is_interrupted = state.is_interrupted, False
-            raise Interrupted(f"the wait for {name!r} was interrupted") if is_interrupted else Timeout(name)
-        # What is refused has ended before, which this side was told before this reply.
-        until = monotonic() + pause if words[0] == b"carried" else math.inf
-        is_tried, pause = True, min(LONGEST_PAUSE, pause * 2)
-
-
-def settle(state: State) -> Flow[None]:
+async def settle(state: State) -> None:
     """After a call that was left: the replies to what it sent first, and what it waits for is taken back."""
     pause = SHORTEST
     while state.is_unsettled:
-        words: Answer = yield Ask(b"cancel")
+        words: Answer = await state.session.ask(Ask(b"cancel"))
         state.is_unsettled = words[0] == b"carried"
         if words[-1] == b"must-abort":  # the request that was left closed a cycle
-            told: Answer = yield Ask(b"status")
-            raise (yield from _deadlock(*told[1:3])) if told[0] == b"deadlock" else refusal(words[-1])
+            told: Answer = await state.session.ask(Ask(b"status"))
+            raise (await _deadlock(state, *told[1:3])) if told[0] == b"deadlock" else refusal(words[-1])
         if state.is_unsettled:
-            yield monotonic() + pause
+            await state.session.wait(monotonic() + pause)
             pause = min(LONGEST_PAUSE, pause * 2)
 
 
-def asked(state: State, ask: Ask, read: Callable[[Answer], R]) -> Flow[R]:
-    """What is read of the answer to a request of a transaction that waits for nothing. It is not refused."""
+async def asked(state: State, ask: Ask, read: Callable[[Answer], R]) -> R:
+    """What is read of the answer to a request of a transaction that waits for nothing, or of none: then nothing is left."""
     if state.is_unsettled:
-        yield from settle(state)
-    words: Answer = yield ask
+        await settle(state)
+    words: Answer = await state.session.ask(ask)
+    state.is_over = not state.key
     if words[0] == b"refused":
         raise _refused(state, words)
     return read(words)
 
 
-def commit(state: State, deadline: Optional[float]) -> Flow[None]:
+async def commit(state: State, deadline: Optional[float]) -> None:
     """Ends the transaction."""
-    yield from asked(state, Ask(b"commit", (), deadline), lambda words: None)
+    await asked(state, Ask(b"commit", (), deadline), lambda words: None)
     state.is_over = True
 
 
-def abort(state: State) -> Flow[bool]:
+async def abort(state: State) -> bool:
     """Ends the transaction, whatever it does. Whether it has ended now, and not only when its wait ends."""
-    words: Answer = yield Ask(b"abort")
+    words: Answer = await state.session.ask(Ask(b"abort"))
     state.is_over = True
     return words[0] != b"later"
 
 
-def plain(state: State, ask: Ask, read: Callable[[Answer], R]) -> Flow[R]:
-    """What is read of the answer to a request without a transaction: then nothing is left."""
-    words: Answer = yield ask
-    state.is_over = True
-    if words[0] == b"refused":
-        raise refusal(words[-1])
-    return read(words)
-
-
-def known(value: R) -> Flow[R]:
-    """What need not be asked."""
-    yield from ()
-    return value
-
-
 def _refused(state: State, words: Answer) -> LockError:
-    """What a refusal says of a live transaction, which this side did not end."""
-    return _aborted(state) if words[-1] == b"no-transaction" else refusal(words[-1])
-
-
-def _aborted(state: State) -> LockError:
+    """What a refusal says, or the end of a wait. This side did not end a live transaction."""
+    if words[0] == b"refused" and (words[-1] != b"no-transaction" or not state.key):
+        return refusal(words[-1])
     state.is_over = True
     return Aborted("somebody else aborted the transaction, and all that it owned is given back")
 

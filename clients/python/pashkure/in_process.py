@@ -9,11 +9,10 @@ from time import monotonic
 from typing import Any, Callable, Dict, List, Optional, Sequence, Type, TypeVar
 
 from . import backend
-from .backend import BY_CLOSE, BY_FORK, FORGOTTEN, Why, each
-from .errors import Misuse
+from .backend import BY_CLOSE, BY_FORK, FORGOTTEN, OnEvent, Watch, Why, each
+from .errors import Misuse, Wait
 from .flows import waits_of
-from .values import Counts, Retry, Wait, decoded
-from .watch import OnEvent, Watch
+from .values import Counts, Retry, decoded
 from .wire import Answer, Ask
 
 L = TypeVar("L", bound="Manages")
@@ -42,7 +41,7 @@ class Inside(backend.Session):
         """What is to be called when there is news."""
         return self.is_told
 
-    def ask(self, ask: Ask) -> Any:
+    async def ask(self, ask: Ask) -> Answer:
         """The answer to a request, by the words of the protocol."""
         self.check()
         return _ANSWERS[ask.word](self, ask.names)
@@ -175,7 +174,7 @@ class Session(Inside):
         except RuntimeError:
             pass  # it was released before
 
-    def _sleep(self, deadline: float) -> None:
+    async def _sleep(self, deadline: float) -> None:
         self._lock_of_news.acquire(True, min(max(0.0, deadline - monotonic()), threading.TIMEOUT_MAX))
 
 
@@ -195,7 +194,7 @@ class InProcess(backend.Ending):
         self._sessions.add(session)
         return session
 
-    def session(self, deadline: float) -> Any:
+    async def session(self, deadline: float) -> Any:
         return self.new(Session)
 
     def close(self) -> None:

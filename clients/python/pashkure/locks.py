@@ -1,21 +1,24 @@
-"""Locks and transactions, for threads."""
+"""Locks and transactions, for threads, and the operator's socket (`mmdetect serve --admin PATH`)."""
 from __future__ import annotations
 
 import inspect
+import math
 import threading
-import time
-from typing import TYPE_CHECKING, Callable, Optional, TypeVar
+from typing import TYPE_CHECKING, Any, Callable, Iterator, List, Optional, Tuple, TypeVar
 
-from .backend import now
+from .backend import OnEvent, Watch, now, slept
 from .calls import Calls, Opened
+from .errors import Wait
+from .flows import cycle_of, status_of, waits_of
 from .service import Path, Service
-from .values import Name, Retry, all_encoded, seconds
-from .watch import OnEvent, Watch
+from .values import Client, Counts, Live, Name, Retry, Status, decoded, encoded, key_bytes, seconds
+from .wire import Answer, Ask
 
 if TYPE_CHECKING:
     from typing_extensions import Concatenate, ParamSpec
 
     P = ParamSpec("P")
+C = TypeVar("C", bound="Closes")
 R = TypeVar("R")
 
 
@@ -31,7 +34,6 @@ class Transaction(Calls):
     `status`. If an exception of a signal breaks off a call, the transaction is aborted, and its next call raises `LocksLost`.
     """
 
-    _drive = staticmethod(now)
     _who = staticmethod(threading.get_ident)
 
     def __enter__(self) -> "Transaction":
@@ -39,24 +41,33 @@ class Transaction(Calls):
         return self
 
     def __exit__(self, *error: object) -> None:
-        if error[0] is not None:
-            self.abort()
-        elif self._is_aborted or not self._state.is_over:
-            try:
-                self.commit()
-            except BaseException:
-                self.abort()
-                raise
+        now(self._leaves, *error)
 
 
-class Locks(Opened):
+class Closes:
+    """What is closed at the end of a `with` statement."""
+
+    _backend: Any
+
+    def close(self) -> None:
+        """Closes all connections, and waits for nothing. Live transactions are aborted, and their calls raise `Closed`."""
+        self._backend.close()
+
+    def __enter__(self: C) -> C:
+        return self
+
+    def __exit__(self, *error: object) -> None:
+        self.close()
+
+
+class Locks(Closes, Opened):
     """Exclusive locks on names, for transactions. All threads may use one object, and each process of a fork.
 
     `Locks.connect` makes one for a service, and `Locks.in_process` one without. In a `with` statement it is closed at the end.
     """
 
     _kind = Transaction
-    _pause = staticmethod(time.sleep)
+    _pause = staticmethod(slept)
 
     @classmethod
     def connect(cls, *paths: Path, connect_timeout: float = 5.0, reply_timeout: float = 10.0, retry: Retry = Retry(), on_event: OnEvent = None,
@@ -76,7 +87,7 @@ class Locks(Opened):
 
     def transaction(self, *names: Name, timeout: Optional[float] = None) -> Transaction:
         """Begins a transaction, and locks the names in their order. At an exception, as `Deadlock` or `Timeout`, none is left."""
-        tx = Transaction(self._backend, self._watch, all_encoded(names), seconds(timeout))
+        tx = Transaction(self._backend, self._watch, tuple(map(encoded, names)), seconds(timeout))
         tx._begin()
         return tx
 
@@ -87,10 +98,10 @@ class Locks(Opened):
         `Deadlock`, and each other exception, is raised. So the work locks first and changes things then, or undoes what it changed.
         It is not run again after `LocksLost`: it may have changed things while somebody else owned the names.
         """
-        if is_coroutine(work):
+        if any(map(inspect.iscoroutinefunction, (work, getattr(getattr(work, "func", work), "__call__", None)))):
             raise TypeError(f"{work!r} is a coroutine function: use pashkure.aio")
 
-        def attempt() -> R:
+        async def attempt() -> R:
             with self.transaction() as tx:
                 result = work(tx, *args, **kwargs)
                 if inspect.iscoroutine(result):
@@ -98,20 +109,63 @@ class Locks(Opened):
                     raise TypeError(f"{work!r} returned a coroutine: use pashkure.aio")
                 return result
 
-        return self._again(attempt)
-
-    def close(self) -> None:
-        """Closes all connections, and waits for nothing. Live transactions are aborted, and their calls raise `Closed`."""
-        self._backend.close()
-
-    def __enter__(self) -> "Locks":
-        return self
-
-    def __exit__(self, *error: object) -> None:
-        self.close()
+        return now(lambda: self._attempts(attempt))
 
 
-def is_coroutine(work: object) -> bool:
-    """Whether a call of it only makes a coroutine."""
-    work = getattr(work, "func", work)  # of a functools.partial
-    return inspect.iscoroutinefunction(work) or inspect.iscoroutinefunction(getattr(work, "__call__", None))
+class Operator(Closes):
+    """What only the operator may ask, at a socket whose clients see all transactions. Connects at first use. All threads may use it."""
+
+    def __init__(self, path: Path, *, connect_timeout: float = 5.0, reply_timeout: float = 10.0) -> None:
+        self._watch = Watch()
+        self._backend = Service((path,), connect_timeout, reply_timeout, self._watch.connection)
+
+    def transactions(self) -> List[Live]:
+        """All live transactions."""
+        return self._ask(b"list", lambda words: [_live(*line.split(b" ")[1:]) for line in words[2:]])
+
+    def status(self, key: str) -> Status:
+        """What the transaction with this key does."""
+        return self._ask(b"status", status_of, key_bytes(key))
+
+    def holds(self, key: str) -> List[str]:
+        """The names that the transaction with this key owns, in the order of their bytes."""
+        return self._ask(b"holds", lambda words: [decoded(word) for word in words[1:]], key_bytes(key))
+
+    def abort(self, key: str) -> bool:
+        """Aborts the transaction with this key: its call that waits, or its next one, raises `Aborted`. Whether it has ended now, and not only
+        when its wait ends."""
+        return self._ask(b"abort", lambda words: words[0] == b"aborted", key_bytes(key))
+
+    def graph(self) -> List[Wait]:
+        """All waits."""
+        return self._ask(b"graph", waits_of)
+
+    def counts(self) -> Counts:
+        """What the service has counted."""
+        return self._ask(b"counts", lambda words: Counts(*map(int, words[1:])))
+
+    def clients(self) -> List[Client]:
+        """Who is connected."""
+        return self._ask(b"clients", lambda words: [Client(*map(int, line.split(b" ")[1:])) for line in words[2:]])
+
+    def deadlocks(self) -> Iterator[Tuple[Wait, ...]]:
+        """Each deadlock from now on, as its waits, the victim's first, over a connection of its own. Raises `Closed` at its end."""
+        session = now(self._backend.new, math.inf)
+
+        def told() -> Iterator[Tuple[Wait, ...]]:
+            try:
+                while True:
+                    words = now(session.wait, math.inf)
+                    if words is not None:
+                        yield cycle_of(words[1:])
+            finally:
+                session.drop()
+
+        return told()
+
+    def _ask(self, word: bytes, read: Callable[[Answer], R], *names: bytes) -> R:
+        return Transaction(self._backend, self._watch)._plain(Ask(word, names), read)
+
+
+def _live(key: bytes, client: bytes, *status: bytes) -> Live:
+    return Live(key.decode("ascii"), None if client == b"-" else int(client), status_of(status))

@@ -1,20 +1,18 @@
 """The service at a Unix socket: how it is found, and for threads a connection for each live transaction, from a pool."""
 from __future__ import annotations
 
-import functools
+import contextlib
 import math
 import os
 import select
 import socket
-import time
 import weakref
 from time import monotonic
 from typing import Any, Callable, List, Optional, Sequence, Tuple, Union
 
 from . import backend
-from .backend import BY_CLOSE, BY_DROP, BY_FORK, FORGOTTEN, LOST, RESTARTED, Ending, Why, each, now
+from .backend import BY_CLOSE, BY_DROP, BY_FORK, FORGOTTEN, LOST, RESTARTED, Ending, Why, each, slept
 from .errors import CannotConnect, Closed, Full, LocksLost, ProtocolError
-from .flows import Flow
 from .values import seconds
 from .wire import Answer, Ask, Call, Conversation, Party
 
@@ -34,6 +32,10 @@ def reason(error: Optional[Exception], limit: Optional[float]) -> Why:
 class Ways(Ending):
     """The ways to one service, by the paths of sockets."""
 
+    _tried: Callable[[Any, float], Any]
+    """A connection by this way. In so many seconds a service has to say who it is: a tenth at least, so that the last try is one."""
+    _pause: Callable[[float], Any]
+
     def __init__(self, paths: Sequence[Path], connect_timeout: float, reply_timeout: float, tell: Callable[[Optional[Closed]], None]) -> None:
         if not paths:
             raise ValueError("the path of a socket is missing")
@@ -44,15 +46,15 @@ class Ways(Ending):
         self.epoch = 0  # the greatest that was seen
         self._way = 0  # the place of the path that answered last
 
-    def find(self, deadline: float, is_once: bool, tries: Callable[[Any, float], Any], pauses: Callable[[float], Any]) -> Flow[Any]:
+    async def find(self, deadline: float, is_once: bool) -> Any:
         """A connection, which one of the ways has. The pauses between the tries are 10 ms to 1 s."""
-        pause = 0.01
+        pause, deadline = 0.01, min(deadline, monotonic() + self.connect_timeout)
         while True:
             self.check()
             failed: List[str] = []
             for place in [*range(self._way, len(self.paths)), *range(self._way)]:
                 try:
-                    found = yield functools.partial(tries, self.paths[place], deadline)
+                    found = await self._tried(self.paths[place], max(0.1, min(self.reply_timeout, deadline - monotonic())))
                     self._way = place
                     if self.why is not None:
                         found.end(self.why)
@@ -65,20 +67,16 @@ class Ways(Ending):
             left = deadline - monotonic()
             if left <= 0 or is_once:
                 raise CannotConnect("; ".join(failed)) from cause
-            yield functools.partial(pauses, min(pause, left))
+            await self._pause(min(pause, left))
             pause = min(1.0, 2 * pause)
 
-    def limit(self, deadline: float) -> float:
-        """In how many seconds a service has to say who it is: a tenth at least, so that the last try is one."""
-        return max(0.1, min(self.reply_timeout, deadline - monotonic()))
-
-    def hello(self, talk: Conversation, exchange: Callable[[bytes], Any]) -> Flow[int]:
+    async def hello(self, talk: Conversation, exchange: Callable[[bytes], Any]) -> int:
         """The epoch that the service says, which is asked for it by `exchange`: that sends a line, and returns what comes. Raises `OSError` if
         the service is of no use, as if a greater epoch was seen."""
         call = Call(Ask(b"hello"), Party())
         line = talk.send(call)
         while call.answer is None:
-            talk.feed((yield functools.partial(exchange, line)))
+            talk.feed(await exchange(line))
             line = b""
         answer = call.answer
         if answer[0] != b"hello":
@@ -113,18 +111,18 @@ class Session(backend.Session):
     def __init__(self, service: "Service", connection: Socket) -> None:
         super().__init__()
         self.service, self.epoch = service, service.epoch
-        self._socket, self._talk = connection, Conversation(self)
-        self._poll = select.poll()
-        self._poll.register(connection, select.POLLIN)
+        self._socket, self.talk = connection, Conversation(self)
+        self.poll = select.poll()
+        self.poll.register(connection, select.POLLIN)
 
-    def ask(self, ask: Ask) -> Answer:
+    async def ask(self, ask: Ask) -> Answer:
         self.check()
         if ask.deadline is not None:
             self._socket.settimeout(max(0.001, min(self.service.reply_timeout, ask.deadline - monotonic())))
         call = Call(ask, self)
-        line = self._talk.send(call)
+        line = self.talk.send(call)
         while call.answer is None:
-            self._take(line)
+            await self._take(line)
             line = b""
         if ask.deadline is not None:
             self._socket.settimeout(self.service.reply_timeout)
@@ -132,19 +130,15 @@ class Session(backend.Session):
 
     def wake(self) -> None:
         self._is_woken = True
-        try:
+        with contextlib.suppress(OSError):  # it is closed, or many have woken it
             if self._pipe:
                 os.write(self._pipe[1], b"w")
-        except OSError:
-            pass  # it is closed, or many have woken it
 
     def end(self, why: Why) -> None:
         """A thread that reads wakes up. The descriptor is closed when nobody has the session any more."""
         self.why = self.why or why
-        try:
+        with contextlib.suppress(OSError):  # the other side has closed it
             self._socket.shutdown(socket.SHUT_RDWR)
-        except OSError:
-            pass  # the other side has closed it
 
     def give_back(self) -> None:
         self.key = b""
@@ -157,50 +151,39 @@ class Session(backend.Session):
         self.why = BY_FORK
         self.__del__()
 
-    def is_idle(self) -> bool:
-        """Whether it can be lent: nothing is due, and nothing came. What comes to an idle connection is its end."""
-        return self.why is None and self._talk.is_idle() and not self._poll.poll(0)
-
     def check(self) -> None:
-        if self._talk.pending:  # an exception broke off a call, and another one kept it from saying so
+        if self.talk.pending:  # an exception broke off a call, and another one kept it from saying so
             self.drop()
         if self.why is None and self.epoch < self.service.epoch:
             self.end(RESTARTED)
-        if self.why is not None:
-            raise self.why.error()
+        super().check()
 
-    def greet(self) -> None:
-        """Asks the service who it is."""
-        self.epoch = now(self.service.hello(self._talk, self._exchanged))
-        self._socket.settimeout(self.service.reply_timeout)
-
-    def _sleep(self, deadline: float) -> None:
+    async def _sleep(self, deadline: float) -> None:
         if not self._pipe:
             self._pipe = os.pipe()
             for descriptor in self._pipe:
                 os.set_blocking(descriptor, False)
-            self._poll.register(self._pipe[0], select.POLLIN)
+            self.poll.register(self._pipe[0], select.POLLIN)
             return  # somebody may have woken it before there was a pipe
         left = deadline - monotonic()
-        for descriptor, _ in self._poll.poll(None if left > LONGEST else max(0.0, math.ceil(left * 1000))):
+        for descriptor, _ in self.poll.poll(None if left > LONGEST else max(0.0, math.ceil(left * 1000))):
             if descriptor == self._pipe[0]:
                 os.read(descriptor, 64)
             else:
-                self._take(b"")
+                await self._take(b"")
 
-    def _take(self, line: bytes) -> None:
+    async def _take(self, line: bytes) -> None:
         """Sends a line, if there is one, and takes what comes."""
         try:
-            self._talk.feed(self._exchanged(line))
+            self.talk.feed(await self.exchanged(line))
         except OSError as error:
-            is_new = self.why is None
-            self.end(reason(error, self._socket.gettimeout()))
-            assert self.why is not None
+            is_new, why = self.why is None, self.why or reason(error, self._socket.gettimeout())
+            self.end(why)
             if is_new:
-                self.service.tell(self.why.error())
-            raise self.why.error() from error
+                self.service.tell(why.error())
+            raise why.error() from error
 
-    def _exchanged(self, line: bytes) -> bytes:
+    async def exchanged(self, line: bytes) -> bytes:
         try:
             self._socket.sendall(line)
         except BrokenPipeError:
@@ -221,25 +204,27 @@ class Session(backend.Session):
 class Service(Ways):
     """A service that many processes share."""
 
-    def __init__(self, paths: Sequence[Path], connect_timeout: float, reply_timeout: float, tell: Callable[[Optional[Closed]], None]) -> None:
-        super().__init__(paths, connect_timeout, reply_timeout, tell)
+    _pause = staticmethod(slept)
+
+    def __init__(self, *options: Any) -> None:
+        super().__init__(*options)
         self.idle: List[Session] = []
         self._all: "weakref.WeakSet[Session]" = weakref.WeakSet()
 
-    def session(self, deadline: float) -> Session:
+    async def session(self, deadline: float) -> Session:
         while self.idle:
             try:
                 session = self.idle.pop()
             except IndexError:
                 break  # another thread took it
-            if session.epoch >= self.epoch and session.is_idle():
-                return session
+            if session.why is None and session.epoch >= self.epoch and session.talk.is_idle() and not session.poll.poll(0):
+                return session  # what comes to an idle connection is its end
             session.end(BY_DROP)
-        return self.new(deadline)
+        return await self.new(deadline)
 
-    def new(self, deadline: float) -> Session:
+    async def new(self, deadline: float) -> Session:
         """A session over a new connection."""
-        session = self._found(deadline, False)
+        session: Session = await self.find(deadline, False)
         self.tell(None)
         return session
 
@@ -249,25 +234,20 @@ class Service(Ways):
         for session in each(self._all):
             session.end(BY_CLOSE)
 
-    def look(self, lost: Session) -> None:
+    async def look(self, lost: Session) -> None:
         """Tries each way once, to learn whether the service was started anew. Raises `Closed` if there is none."""
-        self.idle.append(self._found(math.inf, True))
+        self.idle.append(await self.find(math.inf, True))
 
-    def _found(self, deadline: float, is_once: bool) -> Session:
-        deadline = min(deadline, monotonic() + self.connect_timeout)
-        session: Session = now(self.find(deadline, is_once, self._tried, time.sleep))
-        return session
-
-    def _tried(self, path: Any, deadline: float) -> Session:
-        """A connection by this way."""
+    async def _tried(self, path: Any, limit: float) -> Session:
         connection = Socket(socket.AF_UNIX)
-        connection.settimeout(self.limit(deadline))
+        connection.settimeout(limit)
         try:
             connection.connect(path)
             session = Session(self, connection)
             self._all.add(session)
             FORGOTTEN.add(session)
-            session.greet()
+            session.epoch = await self.hello(session.talk, session.exchanged)
+            connection.settimeout(self.reply_timeout)
             return session
         except BaseException:
             connection.close()

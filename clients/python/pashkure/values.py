@@ -5,7 +5,7 @@ import math
 import random
 import re
 from dataclasses import dataclass
-from typing import Literal, Optional, Sequence, Tuple, Union
+from typing import Literal, Optional, Tuple, Union
 
 from .errors import BadName, NameTooLong
 
@@ -30,10 +30,6 @@ def encoded(name: Name) -> bytes:
     if len(data) > LONGEST_NAME:
         raise NameTooLong(f"a name of {len(data)} bytes; no service takes more than {LONGEST_NAME}")
     return data
-
-
-def all_encoded(names: Sequence[Name]) -> Tuple[bytes, ...]:
-    return tuple([encoded(name) for name in names])
 
 
 def decoded(data: bytes) -> str:
@@ -69,14 +65,6 @@ class Status:
     name: Optional[str] = None
     holder: Optional[str] = None
     aborting: bool = False
-
-
-@dataclass(frozen=True)
-class Wait:
-    """The transaction `key` waits for `name`, which `holder` owns. Behind the last wait of a cycle that was cut, the holder is ".."."""
-    key: str
-    name: str
-    holder: str
 
 
 @dataclass(frozen=True)

@@ -58,6 +58,7 @@ class Party:
 
     key = b""
     """Of the transaction, from its begin."""
+    is_unwanted = False  # a begin that comes yet is aborted
 
     def __init__(self) -> None:
         self.told: List[Answer] = []  # how its wait ended, until that is read; or each deadlock, to an operator
@@ -69,12 +70,10 @@ class Party:
 class Call:
     """A request that was sent, and its answer once that is there."""
 
-    __slots__ = ("ask", "party", "answer", "is_abandoned", "since")
+    answer: Optional[Answer] = None
 
     def __init__(self, ask: Ask, party: Party) -> None:
         self.ask, self.party, self.since = ask, party, monotonic()
-        self.answer: Optional[Answer] = None
-        self.is_abandoned = False
 
 
 class Conversation:
@@ -120,9 +119,7 @@ class Conversation:
 
     def drop(self, party: Party) -> bytes:
         """What ends the transaction, whatever it does."""
-        for call in self.pending:
-            if call.party is party and call.ask.word == b"begin":
-                call.is_abandoned = True
+        party.is_unwanted = True
         return self.send(Call(Ask(b"abort"), party)) if party.key in self._live else b""
 
     def lost(self) -> None:
@@ -154,7 +151,7 @@ class Conversation:
         if words[0] == b"begun":
             party.key = words[1]
             self._live[party.key] = party
-            if call.is_abandoned:
+            if party.is_unwanted:
                 self._owed += self.send(Call(Ask(b"abort"), party))
         elif words[0] in (b"committed", b"aborted"):
             self._live.pop(party.key, None)

@@ -2,16 +2,11 @@
 from __future__ import annotations
 
 from .. import in_process
-from ..wire import Answer, Ask
 from .service import Sleeper
 
 
 class Session(Sleeper, in_process.Inside):
     """One transaction."""
-
-    async def ask(self, ask: Ask) -> Answer:
-        answer: Answer = super().ask(ask)
-        return answer
 
     def abandon(self) -> bool:
         self._manager.cancel(self._seat)

@@ -1,40 +1,19 @@
-"""The service at a Unix socket, for tasks: one connection for the transactions of all tasks, or a few. And what runs flows for tasks."""
+"""The service at a Unix socket, for tasks: one connection for the transactions of all tasks, or a few."""
 from __future__ import annotations
 
 import asyncio
 import math
 import socket
 from time import monotonic
-from typing import Any, Callable, List, Optional, Sequence, Tuple, TypeVar, cast
+from typing import Any, Callable, List, Optional, Sequence, Tuple
 
 from .. import backend
 from ..backend import BY_CLOSE, BY_FORK, FORGOTTEN, LOST, RESTARTED, Why
 from ..errors import CannotConnect, Closed, LocksLost, ProtocolError
-from ..flows import Flow
 from ..service import SIZE, Path, Ways, reason
 from ..wire import Answer, Ask, Call, Conversation
 
-R = TypeVar("R")
 ENDS = (b"commit", b"abort", b"cancel")
-
-
-async def soon(flow: Flow[R], caller: Any = None) -> R:
-    """As `pashkure.backend.now`, for a task."""
-    try:
-        step = next(flow)
-        while True:
-            try:
-                if isinstance(step, Ask):
-                    answer = await caller._session.ask(step)
-                else:
-                    answer = await (caller._session.wait(step) if isinstance(step, float) else step())
-            except BaseException as error:
-                step = flow.throw(error)
-            else:
-                step = flow.send(answer)
-    except StopIteration as end:
-        result: R = end.value
-        return result
 
 
 class Sleeper(backend.Session):
@@ -45,13 +24,6 @@ class Sleeper(backend.Session):
     def __init__(self, *owner: Any) -> None:
         super().__init__(*owner)
         self.loop = asyncio.get_running_loop()
-
-    async def wait(self, deadline: float) -> Optional[Answer]:
-        while True:
-            news = self.news()
-            if news is not None or monotonic() >= deadline:
-                return news
-            await self._sleep(deadline)
 
     def is_told(self) -> None:
         """Wakes the task."""
@@ -72,13 +44,12 @@ class Sleeper(backend.Session):
                 timer.cancel()
 
 
-class Connection(asyncio.Protocol):
+class Connection(asyncio.Protocol, backend.Ending):
     """One connection, for any number of transactions."""
 
     def __init__(self, service: "Service", own: socket.socket) -> None:
         self.service, self.own, self.epoch = service, own, service.epoch
         self.loop, self.talk = asyncio.get_running_loop(), Conversation()
-        self.why: Optional[Why] = None
         self.can_write = asyncio.Event()
         self.can_write.set()
         self._transport: Optional[asyncio.Transport] = None
@@ -89,8 +60,8 @@ class Connection(asyncio.Protocol):
         self.own.setblocking(False)
         self.own.connect(path)
         FORGOTTEN.add(self)
-        self.epoch = await soon(self.service.hello(self.talk, self._exchanged))
-        await self.loop.create_connection(lambda: self, sock=self.own)
+        self.epoch = await self.service.hello(self.talk, self._exchanged)
+        self._transport, _ = await self.loop.create_connection(lambda: self, sock=self.own)
 
     async def _exchanged(self, line: bytes) -> bytes:
         try:
@@ -101,9 +72,6 @@ class Connection(asyncio.Protocol):
         if not data:
             raise ConnectionResetError("it closed the connection")
         return data
-
-    def connection_made(self, transport: asyncio.BaseTransport) -> None:
-        self._transport = cast(asyncio.Transport, transport)
 
     def data_received(self, data: bytes) -> None:
         try:
@@ -191,8 +159,7 @@ class Session(Sleeper):
         if self.epoch < self.connection.service.epoch:
             self.connection.end(RESTARTED)
         self.why = self.why or self.connection.why
-        if self.why is not None:
-            raise self.why.error()
+        super().check()
 
     def end(self, why: Why) -> None:
         if self.why is None and self.connection.why is None:
@@ -209,9 +176,10 @@ class Session(Sleeper):
 class Service(Ways):
     """A service that many processes share, for the tasks of one loop."""
 
-    def __init__(self, paths: Sequence[Path], connect_timeout: float, reply_timeout: float, connections: int,
-                 tell: Callable[[Optional[Closed]], None]) -> None:  # fmt: skip
-        super().__init__(paths, connect_timeout, reply_timeout, tell)
+    _pause = staticmethod(asyncio.sleep)
+
+    def __init__(self, connections: int, *options: Any) -> None:
+        super().__init__(*options)
         if connections < 1:
             raise ValueError(f"connections is at least 1, not {connections}")
         self.connections: List[Optional[Connection]] = [None] * connections
@@ -226,15 +194,14 @@ class Service(Ways):
             raise RuntimeError("these locks were opened in another event loop: each loop needs its own")
         place = self._turn = (self._turn + 1) % len(self.connections)
         connection = self.connections[place]
-        if connection is not None and connection.why is None and connection.epoch >= self.epoch:
-            return Session(connection)
-        return Session(await self._shared(place, deadline))
+        if connection is None or connection.why is not None or connection.epoch < self.epoch:
+            connection = await self._shared(place, deadline)
+        return Session(connection)
 
     def close(self) -> None:
         self.why = BY_CLOSE
-        for connection in self.connections:
-            if connection is not None:
-                connection.end(BY_CLOSE)
+        for connection in filter(None, self.connections):
+            connection.end(BY_CLOSE)
 
     async def look(self, lost: Session) -> None:
         """Tries each way once, to learn whether the service was started anew. Raises `Closed` if there is none."""
@@ -258,16 +225,15 @@ class Service(Ways):
                 raise type(error)(*error.args) from error.__cause__
 
     async def _connected(self, place: int, is_once: bool) -> Connection:
-        connection: Connection = await soon(self.find(monotonic() + self.connect_timeout, is_once, self._tried, asyncio.sleep))
+        connection: Connection = await self.find(math.inf, is_once)
         self.connections[place] = connection
         self.tell(None)
         return connection
 
-    async def _tried(self, path: Any, deadline: float) -> Connection:
-        """A connection by this way."""
+    async def _tried(self, path: Any, limit: float) -> Connection:
         connection = Connection(self, socket.socket(socket.AF_UNIX))
         try:
-            await asyncio.wait_for(connection.opened(path), self.limit(deadline))
+            await asyncio.wait_for(connection.opened(path), limit)
             return connection
         except BaseException as error:
             connection.end(LOST)
