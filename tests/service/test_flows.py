@@ -190,10 +190,6 @@ class Place(Party):
         """Runs the flow to its end, whose value it returns, or up to this moment."""
         answer = None
         try:
-<<<<<<< HEAD
-=======
-            step = flow.send(None)
->>>>>>> 97e746b62ff27b227500440578616c5c37933120
             for count in itertools.count():
                 step = flow.send(answer)
                 if isinstance(step, Ask):

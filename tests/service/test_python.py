@@ -2,11 +2,8 @@
 service for tests."""
 from __future__ import annotations
 
-<<<<<<< HEAD
 import contextlib
-=======
 import gc
->>>>>>> 97e746b62ff27b227500440578616c5c37933120
 import logging
 import os
 import shlex
