@@ -9,7 +9,7 @@ import shutil
 import signal
 import subprocess
 
-from lib.world import LIMIT, PROGRAM, TOP, Case, Run, each, read, run, state, typed, until, wants, write
+from lib.world import LIMIT, PROGRAM, TOP, Case, Run, each, read, run, slow, state, typed, until, wants, write
 
 # A try prints what it was given, and has no answer while 'mute' is there. A build proves one crate, and then waits, with a process below
 # it, while 'held' is there; it fails if 'refuses' is there. The program prints its sources, its words and its input.
@@ -155,6 +155,7 @@ class Tries(Checkout):
         self.gives(126, "", NO_PROGRAM + "\n", "", build="never")
         self.gives(126, "", NO_PROGRAM + ", and none may be: MMDETECT_BUILD=never\n", "", "prove", build="never")
 
+    @slow
     def test_answers_as_the_program(self) -> None:
         """One try of these sources answers each script as the program does."""
         wants("rt")

@@ -13,7 +13,7 @@ from typing import NamedTuple
 
 from lib.world import TOP, Case, each, read, write
 
-LIMIT = "60"
+LIMIT = "30"
 """Seconds after which a test takes something to have no end. A wrong body may hang; that is how its test fails."""
 EDITS = sorted(glob.glob(os.path.join(TOP, "tests/mutants/*.edit")))
 
