@@ -10,7 +10,7 @@ use crate::tokens::Granted;
 use mm_desk::{Asked, Desk, Room, Tried, Unlocked};
 use mm_locks::{LockError, MAX_WAKES, PendingWakes, Wakes, owns};
 use mm_manager::{Cancel, Refusal, Status, Totals};
-use mm_thin::Worker;
+use mm_thin::{GiveUp, Worker};
 
 /// The desk, room for what an end looks at, the processes whose wake-up is still pending, and the workers of no session.
 #[derive(Drop)]
@@ -147,8 +147,8 @@ impl Hall {
         }
     }
 
-    /// Gives a name back that a worker could not give back by itself, or had not taken. All that it has taken and that is fat is let go: a
-    /// bucket may be lent to it for another name.
+    /// Gives a name back that a worker could not give back by itself, or had not taken. It may be able to by now: the manager may have refused
+    /// the name meanwhile. Else all that the worker has taken and that is fat is let go: a bucket may be lent to it for another name.
     pub(crate) fn unlock(
         &mut self,
         worker: &mut Worker,
@@ -158,8 +158,12 @@ impl Hall {
         ensures noted { NotesEnd self.new.desk.manager wakes.old self.old.pending wakes.new self.new.pending }
         ensures in_time { IfErr result (λ error. error ≢ LockError.TimedOut) }
     {
-        let_go_all(worker);
-        let answer = self.desk.unlock(worker.at(), name);
+        let answer = if gives_back(worker, name) {
+            Ok(Unlocked::Done)
+        } else {
+            let_go_all(worker);
+            self.desk.unlock(worker.at(), name)
+        };
         self.pending.note_end(wakes, self.desk.manager());
         done(answer)
     }
@@ -168,7 +172,7 @@ impl Hall {
     pub(crate) fn commit(&mut self, worker: &mut Worker, wakes: &mut Wakes) -> Result<(), LockError>
         ensures in_time { IfErr result (λ error. error ≢ LockError.TimedOut) }
     {
-        let_go_all(worker);
+        leave_all(worker);
         match self.desk.commit(worker.at(), &mut self.room) {
             Ok(Unlocked::Done) => {
                 self.pending.note_end(wakes, self.desk.manager());
@@ -184,7 +188,7 @@ impl Hall {
 
     /// Ends a transaction, be it in a deadlock or not.
     pub(crate) fn roll_back(&mut self, worker: &mut Worker, wakes: &mut Wakes) {
-        let_go_all(worker);
+        leave_all(worker);
         let _ = self.desk.abort(worker.at(), &mut self.room);
         self.pending.note_end(wakes, self.desk.manager());
         let _ = self.desk.begin(worker.at());
@@ -201,6 +205,23 @@ impl Hall {
     /// What the manager counted since the opening.
     pub(crate) fn totals(&self) -> Totals {
         self.desk.manager().totals()
+    }
+}
+
+/// Gives a name back by the worker alone, if its bucket is not fat. Returns whether that is done.
+fn gives_back(worker: &mut Worker, name: &[u8]) -> bool {
+    match worker.find(name) {
+        Some(k) => matches!(worker.give_back(k), GiveUp::Done),
+        None => false,
+    }
+}
+
+/// Gives all back that a worker has taken, or lets it go if it is fat. While the lock is held no bucket changes from the one to the other.
+fn leave_all(worker: &mut Worker) {
+    for k in 0..worker.places() {
+        if let GiveUp::Changed = worker.give_back(k) {
+            let _ = worker.let_go(k);
+        }
     }
 }
 

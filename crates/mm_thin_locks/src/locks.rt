@@ -36,8 +36,9 @@ impl Drop for ThinLocks {
 impl ThinLocks {
     /// Locks of this configuration: nobody owns a name.
     ///
-    /// This is the one call that takes memory: what `LockManager::open` takes, 16 bytes a bucket, 1,600 a transaction, and 12 a name of the
-    /// manager.
+    /// This is the one call that takes memory: what `LockManager::open` takes, 16 bytes a bucket, 12 a name of the manager, and for each
+    /// transaction a worker with ten names of 64 bytes and a cache line in which its thread sleeps. While it opens it takes 8 bytes a bucket
+    /// and the names once more.
     pub fn open(alloc: Global, config: ThinLocksConfig) -> Result<ThinLocks, OpenError> {
         let desk = open_desk(alloc, config)?;
         let hall = open_hall(alloc, desk, config)?;
