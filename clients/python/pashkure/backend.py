@@ -1,14 +1,12 @@
-"""The seam below the flows: where a transaction lives, and what is told of it. What lends such places has `session`, `look` and `close`."""
-from __future__ import annotations
-
+"""The seam below the flows: where a transaction lives, and what is told of it. Who lends such places has `session`, `look`, `pause`, `close`."""
 import logging
 import os
 import weakref
 from time import monotonic, sleep
-from typing import Any, Callable, Coroutine, Iterable, List, NamedTuple, Optional, Sequence, Type, TypeVar
+from typing import Any, Callable, Coroutine, Iterable, List, Optional, Sequence, TypeVar
 
-from .errors import Closed, Deadlock, LocksLost, ServiceRestarted
-from .flows import WOKEN, State
+from .errors import Closed, Deadlock, LocksLost, ServiceRestarted, again
+from .flows import State
 from .values import Event, decoded, seconds
 from .wire import Answer, Ask, Party
 
@@ -16,24 +14,11 @@ R = TypeVar("R")
 log = logging.getLogger("pashkure")
 OnEvent = Optional[Callable[[Event], None]]
 
-
-class Why(NamedTuple):
-    """Why something is of no use any more."""
-
-    kind: Type[Closed]
-    text: str
-    is_slow: bool = False
-    """Whether an answer did not come in time. If a session is lost otherwise at its first request, another one may do."""
-
-    def error(self) -> Closed:
-        return self.kind(self.text)
-
-
-BY_CLOSE = Why(Closed, "it was closed")
-BY_FORK = Why(Closed, "it belongs to the parent process, before a fork")
-BY_DROP = Why(LocksLost, "a call of this transaction was broken off, so its connection was closed, and its locks are gone")
-LOST = Why(LocksLost, "the connection to the service was lost")
-RESTARTED = Why(ServiceRestarted, "the service was started anew, and all locks of before are gone")
+BY_CLOSE = Closed("it was closed")
+BY_FORK = Closed("it belongs to the parent process, before a fork")
+BY_DROP = LocksLost("a call of this transaction was broken off, so its connection was closed, and its locks are gone")
+LOST = LocksLost("the connection to the service was lost")
+RESTARTED = ServiceRestarted("the service was started anew, and all locks of before are gone")
 FORGOTTEN: "weakref.WeakSet[Any]" = weakref.WeakSet()
 """What the child of a fork forgets, so that only the parent has it: the connections, whose copies it closes, and the managers in process."""
 
@@ -97,12 +82,13 @@ class Watch:
 class Ending:
     """What is of no use any more at some time."""
 
-    why: Optional[Why] = None
+    why: Optional[Closed] = None
+    """What its calls raise from then on."""
 
     def check(self) -> None:
         """Raises if it is of no use any more."""
         if self.why is not None:
-            raise self.why.error()
+            raise again(self.why)
 
 
 class Session(Party, Ending):
@@ -114,39 +100,33 @@ class Session(Party, Ending):
 
     ask: Callable[[Ask], Any]
     """The answer to a request. It waits for no other transaction, and for no longer than the backend allows: then it raises `Closed`."""
-    end: Callable[[Why], None]
-    """Ends the transaction, whatever it does, from any thread. It waits for nothing, and never raises."""
+    end: Callable[..., None]
+    """Ends the transaction, whatever it does, from any thread: for this reason, or `BY_DROP`. It waits for nothing, and never raises."""
     _sleep: Callable[[float], Any]
     """Returns when there may be news, and at the deadline."""
 
     async def wait(self, deadline: float) -> Optional[Answer]:
-        """How the wait of its transaction ended: granted or aborted. `WOKEN` after `wake`; none at the deadline, a time of `monotonic`."""
-        while True:
-            news = self.news()
-            if news is not None or monotonic() >= deadline:
-                return news
+        """How the wait of its transaction ended: granted or aborted. None at the deadline, a time of `monotonic`, and after `wake`."""
+        news = self.news()
+        while news is None and not self._is_woken and monotonic() < deadline:
             await self._sleep(deadline)
+            news = self.news()
+        self._is_woken = False
+        return news
 
     def news(self) -> Optional[Answer]:
         """What `wait` returns, if it need not wait for that."""
         self.check()
-        if self.told:
-            return self.told.pop(0)
-        is_woken, self._is_woken = self._is_woken, False
-        return WOKEN if is_woken else None
+        return self.told.pop(0) if self.told else None
 
     def wake(self) -> None:
         """Ends a `wait`, or the next one, from any thread."""
         self._is_woken = True
         self.is_told()
 
-    def drop(self) -> None:
-        """Ends a transaction that nobody wants."""
-        self.end(BY_DROP)
-
     def let_go(self) -> None:
-        """As `drop`, at any moment of any thread, as when an object ends."""
-        self.drop()
+        """As `end`, at any moment of any thread, as when an object ends."""
+        self.end()
 
     def abandon(self) -> bool:
         """A call was left at an exception. Whether what it waits for could be taken back, so that the transaction goes on."""

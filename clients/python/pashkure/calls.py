@@ -1,6 +1,4 @@
 """The calls that threads and tasks have in common. Each is a flow, which `_drive` runs: now, or when it is awaited."""
-from __future__ import annotations
-
 import contextlib
 import copy
 import math
@@ -10,8 +8,8 @@ from time import monotonic
 from typing import Any, Awaitable, Callable, Coroutine, List, Optional, Sequence, Tuple, Type, TypeVar
 
 from . import flows
-from .backend import LOST, RESTARTED, Watch, now
-from .errors import Aborted, CannotConnect, Closed, Deadlock, LockError, LocksLost, MustAbort, NoTransaction, Waiting
+from .backend import BY_DROP, LOST, RESTARTED, now
+from .errors import Aborted, CannotConnect, Closed, Deadlock, LockError, LocksLost, MustAbort, NoTransaction, Waiting, again
 from .in_process import Manages
 from .values import Fence, Name, Retry, Status, Totals, decoded, encoded, seconds
 from .wire import Answer, Ask
@@ -23,16 +21,14 @@ R = TypeVar("R")
 class Calls:
     """A transaction, which owns the names that it locks until it ends. The types are those for threads."""
 
-    _who: Callable[[], Any]
-    """The thread or the task that calls this."""
-
+    _who: Callable[[], Any]  # the thread or the task that calls this
     _own: Any = None  # the one that began it
     _right: List[Any] = []  # the session: who takes it out may end the transaction
     _is_aborted = False  # by another thread or task
 
-    def __init__(self, backend: Any, watch: Watch, names: Tuple[bytes, ...] = (), timeout: float = math.inf) -> None:
-        self._backend, self._watch, self._names, self._timeout = backend, watch, names, timeout
-        self._state = flows.State(watch.slow_wait, watch.slow)
+    def __init__(self, backend: Any, names: Tuple[bytes, ...] = (), timeout: float = math.inf) -> None:
+        self._backend, self._names, self._timeout = backend, names, timeout
+        self._state = flows.State(backend.watch.slow_wait, backend.watch.slow)
         self._busy = threading.Lock()  # held within a call, and never waited for
 
     @property
@@ -80,8 +76,7 @@ class Calls:
 
     def commit(self, timeout: Optional[float] = None) -> None:
         """Ends the transaction. All that it owns is given back. If no reply comes in time, this raises `LocksLost`."""
-        deadline = None if timeout is None else monotonic() + seconds(timeout)
-        return self._call("commit", (), flows.commit, deadline)
+        return self._ask(b"commit", lambda words: None, kind="commit", deadline=monotonic() + seconds(timeout))
 
     def abort(self) -> None:
         """Ends the transaction, whatever it does. All that it owns is given back. Nothing happens if it has ended.
@@ -96,8 +91,8 @@ class Calls:
         if self._state.session is not None:
             self._state.session.wake()
 
-    def _ask(self, word: bytes, read: Callable[[Answer], R], *names: Name) -> R:
-        return self._call("", (), flows.asked, Ask(word, tuple(map(encoded, names))), read)
+    def _ask(self, word: bytes, read: Callable[[Answer], R], *names: Name, kind: str = "", deadline: float = math.inf) -> R:
+        return self._call(kind, (), flows.asked, Ask(word, tuple(map(encoded, names)), deadline), read)
 
     def _plain(self, ask: Ask, read: Callable[[Answer], R]) -> R:
         """What a request without a transaction says. None begins."""
@@ -106,7 +101,6 @@ class Calls:
         return result
 
     def _begin(self) -> Any:
-        """Begins it."""
         if self._own is not None:
             raise RuntimeError("it has begun: call `transaction` for each transaction")
         self._own, deadline = self._who(), monotonic() + self._timeout
@@ -128,7 +122,7 @@ class Calls:
         """The end of its block: it is committed, or aborted at an exception."""
         try:
             if error[0] is None and (self._is_aborted or not self._state.is_over):
-                await self._within("commit", (), flows.commit, None)
+                await self._within("commit", (), flows.asked, Ask(b"commit"), lambda words: None)
         finally:
             await self._ends()
 
@@ -144,8 +138,8 @@ class Calls:
             except LocksLost as lost:
                 if state.key:
                     raise
-                self._part("drop")
-                if state.session.why.is_slow:
+                self._part("end")
+                if state.session.why not in (BY_DROP, LOST, RESTARTED):  # the answer was late
                     raise CannotConnect(str(lost)) from lost
 
     async def _within(self, kind: str, names: Sequence[bytes], flow: Callable[..., Any], *args: Any) -> Any:
@@ -156,7 +150,7 @@ class Calls:
             raise Aborted("the transaction was aborted") if self._is_aborted else NoTransaction("the transaction has ended")
         if not self._busy.acquire(False):
             raise Aborted("another call aborts it") if self._is_aborted else Waiting("another thread or task is inside a call of this transaction")
-        start, error = monotonic(), None
+        start, error, self._state.waited = monotonic(), None, 0.0
         try:
             result = await flow(self._state, *args)
             self._is_aborted = self._is_aborted and not self._state.is_over  # a commit that was made counts
@@ -169,7 +163,7 @@ class Calls:
             if self._state.is_over:
                 self._part("give_back")
             self._busy.release()
-            self._watch.call(kind, self._state, names, start, error)
+            self._backend.watch.call(kind, self._state, names, start, error)
             del error  # which has this frame
 
     async def _after(self, kind: str, error: BaseException) -> BaseException:
@@ -179,7 +173,7 @@ class Calls:
         if not isinstance(error, LockError) and self._right and session.abandon():
             self._state.is_unsettled, self._state.is_over = not is_last, is_last  # a commit was sent; refused, it is an abort
         is_dead = isinstance(error, Closed) or not isinstance(error, LockError) and not self._state.is_unsettled
-        is_lost = is_dead and self._part("drop") and session.why is LOST
+        is_lost = is_dead and self._part("end") and session.why is LOST
         if self._is_aborted and isinstance(error, LocksLost):
             return Aborted("another thread or task aborted the transaction")
         if is_lost and session.epoch >= self._backend.epoch:  # whether the service was started anew a new connection says
@@ -187,7 +181,7 @@ class Calls:
                 await self._backend.look(session)
         if is_lost and session.epoch < self._backend.epoch:
             session.why = RESTARTED
-            return RESTARTED.error()
+            return again(RESTARTED)
         return error
 
     async def _ends(self) -> None:
@@ -204,10 +198,10 @@ class Calls:
             pass
         finally:
             state.is_over = True
-            self._part("drop")
+            self._part("end")
             if is_free:
                 self._busy.release()
-            self._watch.call("abort", state, (), start, None)
+            self._backend.watch.call("abort", state, (), start, None)
 
     def _part(self, how: str) -> bool:
         """Parts with the session in this way, if this call is the one that ends the transaction. Whether it is."""
@@ -230,10 +224,9 @@ class Opened(Manages):
     """Exclusive locks on names, for transactions."""
 
     _kind: Type[Calls]  # of its transactions
-    _pause: Callable[[float], Any]
 
-    def __init__(self, backend: Any, watch: Watch, retry: Retry) -> None:
-        self._backend, self._watch, self._retry = backend, watch, retry
+    def __init__(self, backend: Any, retry: Retry) -> None:
+        self._backend, self._retry = backend, retry
 
     def retrying(self: L, retry: Retry) -> L:
         """The same locks, whose `run` tries otherwise."""
@@ -250,7 +243,7 @@ class Opened(Manages):
         return self._ask(b"totals", lambda words: Totals(*map(int, words[1:])))
 
     def _ask(self, word: bytes, read: Callable[[Answer], R], *names: Name) -> R:
-        return self._kind(self._backend, self._watch)._plain(Ask(word, tuple(map(encoded, names))), read)
+        return self._kind(self._backend)._plain(Ask(word, tuple(map(encoded, names))), read)
 
     async def _attempts(self, attempt: Callable[[], Awaitable[R]]) -> R:
         """What an attempt returns, which is made again after a deadlock."""
@@ -262,7 +255,7 @@ class Opened(Manages):
             except BaseException as error:
                 if number >= self._retry.attempts or not is_deadlock(error):
                     raise
-            await self._pause(self._retry.pause(number, monotonic() - start))
+            await self._backend.pause(self._retry.pause(number, monotonic() - start))
 
     def __repr__(self) -> str:
         return f"<Locks {self._backend}>"

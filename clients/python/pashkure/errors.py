@@ -1,8 +1,8 @@
 """The exceptions of the package, and what one of them tells. Each is a `LockError`, and can be pickled."""
-from __future__ import annotations
-
 from dataclasses import dataclass
-from typing import Sequence, Tuple
+from typing import Sequence, TypeVar
+
+E = TypeVar("E", bound=BaseException)
 
 
 @dataclass(frozen=True)
@@ -27,8 +27,7 @@ class Deadlock(LockError):
 
     def __init__(self, name: str, holder: str, cycle: Sequence[Wait] = ()) -> None:
         super().__init__(name, holder, tuple(cycle))
-        self.name, self.holder = name, holder
-        self.cycle: Tuple[Wait, ...] = tuple(cycle)
+        self.name, self.holder, self.cycle = name, holder, tuple(cycle)
 
     def __str__(self) -> str:
         waits = ", ".join(f"{wait.key} waits for {wait.name!r}" for wait in self.cycle)
@@ -95,5 +94,9 @@ _REFUSALS = {
 def refusal(word: bytes) -> LockError:
     """The exception that a refusal stands for."""
     what = word.decode("ascii", "replace")
-    known = _REFUSALS.get(word) or (Full(what[:-5]) if what.endswith("-full") else ProtocolError(f"the service replied: refused {what}"))
-    return type(known)(*known.args)
+    return again(_REFUSALS.get(word) or (Full(what[:-5]) if what.endswith("-full") else ProtocolError(f"the service replied: refused {what}")))
+
+
+def again(error: E) -> E:
+    """A copy of the exception, without where it was raised before."""
+    return type(error)(*error.args)

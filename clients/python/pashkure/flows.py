@@ -3,8 +3,6 @@
 A flow is a coroutine, which awaits its transaction's session (`pashkure.backend.Session`) alone. That of a thread never suspends it:
 `pashkure.backend.now` runs it to its end.
 """
-from __future__ import annotations
-
 import math
 from dataclasses import dataclass
 from time import monotonic
@@ -15,8 +13,6 @@ from .values import Status, decoded
 from .wire import LONGEST, Answer, Ask, cut
 
 R = TypeVar("R")
-WOKEN: Answer = (b"woken",)
-"""The wait was not ended: somebody called `wake`."""
 OWNED = (b"granted", b"held")
 SHORTEST, LONGEST_PAUSE = 0.001, 0.1
 
@@ -38,16 +34,14 @@ class State:
 
 async def begin(state: State, names: Sequence[bytes], deadline: float) -> None:
     """Begins a transaction that owns these names. Where it cannot own all, none is left."""
-    part = names[: cut(names, LONGEST - len(b"begin"))] if names else ()
+    part = names[: cut(names, LONGEST - len(b"begin"))]
     words: Answer = await state.session.ask(Ask(b"begin", tuple(part)))
     state.is_over = words[0] != b"begun"
     if state.is_over:
         raise refusal(words[-1])
     state.key = words[1]
     try:
-        if part:
-            owned = await _owned(state, part, words[2:], deadline)
-            await lock(state, names[owned:], deadline)
+        await lock(state, names[await _owned(state, part, words[2:], deadline) :], deadline)
     except LockError as error:
         if not state.is_over and not isinstance(error, Closed):
             await abort(state)
@@ -56,13 +50,11 @@ async def begin(state: State, names: Sequence[bytes], deadline: float) -> None:
 
 async def lock(state: State, names: Sequence[bytes], deadline: float) -> None:
     """Locks the names in their order. What is owned at an exception stays owned."""
-    state.waited = 0.0
-    if state.is_unsettled:
-        await settle(state)
+    await settle(state)
     while names:
-        part = names if len(names) == 1 else names[: cut(names, LONGEST - len(b"lock ") - len(state.key))]
+        part = names[: cut(names, LONGEST - len(b"lock ") - len(state.key))]
         words: Answer = await state.session.ask(Ask(b"lock", tuple(part)))
-        names = names[len(part) if words[0] in OWNED else (await _owned(state, part, words, deadline)) :]
+        names = names[await _owned(state, part, words, deadline) :]
 
 
 async def _owned(state: State, names: Sequence[bytes], words: Answer, deadline: float) -> int:
@@ -94,7 +86,7 @@ async def _waited(state: State, name: str, holder: str, deadline: float) -> None
     try:
         while True:
             told: Optional[Answer] = None if state.is_interrupted and not is_tried else await state.session.wait(min(until, warns))
-            if told is not None and told != WOKEN:
+            if told is not None:
                 break
             now = monotonic()
             if now >= warns and state.warn is not None:
@@ -132,19 +124,12 @@ async def settle(state: State) -> None:
 
 async def asked(state: State, ask: Ask, read: Callable[[Answer], R]) -> R:
     """What is read of the answer to a request of a transaction that waits for nothing, or of none: then nothing is left."""
-    if state.is_unsettled:
-        await settle(state)
+    await settle(state)
     words: Answer = await state.session.ask(ask)
-    state.is_over = not state.key
+    state.is_over = not state.key or words[0] == b"committed"
     if words[0] == b"refused":
         raise _refused(state, words)
     return read(words)
-
-
-async def commit(state: State, deadline: Optional[float]) -> None:
-    """Ends the transaction."""
-    await asked(state, Ask(b"commit", (), deadline), lambda words: None)
-    state.is_over = True
 
 
 async def abort(state: State) -> bool:
@@ -170,7 +155,6 @@ def status_of(words: Sequence[bytes]) -> Status:
 
 
 def waits_of(words: Answer) -> List[Wait]:
-    """All waits."""
     return [cycle_of(line.split(b" ")[1:])[0] for line in words[2:]]
 
 

@@ -9,8 +9,8 @@ from time import monotonic
 from typing import Any, Callable, Dict, List, Optional, Sequence, Type, TypeVar
 
 from . import backend
-from .backend import BY_CLOSE, BY_FORK, FORGOTTEN, OnEvent, Watch, Why, each
-from .errors import Misuse, Wait
+from .backend import BY_CLOSE, BY_DROP, BY_FORK, FORGOTTEN, OnEvent, Watch, each, slept
+from .errors import Closed, Misuse, Wait, again
 from .flows import waits_of
 from .values import Counts, Retry, decoded
 from .wire import Answer, Ask
@@ -51,7 +51,7 @@ class Inside(backend.Session):
         over = self._seat.told()
         return super().news() if over is None else TOLD[over]
 
-    def end(self, why: Why) -> None:
+    def end(self, why: Closed = BY_DROP) -> None:
         if self.why is None:
             self.why = why
             self._manager.abort(self._seat)
@@ -68,7 +68,7 @@ class Inside(backend.Session):
 
     def _refused(self, result: int) -> Answer:
         if result not in REFUSALS:  # another thread has closed the manager
-            raise BY_CLOSE.error()
+            raise again(BY_CLOSE)
         return (b"refused", REFUSALS[result])
 
     def _begin(self, names: Sequence[bytes]) -> Answer:
@@ -181,8 +181,10 @@ class Session(Inside):
 class InProcess(backend.Ending):
     """The manager, and its sessions."""
 
-    def __init__(self, transactions: int, names: int, name_bytes: int) -> None:
-        self.extension, self.transactions = extension(), transactions
+    pause = staticmethod(slept)
+
+    def __init__(self, transactions: int, names: int, name_bytes: int, watch: Watch) -> None:
+        self.extension, self.transactions, self.watch = extension(), transactions, watch
         self.manager = self.extension.Manager(transactions, names, name_bytes, int.from_bytes(os.urandom(8), "little"))
         self._sessions: "weakref.WeakSet[Inside]" = weakref.WeakSet()
         FORGOTTEN.add(self)
@@ -242,7 +244,7 @@ class Manages:
         - `retry`, `on_event`, `slow_wait`: as for `connect`.
         """
         kind: Any = cls
-        locks: L = kind(cls._inside(transactions, names, name_bytes), Watch(on_event, slow_wait), retry)
+        locks: L = kind(cls._inside(transactions, names, name_bytes, Watch(on_event, slow_wait)), retry)
         return locks
 
     def locks(self) -> Dict[str, str]:

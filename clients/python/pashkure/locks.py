@@ -1,12 +1,10 @@
 """Locks and transactions, for threads, and the operator's socket (`mmdetect serve --admin PATH`)."""
-from __future__ import annotations
-
 import inspect
 import math
 import threading
 from typing import TYPE_CHECKING, Any, Callable, Iterator, List, Optional, Tuple, TypeVar
 
-from .backend import OnEvent, Watch, now, slept
+from .backend import OnEvent, Watch, now
 from .calls import Calls, Opened
 from .errors import Wait
 from .flows import cycle_of, status_of, waits_of
@@ -67,7 +65,6 @@ class Locks(Closes, Opened):
     """
 
     _kind = Transaction
-    _pause = staticmethod(slept)
 
     @classmethod
     def connect(cls, *paths: Path, connect_timeout: float = 5.0, reply_timeout: float = 10.0, retry: Retry = Retry(), on_event: OnEvent = None,
@@ -78,16 +75,14 @@ class Locks(Closes, Opened):
           other. A service whose epoch is below the greatest that was seen counts as not reachable.
         - `connect_timeout`: seconds for which it is tried to connect. Then `CannotConnect` is raised.
         - `reply_timeout`: seconds in which the service has to answer each request. Then the connection is closed, and `LocksLost` raised.
-        - `retry`: how often `run` tries, and its pauses.
+        - `retry`: how often `run` tries, and its pauses. `slow_wait`: seconds after which a wait is logged as a warning.
         - `on_event`: called after each begin, lock, commit and abort, in its thread, and when a connection is made or lost.
-        - `slow_wait`: seconds after which a wait is logged as a warning.
         """
-        watch = Watch(on_event, slow_wait)
-        return cls(Service(paths, connect_timeout, reply_timeout, watch.connection), watch, retry)
+        return cls(Service(paths, connect_timeout, reply_timeout, Watch(on_event, slow_wait)), retry)
 
     def transaction(self, *names: Name, timeout: Optional[float] = None) -> Transaction:
         """Begins a transaction, and locks the names in their order. At an exception, as `Deadlock` or `Timeout`, none is left."""
-        tx = Transaction(self._backend, self._watch, tuple(map(encoded, names)), seconds(timeout))
+        tx = Transaction(self._backend, tuple(map(encoded, names)), seconds(timeout))
         tx._begin()
         return tx
 
@@ -116,8 +111,7 @@ class Operator(Closes):
     """What only the operator may ask, at a socket whose clients see all transactions. Connects at first use. All threads may use it."""
 
     def __init__(self, path: Path, *, connect_timeout: float = 5.0, reply_timeout: float = 10.0) -> None:
-        self._watch = Watch()
-        self._backend = Service((path,), connect_timeout, reply_timeout, self._watch.connection)
+        self._backend = Service((path,), connect_timeout, reply_timeout, Watch())
 
     def transactions(self) -> List[Live]:
         """All live transactions."""
@@ -150,21 +144,12 @@ class Operator(Closes):
 
     def deadlocks(self) -> Iterator[Tuple[Wait, ...]]:
         """Each deadlock from now on, as its waits, the victim's first, over a connection of its own. Raises `Closed` at its end."""
-        session = now(self._backend.new, math.inf)
-
-        def told() -> Iterator[Tuple[Wait, ...]]:
-            try:
-                while True:
-                    words = now(session.wait, math.inf)
-                    if words is not None:
-                        yield cycle_of(words[1:])
-            finally:
-                session.drop()
-
-        return told()
+        session = now(self._backend.find, math.inf)
+        told: Iterator[Answer] = iter(lambda: now(session.wait, math.inf), None)
+        return (cycle_of(words[1:]) for words in told)
 
     def _ask(self, word: bytes, read: Callable[[Answer], R], *names: bytes) -> R:
-        return Transaction(self._backend, self._watch)._plain(Ask(word, names), read)
+        return Transaction(self._backend)._plain(Ask(word, names), read)
 
 
 def _live(key: bytes, client: bytes, *status: bytes) -> Live:

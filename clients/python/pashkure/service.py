@@ -1,6 +1,4 @@
 """The service at a Unix socket: how it is found, and for threads a connection for each live transaction, from a pool."""
-from __future__ import annotations
-
 import contextlib
 import math
 import os
@@ -8,46 +6,45 @@ import select
 import socket
 import weakref
 from time import monotonic
-from typing import Any, Callable, List, Optional, Sequence, Tuple, Union
+from typing import Any, Awaitable, Callable, Generic, List, Optional, Sequence, Tuple, TypeVar, Union
 
 from . import backend
-from .backend import BY_CLOSE, BY_DROP, BY_FORK, FORGOTTEN, LOST, RESTARTED, Ending, Why, each, slept
-from .errors import CannotConnect, Closed, Full, LocksLost, ProtocolError
+from .backend import BY_CLOSE, BY_DROP, BY_FORK, FORGOTTEN, LOST, RESTARTED, Ending, Watch, each, slept
+from .errors import CannotConnect, Closed, Full, LocksLost, ProtocolError, again
 from .values import seconds
 from .wire import Answer, Ask, Call, Conversation, Party
 
+C = TypeVar("C", bound=Any)  # a connection
 SIZE = 16384
 Path = Union[str, bytes, "os.PathLike[str]", "os.PathLike[bytes]"]
 LONGEST = 1e6
 """Seconds that the calls of the system take; more are as good as for ever."""
 
 
-def reason(error: Optional[Exception], limit: Optional[float]) -> Why:
-    """Why a connection is of no use after this error. So many seconds it waited for an answer."""
-    if isinstance(error, ProtocolError):
-        return Why(ProtocolError, str(error))
-    return Why(LocksLost, f"the service did not answer within {limit:g} s", True) if isinstance(error, socket.timeout) else LOST
+def late(limit: Optional[float]) -> LocksLost:
+    """Why a connection is of no use that has waited for an answer for so many seconds."""
+    return LocksLost(f"the service did not answer within {limit:g} s")
 
 
-class Ways(Ending):
+class Ways(Ending, Generic[C]):
     """The ways to one service, by the paths of sockets."""
 
-    _tried: Callable[[Any, float], Any]
+    _tried: Callable[[Any, float], Awaitable[C]]
     """A connection by this way. In so many seconds a service has to say who it is: a tenth at least, so that the last try is one."""
-    _pause: Callable[[float], Any]
+    pause: Callable[[float], Any]
 
-    def __init__(self, paths: Sequence[Path], connect_timeout: float, reply_timeout: float, tell: Callable[[Optional[Closed]], None]) -> None:
+    def __init__(self, paths: Sequence[Path], connect_timeout: float, reply_timeout: float, watch: Watch) -> None:
         if not paths:
             raise ValueError("the path of a socket is missing")
         self.paths = [os.fspath(path) for path in paths]
         self.connect_timeout = seconds(connect_timeout, "connect_timeout")
         self.reply_timeout = min(seconds(reply_timeout, "reply_timeout"), LONGEST)
-        self.tell = tell
+        self.watch, self.tell = watch, watch.connection
         self.epoch = 0  # the greatest that was seen
         self._way = 0  # the place of the path that answered last
 
-    async def find(self, deadline: float, is_once: bool) -> Any:
-        """A connection, which one of the ways has. The pauses between the tries are 10 ms to 1 s."""
+    async def find(self, deadline: float, is_once: bool = False) -> C:
+        """A new connection, which one of the ways has. The pauses between the tries are 10 ms to 1 s."""
         pause, deadline = 0.01, min(deadline, monotonic() + self.connect_timeout)
         while True:
             self.check()
@@ -56,6 +53,7 @@ class Ways(Ending):
                 try:
                     found = await self._tried(self.paths[place], max(0.1, min(self.reply_timeout, deadline - monotonic())))
                     self._way = place
+                    self.tell(None)
                     if self.why is not None:
                         found.end(self.why)
                     return found
@@ -67,29 +65,26 @@ class Ways(Ending):
             left = deadline - monotonic()
             if left <= 0 or is_once:
                 raise CannotConnect("; ".join(failed)) from cause
-            await self._pause(min(pause, left))
+            await self.pause(min(pause, left))
             pause = min(1.0, 2 * pause)
 
-    async def hello(self, talk: Conversation, exchange: Callable[[bytes], Any]) -> int:
-        """The epoch that the service says, which is asked for it by `exchange`: that sends a line, and returns what comes. Raises `OSError` if
-        the service is of no use, as if a greater epoch was seen."""
+    async def hello(self, found: C) -> None:
+        """Asks the service of a new connection for its epoch. Raises `OSError` if it is of no use, as if a greater epoch was seen."""
         call = Call(Ask(b"hello"), Party())
-        line = talk.send(call)
+        line = found.talk.send(call)
         while call.answer is None:
-            talk.feed(await exchange(line))
+            found.talk.feed(await found.exchanged(line))
             line = b""
-        answer = call.answer
-        if answer[0] != b"hello":
+        if call.answer[0] != b"hello":
             raise Full("connections")
-        if answer[1] != b"1":
-            raise ProtocolError(f"the service speaks protocol {answer[1].decode()}, and this package protocol 1")
-        epoch = int(answer[2])
+        if call.answer[1] != b"1":
+            raise ProtocolError(f"the service speaks protocol {call.answer[1].decode()}, and this package protocol 1")
+        epoch = found.epoch = int(call.answer[2])
         if epoch < self.epoch:
             raise ConnectionError(f"the service's epoch {epoch} is below {self.epoch}, which was seen before: it has to be started anew")
         is_new, self.epoch = 0 < self.epoch < epoch, max(self.epoch, epoch)
         if is_new:
-            self.tell(RESTARTED.error())
-        return epoch
+            self.tell(again(RESTARTED))
 
     def __str__(self) -> str:
         return " or ".join(map(os.fsdecode, self.paths))
@@ -117,24 +112,20 @@ class Session(backend.Session):
 
     async def ask(self, ask: Ask) -> Answer:
         self.check()
-        if ask.deadline is not None:
-            self._socket.settimeout(max(0.001, min(self.service.reply_timeout, ask.deadline - monotonic())))
+        self._socket.settimeout(max(0.001, min(self.service.reply_timeout, ask.deadline - monotonic())))
         call = Call(ask, self)
         line = self.talk.send(call)
         while call.answer is None:
             await self._take(line)
             line = b""
-        if ask.deadline is not None:
-            self._socket.settimeout(self.service.reply_timeout)
         return call.answer
 
     def wake(self) -> None:
         self._is_woken = True
-        with contextlib.suppress(OSError):  # it is closed, or many have woken it
-            if self._pipe:
-                os.write(self._pipe[1], b"w")
+        with contextlib.suppress(OSError, IndexError):  # it is closed, many have woken it, or it has not slept yet
+            os.write(self._pipe[1], b"w")
 
-    def end(self, why: Why) -> None:
+    def end(self, why: Closed = BY_DROP) -> None:
         """A thread that reads wakes up. The descriptor is closed when nobody has the session any more."""
         self.why = self.why or why
         with contextlib.suppress(OSError):  # the other side has closed it
@@ -147,13 +138,13 @@ class Session(backend.Session):
             self.end(self.service.why)
 
     def forget(self) -> None:
-        """In the child of a fork: closes its copies, so that only the parent has the connection."""
+        """In the child of a fork: closes its copy, so that only the parent has the connection."""
         self.why = BY_FORK
-        self.__del__()
+        self._socket.close()
 
     def check(self) -> None:
         if self.talk.pending:  # an exception broke off a call, and another one kept it from saying so
-            self.drop()
+            self.end()
         if self.why is None and self.epoch < self.service.epoch:
             self.end(RESTARTED)
         super().check()
@@ -173,38 +164,33 @@ class Session(backend.Session):
                 await self._take(b"")
 
     async def _take(self, line: bytes) -> None:
-        """Sends a line, if there is one, and takes what comes."""
+        """As `exchanged`, and takes what comes. The first error ends the connection."""
         try:
             self.talk.feed(await self.exchanged(line))
         except OSError as error:
-            is_new, why = self.why is None, self.why or reason(error, self._socket.gettimeout())
+            is_new, is_late = self.why is None, isinstance(error, socket.timeout)
+            why = self.why or (again(error) if isinstance(error, ProtocolError) else late(self._socket.gettimeout()) if is_late else LOST)
             self.end(why)
             if is_new:
-                self.service.tell(why.error())
-            raise why.error() from error
+                self.service.tell(again(why))
+            raise again(why) from error
 
     async def exchanged(self, line: bytes) -> bytes:
-        try:
+        """Sends a line, if there is one, and returns what comes."""
+        with contextlib.suppress(BrokenPipeError):  # what the service said before it closed the connection comes
             self._socket.sendall(line)
-        except BrokenPipeError:
-            pass  # what the service said before it closed the connection comes
-        data = self._socket.recv(SIZE)
-        if not data:
-            raise ConnectionResetError("it closed the connection")
-        return data
+        return self._socket.recv(SIZE)
 
     def __del__(self) -> None:
-        if hasattr(self, "_socket"):
-            self._socket.close()
         pipe, self._pipe = self._pipe, ()
         for descriptor in pipe:
             os.close(descriptor)
 
 
-class Service(Ways):
+class Service(Ways[Session]):
     """A service that many processes share."""
 
-    _pause = staticmethod(slept)
+    pause = staticmethod(slept)
 
     def __init__(self, *options: Any) -> None:
         super().__init__(*options)
@@ -212,21 +198,13 @@ class Service(Ways):
         self._all: "weakref.WeakSet[Session]" = weakref.WeakSet()
 
     async def session(self, deadline: float) -> Session:
-        while self.idle:
-            try:
+        with contextlib.suppress(IndexError):  # none is idle
+            while True:
                 session = self.idle.pop()
-            except IndexError:
-                break  # another thread took it
-            if session.why is None and session.epoch >= self.epoch and session.talk.is_idle() and not session.poll.poll(0):
-                return session  # what comes to an idle connection is its end
-            session.end(BY_DROP)
-        return await self.new(deadline)
-
-    async def new(self, deadline: float) -> Session:
-        """A session over a new connection."""
-        session: Session = await self.find(deadline, False)
-        self.tell(None)
-        return session
+                if session.why is None and session.epoch >= self.epoch and session.talk.is_idle() and not session.poll.poll(0):
+                    return session  # what comes to an idle connection is its end
+                session.end()
+        return await self.find(deadline)
 
     def close(self) -> None:
         self.why = BY_CLOSE
@@ -246,8 +224,7 @@ class Service(Ways):
             session = Session(self, connection)
             self._all.add(session)
             FORGOTTEN.add(session)
-            session.epoch = await self.hello(session.talk, session.exchanged)
-            connection.settimeout(self.reply_timeout)
+            await self.hello(session)
             return session
         except BaseException:
             connection.close()

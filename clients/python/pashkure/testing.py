@@ -1,6 +1,4 @@
 """A lock service for tests: `with service() as served: locks = Locks.connect(served.path)`."""
-from __future__ import annotations
-
 import os
 import shlex
 import shutil

@@ -1,6 +1,4 @@
 """Names, keys, times, and what calls return."""
-from __future__ import annotations
-
 import math
 import random
 import re

@@ -1,6 +1,5 @@
 """The protocol of the socket (docs/SERVICE.md), as bytes. Nothing here reads or writes."""
-from __future__ import annotations
-
+import math
 import re
 from collections import deque
 from time import monotonic
@@ -17,7 +16,7 @@ class Ask(NamedTuple):
 
     word: bytes
     names: Tuple[bytes, ...] = ()
-    deadline: Optional[float] = None
+    deadline: float = math.inf
     """When its reply has to be there, if that is sooner than what the backend allows each request."""
 
 
@@ -56,8 +55,7 @@ LINES = {
 class Party:
     """Whose requests they are: at most one live transaction."""
 
-    key = b""
-    """Of the transaction, from its begin."""
+    key = b""  # of the transaction, from its begin
     is_unwanted = False  # a begin that comes yet is aborted
 
     def __init__(self) -> None:
@@ -85,7 +83,7 @@ class Conversation:
         self._live: Dict[bytes, Party] = {}
         self._rest = b""
         self._owed = b""
-        self._words: List[bytes] = []  # of a reply of which further lines are to come, and those that came
+        self._words: List[bytes] = []  # of a reply of which further lines are to come, and the lines that came
 
     def send(self, call: Call) -> bytes:
         """The line of a request. Its reply is due from now on."""
@@ -99,8 +97,10 @@ class Conversation:
     def feed(self, data: bytes) -> bytes:
         """Takes what came, and tells calls and parties. Returns what has to be sent now: the aborts of transactions that nobody wants.
 
-        Raises `ProtocolError` at what no service writes. The connection is of no use then.
+        Raises `ProtocolError` at what no service writes, and `ConnectionResetError` at no data. The connection is of no use then.
         """
+        if not data:
+            raise ConnectionResetError("it closed the connection")
         *lines, self._rest = (self._rest + data).split(b"\n")
         for line in lines:
             if line.startswith(b"* ") and not self._words:
@@ -137,17 +137,15 @@ class Conversation:
         if not self.pending:
             raise ProtocolError(f"a reply that nobody asked for: {_shown(line)}")
         call = self.pending[0]
-        word, party, is_further = call.ask.word, call.party, bool(self._words)
-        if not (LINES if is_further else REPLIES)[word].fullmatch(line):
+        word, party = call.ask.word, call.party
+        if not (LINES if self._words else REPLIES)[word].fullmatch(line):
             raise ProtocolError(f"the reply to {word.decode()}: {_shown(line)}")
-        words, self._words = self._words or line.split(b" "), []
-        if is_further:
-            words.append(line)
-        if word in LINES and words[0] == word and len(words) < 2 + int(words[1]):
-            self._words = words
+        self._words += [line] if self._words else line.split(b" ")
+        if word in LINES and self._words[0] == word and len(self._words) < 2 + int(self._words[1]):
             return
         self.pending.popleft()
-        call.answer = tuple(words)
+        words = call.answer = tuple(self._words)
+        self._words = []
         if words[0] == b"begun":
             party.key = words[1]
             self._live[party.key] = party

@@ -1,14 +1,4 @@
-"""The locks of a service for asyncio: what `pashkure` has for threads, with the same exceptions and values.
-
-    from pashkure.aio import Locks
-
-    async with Locks.connect("/run/pashkure/locks") as locks:
-        async with locks.transaction("accounts/1", "accounts/2", timeout=2.0):   # commits at the end, aborts at an exception
-            ...
-        await locks.run(transfer, "accounts/1", "accounts/2")                    # again after Deadlock
-"""
-from __future__ import annotations
-
+"""The locks of a service for asyncio: what `pashkure` has for threads, awaited, with the same exceptions and values."""
 import asyncio
 import inspect
 from typing import TYPE_CHECKING, Any, Awaitable, Callable, Dict, Generator, List, Optional, TypeVar
@@ -78,7 +68,6 @@ class Locks(Opened):
 
     _kind = Transaction
     _inside = InProcess
-    _pause = staticmethod(asyncio.sleep)
 
     @classmethod
     def connect(cls, *paths: Path, connect_timeout: float = 5.0, reply_timeout: float = 10.0, retry: Retry = Retry(), on_event: OnEvent = None,
@@ -90,13 +79,12 @@ class Locks(Opened):
         - `retry`: how often `run` tries. `on_event`: called after each begin, lock, commit and abort. `slow_wait`: seconds of a wait to be logged.
         - `connections`: over how many connections the transactions go, in turn. The service takes a line of each connection in turn.
         """
-        watch = Watch(on_event, slow_wait)
-        return cls(Service(connections, paths, connect_timeout, reply_timeout, watch.connection), watch, retry)
+        return cls(Service(connections, paths, connect_timeout, reply_timeout, Watch(on_event, slow_wait)), retry)
 
     def transaction(self, *names: Name, timeout: Optional[float] = None) -> Transaction:
         """A transaction, which begins by `async with` or by `await`, and then locks the names in their order. At an exception of that, as
         `Deadlock` or `Timeout`, and if the task is cancelled, none is left."""
-        return Transaction(self._backend, self._watch, tuple(map(encoded, names)), seconds(timeout))
+        return Transaction(self._backend, tuple(map(encoded, names)), seconds(timeout))
 
     async def run(self, work: "Callable[Concatenate[Transaction, P], Awaitable[R]]", *args: "P.args", **kwargs: "P.kwargs") -> R:
         """Awaits `work(tx, *args, **kwargs)` in a transaction of its own, and returns what it returns.

@@ -1,5 +1,5 @@
 """The lock manager of this process, for tasks."""
-from __future__ import annotations
+import asyncio
 
 from .. import in_process
 from .service import Sleeper
@@ -15,6 +15,8 @@ class Session(Sleeper, in_process.Inside):
 
 class InProcess(in_process.InProcess):
     """The manager, for the tasks of one loop."""
+
+    pause = staticmethod(asyncio.sleep)
 
     async def session(self, deadline: float) -> Session:
         session: Session = self.new(Session)

@@ -1,16 +1,15 @@
 """The service at a Unix socket, for tasks: one connection for the transactions of all tasks, or a few."""
-from __future__ import annotations
-
 import asyncio
+import contextlib
 import math
 import socket
 from time import monotonic
-from typing import Any, Callable, List, Optional, Sequence, Tuple
+from typing import Any, List, Optional, Tuple
 
 from .. import backend
-from ..backend import BY_CLOSE, BY_FORK, FORGOTTEN, LOST, RESTARTED, Why
-from ..errors import CannotConnect, Closed, LocksLost, ProtocolError
-from ..service import SIZE, Path, Ways, reason
+from ..backend import BY_CLOSE, BY_DROP, BY_FORK, FORGOTTEN, LOST, RESTARTED
+from ..errors import CannotConnect, Closed, LocksLost, ProtocolError, again
+from ..service import SIZE, Ways, late
 from ..wire import Answer, Ask, Call, Conversation
 
 ENDS = (b"commit", b"abort", b"cancel")
@@ -26,22 +25,19 @@ class Sleeper(backend.Session):
         self.loop = asyncio.get_running_loop()
 
     def is_told(self) -> None:
-        """Wakes the task."""
         if self._waiter is not None and not self._waiter.done():
             self._waiter.set_result(None)
 
     def let_go(self) -> None:
         if not self.loop.is_closed():
-            self.loop.call_soon_threadsafe(self.drop)
+            self.loop.call_soon_threadsafe(self.end)
 
     async def _sleep(self, deadline: float) -> None:
         waiter = self._waiter = self.loop.create_future()
-        timer = self.loop.call_later(max(0.0, deadline - monotonic()), self.is_told) if deadline < math.inf else None
-        try:
+        if deadline == math.inf:
             await waiter
-        finally:
-            if timer is not None:
-                timer.cancel()
+        else:
+            await asyncio.wait([waiter], timeout=max(0.0, deadline - monotonic()))
 
 
 class Connection(asyncio.Protocol, backend.Ending):
@@ -60,25 +56,20 @@ class Connection(asyncio.Protocol, backend.Ending):
         self.own.setblocking(False)
         self.own.connect(path)
         FORGOTTEN.add(self)
-        self.epoch = await self.service.hello(self.talk, self._exchanged)
+        await self.service.hello(self)
         self._transport, _ = await self.loop.create_connection(lambda: self, sock=self.own)
 
-    async def _exchanged(self, line: bytes) -> bytes:
-        try:
+    async def exchanged(self, line: bytes) -> bytes:
+        with contextlib.suppress(BrokenPipeError):  # a service that has no room says so unasked
             await self.loop.sock_sendall(self.own, line)
-        except BrokenPipeError:
-            pass  # a service that has no room says so unasked
-        data = await self.loop.sock_recv(self.own, SIZE)
-        if not data:
-            raise ConnectionResetError("it closed the connection")
-        return data
+        return await self.loop.sock_recv(self.own, SIZE)
 
     def data_received(self, data: bytes) -> None:
         try:
             if self.why is None:
                 self.write(self.talk.feed(data))
         except ProtocolError as error:
-            self.end(reason(error, None))
+            self.end(again(error))
 
     def connection_lost(self, error: Optional[Exception]) -> None:
         self.end(LOST)
@@ -99,20 +90,19 @@ class Connection(asyncio.Protocol, backend.Ending):
         if data and self.why is None and self._transport is not None:
             self._transport.write(data)
 
-    def end(self, why: Why) -> None:
+    def end(self, why: Closed) -> None:
         """Closes the connection. All that wait for it are told."""
         if self.why is not None:
             return
         self.why = why
-        if self.loop.is_closed():
+        if self._transport is None or self.loop.is_closed():
             self.own.close()
             return
         if self._timer is not None:
             self._timer.cancel()
-        if self._transport is not None:
-            self._transport.abort()
+        self._transport.abort()
         if self in self.service.connections and why is not BY_CLOSE:
-            self.service.tell(why.error())
+            self.service.tell(again(why))
         self.can_write.set()
         self.talk.lost()
 
@@ -129,7 +119,7 @@ class Connection(asyncio.Protocol, backend.Ending):
             if left > 0:
                 self._timer = self.loop.call_later(left, self._time_is_up)
             else:
-                self.end(reason(socket.timeout(), self.service.reply_timeout))
+                self.end(late(self.service.reply_timeout))
 
 
 class Session(Sleeper):
@@ -141,18 +131,17 @@ class Session(Sleeper):
         self._last: Optional[Call] = None  # the last request
 
     async def ask(self, ask: Ask) -> Answer:
-        connection, deadline = self.connection, math.inf if ask.deadline is None else ask.deadline
+        connection = self.connection
         while not connection.can_write.is_set() and ask.word not in ENDS:
             await connection.can_write.wait()
         self.check()
         call = self._last = Call(ask, self)
         connection.send(call)
         while call.answer is None:
-            await self._sleep(deadline)
-            if call.answer is None:
-                self.check()
-                if monotonic() >= deadline:
-                    raise LocksLost(f"the service did not answer {ask.word.decode()} in time")
+            self.check()
+            if monotonic() >= ask.deadline:
+                raise LocksLost(f"the service did not answer {ask.word.decode()} in time")
+            await self._sleep(ask.deadline)
         return call.answer
 
     def check(self) -> None:
@@ -161,7 +150,7 @@ class Session(Sleeper):
         self.why = self.why or self.connection.why
         super().check()
 
-    def end(self, why: Why) -> None:
+    def end(self, why: Closed = BY_DROP) -> None:
         if self.why is None and self.connection.why is None:
             self.why = why
             self.connection.write(self.connection.talk.drop(self))
@@ -173,10 +162,10 @@ class Session(Sleeper):
         return True
 
 
-class Service(Ways):
+class Service(Ways[Connection]):
     """A service that many processes share, for the tasks of one loop."""
 
-    _pause = staticmethod(asyncio.sleep)
+    pause = staticmethod(asyncio.sleep)
 
     def __init__(self, connections: int, *options: Any) -> None:
         super().__init__(*options)
@@ -222,12 +211,10 @@ class Service(Ways):
             if error is None:
                 return tried[0].result()
             if is_once or not tried[1]:
-                raise type(error)(*error.args) from error.__cause__
+                raise again(error) from error.__cause__
 
     async def _connected(self, place: int, is_once: bool) -> Connection:
-        connection: Connection = await self.find(math.inf, is_once)
-        self.connections[place] = connection
-        self.tell(None)
+        self.connections[place] = connection = await self.find(math.inf, is_once)
         return connection
 
     async def _tried(self, path: Any, limit: float) -> Connection:
@@ -237,7 +224,6 @@ class Service(Ways):
             return connection
         except BaseException as error:
             connection.end(LOST)
-            connection.own.close()
             if isinstance(error, asyncio.TimeoutError):
                 raise OSError("no answer") from error
             raise
