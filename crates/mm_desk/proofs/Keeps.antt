@@ -17,7 +17,7 @@ use Rattle.mm_thin.specs.declared.reply.Look.{Look}
 use Rattle.mm_thin.specs.declared.reply.Look.TheVariants.{NotFat, Fat, IsLent}
 use Rattle.mm_desk.specs.Books.{BooksState, names_in}
 use Rattle.mm_desk.specs.Desk.{DeskState, AreFat, IsAdopted, IsDesk}
-use Rattle.mm_desk.specs.Calls.{GrowsBy, NamesFade, OwnersStay, OthersStay, IsTakenOver, KeepsFat, OwnAreFat, FattensOwn, HasNoNames, IsOver, KeepsManager, LoansEnd, NumberIsFree, NoLoansOf}
+use Rattle.mm_desk.specs.Calls.{GrowsBy, NamesFade, OwnersStay, OthersStay, IsTakenOver, IsOffered, KeepsFat, FailsToAdopt, FailsToAdoptOne, RefusesBucket, RefusesOne, OwnAreFat, FattensOwn, HasNoNames, IsOver, KeepsManager, LoansEnd, NumberIsFree, NoLoansOf}
 use Rattle.mm_rules.specs.TableState.{is_live, owner_of}
 use Rattle.std.proofs.lemmas.Option.{same_Some}
 use Rattle.mm_lists.proofs.Lemmas.Set.{slice_get-set_other}
@@ -25,6 +25,8 @@ use Rattle.std.specs.Prelude.{Result, Ok, Err, IfOk, OnErr}
 use Rattle.mm_thin.specs.declared.config.WorkerError.{WorkerError}
 use Rattle.mm_thin.specs.Calls.{AddsWorker}
 use Rattle.mm_thin.specs.Parts.{WorkerState}
+use Rattle.mm_manager.specs.Calls.{TriesName}
+use Rattle.mm_manager.specs.declared.refusal.Refusal.{Refusal}
 use Rattle.mm_desk.specs.declared.reply.Adopted.{Adopted}
 use Rattle.mm_desk.specs.declared.reply.Adopted.TheVariants as adopted
 use Rattle.mm_desk.proofs.Counts.{counted_name}
@@ -215,6 +217,26 @@ pub fattens_still : (w : WorkerState) (a : Adopted) (mid new : DeskState) → Ow
 fattens_still w adopted.Fat mid new own keeps = λ k r at taken. fat_still mid new r.name keeps (own k r at taken)
 fattens_still w adopted.Changed mid new own keeps = tt
 fattens_still w (adopted.Refused refusal) mid new own keeps = tt
+
+-- ---- why a bucket was not made fat
+
+pub not_adopted : (books books' : BooksState) (o : OfficeState) (keys : List Key) (at bucket : ℕ) (name : List ℕ) (refusal : Refusal) (new : DeskState) → books.spread ≡ o.of.spread → new.manager ≡ books'.manager
+    → IsOffered books (slice_get keys at) bucket name refusal books' → FailsToAdopt (record { manager = books.manager; office = o; keys = keys }) bucket refusal new
+not_adopted books books' o keys at bucket name refusal new spread same (inl other) = inl other
+not_adopted books books' o keys at bucket name refusal new spread same (inr (inl none)) = inr (inl none)
+not_adopted books books' o keys at bucket name refusal new spread same (inr (inr tried)) =
+    inr (inr (tried.0, at, name, tried.1, tried.2 ∙ ap (λ (s : Spread). bucket_by s name) spread, subst (λ (m : LockState). TriesName books.manager tried.0 name (Err refusal) m) (sym same) tried.3))
+
+pub keeps_none : (a : DeskState) → KeepsFat a a
+keeps_none a = record { of = refl; keys = refl; fat = λ b among. among; stay = λ h x owns. owns }
+
+pub refuses_later : (old mid : DeskState) (bucket : ℕ) (a : Adopted) (new : DeskState) → KeepsFat old mid → RefusesBucket mid bucket a new → RefusesOne old a new
+refuses_later old mid bucket adopted.Fat new keeps why = tt
+refuses_later old mid bucket adopted.Changed new keeps why = tt
+refuses_later old mid bucket (adopted.Refused refusal) new keeps why = (mid, keeps, (bucket, why))
+
+pub refuses_after : (old mid : DeskState) (refusal : Refusal) (new : DeskState) → KeepsFat old mid → FailsToAdoptOne mid refusal new → FailsToAdoptOne old refusal new
+refuses_after old mid refusal new keeps why = (why.0, keeps_both old mid why.0 keeps why.1, why.2)
 
 pub same_both : (a b c : DeskState) → KeepsManager a b → KeepsManager b c → KeepsManager a c
 same_both a b c first second = record { of = second.of ∙ first.of; keys = second.keys ∙ first.keys; manager = second.manager ∙ first.manager }

@@ -22,7 +22,7 @@ use Rattle.mm_thin.specs.Parts.{WorkerState}
 use Rattle.mm_desk.specs.declared.reply.Asked.{Asked}
 use Rattle.mm_desk.specs.declared.reply.Asked.TheVariants.{Granted, Held, Waits, Deadlock, Again}
 use Rattle.mm_manager.specs.declared.refusal.Refusal.{Refusal}
-use Rattle.mm_manager.specs.declared.refusal.Refusal.TheVariants.{NoTransaction, NamesFull, Waiting}
+use Rattle.mm_manager.specs.declared.refusal.Refusal.TheVariants.{NoTransaction, NotOwner, NamesFull, Waiting}
 use Rattle.mm_thin.specs.declared.views.Lent.{Lent}
 use Rattle.mm_thin.specs.Spread.{bucket_by}
 use Rattle.mm_desk.specs.Books.{BooksState, NoneDue}
@@ -54,6 +54,11 @@ OthersStay old k name new = (h : Key) (x : List ℕ) → Owns old h x → ((h �
 abbrev pub IsTakenOver : BooksState → Option Key → ℕ → List ℕ → Type 0
 IsTakenOver books key bucket name = (bucket ≡ bucket_by books.spread name) × ((k : Key) × (key ≡ Some k) × Owns books.manager k name)
 
+-- the name is not of this bucket, or there is no transaction of this key, or the manager refuses the name
+abbrev pub IsOffered : BooksState → Option Key → ℕ → List ℕ → Refusal → BooksState → Type 0
+IsOffered old key bucket name refusal new =
+    (refusal ≡ NotOwner) ⊎ (refusal ≡ NoTransaction) ⊎ ((k : Key) × (key ≡ Some k) × (bucket ≡ bucket_by old.spread name) × TriesName old.manager k name (Err refusal) new.manager)
+
 -- what is fat stays fat, and owners stay; nothing else that a caller sees changes but the manager
 pub record KeepsFat (old new : DeskState) : Type 0 where
   pub of : new.office.of ≡ old.office.of
@@ -66,6 +71,27 @@ abbrev pub AdoptsBucket : ℕ → Adopted → DeskState → Type 0
 AdoptsBucket bucket Fat new = Among bucket new.office.desk.fat
 AdoptsBucket bucket Changed new = Unit {0}
 AdoptsBucket bucket (Refused refusal) new = Unit {0}
+
+-- a name of this bucket is not taken over: the manager refused it to the transaction of a worker; or that transaction, or the name, is not what the words said
+abbrev pub FailsToAdopt : DeskState → ℕ → Refusal → DeskState → Type 0
+FailsToAdopt old bucket refusal new =
+    (refusal ≡ NotOwner) ⊎ (refusal ≡ NoTransaction)
+    ⊎ ((k : Key) × (at : ℕ) × (name : List ℕ) × (slice_get old.keys at ≡ Some k) × (bucket ≡ bucket_by old.office.of.spread name) × TriesName old.manager k name (Err refusal) new.manager)
+
+-- why a bucket was not made fat
+abbrev pub RefusesBucket : DeskState → ℕ → Adopted → DeskState → Type 0
+RefusesBucket old bucket Fat new = Unit {0}
+RefusesBucket old bucket Changed new = Unit {0}
+RefusesBucket old bucket (Refused refusal) new = FailsToAdopt old bucket refusal new
+
+-- why one of several was not, after others were
+abbrev pub FailsToAdoptOne : DeskState → Refusal → DeskState → Type 0
+FailsToAdoptOne old refusal new = (mid : DeskState) × KeepsFat old mid × ((bucket : ℕ) × FailsToAdopt mid bucket refusal new)
+
+abbrev pub RefusesOne : DeskState → Adopted → DeskState → Type 0
+RefusesOne old Fat new = Unit {0}
+RefusesOne old Changed new = Unit {0}
+RefusesOne old (Refused refusal) new = FailsToAdoptOne old refusal new
 
 -- ---- a name is handed over
 
@@ -121,11 +147,16 @@ RequestsAt old at name answer new =
     ((slice_get old.keys at ≡ None) × (answer ≡ Err NoTransaction) × (new ≡ old))
     ⊎ ((k : Key) × (told : Result Lock Refusal) × (slice_get old.keys at ≡ Some k) × LocksName old.manager k name told new.manager × (answer ≡ asked_of told))
 
+-- after a refusal a bucket may be freed, and nothing else changes
+abbrev pub FreesIfRefused : {T : Type 0} → DeskState → Result T Refusal → DeskState → Type 0
+FreesIfRefused asked (Ok told) new = new ≡ asked
+FreesIfRefused asked (Err refusal) new = KeepsManager asked new
+
 -- the request comes after all that the worker had taken was made fat, so who waits then owns nothing thinly; or a bucket could not be made fat, and nothing is asked for
 abbrev pub AsksAt : DeskState → WorkerState → List ℕ → Result Asked Refusal → DeskState → Type 0
 AsksAt old w name answer new =
-    ((mid : DeskState) × KeepsFat old mid × OwnAreFat w mid × RequestsAt mid w.at name answer new × (new.office ≡ mid.office) × (new.keys ≡ mid.keys))
-    ⊎ (KeepsFat old new × ((answer ≡ Ok Again) ⊎ ((refusal : Refusal) × (answer ≡ Err refusal))))
+    ((mid : DeskState) × KeepsFat old mid × OwnAreFat w mid × ((asked : DeskState) × RequestsAt mid w.at name answer asked × (asked.office ≡ mid.office) × (asked.keys ≡ mid.keys) × FreesIfRefused asked answer new))
+    ⊎ (KeepsFat old new × ((answer ≡ Ok Again) ⊎ ((refusal : Refusal) × (answer ≡ Err refusal) × FailsToAdoptOne old refusal new)))
 
 -- ---- a try
 
@@ -145,8 +176,8 @@ AttemptsAt old at name answer new =
 -- the try comes after the name's bucket was made fat; or that could not be done, and nothing is asked for
 abbrev pub TriesAt : DeskState → ℕ → List ℕ → Result Tried Refusal → DeskState → Type 0
 TriesAt old at name answer new =
-    ((mid : DeskState) × KeepsFat old mid × AttemptsAt mid at name answer new × (new.office ≡ mid.office) × (new.keys ≡ mid.keys))
-    ⊎ (KeepsFat old new × ((answer ≡ Ok tries.Again) ⊎ ((refusal : Refusal) × (answer ≡ Err refusal))))
+    ((mid : DeskState) × KeepsFat old mid × ((asked : DeskState) × AttemptsAt mid at name answer asked × (asked.office ≡ mid.office) × (asked.keys ≡ mid.keys) × FreesIfRefused asked answer new))
+    ⊎ (KeepsFat old new × ((answer ≡ Ok tries.Again) ⊎ ((refusal : Refusal) × (answer ≡ Err refusal) × FailsToAdopt old (bucket_by old.office.of.spread name) refusal new)))
 
 -- ---- what holds of any worker and the desk
 

@@ -4,5 +4,9 @@ pub mod Books
 pub mod Tally
 -- what a contract sees of a desk
 pub mod Desk
+-- why a desk is not opened
+pub mod Opening
 -- what calls do
 pub mod Calls
+-- what the calls for all buckets do
+pub mod All

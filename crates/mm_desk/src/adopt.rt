@@ -1,7 +1,7 @@
 //! A thin name is handed to the manager.
-ghost use Rattle.std.specs.Prelude.{◌≡◌, ◌<◌, ◌/◌, OnOk, OnErr, IsTrue, slice_get};
+ghost use Rattle.std.specs.Prelude.{◌≡◌, ◌<◌, ◌/◌, IfErr, OnOk, OnErr, IsTrue, slice_get};
 ghost use Rattle.mm_lists.specs.Members.{Among};
-ghost use Rattle.mm_desk.specs.Calls.{GrowsBy, NamesFade, OwnersStay, IsTakenOver, KeepsFat, AdoptsBucket};
+ghost use Rattle.mm_desk.specs.Calls.{GrowsBy, NamesFade, OwnersStay, IsTakenOver, KeepsFat, AdoptsBucket, RefusesBucket, IsOffered};
 
 use crate::books::Books;
 use crate::desk::Desk;
@@ -15,6 +15,7 @@ impl Desk {
         requires { bucket < self.old.office.of.table.words }
         ensures adopts { AdoptsBucket bucket result self.new }
         ensures keeps { KeepsFat self.old self.new }
+        ensures refused { RefusesBucket self.old bucket result self.new }
     {
         match self.office.fatten(bucket) {
             Got::WasFat => Adopted::Fat,
@@ -54,6 +55,7 @@ fn key_of_record(keys: &Vec<Key>, number: u32) -> Option<Key>
 fn offer(books: &mut Books, key: Option<Key>, bucket: usize, name: &[u8]) -> Result<(), Refusal>
     ensures ok { OnOk result (IsTakenOver books.new key bucket name.now) }
     ensures err { OnErr result (NamesFade books.old.manager books.new.manager) }
+    ensures refused { IfErr result (λ refusal. IsOffered books.old key bucket name.now refusal books.new) }
     ensures grows { GrowsBy books.old.manager name.now books.new.manager }
     ensures stay { OwnersStay books.old.manager books.new.manager }
     ensures spread { books.new.spread ≡ books.old.spread }

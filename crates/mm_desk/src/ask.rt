@@ -3,7 +3,7 @@ ghost use Rattle.std.specs.Prelude.{◌≡◌};
 ghost use Rattle.mm_lists.specs.Members.{Among};
 ghost use Rattle.mm_manager.specs.Calls.{LocksName, TriesName};
 ghost use Rattle.mm_thin.specs.Spread.{bucket_by};
-ghost use Rattle.mm_desk.specs.Calls.{AdoptsBucket, KeepsFat, FattensOne, FattensOwn, asked_of, tried_of, RequestsAt, AsksAt, AttemptsAt, TriesAt};
+ghost use Rattle.mm_desk.specs.Calls.{AdoptsBucket, RefusesBucket, RefusesOne, KeepsFat, KeepsManager, FattensOne, FattensOwn, asked_of, tried_of, RequestsAt, AsksAt, AttemptsAt, TriesAt};
 
 use crate::desk::Desk;
 use crate::reply::{Adopted, Asked, Tried};
@@ -12,23 +12,36 @@ use mm_thin::Worker;
 
 impl Desk {
     /// Asks for a name, for the transaction of a worker. First all that the worker has taken is made fat, and the name's bucket too: who
-    /// waits owns nothing thinly.
+    /// waits owns nothing thinly. If the request is refused, the name's bucket is freed again, unless the manager has a name of it.
     pub fn ask(&mut self, worker: &Worker, name: &[u8]) -> Result<Asked, Refusal>
         ensures { AsksAt self.old worker.now name.now result self.new }
     {
         match self.fatten_all(worker, name) {
-            Adopted::Fat => self.request_at(worker.at(), name),
+            Adopted::Fat => match self.request_at(worker.at(), name) {
+                Ok(asked) => Ok(asked),
+                Err(refusal) => {
+                    self.free_name(name);
+                    Err(refusal)
+                }
+            },
             Adopted::Changed => Ok(Asked::Again),
             Adopted::Refused(refusal) => Err(refusal),
         }
     }
 
     /// Asks for a name, for the transaction of a worker, and never waits. The name's bucket is made fat; what the worker has taken stays thin.
+    /// If the request is refused, the bucket is freed again, unless the manager has a name of it.
     pub fn try_lock(&mut self, at: u32, name: &[u8]) -> Result<Tried, Refusal>
         ensures { TriesAt self.old at name.now result self.new }
     {
         match self.adopt_name(name) {
-            Adopted::Fat => self.attempt_at(at, name),
+            Adopted::Fat => match self.attempt_at(at, name) {
+                Ok(tried) => Ok(tried),
+                Err(refusal) => {
+                    self.free_name(name);
+                    Err(refusal)
+                }
+            },
             Adopted::Changed => Ok(Tried::Again),
             Adopted::Refused(refusal) => Err(refusal),
         }
@@ -39,6 +52,7 @@ impl Desk {
         ensures own { FattensOwn worker.now result self.new }
         ensures adopts { AdoptsBucket (bucket_by self.old.office.of.spread name.now) result self.new }
         ensures keeps { KeepsFat self.old self.new }
+        ensures refused { RefusesOne self.old result self.new }
     {
         match self.fatten_own(worker) {
             Adopted::Fat => self.adopt_name(name),
@@ -48,9 +62,10 @@ impl Desk {
     }
 
     /// Makes all fat that a worker has taken.
-    pub fn fatten_own(&mut self, worker: &Worker) -> Adopted
+    pub(crate) fn fatten_own(&mut self, worker: &Worker) -> Adopted
         ensures own { FattensOwn worker.now result self.new }
         ensures keeps { KeepsFat self.old self.new }
+        ensures refused { RefusesOne self.old result self.new }
     {
         for k in 0..worker.places() {
             match self.fatten_one(worker, k) {
@@ -66,6 +81,7 @@ impl Desk {
     fn fatten_one(&mut self, worker: &Worker, k: usize) -> Adopted
         ensures one { FattensOne worker.now k result self.new }
         ensures keeps { KeepsFat self.old self.new }
+        ensures refused { RefusesOne self.old result self.new }
     {
         match worker.taken(k) {
             Some(name) => self.adopt_name(name),
@@ -77,9 +93,18 @@ impl Desk {
     fn adopt_name(&mut self, name: &[u8]) -> Adopted
         ensures adopts { AdoptsBucket (bucket_by self.old.office.of.spread name.now) result self.new }
         ensures keeps { KeepsFat self.old self.new }
+        ensures refused { RefusesBucket self.old (bucket_by self.old.office.of.spread name.now) result self.new }
     {
         let bucket = self.books.spread.of(name);
         self.adopt(bucket)
+    }
+
+    /// Frees the bucket of a name, if it is fat and no name of it is owned.
+    fn free_name(&mut self, name: &[u8])
+        ensures keeps { KeepsManager self.old self.new }
+    {
+        let bucket = self.books.spread.of(name);
+        self.free_if_empty(bucket);
     }
 
     /// Asks for a name whose bucket is fat.

@@ -2,6 +2,7 @@
 #![tactic(auto)]
 
 mod adopt;
+mod all;
 mod ask;
 mod begin;
 mod books;

@@ -3,6 +3,7 @@ ghost use Rattle.std.specs.Prelude.{◌≡◌, ◌<◌, ◌/◌, ◌↔◌, Some
 ghost use Rattle.std.specs.Bool.{OnFalse, OnTrue};
 ghost use Rattle.mm_manager.specs.Calls.{UnlocksName};
 ghost use Rattle.mm_thin.specs.Spread.{bucket_by};
+ghost use Rattle.mm_desk.specs.All.{FreesUnused};
 ghost use Rattle.mm_desk.specs.Calls.{IsLentTo, LoansAreOthers, LoansEnd, KeepsManager, UnlocksAt};
 
 use crate::desk::Desk;
@@ -60,6 +61,7 @@ impl Desk {
     /// Frees a bucket that is fat, if no name of it is owned.
     pub(crate) fn free_if_empty(&mut self, bucket: usize)
         requires { bucket < self.old.office.of.table.words }
+        ensures frees { FreesUnused self.old bucket self.new }
         ensures keeps { KeepsManager self.old self.new }
     {
         if self.books.count(bucket) > 0 {

@@ -3,3 +3,4 @@ mod Seats
 mod Keeps
 mod Calls
 mod Places
+mod Giving

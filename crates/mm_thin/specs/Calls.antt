@@ -1,5 +1,5 @@
 -- What the calls answer.
-use Rattle.std.specs.Prelude.{◌≡◌, ◌≢◌, ◌⊎◌, ◌<◌, ◌+◌, ℕ, Bool, true, false, List, [], length, slice_get, slice_set, Some}
+use Rattle.std.specs.Prelude.{◌≡◌, ◌≢◌, ◌⊎◌, ◌<◌, ◌≤◌, ◌+◌, ℕ, Bool, true, false, List, [], length, slice_get, slice_set, Some}
 use Rattle.mm_lists.specs.Members.{Among}
 use Rattle.mm_thin.specs.declared.views.Lent.{Lent}
 use Rattle.mm_thin.specs.declared.views.DeskView.{DeskView}
@@ -87,6 +87,10 @@ HasTaken records name = (k : ℕ) × (r : RecordView) × (slice_get records k �
 abbrev pub IsFull : List RecordView → Type 0
 IsFull records = (k : ℕ) (r : RecordView) → slice_get records k ≡ Some r → r.taken ≢ []
 
+-- the records from this place on have taken nothing
+abbrev pub AreIdleFrom : ℕ → List RecordView → Type 0
+AreIdleFrom used records = (k : ℕ) (r : RecordView) → used ≤ k → slice_get records k ≡ Some r → r.taken ≡ []
+
 -- one record of it changes
 abbrev pub with_record : WorkerState → ℕ → RecordView → WorkerState
 with_record w k r = record w { records = slice_set w.records k r }
@@ -111,3 +115,16 @@ abbrev pub LeavesName : WorkerState → ℕ → GiveUp → WorkerState → Type 
 LeavesName w k Done after = (r : RecordView) × (slice_get w.records k ≡ Some r) × (r.taken ≢ []) × (after ≡ with_record w k (idle r))
 LeavesName w k given.Changed after = (after ≡ w) × ((r : RecordView) × (slice_get w.records k ≡ Some r) × (r.taken ≢ []))
 LeavesName w k NotTaken after = (after ≡ w) × ((r : RecordView) → slice_get w.records k ≡ Some r → r.taken ≡ [])
+
+-- each record has what it had, or has given it back; and whether one of those from this place on is left that has taken something
+pub record GivesBackFrom (old : WorkerState) (from : ℕ) (is_left : Bool) (new : WorkerState) : Type 0 where
+  pub of : new.of ≡ old.of
+  pub at : new.at ≡ old.at
+  pub size : length new.records ≡ length old.records
+  pub each : (k : ℕ) (r : RecordView) → slice_get old.records k ≡ Some r → (slice_get new.records k ≡ Some r) ⊎ (slice_get new.records k ≡ Some (idle r))
+  pub none : is_left ≡ false → AreIdleFrom from new.records
+  pub some : is_left ≡ true → (k : ℕ) × (r : RecordView) × (from ≤ k) × (slice_get new.records k ≡ Some r) × (r.taken ≢ [])
+
+-- the same of all records
+abbrev pub GivesAllBack : WorkerState → Bool → WorkerState → Type 0
+GivesAllBack old is_left new = GivesBackFrom old 0 is_left new

@@ -70,6 +70,13 @@ IsOfWorker at number = (at * 10 ≤ number) × (number < at * 10 + 10)
 abbrev pub ArePlaced : Opening → ℕ → List RecordState → Type 0
 ArePlaced of at records = (k : ℕ) (p : RecordState) → slice_get records k ≡ Some p → (p.0 ≡ of.table) × IsOfWorker at p.1.number × IsPlaced of p.1
 
+-- the same of eight records, of which those from this place on have taken nothing
+pub record AreUsed (of : Opening) (at : ℕ) (records : List RecordState) (used : ℕ) : Type 0 where
+  pub placed : ArePlaced of at records
+  pub eight : length records ≡ 8
+  pub within : used ≤ 8
+  pub rest : (k : ℕ) (p : RecordState) → used ≤ k → slice_get records k ≡ Some p → p.1.taken ≡ []
+
 -- ---- the office
 
 -- what a badge knows

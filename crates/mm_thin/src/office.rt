@@ -120,6 +120,7 @@ impl Office {
             buckets,
             at,
             places,
+            used: 0,
         }
     }
 }

@@ -87,11 +87,11 @@ impl Place {
         ensures takes { TakesBucket self.old.1 bucket name.now (nat_eq result 0) self.new.1 }
         ensures table { self.new.0 ≡ self.old.0 }
     {
+        self.name.set(name);
         let word = self.record.take(steps, bucket, name);
         if word == 0 {
             self.is_taken = true;
             self.bucket = bucket;
-            self.name = Text::of(name);
         }
         word
     }

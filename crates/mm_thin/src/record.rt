@@ -50,9 +50,9 @@ impl Record {
         ensures table { self.new.0 ≡ self.old.0 }
     {
         let number = u64::from(self.number);
-        let _ = steps.exchange(&mut self.seat, number as usize, Text::of(name));
-        let word = steps.compare_exchange::<Takes>(&mut self.seat, bucket, 0, number + 4);
-        word
+        let text = self.seat.slot_mut(steps, number as usize);
+        text.set(name);
+        steps.compare_exchange::<Takes>(&mut self.seat, bucket, 0, number + 4)
     }
 
     /// Gives back the bucket that it has taken, if it is thin. One compare-and-swap.

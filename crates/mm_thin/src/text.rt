@@ -40,6 +40,16 @@ impl Text {
         }
     }
 
+    /// Becomes these bytes.
+    #[inline(always)]
+    pub(crate) fn set(&mut self, name: &[u8])
+        requires { length name.now ≤ MAX_THIN_BYTES }
+        ensures { self.new ≡ name.now }
+    {
+        self.bytes[..name.len()].copy_from_slice(name);
+        self.size = name.len() as u8;
+    }
+
     /// The same bytes.
     pub fn copy(&self) -> Text
         ensures { result ≡ self.now }

@@ -1,7 +1,7 @@
 //! A transaction's part of the words.
-ghost use Rattle.std.specs.Prelude.{◌≡◌, ◌≤◌, ℕ, [], Some, length, slice_get, IfSome, IfNone, nat_eq};
+ghost use Rattle.std.specs.Prelude.{◌≡◌, ◌≢◌, ◌≤◌, ◌<◌, ◌+◌, ◌⊎◌, ℕ, [], Some, length, slice_get, IfSome, IfNone, nat_eq};
 ghost use Rattle.mm_thin.specs.declared.views.RecordView.{RecordView};
-ghost use Rattle.mm_thin.specs.Calls.{IsFor, HasTaken, IsFull, TakesAt, TakesName, LeavesName};
+ghost use Rattle.mm_thin.specs.Calls.{IsFor, HasTaken, IsFull, AreIdleFrom, TakesAt, TakesName, LeavesName, GivesAllBack};
 
 use crate::buckets::Buckets;
 use crate::place::Place;
@@ -17,17 +17,19 @@ pub struct Worker {
     pub(crate) buckets: Buckets,
     pub(crate) at: u32,
     pub(crate) places: Vec<Place>,
+    /// The places from this one on have taken nothing.
+    pub(crate) used: usize,
 }
 
 impl Model for Worker {
     ghost use Rattle.std.specs.Prelude.{map};
-    ghost use Rattle.mm_thin.specs.Parts.{WorkerState, RecordState, ArePlaced};
+    ghost use Rattle.mm_thin.specs.Parts.{WorkerState, RecordState, AreUsed};
 
     ghost Value = { WorkerState };
 
     ghost view = { λ w. record { of = w.buckets; at = w.at; records = map (λ (p : RecordState). p.1) w.places.items } };
 
-    ghost invariant = { λ w. ArePlaced w.buckets w.at w.places.items };
+    ghost invariant = { λ w. AreUsed w.buckets w.at w.places.items w.used };
 }
 
 impl Worker {
@@ -46,7 +48,20 @@ impl Worker {
     }
 
     /// Returns a record that has taken nothing.
+    #[inline(always)]
     fn idle(&self) -> Option<usize>
+        ensures some { IfSome result (λ k. (r : RecordView) × (slice_get self.now.records k ≡ Some r) × (r.taken ≡ [])) }
+        ensures none { IfNone result (IsFull self.now.records) }
+    {
+        if self.used < PLACES {
+            return Some(self.used);
+        }
+        self.idle_below()
+    }
+
+    /// Returns a record that has taken nothing, if all places are used.
+    #[inline(never)]
+    fn idle_below(&self) -> Option<usize>
         ensures some { IfSome result (λ k. (r : RecordView) × (slice_get self.now.records k ≡ Some r) × (r.taken ≡ [])) }
         ensures none { IfNone result (IsFull self.now.records) }
     {
@@ -63,7 +78,7 @@ impl Worker {
         ensures some { IfSome result (λ k. (r : RecordView) × (slice_get self.now.records k ≡ Some r) × IsFor r name.now) }
         ensures none { IfNone result (HasTaken self.now.records name.now → ⊥) }
     {
-        for k in 0..self.places.len() {
+        for k in 0..self.used {
             if self.places[k].is_for(name) {
                 return Some(k);
             }
@@ -114,17 +129,22 @@ impl Worker {
         ensures { TakesAt self.old k name.now (nat_eq result 0) self.new }
     {
         let bucket = self.buckets.of(name);
-        self.places[k].take(self.buckets.steps(), bucket, name)
+        let word = self.places[k].take(self.buckets.steps(), bucket, name);
+        self.used = used_with(self.used, k, word);
+        word
     }
 
     /// Gives back what this record has taken, unless its bucket is fat. One compare-and-swap.
+    #[inline]
     pub fn give_back(&mut self, k: usize) -> GiveUp
         ensures { LeavesName self.old k result self.new }
     {
         if k >= self.places.len() {
             return GiveUp::NotTaken;
         }
-        self.places[k].give_back(self.buckets.steps())
+        let given = self.places[k].give_back(self.buckets.steps());
+        self.used = used_without(self.used, k, given);
+        given
     }
 
     /// Lets go what this record has taken, if the office has made its bucket fat: it stays fat. One compare-and-swap.
@@ -136,6 +156,55 @@ impl Worker {
         if k >= self.places.len() {
             return GiveUp::NotTaken;
         }
-        self.places[k].let_go(self.buckets.steps())
+        let given = self.places[k].let_go(self.buckets.steps());
+        self.used = used_without(self.used, k, given);
+        given
+    }
+
+    /// Returns from which place on all have taken nothing.
+    #[inline(always)]
+    fn used(&self) -> usize
+        ensures { AreIdleFrom result self.now.records }
+    {
+        self.used
+    }
+
+    /// Gives back all that it has taken, but for what is fat. Returns whether something is left. One compare-and-swap for each name.
+    #[inline]
+    pub fn give_back_all(&mut self) -> bool
+        ensures { GivesAllBack self.old result self.new }
+    {
+        let mut is_left = false;
+        let mut k = self.used();
+        while k > 0 {
+            k -= 1;
+            if let GiveUp::Changed = self.give_back(k) {
+                is_left = true;
+            }
+        }
+        is_left
+    }
+}
+
+/// From which place on all have taken nothing, after place k found this word.
+#[inline(always)]
+fn used_with(used: usize, k: usize, word: u64) -> usize
+    requires { k < 8 }
+    ensures one { (result ≡ used) ⊎ (result ≡ k + 1) }
+    ensures more { used ≤ result }
+    ensures taken { word ≡ 0 → k < result }
+{
+    if word == 0 && used <= k { k + 1 } else { used }
+}
+
+/// The same after place k gave up what it had.
+#[inline(always)]
+fn used_without(used: usize, k: usize, given: GiveUp) -> usize
+    requires { k < 8 }
+    ensures { (result ≡ used) ⊎ ((given ≢ GiveUp.Changed) × (used ≡ k + 1) × (result ≡ k)) }
+{
+    match given {
+        GiveUp::Changed => used,
+        GiveUp::Done | GiveUp::NotTaken => { if k + 1 == used { k } else { used } }
     }
 }

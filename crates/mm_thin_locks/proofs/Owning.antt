@@ -34,17 +34,17 @@ held_by old k name (Err refusal) new locks is = absurd (cc)
 
 module _ (old : DeskState) (w : WorkerState) (name : List ℕ) (new : DeskState) where
   pub granted_owns : AsksAt old w name (Ok asked.Granted) new → OwnsAt new w.at name
-  granted_owns (inl made) = elim made.3 [
+  granted_owns (inl made) = subst (λ (d : DeskState). OwnsAt d w.at name) (sym made.3.4) (elim made.3.1 [
     | inl none ↦ absurd (cc)
-    | inr told ↦ (told.0, ap (λ ks. slice_get ks w.at) made.5 ∙ told.2, granted_by made.0.manager told.0 name told.1 new.manager told.3 told.4)
-  ]
+    | inr told ↦ (told.0, ap (λ ks. slice_get ks w.at) made.3.3 ∙ told.2, granted_by made.0.manager told.0 name told.1 made.3.0.manager told.3 told.4)
+  ])
   granted_owns (inr unmade) = elim unmade.1 [ inl again ↦ absurd (cc) | inr refused ↦ (let never = refused.1 in absurd (cc)) ]
 
   pub held_owns : AsksAt old w name (Ok asked.Held) new → OwnsAt new w.at name
-  held_owns (inl made) = elim made.3 [
+  held_owns (inl made) = subst (λ (d : DeskState). OwnsAt d w.at name) (sym made.3.4) (elim made.3.1 [
     | inl none ↦ absurd (cc)
-    | inr told ↦ (told.0, ap (λ ks. slice_get ks w.at) made.5 ∙ told.2, held_by made.0.manager told.0 name told.1 new.manager told.3 told.4)
-  ]
+    | inr told ↦ (told.0, ap (λ ks. slice_get ks w.at) made.3.3 ∙ told.2, held_by made.0.manager told.0 name told.1 made.3.0.manager told.3 told.4)
+  ])
   held_owns (inr unmade) = elim unmade.1 [ inl again ↦ absurd (cc) | inr refused ↦ (let never = refused.1 in absurd (cc)) ]
 
 -- ---- a try
@@ -63,15 +63,15 @@ try_held_by old k name (Err refusal) new tries is = absurd (cc)
 
 module _ (old : DeskState) (at : ℕ) (name : List ℕ) (new : DeskState) where
   pub try_granted_owns : TriesAt old at name (Ok tried.Granted) new → OwnsAt new at name
-  try_granted_owns (inl made) = elim made.2 [
+  try_granted_owns (inl made) = subst (λ (d : DeskState). OwnsAt d at name) (sym made.2.4) (elim made.2.1 [
     | inl none ↦ absurd (cc)
-    | inr told ↦ (told.0, ap (λ ks. slice_get ks at) made.4 ∙ told.2, try_granted_by made.0.manager told.0 name told.1 new.manager told.3 told.4)
-  ]
+    | inr told ↦ (told.0, ap (λ ks. slice_get ks at) made.2.3 ∙ told.2, try_granted_by made.0.manager told.0 name told.1 made.2.0.manager told.3 told.4)
+  ])
   try_granted_owns (inr unmade) = elim unmade.1 [ inl again ↦ absurd (cc) | inr refused ↦ (let never = refused.1 in absurd (cc)) ]
 
   pub try_held_owns : TriesAt old at name (Ok tried.Held) new → OwnsAt new at name
-  try_held_owns (inl made) = elim made.2 [
+  try_held_owns (inl made) = subst (λ (d : DeskState). OwnsAt d at name) (sym made.2.4) (elim made.2.1 [
     | inl none ↦ absurd (cc)
-    | inr told ↦ (told.0, ap (λ ks. slice_get ks at) made.4 ∙ told.2, try_held_by made.0.manager told.0 name told.1 new.manager told.3 told.4)
-  ]
+    | inr told ↦ (told.0, ap (λ ks. slice_get ks at) made.2.3 ∙ told.2, try_held_by made.0.manager told.0 name told.1 made.2.0.manager told.3 told.4)
+  ])
   try_held_owns (inr unmade) = elim unmade.1 [ inl again ↦ absurd (cc) | inr refused ↦ (let never = refused.1 in absurd (cc)) ]

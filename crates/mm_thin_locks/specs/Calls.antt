@@ -1,13 +1,18 @@
 -- What the calls do to the desk behind the lock, by their answers.
-use Rattle.std.specs.Prelude.{◌≡◌, ◌⊎◌, ℕ, List, Result, Ok, Err}
+use Rattle.std.specs.Prelude.{◌≡◌, ◌⊎◌, ◌↔◌, ℕ, List, Result, Ok, Err}
 use Rattle.mm_arena.specs.declared.key.Key.{Key}
 use Rattle.mm_desk.specs.Desk.{DeskState}
-use Rattle.mm_desk.specs.Calls.{AsksAt, TriesAt}
+use Rattle.mm_desk.specs.Calls.{AsksAt, TriesAt, UnlocksAt, CommitsAt, AbortsAt, BeginsAt, CancelsAt}
 use Rattle.mm_desk.specs.declared.reply.Asked.TheVariants as asked
 use Rattle.mm_desk.specs.declared.reply.Tried.TheVariants as tried
-use Rattle.mm_locks.specs.Errors.{Because}
+use Rattle.mm_desk.specs.declared.reply.Unlocked.{Unlocked}
+use Rattle.mm_desk.specs.declared.reply.Unlocked.TheVariants.{Done, NotLetGo}
+use Rattle.mm_manager.specs.declared.refusal.Refusal.{Refusal}
+use Rattle.mm_manager.specs.declared.reply.Cancel.{Cancel}
+use Rattle.mm_manager.specs.declared.reply.Cancel.TheVariants.{Withdrawn}
+use Rattle.mm_locks.specs.Errors.{Because, error_of}
 use Rattle.mm_locks.specs.declared.error.LockError.{LockError}
-use Rattle.mm_locks.specs.declared.error.LockError.TheVariants.{Deadlock}
+use Rattle.mm_locks.specs.declared.error.LockError.TheVariants.{Deadlock, NotActive, TimedOut}
 use Rattle.mm_thin.specs.Parts.{WorkerState}
 use Rattle.mm_thin_locks.specs.declared.hall.Outcome.{Outcome}
 use Rattle.mm_thin_locks.specs.declared.hall.Outcome.TheVariants as outcome
@@ -26,3 +31,39 @@ TriesFor old at name (Ok (outcome.Owns granted)) new = TriesAt old at name (Ok t
 TriesFor old at name (Ok outcome.Waits) new = (h : Key) × TriesAt old at name (Ok (tried.Busy h)) new
 TriesFor old at name (Ok outcome.Again) new = TriesAt old at name (Ok tried.Again) new
 TriesFor old at name (Err error) new = Because (λ refusal. TriesAt old at name (Err refusal) new) error
+
+-- ---- the ends
+
+-- what the answer to an unlock or a commit is told as
+abbrev pub told_of : Result Unlocked Refusal → Result (Unit {0}) LockError
+told_of (Ok Done) = Ok tt
+told_of (Ok NotLetGo) = Err NotActive
+told_of (Err refusal) = Err (error_of refusal)
+
+-- the worker gave the name back by itself, or the desk is asked to hand it over
+abbrev pub HandsBack : DeskState → ℕ → List ℕ → Result Unlocked Refusal → DeskState → Type 0
+HandsBack old at name answer new = ((answer ≡ Ok Done) × (new ≡ old)) ⊎ UnlocksAt old at name answer new
+
+abbrev pub UnlocksFor : DeskState → ℕ → List ℕ → Result (Unit {0}) LockError → DeskState → Type 0
+UnlocksFor old at name result new = (answer : Result Unlocked Refusal) × HandsBack old at name answer new × (result ≡ told_of answer)
+
+-- the worker's next transaction is begun, or that is refused
+abbrev pub BeginsNext : DeskState → ℕ → DeskState → Type 0
+BeginsNext old at new = (answer : Result Key Refusal) × BeginsAt old at answer new
+
+-- its transaction is aborted, or that is refused, and then the next one is begun
+abbrev pub RollsBack : DeskState → ℕ → DeskState → Type 0
+RollsBack old at new = (room : ℕ) × (answer : Result Unlocked Refusal) × (ended : DeskState) × AbortsAt old at room answer ended × BeginsNext ended at new
+
+-- what comes after the desk's answer to a commit
+abbrev pub GoesOn : DeskState → ℕ → Result Unlocked Refusal → DeskState → Type 0
+GoesOn ended at answer new = ((answer ≡ Ok Done) × BeginsNext ended at new) ⊎ ((answer ≡ Ok Done → ⊥) × RollsBack ended at new)
+
+-- its transaction is committed and the next one is begun; or it is rolled back, and the call is refused
+abbrev pub CommitsFor : DeskState → ℕ → Result (Unit {0}) LockError → DeskState → Type 0
+CommitsFor old at result new =
+    (room : ℕ) × (answer : Result Unlocked Refusal) × (ended : DeskState) × CommitsAt old at room answer ended × GoesOn ended at answer new × (result ≡ told_of answer)
+
+-- its wait is taken back, or that is refused: `TimedOut` says that it is done
+abbrev pub TakesBack : {T : Type 0} → DeskState → ℕ → Result T LockError → DeskState → Type 0
+TakesBack old at result new = (answer : Result Cancel Refusal) × CancelsAt old at answer new × ((result ≡ Err TimedOut) ↔ (answer ≡ Ok Withdrawn))

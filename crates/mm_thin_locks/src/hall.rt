@@ -1,10 +1,10 @@
 //! What lies behind the lock.
-ghost use Rattle.std.specs.Prelude.{◌≡◌, ◌≢◌, ◌↔◌, ◌<◌, [], ℕ, IfErr, IfOk, IsTrue, length};
+ghost use Rattle.std.specs.Prelude.{◌≡◌, ◌≢◌, ◌↔◌, ◌<◌, [], ℕ, Ok, IfErr, IfOk, IsTrue, length};
 ghost use Rattle.mm_bit_set.specs.BitSet.{HasNoneFrom};
 ghost use Rattle.mm_locks.specs.Overdue.{NotesEnd};
 ghost use Rattle.mm_locks.specs.Wakes.{IsToWake};
 ghost use Rattle.mm_thin_locks.specs.Granted.{OwnsAt, OwnsFor};
-ghost use Rattle.mm_thin_locks.specs.Calls.{AsksFor, TriesFor};
+ghost use Rattle.mm_thin_locks.specs.Calls.{AsksFor, TriesFor, HandsBack, UnlocksFor, CommitsFor, RollsBack, TakesBack, told_of};
 
 use crate::tokens::Granted;
 use mm_desk::{Asked, Desk, Room, Tried, Unlocked};
@@ -129,6 +129,7 @@ impl Hall {
         wakes: &mut Wakes,
     ) -> Result<Outcome<'n>, LockError>
         ensures granted { IfOk result (OwnsFor at name.now) }
+        ensures cancels { TakesBack self.old.desk at result self.new.desk }
     {
         let answer = self.desk.cancel(at);
         self.pending.note_told(wakes, self.desk.manager());
@@ -156,42 +157,60 @@ impl Hall {
         wakes: &mut Wakes,
     ) -> Result<(), LockError>
         ensures noted { NotesEnd self.new.desk.manager wakes.old self.old.pending wakes.new self.new.pending }
+        ensures unlocks { UnlocksFor self.old.desk worker.old.at name.now result self.new.desk }
         ensures in_time { IfErr result (λ error. error ≢ LockError.TimedOut) }
     {
-        let answer = if gives_back(worker, name) {
-            Ok(Unlocked::Done)
-        } else {
-            let_go_all(worker);
-            self.desk.unlock(worker.at(), name)
-        };
+        let answer = self.hand_back(worker, name);
         self.pending.note_end(wakes, self.desk.manager());
         done(answer)
     }
 
+    /// Gives a name back by the worker, or else by the desk.
+    fn hand_back(&mut self, worker: &mut Worker, name: &[u8]) -> Result<Unlocked, Refusal>
+        ensures hands { HandsBack self.old.desk worker.old.at name.now result self.new.desk }
+        ensures kept { self.new.pending ≡ self.old.pending }
+    {
+        let at = worker.at();
+        if gives_back(worker, name) {
+            return Ok(Unlocked::Done);
+        }
+        let_go_all(worker);
+        self.desk.unlock(at, name)
+    }
+
     /// Ends a transaction. One whose end is refused is rolled back.
     pub(crate) fn commit(&mut self, worker: &mut Worker, wakes: &mut Wakes) -> Result<(), LockError>
+        ensures commits { CommitsFor self.old.desk worker.old.at result self.new.desk }
         ensures in_time { IfErr result (λ error. error ≢ LockError.TimedOut) }
     {
+        let at = worker.at();
         leave_all(worker);
-        match self.desk.commit(worker.at(), &mut self.room) {
-            Ok(Unlocked::Done) => {
-                self.pending.note_end(wakes, self.desk.manager());
-                let _ = self.desk.begin(worker.at());
-                Ok(())
-            }
-            answer => {
-                self.roll_back(worker, wakes);
-                done(answer)
-            }
+        let answer = self.desk.commit(at, &mut self.room);
+        if is_done(&answer) {
+            self.pending.note_end(wakes, self.desk.manager());
+            let _ = self.desk.begin(at);
+            return done(answer);
         }
+        self.abort(at, wakes);
+        done(answer)
     }
 
     /// Ends a transaction, be it in a deadlock or not.
-    pub(crate) fn roll_back(&mut self, worker: &mut Worker, wakes: &mut Wakes) {
+    pub(crate) fn roll_back(&mut self, worker: &mut Worker, wakes: &mut Wakes)
+        ensures { RollsBack self.old.desk worker.old.at self.new.desk }
+    {
+        let at = worker.at();
         leave_all(worker);
-        let _ = self.desk.abort(worker.at(), &mut self.room);
+        self.abort(at, wakes);
+    }
+
+    /// Aborts the transaction of a worker that has given up what it had, and begins the next one.
+    fn abort(&mut self, at: u32, wakes: &mut Wakes)
+        ensures { RollsBack self.old.desk at self.new.desk }
+    {
+        let _ = self.desk.abort(at, &mut self.room);
         self.pending.note_end(wakes, self.desk.manager());
-        let _ = self.desk.begin(worker.at());
+        let _ = self.desk.begin(at);
     }
 
     /// Takes some of those that are to be woken.
@@ -232,8 +251,16 @@ fn let_go_all(worker: &mut Worker) {
     }
 }
 
+/// Whether a transaction has ended.
+fn is_done(answer: &Result<Unlocked, Refusal>) -> bool
+    ensures { IsTrue result ↔ (answer.now ≡ Ok Unlocked.Done) }
+{
+    matches!(answer, Ok(Unlocked::Done))
+}
+
 /// Returns what the answer to an unlock, a commit or an abort means.
 fn done(answer: Result<Unlocked, Refusal>) -> Result<(), LockError>
+    ensures told { result ≡ told_of answer }
     ensures in_time { IfErr result (λ error. error ≢ LockError.TimedOut) }
 {
     match answer {

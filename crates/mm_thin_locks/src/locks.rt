@@ -1,5 +1,11 @@
 //! What threads share.
-ghost use Rattle.std.specs.Prelude.{◌≡◌, IfErr};
+ghost use Rattle.std.specs.Prelude.{◌≡◌, ◌↔◌, Err, IfErr};
+ghost use Rattle.mm_manager.specs.Opening.{IsTransactionsOut, IsNamesOut, IsNameBytesOut};
+ghost use Rattle.mm_manager.specs.declared.refusal.OpenError.TheVariants as manager;
+ghost use Rattle.mm_thin.specs.declared.config.OpenError.TheVariants as office;
+ghost use Rattle.mm_desk.specs.declared.error.OpenError.TheVariants as desk;
+ghost use Rattle.mm_desk.specs.Opening.{AreBucketsOut};
+ghost use Rattle.mm_thin_locks.specs.Opening.{desk_config, IsRefused};
 ghost use Rattle.mm_locks.specs.declared.error.LockError.TheVariants.{TransactionsFull};
 
 use crate::hall::Hall;
@@ -38,15 +44,23 @@ impl ThinLocks {
     ///
     /// This is the one call that takes memory: what `LockManager::open` takes, 16 bytes a bucket, 12 a name of the manager, and for each
     /// transaction a worker with ten names of 64 bytes and a cache line in which its thread sleeps. While it opens it takes 8 bytes a bucket
-    /// and the names once more.
-    pub fn open(alloc: Global, config: ThinLocksConfig) -> Result<ThinLocks, OpenError> {
-        let desk = open_desk(alloc, config)?;
-        let hall = open_hall(alloc, desk, config)?;
-        let parkers = Parkers::open(alloc, config.manager.transactions)?;
-        Ok(ThinLocks {
-            parkers,
-            hall: YieldingMutex::new(hall),
-        })
+    /// and the names once more. Refused as the desk is, for a number that is out of its range, and otherwise only if a request for memory was
+    /// refused.
+    pub fn open(alloc: Global, config: ThinLocksConfig) -> Result<ThinLocks, OpenError>
+        ensures buckets { (result ≡ Err (OpenError.Desk (desk.Office office.Buckets))) ↔ AreBucketsOut (desk_config config) }
+        ensures transactions { (result ≡ Err (OpenError.Desk (desk.Manager manager.Transactions))) ↔ (¬ AreBucketsOut (desk_config config) × IsTransactionsOut config.manager) }
+        ensures names { (result ≡ Err (OpenError.Desk (desk.Manager manager.Names))) ↔ (¬ AreBucketsOut (desk_config config) × ¬ IsTransactionsOut config.manager × IsNamesOut config.manager) }
+        ensures name_bytes { (result ≡ Err (OpenError.Desk (desk.Manager manager.NameBytes))) ↔ (¬ AreBucketsOut (desk_config config) × ¬ IsTransactionsOut config.manager × ¬ IsNamesOut config.manager × IsNameBytesOut config.manager) }
+        ensures refused { IfErr result IsRefused }
+    {
+        let numbers = DeskConfig {
+            manager: config.manager,
+            buckets: config.buckets,
+        };
+        match Desk::open(alloc, numbers) {
+            Ok(desk) => open_over(alloc, desk, config),
+            Err(error) => Err(OpenError::Desk(error)),
+        }
     }
 
     /// Returns a session, which makes one transaction at a time. Refused as `TransactionsFull` if there are as many sessions as transactions.
@@ -103,16 +117,16 @@ impl ThinLocks {
     }
 }
 
-/// A desk of this configuration.
-fn open_desk(alloc: Global, config: ThinLocksConfig) -> Result<Desk, OpenError> {
-    let numbers = DeskConfig {
-        manager: config.manager,
-        buckets: config.buckets,
-    };
-    match Desk::open(alloc, numbers) {
-        Ok(desk) => Ok(desk),
-        Err(error) => Err(OpenError::Desk(error)),
-    }
+/// Locks over a desk that was just opened.
+fn open_over(alloc: Global, desk: Desk, config: ThinLocksConfig) -> Result<ThinLocks, OpenError>
+    ensures { IfErr result (λ error. error ≡ OpenError.Memory) }
+{
+    let hall = open_hall(alloc, desk, config)?;
+    let parkers = Parkers::open(alloc, config.manager.transactions)?;
+    Ok(ThinLocks {
+        parkers,
+        hall: YieldingMutex::new(hall),
+    })
 }
 
 /// What lies behind the lock, with a worker for each transaction.

@@ -6,7 +6,7 @@ use crate::hall::Outcome;
 use crate::locks::ThinLocks;
 use crate::transaction::Transaction;
 use mm_locks::{FlaggedParker, LockError, Wakes};
-use mm_thin::{GiveUp, Worker};
+use mm_thin::Worker;
 use std::sync::Wait;
 
 /// A thread's way to the locks: it makes one transaction at a time. It is not shared, and may go to another thread.
@@ -93,22 +93,11 @@ impl<'m, R: Wait> Session<'m, R> {
         answer
     }
 
-    /// Gives all back that the worker has taken, but for what is fat. Returns whether something is left.
-    fn give_back_all(&mut self) -> bool {
-        let mut is_left = false;
-        for k in 0..self.worker.places() {
-            if let GiveUp::Changed = self.worker.give_back(k) {
-                is_left = true;
-            }
-        }
-        is_left
-    }
-
     /// Ends the transaction that was begun last. The manager is asked if it may know of it.
     pub(crate) fn commit(&mut self, is_known: bool) -> Result<(), LockError>
         ensures in_time { IfErr result (λ error. error ≢ LockError.TimedOut) }
     {
-        let is_left = self.give_back_all();
+        let is_left = self.worker.give_back_all();
         if !is_left && !is_known {
             return Ok(());
         }
@@ -129,7 +118,7 @@ impl<'m, R: Wait> Session<'m, R> {
 
     /// Rolls the transaction back that was begun last. The manager is asked if it may know of it.
     pub(crate) fn roll_back(&mut self, is_known: bool) {
-        let is_left = self.give_back_all();
+        let is_left = self.worker.give_back_all();
         if is_left || is_known {
             self.roll_back_known();
         }

@@ -57,8 +57,9 @@ impl<'s, 'm, R: Wait> Transaction<'s, 'm, R> {
 
     /// Locks the name: returns when the transaction owns it, at once if nobody else does, and else it sleeps until it was granted.
     ///
-    /// If nobody else owns a name of its bucket, that is one compare-and-swap. Else the thread looks some times more, and then the manager is
-    /// asked; all that the transaction has locked is the manager's from then on. `Deadlock` comes at once, if the wait would close a cycle of
+    /// If nobody else owns a name of its bucket, that is one compare-and-swap; a ninth name, and one of more than 63 bytes, is the manager's. If
+    /// another one owns it the thread looks some times more, and then waits in the manager; all that the transaction has locked is the manager's
+    /// from then on. `Deadlock` comes at once, if the wait would close a cycle of
     /// waits; no other call makes a victim of one that sleeps. The transaction is then to be dropped: it keeps what it owns until that, so
     /// that its caller can undo what it did, and each further call is refused as `Deadlock` too. A name that it owns already is `Ok`, and is
     /// owned once. Refused as `Deadlock`, `NameEmpty`, `NameTooLong`, `NamesFull`, `CountsFull` or `LabelsFull`, as `LockManager::lock` is.
@@ -98,10 +99,8 @@ impl<'s, 'm, R: Wait> Transaction<'s, 'm, R> {
         ensures in_time { IfErr result (λ error. error ≢ LockError.TimedOut) }
         ensures at { self.new.session.now.worker.at ≡ self.old.session.now.worker.at }
     {
-        if let Take::Busy = why {
-            if let Some(granted) = self.look_again(name) {
-                return Ok(Some(granted));
-            }
+        if let Some(granted) = self.take_alone(name, why)? {
+            return Ok(Some(granted));
         }
         for _ in self.session.rt.forever() {
             match self.request(name)? {
@@ -111,6 +110,36 @@ impl<'s, 'm, R: Wait> Transaction<'s, 'm, R> {
             }
         }
         unreachable!()
+    }
+
+    /// Takes the name, if that goes without a wait: nothing else that the transaction has locked comes to the manager for it.
+    fn take_alone<'n>(
+        &mut self,
+        name: &'n [u8],
+        why: Take,
+    ) -> Result<Option<Granted<'n>>, LockError>
+        ensures granted { IfOk result (λ found. IfSome found (IsFor self.old.session.now.worker.at name.now)) }
+        ensures in_time { IfErr result (λ error. error ≢ LockError.TimedOut) }
+        ensures at { self.new.session.now.worker.at ≡ self.old.session.now.worker.at }
+    {
+        match why {
+            Take::Busy => Ok(self.look_again(name)),
+            Take::Full | Take::NotThin => self.try_once(name),
+            Take::Taken | Take::Held | Take::Fat => Ok(None),
+        }
+    }
+
+    /// Asks the manager for the name, which no record of the worker has room for, and does not wait.
+    fn try_once<'n>(&mut self, name: &'n [u8]) -> Result<Option<Granted<'n>>, LockError>
+        ensures granted { IfOk result (λ found. IfSome found (IsFor self.old.session.now.worker.at name.now)) }
+        ensures in_time { IfErr result (λ error. error ≢ LockError.TimedOut) }
+        ensures at { self.new.session.now.worker.at ≡ self.old.session.now.worker.at }
+    {
+        self.is_known = true;
+        match self.session.try_lock(name)? {
+            Outcome::Owns(granted) => Ok(Some(granted)),
+            Outcome::Waits | Outcome::Again => Ok(None),
+        }
     }
 
     /// Takes the name if it becomes free soon.

@@ -2,7 +2,7 @@ use Rattle.std.proofs.Common.{◌<◌, length, sym, ap, ◌∙◌, inl, inr, ari
 use Rattle.std.specs.Prelude.{slice_get}
 use Rattle.std.proofs.lemmas.Bool.{cases_eq}
 use Rattle.std.proofs.lemmas.Option.{slice_get_within}
-use Rattle.mm_desk.proofs.Keeps.{keeps_both, fat_still}
+use Rattle.mm_desk.proofs.Keeps.{keeps_both, fat_still, refuses_after}
 use Rattle.mm_desk.proofs.desk.Desk.fatten_own.Goals as goal
 
 pub returns-in-Changed-clause-keeps : goal.returns-in-Changed-clause-keeps
@@ -26,3 +26,6 @@ returns-clause-own c k r at taken =
     let size = c.places-k-end.ensures in
     let all = c.loop-k-test.false in
     c.loop-k.invariant.1 k r (omega arith) at taken
+
+pub returns-in-Refused-clause-refused : goal.returns-in-Refused-clause-refused
+returns-in-Refused-clause-refused c = refuses_after c.args.self.now c.loop-k.self c.in-Refused.refusal c.fatten_one.new.self c.loop-k.invariant.0 c.in-Refused.ensures.refused

@@ -1,5 +1,8 @@
-use Rattle.std.proofs.Common.{inl}
+use Rattle.std.proofs.Common.{refl, inl}
 use Rattle.mm_desk.proofs.desk.Desk.try_lock.Goals as goal
 
-pub returns-in-Fat : goal.returns-in-Fat
-returns-in-Fat c = inl (c.adopt_name.new.self, c.adopt_name.ensures.keeps, c.attempt_at.ensures.tries, c.attempt_at.ensures.rest.0, c.attempt_at.ensures.rest.1)
+pub returns-in-Ok : goal.returns-in-Ok
+returns-in-Ok c = inl (c.adopt_name.new.self, c.adopt_name.ensures.keeps, (c.attempt_at.new.self, c.in-Ok.ensures.tries, c.attempt_at.ensures.rest.0, c.attempt_at.ensures.rest.1, refl))
+
+pub returns-in-Err : goal.returns-in-Err
+returns-in-Err c = inl (c.adopt_name.new.self, c.adopt_name.ensures.keeps, (c.attempt_at.new.self, c.in-Err.ensures.tries, c.attempt_at.ensures.rest.0, c.attempt_at.ensures.rest.1, c.free_name.ensures.keeps))

@@ -2,7 +2,7 @@ use Rattle.std.proofs.Common.{◌+◌, sym, ap, ◌∙◌, arith}
 use Rattle.mm_thin.specs.declared.views.DeskView.{DeskView}
 use Rattle.mm_thin.specs.Views.{with_records}
 use Rattle.mm_thin.specs.Parts.{OfficeState}
-use Rattle.mm_thin.proofs.Places.{new_idle, new_length, new_placed}
+use Rattle.mm_thin.proofs.Places.{new_idle, new_length, new_used}
 use Rattle.mm_thin.proofs.office.Office.worker_of.Goals as goal
 
 pub returns : goal.returns
@@ -33,4 +33,4 @@ invariant_of-result c =
     let second = ap (λ d. d.1.records) c.add_record-2.ensures.desk in
     let tables = ap (λ d. d.0) c.add_record-2.ensures.desk ∙ ap (λ d. d.0) c.add_record.ensures.desk ∙ c.self.invariant.0 ∙ sym (ap (λ b. b.table) (c.requires.of ∙ sym (ap (λ (o : OfficeState). o.of) c.self.view_is))) in
     let records = c.self.invariant.1 in
-    new_placed c.args.buckets c.self.inside.workers before c.fill.new.places.items c.fill.ensures.made tables (omega arith)
+    new_used c.args.buckets c.self.inside.workers before c.fill.new.places.items c.fill.ensures.made tables (omega arith)

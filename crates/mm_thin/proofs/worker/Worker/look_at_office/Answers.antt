@@ -4,14 +4,14 @@ use Rattle.mm_thin.specs.declared.views.DeskView.{DeskView}
 use Rattle.mm_thin.specs.declared.views.RecordView.{RecordView}
 use Rattle.mm_thin.specs.Parts.{OfficeState, WorkerState, IsOfWorker, IsPlaced}
 use Rattle.mm_thin.specs.Calls.{AreLent}
-use Rattle.mm_thin.proofs.Places.{found, past, still_placed, placed_seen}
+use Rattle.mm_thin.proofs.Places.{found, past, still_used, placed_seen}
 use Rattle.mm_thin.proofs.worker.Worker.look_at_office.Goals as goal
 
 pub invariant_of-self : goal.invariant_of-self
 invariant_of-self c =
     let size = c.len.ensures in
     let low = c.if-k-len.false in
-    still_placed c.self.inside.buckets c.self.inside.at c.self.inside.places.items c.args.k c.index_mut.result.now c.look_at_desk.new.self (omega arith) c.index_mut.ensures.value c.look_at_desk.ensures.one c.self.invariant
+    still_used c.self.inside.buckets c.self.inside.at c.self.inside.places.items c.args.k c.self.inside.used c.index_mut.result.now c.look_at_desk.new.self (omega arith) c.index_mut.ensures.value c.look_at_desk.ensures.one c.self.invariant
 
 pub returns-clause-lent : goal.returns-clause-lent
 returns-clause-lent c r at =
@@ -29,9 +29,9 @@ returns-then-k-len-clause-lent c r at b taken fat =
 pub returns-clause-placed : goal.returns-clause-placed
 returns-clause-placed c =
     subst (λ (w : WorkerState). (r : RecordView) → slice_get w.records c.args.k ≡ Some r → IsOfWorker w.at r.number × IsPlaced w.of r) c.self.view_is
-    (λ r at. placed_seen c.self.inside.buckets c.self.inside.at c.self.inside.places.items c.args.k r c.self.invariant at)
+    (λ r at. placed_seen c.self.inside.buckets c.self.inside.at c.self.inside.places.items c.args.k r c.self.invariant.placed at)
 
 pub returns-then-k-len-clause-placed : goal.returns-then-k-len-clause-placed
 returns-then-k-len-clause-placed c =
     subst (λ (w : WorkerState). (r : RecordView) → slice_get w.records c.args.k ≡ Some r → IsOfWorker w.at r.number × IsPlaced w.of r) c.self.view_is
-    (λ r at. placed_seen c.self.inside.buckets c.self.inside.at c.self.inside.places.items c.args.k r c.self.invariant at)
+    (λ r at. placed_seen c.self.inside.buckets c.self.inside.at c.self.inside.places.items c.args.k r c.self.invariant.placed at)

@@ -1,6 +1,6 @@
 use Rattle.std.proofs.Common.{◌≡◌, ◌<◌, ℕ, [], Some, slice_get}
 use Rattle.mm_thin.specs.declared.views.RecordView.{RecordView}
-use Rattle.mm_thin.proofs.worker.Worker.idle.Given as goal
+use Rattle.mm_thin.proofs.worker.Worker.idle_below.Given as goal
 
 -- no record below this one is so
 abbrev pub invariant-loop-k : goal.invariant-loop-k
