@@ -16,7 +16,7 @@ enum { ROWS = 8, CHANGES = 16, TRANSACTIONS = 64, ATTEMPTS = 100, MILLISECOND = 
 
 static pashkure_locks *locks;
 static long rows[ROWS]; /* only the transaction that owns the name of a row reads or writes it */
-static const char *titles[TRANSACTIONS]; /* of the transactions, by slot, for the log: read and written while the locks are held */
+static const char *titles[TRANSACTIONS]; /* of the transactions, by slot, for the log */
 
 /* What a transaction did to a row. */
 struct change {
@@ -48,9 +48,7 @@ static void begin(struct transaction *tx, const char *title)
 {
     tx->count = 0;
     must_be_ok(pashkure_locks_begin(locks, &tx->key));
-    pashkure_locks_hold(locks);
-    titles[tx->key.slot] = title;
-    pashkure_locks_let_go(locks);
+    titles[tx->key.slot] = title; /* the slot is this one's, and others read this while it waits alone */
 }
 
 /* The name of a row. Any bytes would do. */
@@ -104,16 +102,16 @@ static void roll_back(struct transaction *tx)
 /* Logs who waits for whom. The cycle stands until its victim aborts. */
 static void log_deadlock(pashkure_key victim)
 {
-    const pashkure *held = pashkure_locks_hold(locks);
     uint32_t slot = victim.slot;
+    pashkure_locks_hold(locks);
     do {
         pashkure_seen seen;
         pashkure_key owner;
         char name[16];
         size_t length;
-        pashkure_result does = pashkure_look(held, slot, &seen);
+        pashkure_result does = pashkure_locks_look(locks, slot, &seen);
         if (does != PASHKURE_WAITS && does != PASHKURE_DEADLOCK) break;
-        if (pashkure_name(held, seen.number, name, sizeof name, &length, &owner) == PASHKURE_OK)
+        if (pashkure_locks_name(locks, seen.number, name, sizeof name, &length, &owner) == PASHKURE_OK)
             fprintf(stderr, "deadlock: %s waits for %.*s of %s\n", titles[slot], (int)length, name, titles[owner.slot]);
         slot = seen.holder.slot;
     } while (slot != victim.slot);

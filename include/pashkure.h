@@ -76,6 +76,7 @@ typedef enum pashkure_result {
     PASHKURE_BAD_NAME_BYTES = 37,
     PASHKURE_BAD_RESERVED = 38,      /* config.reserved is not 0 */
     PASHKURE_NO_MEMORY = 39,
+    PASHKURE_BAD_BUCKETS = 40,
     /* 64 to 95 are for the client of the lock service, whose other results have the numbers above. */
     PASHKURE_RESULT_BITS_ = 0x7fffffff /* no result: gives the enum 32 bits with each compiler */
 } pashkure_result;
@@ -98,9 +99,10 @@ typedef struct pashkure_config {
     uint32_t names;        /* how many can be owned at a time: 1 to 65,536; a later version may take more */
     uint32_t name_bytes;   /* how many bytes a name may have: 1 to 1,024. Any bytes; a name of numbers is as good as text */
     uint64_t seed;         /* of the hash of names: any number that those who choose names do not know, as of getrandom */
-    uint64_t reserved;     /* 0 */
+    uint32_t buckets;      /* of pashkure_locks_open; else 0 */
+    uint32_t reserved;     /* 0 */
 } pashkure_config;
-#define PASHKURE_CONFIG {PASHKURE_VERSION, 1024, 4096, 64, 0, 0} /* pashkure_config config = PASHKURE_CONFIG; then set members */
+#define PASHKURE_CONFIG {PASHKURE_VERSION, 1024, 4096, 64, 0, 0, 0} /* pashkure_config config = PASHKURE_CONFIG; then set members */
 
 /* A manager. Its members are the library's. */
 typedef struct pashkure { void *manager; uint64_t state; } pashkure;

@@ -33,8 +33,9 @@ const char *pashkure_message(pashkure_result result)
     case PASHKURE_BAD_TRANSACTIONS: return "transactions is out of range";
     case PASHKURE_BAD_NAMES: return "names is out of range";
     case PASHKURE_BAD_NAME_BYTES: return "name_bytes is out of range";
-    case PASHKURE_BAD_RESERVED: return "reserved is not 0";
+    case PASHKURE_BAD_RESERVED: return "reserved, or buckets of a pashkure, is not 0";
     case PASHKURE_NO_MEMORY: return "there is not enough memory";
+    case PASHKURE_BAD_BUCKETS: return "buckets is out of range";
     case PASHKURE_RESULT_BITS_: break;
     }
     return "no result of this library";

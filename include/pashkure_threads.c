@@ -1,39 +1,15 @@
-/* Threads that sleep, over the proved calls of pashkure.h. C99 and POSIX threads.
+/* Threads that sleep, over the proved calls of pashkure_desk.h. C11 and POSIX threads.
  *
- * Each call of pashkure.h is made with the mutex. After each end `tell` reads pashkure_woken before any other call. What a transaction does, and
- * what it owns, is asked of pashkure.h: a fault in what the seats hold may make a thread sleep too long, but not own. */
-#define _POSIX_C_SOURCE 200809L
-#include "pashkure_threads.h"
+ * What a transaction owns is always the answer of a proved call: a fault here may make a thread sleep too long, but not own. */
+#include "pashkure_seats.h"
 
 #include <errno.h>
-#include <pthread.h>
 #include <sched.h>
-#include <stdlib.h>
 #include <time.h>
 
-#define NOBODY UINT32_MAX
-enum { FIRST_YIELDS = 2, TURNS = 8 };
+enum { FIRST_YIELDS = 2, TURNS = 8, LOOKS = 3 };
 
-/* What is kept of each transaction, by its slot. */
-struct seat {
-    pthread_cond_t news;          /* its thread sleeps here */
-    pashkure_wake_call *wake;     /* or this is called; NULL if a thread sleeps */
-    void *context;
-    pashkure_result over;         /* how the wait ended: OK, TIMED_OUT, INTERRUPTED */
-    pashkure_result withdraws_as; /* as what the wait ends once it can be taken back; OK if it is not to be */
-    uint32_t next_due;            /* in the list of those whose wake call is due */
-    bool is_asking;               /* from PASHKURE_WAITS until the caller was told how it ended */
-    bool is_interrupted;          /* the next request is to be told */
-};
-
-struct pashkure_locks {
-    pthread_mutex_t mutex;
-    pashkure core;
-    uint32_t slots;
-    uint32_t withdrawing;         /* how many seats are to withdraw */
-    uint32_t first_due, last_due; /* wake calls to make, in order */
-    struct seat seats[];
-};
+/* ---- The mutex ---- */
 
 /* Waits for the mutex, and takes it. To ask for it again at once would slow down the thread that has it, and that is done in a microsecond mostly.
  * So this thread yields its processor twice as often before each further try, while that one makes several calls in a row; then it sleeps. */
@@ -51,7 +27,57 @@ static void enter(pashkure_locks *locks)
     if (pthread_mutex_trylock(&locks->mutex) != 0) contend(locks);
 }
 
-/* Gives the mutex back, and makes the wake calls that are due. Nobody else writes what is read of such a seat: its transaction is still asking. */
+/* ---- Seats ---- */
+
+/* The seat of a live transaction, in which this thread is the only one from now on, or NULL and the refusal. */
+static struct seat *take_seat(pashkure_locks *locks, pashkure_key key, pashkure_result *refusal)
+{
+    struct seat *seat;
+    uint64_t word = word_of(key.generation, IDLE);
+    *refusal = PASHKURE_NO_TRANSACTION;
+    if (key.slot >= locks->slots) return NULL;
+    seat = &locks->seats[key.slot];
+    if (atomic_compare_exchange_strong_explicit(&seat->word, &word, word_of(key.generation, CALLING), memory_order_acquire, memory_order_relaxed))
+        return seat;
+    if (word == word_of(key.generation, CALLING)) *refusal = PASHKURE_WAITING;
+    return NULL;
+}
+
+static void leave_seat(struct seat *seat, pashkure_key key)
+{
+    atomic_store_explicit(&seat->word, word_of(key.generation, IDLE), memory_order_release);
+}
+
+static void free_seat(struct seat *seat, pashkure_key key)
+{
+    atomic_store_explicit(&seat->word, word_of(key.generation, FREE), memory_order_release);
+}
+
+/* Whether the transaction is to be told of an interrupt, which it is once. */
+static bool is_interrupted(struct seat *seat, pashkure_key key)
+{
+    if (atomic_load_explicit(&seat->interrupted, memory_order_relaxed) != key.generation) return false;
+    atomic_store_explicit(&seat->interrupted, 0, memory_order_relaxed);
+    return true;
+}
+
+/* The next request of the transaction in the seat is to be told. */
+static void interrupt_next(struct seat *seat)
+{
+    const uint64_t word = atomic_load_explicit(&seat->word, memory_order_relaxed);
+    atomic_store_explicit(&seat->interrupted, generation_of(word), memory_order_relaxed);
+}
+
+/* What the transaction in the slot does, as the desk knows it: OK, WAITS or DEADLOCK. */
+static uint32_t does(pashkure_locks *locks, uint32_t slot)
+{
+    pashkure_seen seen;
+    return pashkure_desk_look(&locks->desk, slot, &seen);
+}
+
+/* ---- Waits; all of this with the mutex ---- */
+
+/* Gives the mutex back, and makes the wake calls that are due. */
 static void leave(pashkure_locks *locks)
 {
     uint32_t slot = locks->first_due;
@@ -62,49 +88,12 @@ static void leave(pashkure_locks *locks)
         pashkure_wake_call *wake = seat->wake;
         void *context = seat->context;
         const pashkure_result over = seat->over;
-        pashkure_seen seen;
         const uint32_t next = seat->next_due;
-        enter(locks);
-        pashkure_look(&locks->core, slot, &seen);
-        seat->is_asking = false;
-        pthread_mutex_unlock(&locks->mutex);
-        wake(context, seen.key, over);
+        const pashkure_key key = {slot, generation_of(atomic_load_explicit(&seat->word, memory_order_relaxed))};
+        leave_seat(seat, key);
+        wake(context, key, over);
         slot = next;
     }
-}
-
-/* What the transaction does: OK, WAITS or DEADLOCK. FREE: the key is of none that is live. */
-static pashkure_result state_of(const pashkure_locks *locks, pashkure_key key)
-{
-    pashkure_seen seen;
-    pashkure_result state = pashkure_look(&locks->core, key.slot, &seen);
-    return state != PASHKURE_FREE && seen.key.generation == key.generation ? state : PASHKURE_FREE;
-}
-
-/* OK, or why it can make no call of its own now. */
-static pashkure_result refusal_of(const pashkure_locks *locks, pashkure_key key)
-{
-    pashkure_result state = state_of(locks, key);
-    if (state == PASHKURE_FREE) return PASHKURE_NO_TRANSACTION;
-    return state == PASHKURE_WAITS || locks->seats[key.slot].is_asking ? PASHKURE_WAITING : PASHKURE_OK;
-}
-
-/* As refusal_of, for a request: it is the one that is told of an interrupt. */
-static pashkure_result refusal_of_request(pashkure_locks *locks, pashkure_key key)
-{
-    pashkure_result refusal = refusal_of(locks, key);
-    if (refusal == PASHKURE_OK && locks->seats[key.slot].is_interrupted) {
-        locks->seats[key.slot].is_interrupted = false;
-        return PASHKURE_INTERRUPTED;
-    }
-    return refusal;
-}
-
-static void begin_wait(struct seat *seat, pashkure_wake_call *wake, void *context)
-{
-    seat->is_asking = true;
-    seat->wake = wake;
-    seat->context = context;
 }
 
 /* Wakes who waited in the slot, or notes that its wake call is due. */
@@ -112,7 +101,8 @@ static void end_wait(pashkure_locks *locks, uint32_t slot, pashkure_result over)
 {
     struct seat *seat = &locks->seats[slot];
     if (seat->withdraws_as != PASHKURE_OK) {
-        if (over == PASHKURE_OK && seat->withdraws_as == PASHKURE_INTERRUPTED) seat->is_interrupted = true;
+        if (over == PASHKURE_OK && seat->withdraws_as == PASHKURE_INTERRUPTED)
+            interrupt_next(seat);
         seat->withdraws_as = PASHKURE_OK;
         locks->withdrawing--;
     }
@@ -129,36 +119,42 @@ static void end_wait(pashkure_locks *locks, uint32_t slot, pashkure_result over)
     locks->last_due = slot;
 }
 
-/* Ends the waits that the last call ended. */
+/* Ends the waits that the last call of the desk ended. */
 static void tell(pashkure_locks *locks)
 {
     pashkure_wake woken;
-    for (size_t i = 0; pashkure_woken(&locks->core, i, &woken); i++) end_wait(locks, woken.key.slot, (pashkure_result)woken.result);
+    for (size_t i = 0; pashkure_desk_woken(&locks->desk, i, &woken); i++) end_wait(locks, woken.key.slot, (pashkure_result)woken.result);
 }
 
 /* Takes the wait back, or notes that it is to be taken back after some abort. Nothing, if it is over. */
-static void withdraw(pashkure_locks *locks, pashkure_key key, pashkure_result as)
+static void withdraw(pashkure_locks *locks, uint32_t slot, pashkure_result as)
 {
-    struct seat *seat = &locks->seats[key.slot];
-    pashkure_result told = pashkure_cancel(&locks->core, key);
+    struct seat *seat = &locks->seats[slot];
+    const uint32_t told = pashkure_desk_cancel(&locks->desk, slot);
     if (told == PASHKURE_OK) {
         tell(locks);
-        end_wait(locks, key.slot, as);
+        end_wait(locks, slot, as);
     } else if (told == PASHKURE_CARRIED) {
         if (seat->withdraws_as == PASHKURE_OK) locks->withdrawing++;
         seat->withdraws_as = as;
     }
 }
 
-/* Tries again, after an abort, what pashkure_cancel answered PASHKURE_CARRIED. */
+/* Tries again, after an abort, what was answered PASHKURE_CARRIED. */
 static void withdraw_again(pashkure_locks *locks)
 {
     for (uint32_t slot = 0; locks->withdrawing > 0 && slot < locks->slots; slot++) {
-        pashkure_seen seen;
         pashkure_result as = locks->seats[slot].withdraws_as;
-        if (as != PASHKURE_OK && pashkure_look(&locks->core, slot, &seen) == PASHKURE_WAITS) withdraw(locks, seen.key, as);
+        if (as != PASHKURE_OK && does(locks, slot) == PASHKURE_WAITS) withdraw(locks, slot, as);
     }
 }
+
+/* How long a request may wait. No clock is read before the first wait. */
+struct limit {
+    int64_t nanoseconds;
+    bool is_begun;
+    struct timespec until;
+};
 
 static struct timespec time_in(int64_t nanoseconds)
 {
@@ -171,53 +167,96 @@ static struct timespec time_in(int64_t nanoseconds)
     return at;
 }
 
-static bool owns(const pashkure_locks *locks, pashkure_key key, const pashkure_request *request)
+static bool owns(pashkure_locks *locks, uint32_t slot, const pashkure_request *request)
 {
     pashkure_key owner;
-    return pashkure_owner(&locks->core, request->name, request->length, &owner) == PASHKURE_OK && owner.slot == key.slot
-        && owner.generation == key.generation;
+    return pashkure_desk_owner(&locks->desk, request->name, request->length, &owner) == PASHKURE_OK && owner.slot == slot;
 }
 
-/* Sleeps as long as pashkure_look says that the transaction waits. `until` is NULL if there is no end. */
-static pashkure_result sleep_for(pashkure_locks *locks, pashkure_key key, const pashkure_request *request, const struct timespec *until)
+/* Sleeps as long as the desk says that the transaction waits. */
+static pashkure_result sleep_for(pashkure_locks *locks, uint32_t slot, const pashkure_request *request, struct limit *limit)
 {
-    struct seat *seat = &locks->seats[key.slot];
-    begin_wait(seat, NULL, NULL);
-    while (state_of(locks, key) == PASHKURE_WAITS) {
-        if (until == NULL || seat->withdraws_as != PASHKURE_OK)
-            pthread_cond_wait(&seat->news, &locks->mutex);
-        else if (pthread_cond_timedwait(&seat->news, &locks->mutex, until) == ETIMEDOUT)
-            withdraw(locks, key, PASHKURE_TIMED_OUT);
+    struct seat *seat = &locks->seats[slot];
+    const bool has_end = limit->nanoseconds != PASHKURE_FOREVER;
+    if (has_end && !limit->is_begun) {
+        limit->until = time_in(limit->nanoseconds);
+        limit->is_begun = true;
     }
-    seat->is_asking = false;
-    if (owns(locks, key, request)) return PASHKURE_OK;
+    seat->wake = NULL;
+    while (does(locks, slot) == PASHKURE_WAITS) {
+        if (!has_end || seat->withdraws_as != PASHKURE_OK)
+            pthread_cond_wait(&seat->news, &locks->mutex);
+        else if (pthread_cond_timedwait(&seat->news, &locks->mutex, &limit->until) == ETIMEDOUT)
+            withdraw(locks, slot, PASHKURE_TIMED_OUT);
+    }
+    if (owns(locks, slot, request)) return PASHKURE_OK;
     return seat->over == PASHKURE_TIMED_OUT ? PASHKURE_TIMED_OUT : PASHKURE_INTERRUPTED;
+}
+
+/* ---- Requests ---- */
+
+/* Asks the desk; with the mutex. A transaction that is live here has one at the desk, unless no more can be counted there. */
+static pashkure_result ask(pashkure_locks *locks, struct seat *seat, const pashkure_request *request, bool may_wait)
+{
+    uint32_t result;
+    seat->is_known = true;
+    hides();
+    do {
+        result = may_wait ? pashkure_desk_ask(&locks->desk, &seat->worker, request->name, request->length)
+                          : pashkure_desk_try_lock(&locks->desk, &seat->worker, request->name, request->length);
+    } while (result == PASHKURE_AGAIN);
+    shows();
+    seat->is_victim = result == PASHKURE_DEADLOCK;
+    return result == PASHKURE_NO_TRANSACTION ? PASHKURE_COUNTS_FULL : (pashkure_result)result;
+}
+
+/* Takes the name without the mutex, if nobody has its bucket. */
+static pashkure_result take(pashkure_locks *locks, struct seat *seat, const pashkure_request *request)
+{
+    uint32_t result;
+    hides();
+    result = pashkure_worker_take(&seat->worker, request->name, request->length);
+    shows();
+    return took(locks, (pashkure_result)result);
+}
+
+/* The same, and looks some times more while another one has the bucket. */
+static pashkure_result take_soon(pashkure_locks *locks, struct seat *seat, const pashkure_request *request)
+{
+    pashkure_result result = take(locks, seat, request);
+    for (int look = 0; result == PASHKURE_BUSY && look < LOOKS; look++) {
+        for (int yields = 1 << look; yields > 0; yields--) sched_yield();
+        result = take(locks, seat, request);
+    }
+    return result;
+}
+
+/* Locks the name: the answer to it. */
+static pashkure_result lock(pashkure_locks *locks, struct seat *seat, uint32_t slot, const pashkure_request *request, struct limit *limit)
+{
+    const bool may_wait = limit->nanoseconds > 0;
+    pashkure_result result;
+    if (seat->is_victim) return PASHKURE_MUST_ABORT;
+    result = may_wait ? take_soon(locks, seat, request) : take(locks, seat, request);
+    if (PASHKURE_OWNS(result)) return result;
+    enter(locks);
+    result = ask(locks, seat, request, may_wait);
+    if (result == PASHKURE_WAITS) result = sleep_for(locks, slot, request, limit);
+    leave(locks);
+    return took(locks, result);
 }
 
 pashkure_result pashkure_locks_lock_all(pashkure_locks *locks, pashkure_key key, pashkure_request *requests, size_t count, int64_t nanoseconds)
 {
-    struct timespec until;
-    bool has_until = false;
+    struct limit limit = {nanoseconds, false, {0, 0}};
     pashkure_result result;
+    struct seat *seat = take_seat(locks, key, &result);
     for (size_t i = 0; i < count; i++) requests[i].result = PASHKURE_NOT_ASKED;
-    enter(locks);
-    result = refusal_of_request(locks, key);
+    if (seat != NULL) result = is_interrupted(seat, key) ? PASHKURE_INTERRUPTED : PASHKURE_OK;
     if (result != PASHKURE_OK && count > 0) requests[0].result = result;
-    for (size_t i = 0; i < count && PASHKURE_OWNS(result); i++) {
-        if (nanoseconds <= 0)
-            result = pashkure_try_lock(&locks->core, key, requests[i].name, requests[i].length);
-        else
-            result = pashkure_lock(&locks->core, key, requests[i].name, requests[i].length);
-        if (result == PASHKURE_WAITS) {
-            if (nanoseconds != PASHKURE_FOREVER && !has_until) { /* no clock is read before the first wait */
-                until = time_in(nanoseconds);
-                has_until = true;
-            }
-            result = sleep_for(locks, key, &requests[i], has_until ? &until : NULL);
-        }
-        requests[i].result = result;
-    }
-    leave(locks);
+    for (size_t i = 0; i < count && PASHKURE_OWNS(result); i++)
+        result = requests[i].result = lock(locks, seat, key.slot, &requests[i], &limit);
+    if (seat != NULL) leave_seat(seat, key);
     return PASHKURE_OWNS(result) ? PASHKURE_OK : result;
 }
 
@@ -228,139 +267,149 @@ pashkure_result pashkure_locks_lock(pashkure_locks *locks, pashkure_key key, con
     return result == PASHKURE_OK ? request.result : result; /* OK or HELD */
 }
 
+/* Locks the name, or waits for it from now on, with this call to make when the wait is over. */
+static pashkure_result ask_for(
+    pashkure_locks *locks, struct seat *seat, const pashkure_request *request, pashkure_wake_call *wake, void *context)
+{
+    pashkure_result result = take(locks, seat, request);
+    if (PASHKURE_OWNS(result)) return result;
+    enter(locks);
+    seat->wake = wake;
+    seat->context = context;
+    result = ask(locks, seat, request, true);
+    leave(locks);
+    return took(locks, result);
+}
+
 pashkure_result pashkure_locks_ask(
     pashkure_locks *locks, pashkure_key key, const void *name, size_t length, pashkure_wake_call *wake, void *context)
 {
+    const pashkure_request request = {name, length, PASHKURE_NOT_ASKED};
     pashkure_result result;
-    enter(locks);
-    result = refusal_of_request(locks, key);
-    if (result == PASHKURE_OK) result = pashkure_lock(&locks->core, key, name, length);
-    if (result == PASHKURE_WAITS) begin_wait(&locks->seats[key.slot], wake, context);
-    leave(locks);
+    struct seat *seat = take_seat(locks, key, &result);
+    if (seat == NULL) return result;
+    if (is_interrupted(seat, key))
+        result = PASHKURE_INTERRUPTED;
+    else if (seat->is_victim)
+        result = PASHKURE_MUST_ABORT;
+    else
+        result = ask_for(locks, seat, &request, wake, context);
+    if (result != PASHKURE_WAITS) leave_seat(seat, key); /* else it is left when the wait ends */
     return result;
 }
 
 pashkure_result pashkure_locks_interrupt(pashkure_locks *locks, pashkure_key key)
 {
-    pashkure_result state;
+    struct seat *seat;
+    uint64_t word;
+    if (key.slot >= locks->slots) return PASHKURE_NO_TRANSACTION;
+    seat = &locks->seats[key.slot];
     enter(locks);
-    state = state_of(locks, key);
-    if (state == PASHKURE_WAITS)
-        withdraw(locks, key, PASHKURE_INTERRUPTED);
-    else if (state == PASHKURE_OK)
-        locks->seats[key.slot].is_interrupted = true;
+    word = atomic_load_explicit(&seat->word, memory_order_relaxed);
+    if (generation_of(word) != key.generation || state_of(word) == FREE) {
+        leave(locks);
+        return PASHKURE_NO_TRANSACTION;
+    }
+    switch (does(locks, key.slot)) {
+    case PASHKURE_WAITS: withdraw(locks, key.slot, PASHKURE_INTERRUPTED); break;
+    case PASHKURE_DEADLOCK: break;
+    default: interrupt_next(seat);
+    }
     leave(locks);
-    return state == PASHKURE_FREE ? PASHKURE_NO_TRANSACTION : PASHKURE_OK;
+    return PASHKURE_OK;
 }
+
+/* ---- Begins and ends ---- */
+
+/* The slot in which this thread began last, where it looks first: two threads that each begin one at a time do not meet. No call and no memory
+ * is needed to find it. */
+static _Thread_local uint32_t last_slot __attribute__((tls_model("initial-exec"))) = NOBODY;
 
 pashkure_result pashkure_locks_begin(pashkure_locks *locks, pashkure_key *key)
 {
-    pashkure_result result;
+    static _Atomic uint32_t threads;
+    if (last_slot == NOBODY) last_slot = atomic_fetch_add_explicit(&threads, 1, memory_order_relaxed);
+    for (uint32_t tried = 0; tried < locks->slots; tried++) {
+        const uint32_t slot = (uint32_t)(((uint64_t)last_slot + tried) % locks->slots);
+        struct seat *seat = &locks->seats[slot];
+        uint64_t word = atomic_load_explicit(&seat->word, memory_order_relaxed);
+        const uint32_t generation = generation_of(word) + 1;
+        if (state_of(word) != FREE || generation == 0) continue;
+        if (!atomic_compare_exchange_strong_explicit(
+                &seat->word, &word, word_of(generation, IDLE), memory_order_acquire, memory_order_relaxed))
+            continue;
+        last_slot = slot;
+        *key = (pashkure_key){slot, generation};
+        return PASHKURE_OK;
+    }
+    return PASHKURE_TRANSACTIONS_FULL;
+}
+
+/* Gives a name back that the worker could not give back by itself. */
+static uint32_t unlock_at_desk(pashkure_locks *locks, struct seat *seat, const void *name, size_t length)
+{
+    uint32_t result;
+    seat->is_known = true;
     enter(locks);
-    result = pashkure_begin(&locks->core, key);
-    if (result == PASHKURE_OK) locks->seats[key->slot].is_interrupted = false;
+    result = pashkure_desk_unlock(&locks->desk, &seat->worker, name, length);
+    if (result == PASHKURE_OK) tell(locks);
     leave(locks);
-    return result;
+    if (result == PASHKURE_FREE) return PASHKURE_OK; /* by now the worker could */
+    return result == PASHKURE_NO_TRANSACTION ? PASHKURE_NOT_OWNER : result;
 }
 
 pashkure_result pashkure_locks_unlock(pashkure_locks *locks, pashkure_key key, const void *name, size_t length)
 {
-    pashkure_result result;
-    enter(locks);
-    result = refusal_of(locks, key);
-    if (result == PASHKURE_OK) result = pashkure_unlock(&locks->core, key, name, length);
-    if (result == PASHKURE_OK) tell(locks);
-    leave(locks);
-    return result;
-}
-
-pashkure_result pashkure_locks_commit(pashkure_locks *locks, pashkure_key key)
-{
-    pashkure_result result;
-    enter(locks);
-    result = refusal_of(locks, key);
-    if (result == PASHKURE_OK) result = pashkure_commit(&locks->core, key);
-    if (result == PASHKURE_OK) tell(locks);
-    leave(locks);
-    return result;
-}
-
-pashkure_result pashkure_locks_abort(pashkure_locks *locks, pashkure_key key)
-{
-    pashkure_result result;
-    enter(locks);
-    result = refusal_of(locks, key);
-    if (result == PASHKURE_OK) result = pashkure_abort(&locks->core, key);
-    if (result == PASHKURE_OK) {
-        tell(locks);
-        withdraw_again(locks);
+    pashkure_result refusal;
+    uint32_t result = PASHKURE_MUST_ABORT;
+    struct seat *seat = take_seat(locks, key, &refusal);
+    if (seat == NULL) return refusal;
+    if (!seat->is_victim) {
+        gives(locks);
+        result = pashkure_worker_give_back(&seat->worker, name, length);
+        if (result != PASHKURE_OK) result = unlock_at_desk(locks, seat, name, length);
     }
-    leave(locks);
-    return result;
+    leave_seat(seat, key);
+    return (pashkure_result)result;
 }
 
-const pashkure *pashkure_locks_hold(pashkure_locks *locks)
+/* Counts one more. Nobody else writes this number. */
+static void count(_Atomic uint64_t *number)
 {
+    atomic_store_explicit(number, atomic_load_explicit(number, memory_order_relaxed) + 1, memory_order_release);
+}
+
+/* Ends the transaction of a seat at the desk, and begins its next one there; nothing, if the desk knows nothing of it. */
+static void end_at_desk(pashkure_locks *locks, struct seat *seat, uint32_t slot, bool commits)
+{
+    pashkure_key next;
+    if (pashkure_worker_give_back_all(&seat->worker) == PASHKURE_OK && !seat->is_known) return;
     enter(locks);
-    return &locks->core;
+    if (!commits || pashkure_desk_commit(&locks->desk, &seat->worker) != PASHKURE_OK) (void)pashkure_desk_abort(&locks->desk, &seat->worker);
+    tell(locks);
+    (void)pashkure_desk_begin(&locks->desk, slot, &next);
+    if (!commits) withdraw_again(locks);
+    leave(locks);
 }
 
-void pashkure_locks_let_go(pashkure_locks *locks) { pthread_mutex_unlock(&locks->mutex); }
-
-/* Destroys the mutex and the first seats, and frees. */
-static void destroy(pashkure_locks *locks, uint32_t seats)
+static pashkure_result end(pashkure_locks *locks, pashkure_key key, bool commits)
 {
-    while (seats > 0) pthread_cond_destroy(&locks->seats[--seats].news);
-    pthread_mutex_destroy(&locks->mutex);
-    pashkure_close(&locks->core);
-    free(locks);
-}
-
-/* Makes the mutex and the places to sleep: how many of these were made. */
-static uint32_t make_seats(pashkure_locks *locks, uint32_t slots)
-{
-    uint32_t made = 0;
-    pthread_condattr_t clock;
-    if (pthread_condattr_init(&clock) != 0) return 0;
-    if (pthread_condattr_setclock(&clock, CLOCK_MONOTONIC) == 0)
-        while (made < slots && pthread_cond_init(&locks->seats[made].news, &clock) == 0) made++;
-    pthread_condattr_destroy(&clock);
-    return made;
-}
-
-pashkure_result pashkure_locks_open(pashkure_locks **locks, const pashkure_config *config)
-{
-    pashkure core = PASHKURE_CLOSED;
-    pashkure_locks *opened;
-    uint32_t seats;
-    pashkure_result result = pashkure_open(&core, config);
-    *locks = NULL;
-    if (result != PASHKURE_OK) return result;
-    opened = calloc(1, sizeof *opened + config->transactions * sizeof opened->seats[0]);
-    if (opened == NULL || pthread_mutex_init(&opened->mutex, NULL) != 0) {
-        free(opened);
-        pashkure_close(&core);
-        return PASHKURE_NO_MEMORY;
+    pashkure_result result;
+    struct seat *seat = take_seat(locks, key, &result);
+    if (seat == NULL) return result;
+    if (commits && seat->is_victim) {
+        leave_seat(seat, key);
+        return PASHKURE_MUST_ABORT;
     }
-    opened->core = core;
-    opened->slots = config->transactions;
-    opened->first_due = NOBODY;
-    seats = make_seats(opened, opened->slots);
-    if (seats < opened->slots) {
-        destroy(opened, seats);
-        return PASHKURE_NO_MEMORY;
-    }
-    *locks = opened;
+    gives(locks);
+    end_at_desk(locks, seat, key.slot, commits);
+    seat->is_known = false;
+    seat->is_victim = false;
+    count(commits ? &seat->committed : &seat->aborted);
+    free_seat(seat, key);
     return PASHKURE_OK;
 }
 
-pashkure_result pashkure_locks_close(pashkure_locks *locks)
-{
-    pashkure_counts counts;
-    if (locks == NULL) return PASHKURE_OK;
-    pashkure_totals(pashkure_locks_hold(locks), &counts);
-    pashkure_locks_let_go(locks);
-    if (counts.begun != counts.committed + counts.aborted) return PASHKURE_IN_USE;
-    destroy(locks, locks->slots);
-    return PASHKURE_OK;
-}
+pashkure_result pashkure_locks_commit(pashkure_locks *locks, pashkure_key key) { return end(locks, key, true); }
+
+pashkure_result pashkure_locks_abort(pashkure_locks *locks, pashkure_key key) { return end(locks, key, false); }

@@ -1,15 +1,20 @@
-/* pashkure_threads.h - the lock manager of pashkure.h for threads that sleep until they own a name.       C99, C++98 and later; POSIX threads.
+/* pashkure_threads.h - exclusive locks on names for threads that sleep until they own one.               C99, C++98 and later; POSIX threads.
  *
- * A `pashkure_locks` is a manager, one mutex, and a place to sleep for each transaction. A call takes the mutex, makes calls of pashkure.h, wakes
- * those whose waits these ended, and gives the mutex back. No thread sleeps while it has the mutex. What pashkure.h says of its calls is proved;
- * this layer is C, and tested. That a transaction owns a name is always the answer of a proved call.
+ * A name that nobody else wants is locked by one compare-and-swap, and given back by another: no mutex is taken, and threads that lock different
+ * names do not slow each other down. As soon as a second transaction asks for a name, a manager as that of pashkure.h knows its owner and all
+ * waits, behind one mutex, until the name is free. So a deadlock is told at once, to the one who closed it. No thread sleeps while it has the
+ * mutex. That a transaction owns a name is always the answer of a proved call, and no name has two owners: what a compare-and-swap takes and
+ * what the manager grants is proved together. This layer is C, and tested.
  *
  *   THREADS. Any thread may make any call at any time, but for pashkure_locks_close, and for what stands at pashkure_locks_hold. A transaction is
  *   its key and belongs to no thread: to hand over the key is to hand over the transaction. It makes one request at a time: until that has
  *   returned, each other call for it is refused as WAITING, but pashkure_locks_interrupt. Rules 3 and 4 of pashkure.h hold here too. A thread is
- *   not cancelled in a call. A signal ends no sleep.
+ *   not cancelled in a call. A signal ends no sleep. ThreadSanitizer is told what the compare-and-swaps order.
  *
- *   MEMORY. pashkure_locks_open takes all of it: that of pashkure_open, and 80 bytes a transaction or so. No other call takes any.
+ *   MEMORY. pashkure_locks_open takes all of it: that of pashkure_open, 16 bytes a bucket, 12 a name, and some 2,000 bytes a transaction. No other
+ *   call takes any. A name of more than 63 bytes, a ninth name of a transaction, and two names of one bucket are the manager's. Of names that are
+ *   not, config.buckets bounds how many can be owned at a time; of those that are, config.names. NAMES_FULL says that the manager has no room for
+ *   the name that was asked for, or for one that another transaction owns and that had to come to the manager.
  *
  *   DEADLOCKS. The request that closes a cycle of waits is told so at once, and no other one is a victim. After DEADLOCK undo the work, call
  *   pashkure_locks_abort, pause for a random time about as long as a transaction takes, and begin anew. Transactions that all lock in one order,
@@ -30,14 +35,14 @@ typedef struct pashkure_request { const void *name; size_t length; pashkure_resu
 
 #define PASHKURE_FOREVER INT64_MAX /* nanoseconds without an end. 0 and less is no time at all: a time that has run out never becomes a long one */
 
-/* Opens a manager: OK. BAD_.. as of pashkure_open, NO_MEMORY: then *locks is NULL. */
+/* Opens a manager: OK. BAD_.. as of pashkure_open, NO_MEMORY: then *locks is NULL. config.buckets is 1 to 16,777,216, or 0 for 8 a name. */
 pashkure_result pashkure_locks_open(pashkure_locks **locks, const pashkure_config *config) PASHKURE_CHECKED;
 
 /* Gives all memory back: OK. IN_USE while a transaction is live: then nothing has changed. No other call may run, or come later. To shut down,
- * begin no more, interrupt all that are live (pashkure_look has their keys), join the threads, and close. NULL is OK. */
+ * begin no more, interrupt all that are live (pashkure_locks_look has their keys), join the threads, and close. NULL is OK. */
 pashkure_result pashkure_locks_close(pashkure_locks *locks);
 
-/* Begins a transaction: OK, and its key. COUNTS_FULL, TRANSACTIONS_FULL. */
+/* Begins a transaction: OK, and its key. TRANSACTIONS_FULL. */
 pashkure_result pashkure_locks_begin(pashkure_locks *locks, pashkure_key *key) PASHKURE_CHECKED;
 
 /* Locks a name, and sleeps until the transaction owns it, or the time is over: OK, HELD, DEADLOCK (at once). BUSY: no time was given, and another
@@ -75,10 +80,24 @@ pashkure_result pashkure_locks_commit(pashkure_locks *locks, pashkure_key key) P
  * interrupt it, and its own thread undoes and aborts. */
 pashkure_result pashkure_locks_abort(pashkure_locks *locks, pashkure_key key);
 
-/* Takes the mutex, so that the reading calls of pashkure.h (look, name, owner, totals) see one moment: all locks, all waits, a whole deadlock.
- * Until the same thread's pashkure_locks_let_go all other calls stand still, and this thread makes reading calls only. */
-const pashkure *pashkure_locks_hold(pashkure_locks *locks);
+/* ---- Reading one moment ---- */
+
+/* Takes the mutex, so that the four calls below see one moment of the manager: all waits, each deadlock whole, and each name that somebody asked
+ * for while another one owned it. Until pashkure_locks_let_go by the same thread all other calls stand still that need the mutex; this thread
+ * makes only these four. */
+void pashkure_locks_hold(pashkure_locks *locks);
+
+/* The same, and brings all names that are owned to the manager before, so that all locks are seen, and no name is locked or given back
+ * meanwhile. Takes time by the number of buckets, as its end does. OK; or NAMES_FULL, COUNTS_FULL: it holds, but not all names are seen. */
+pashkure_result pashkure_locks_hold_all(pashkure_locks *locks);
+
 void pashkure_locks_let_go(pashkure_locks *locks);
+
+/* As pashkure_look, pashkure_name, pashkure_owner and pashkure_totals. Of the counts, `events` are the manager's alone. */
+pashkure_result pashkure_locks_look(pashkure_locks *locks, uint32_t slot, pashkure_seen *seen);
+pashkure_result pashkure_locks_name(pashkure_locks *locks, uint32_t number, void *bytes, size_t room, size_t *length, pashkure_key *owner);
+pashkure_result pashkure_locks_owner(pashkure_locks *locks, const void *name, size_t length, pashkure_key *owner);
+void pashkure_locks_totals(pashkure_locks *locks, pashkure_counts *counts);
 
 #ifdef __cplusplus
 }

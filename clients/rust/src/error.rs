@@ -109,5 +109,7 @@ results! {
         NameBytes = 37,
         /// There is not enough memory.
         Memory = 39,
+        /// The number of buckets is not within 1 to 16,777,216.
+        Buckets = 40,
     }
 }

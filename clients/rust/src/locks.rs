@@ -1,12 +1,14 @@
 //! A lock manager that threads share.
+use crate::view::Viewed;
 use crate::{sys, Config, Key, LockError, OpenError, Transaction, View};
 use std::ptr::{self, NonNull};
 use std::sync::Arc;
 
 /// A lock manager that threads share. It is `Send` and `Sync`, so share it as `&Locks` or as `Arc<Locks>`.
 ///
-/// Each call takes one mutex, makes proved calls, and wakes the threads whose waits these ended. A thread that waits for a name sleeps without
-/// the mutex. A child of `fork` must not use the locks of its parent.
+/// A name that nobody else wants is locked by one compare-and-swap, without a mutex. For a name that another one wants a call takes one mutex,
+/// makes proved calls, and wakes the threads whose waits these ended. A thread that waits for a name sleeps without the mutex. A child of `fork`
+/// must not use the locks of its parent.
 ///
 /// ```
 /// use pashkure::{Config, LockError, Locks};
@@ -55,7 +57,7 @@ impl Locks {
     pub fn open(config: &Config) -> Result<Locks, OpenError> {
         let mut raw = ptr::null_mut();
         // SAFETY: both pointers are valid.
-        let result = unsafe { sys::pashkure_locks_open(&mut raw, &config.plain()) };
+        let result = unsafe { sys::pashkure_locks_open(&mut raw, &config.plain(config.buckets)) };
         match NonNull::new(raw) {
             Some(raw) => Ok(Locks { raw, config: config.clone() }),
             None => Err(OpenError::of(result)),
@@ -86,8 +88,9 @@ impl Locks {
         unsafe { sys::pashkure_locks_interrupt(self.raw(), key) == sys::OK }
     }
 
-    /// Stops all other calls while this reads one moment: all locks, all waits, a whole deadlock. Let it read quickly. It makes no other call on
-    /// these locks, not even by a transaction: such a call waits for ever.
+    /// Stops all requests and ends while this reads one moment: all locks, all waits, a whole deadlock. It takes time by the number of buckets.
+    /// Let it read quickly. It makes no other call on these locks, not even by a transaction: such a call waits for ever. If the locks know of
+    /// more names than [`Config::new`] allows at a time, some are not seen.
     ///
     /// ```
     /// # let locks = pashkure::Locks::open(&pashkure::Config::new(16, 100))?;
@@ -97,9 +100,9 @@ impl Locks {
     /// # Ok::<_, Box<dyn std::error::Error>>(())
     /// ```
     pub fn view<T>(&self, read: impl FnOnce(&View<'_>) -> T) -> T {
-        let core = unsafe { sys::pashkure_locks_hold(self.raw()) };
+        let _has_all = unsafe { sys::pashkure_locks_hold_all(self.raw()) } == sys::OK;
         let _held = Held(self);
-        read(&View::new(core, &self.config))
+        read(&View::new(Viewed::Locks(self.raw()), &self.config))
     }
 
     pub(crate) fn raw(&self) -> *mut sys::Locks {

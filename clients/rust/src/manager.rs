@@ -1,4 +1,5 @@
 //! A lock manager that answers at once.
+use crate::view::Viewed;
 use crate::{sys, Config, Key, Lock, OpenError, Owned, Refusal, View, Wake};
 use std::ptr;
 
@@ -44,7 +45,7 @@ impl LockManager {
     pub fn open(config: &Config) -> Result<LockManager, OpenError> {
         let mut raw = sys::Manager { manager: ptr::null_mut(), state: 0 };
         // SAFETY: `raw` is a closed manager, as PASHKURE_CLOSED. From here on only the library writes it.
-        match unsafe { sys::pashkure_open(&mut raw, &config.plain()) } {
+        match unsafe { sys::pashkure_open(&mut raw, &config.plain(0)) } {
             sys::OK => Ok(LockManager { raw, config: config.clone() }),
             why => Err(OpenError::of(why)),
         }
@@ -129,7 +130,7 @@ impl LockManager {
 
     /// To read the manager.
     pub fn view(&self) -> View<'_> {
-        View::new(&self.raw, &self.config)
+        View::new(Viewed::Manager(&self.raw), &self.config)
     }
 
     fn woken(&self) -> Woken<'_> {

@@ -31,7 +31,8 @@ pub struct Config {
     pub names: u32,
     pub name_bytes: u32,
     pub seed: u64,
-    pub reserved: u64,
+    pub buckets: u32,
+    pub reserved: u32,
 }
 
 #[derive(Default)]
@@ -104,6 +105,10 @@ extern "C" {
     pub fn pashkure_locks_unlock(locks: *mut Locks, key: Key, name: *const c_void, length: usize) -> u32;
     pub fn pashkure_locks_commit(locks: *mut Locks, key: Key) -> u32;
     pub fn pashkure_locks_abort(locks: *mut Locks, key: Key) -> u32;
-    pub fn pashkure_locks_hold(locks: *mut Locks) -> *const Manager;
+    pub fn pashkure_locks_hold_all(locks: *mut Locks) -> u32;
     pub fn pashkure_locks_let_go(locks: *mut Locks);
+    pub fn pashkure_locks_look(locks: *mut Locks, slot: u32, seen: *mut Seen) -> u32;
+    pub fn pashkure_locks_name(locks: *mut Locks, number: u32, bytes: *mut c_void, room: usize, length: *mut usize, owner: *mut Key) -> u32;
+    pub fn pashkure_locks_owner(locks: *mut Locks, name: *const c_void, length: usize, owner: *mut Key) -> u32;
+    pub fn pashkure_locks_totals(locks: *mut Locks, counts: *mut Counts);
 }

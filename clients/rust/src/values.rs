@@ -10,20 +10,21 @@ pub(crate) fn random() -> u64 {
 }
 
 /// The numbers with which a manager is opened. It takes at most `(name_bytes + 71) * names + 102 * transactions + 1,200` bytes, and
-/// [`Locks`](crate::Locks) some 80 bytes more a transaction.
+/// [`Locks`](crate::Locks) 16 bytes more a bucket, 12 a name, and some 2,000 a transaction.
 #[derive(Clone, Debug)]
 pub struct Config {
     pub(crate) transactions: u32,
     pub(crate) names: u32,
     pub(crate) name_bytes: u32,
     seed: u64,
+    pub(crate) buckets: u32,
 }
 
 impl Config {
-    /// How many transactions can be live at a time, and how many names can be owned at a time: each 1 to 65,536. A name has up to 64 bytes,
-    /// and the seed is drawn by chance.
+    /// How many transactions can be live at a time, and how many names can be owned at a time: each 1 to 65,536. [`Locks`](crate::Locks) count
+    /// only names that somebody asked for while another one owned them. A name has up to 64 bytes, and the seed is drawn by chance.
     pub fn new(transactions: u32, names: u32) -> Config {
-        Config { transactions, names, name_bytes: 64, seed: random() }
+        Config { transactions, names, name_bytes: 64, seed: random(), buckets: 0 }
     }
 
     /// Sets how many bytes a name may have: 1 to 1,024.
@@ -36,9 +37,16 @@ impl Config {
         Config { seed, ..self }
     }
 
-    pub(crate) fn plain(&self) -> sys::Config {
-        let Config { transactions, names, name_bytes, seed } = *self;
-        sys::Config { header: sys::VERSION, transactions, names, name_bytes, seed, reserved: 0 }
+    /// Sets how many buckets [`Locks`](crate::Locks) have: 1 to 16,777,216, and 8 for each name if this is not called. A name that nobody else
+    /// wants is locked by the word of its bucket, and two names of one bucket are the manager's.
+    pub fn buckets(self, buckets: u32) -> Config {
+        Config { buckets, ..self }
+    }
+
+    /// As the header has it, for a manager; for locks with the buckets.
+    pub(crate) fn plain(&self, buckets: u32) -> sys::Config {
+        let Config { transactions, names, name_bytes, seed, .. } = *self;
+        sys::Config { header: sys::VERSION, transactions, names, name_bytes, seed, buckets, reserved: 0 }
     }
 }
 

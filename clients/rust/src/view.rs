@@ -6,14 +6,21 @@ use std::os::raw::c_void;
 /// `Send` nor `Sync`.
 #[derive(Debug)]
 pub struct View<'l> {
-    core: *const sys::Manager,
+    of: Viewed,
     config: &'l Config,
 }
 
+/// What is read.
+#[derive(Clone, Copy, Debug)]
+pub(crate) enum Viewed {
+    Manager(*const sys::Manager),
+    Locks(*mut sys::Locks),
+}
+
 impl<'l> View<'l> {
-    /// The manager is open, and nothing changes it while the view is there.
-    pub(crate) fn new(core: *const sys::Manager, config: &'l Config) -> View<'l> {
-        View { core, config }
+    /// The manager is open, and nothing changes it while the view is there; the locks are open and held.
+    pub(crate) fn new(of: Viewed, config: &'l Config) -> View<'l> {
+        View { of, config }
     }
 
     /// Each live transaction, by its slot.
@@ -34,8 +41,12 @@ impl<'l> View<'l> {
     /// Who owns the name; `None` if nobody does.
     pub fn owner(&self, name: &[u8]) -> Option<Key> {
         let mut owner = Key::default();
+        let bytes = name.as_ptr().cast();
         // SAFETY: as `new` says. So in the functions below.
-        let result = unsafe { sys::pashkure_owner(self.core, name.as_ptr().cast(), name.len(), &mut owner) };
+        let result = match self.of {
+            Viewed::Manager(core) => unsafe { sys::pashkure_owner(core, bytes, name.len(), &mut owner) },
+            Viewed::Locks(locks) => unsafe { sys::pashkure_locks_owner(locks, bytes, name.len(), &mut owner) },
+        };
         (result == sys::OK).then_some(owner)
     }
 
@@ -65,7 +76,10 @@ impl<'l> View<'l> {
     /// What was counted.
     pub fn totals(&self) -> Totals {
         let mut counts = sys::Counts::default();
-        unsafe { sys::pashkure_totals(self.core, &mut counts) };
+        match self.of {
+            Viewed::Manager(core) => unsafe { sys::pashkure_totals(core, &mut counts) },
+            Viewed::Locks(locks) => unsafe { sys::pashkure_locks_totals(locks, &mut counts) },
+        }
         let sys::Counts { begun, committed, aborted, deadlocks, waits, withdrawn, events, .. } = counts;
         Totals { begun, committed, aborted, deadlocks, waits, withdrawn, events }
     }
@@ -73,7 +87,10 @@ impl<'l> View<'l> {
     /// Who is in the slot, and what it does.
     fn seen(&self, slot: u32) -> Option<Seen> {
         let mut seen = sys::Seen::default();
-        let result = unsafe { sys::pashkure_look(self.core, slot, &mut seen) };
+        let result = match self.of {
+            Viewed::Manager(core) => unsafe { sys::pashkure_look(core, slot, &mut seen) },
+            Viewed::Locks(locks) => unsafe { sys::pashkure_locks_look(locks, slot, &mut seen) },
+        };
         let sys::Seen { key, holder, number, is_aborting } = seen;
         let status = match result {
             sys::OK => Status::Active,
@@ -90,7 +107,11 @@ impl<'l> View<'l> {
         let mut read = |name: &mut Vec<u8>, length: &mut usize| {
             let bytes = name.as_mut_ptr().cast::<c_void>();
             // SAFETY: as above, and no more is written than the vector has.
-            unsafe { sys::pashkure_name(self.core, number, bytes, name.len(), length, &mut owner) == sys::OK }
+            let result = match self.of {
+                Viewed::Manager(core) => unsafe { sys::pashkure_name(core, number, bytes, name.len(), length, &mut owner) },
+                Viewed::Locks(locks) => unsafe { sys::pashkure_locks_name(locks, number, bytes, name.len(), length, &mut owner) },
+            };
+            result == sys::OK
         };
         if !read(&mut name, &mut length) {
             return None;

@@ -127,8 +127,9 @@ fn several_names_are_locked_in_their_order() {
 
 #[test]
 fn wrong_use_is_an_error() {
-    let locks = Locks::open(&Config::new(1, 1).name_bytes(8)).unwrap();
-    let mut transaction = owner(&locks, "x");
+    let locks = Locks::open(&Config::new(2, 1).name_bytes(8)).unwrap();
+    let (mut transaction, mut other) = (owner(&locks, "x"), owner(&locks, "y"));
+    assert_eq!(other.try_lock(b"x"), Ok(None)); // so the manager has x, and no room
     assert_eq!(locks.begin().unwrap_err(), LockError::TransactionsFull);
     assert_eq!(transaction.lock(b""), Err(LockError::NameEmpty));
     assert_eq!(transaction.lock(b"123456789"), Err(LockError::NameTooLong));
@@ -140,6 +141,7 @@ fn wrong_use_is_an_error() {
     assert_eq!(refused(Config::new(0, 1)), OpenError::Transactions);
     assert_eq!(refused(Config::new(1, 65_537)), OpenError::Names);
     assert_eq!(refused(Config::new(1, 1).name_bytes(0)), OpenError::NameBytes);
+    assert_eq!(refused(Config::new(1, 1).buckets(16_777_217)), OpenError::Buckets);
 }
 
 #[test]

@@ -1,7 +1,15 @@
 pub mod Answer
 pub mod Calls
+pub mod DeskAnswer
+pub mod DeskCalls
+pub mod DeskLending
+pub mod DeskOwning
+pub mod Hall
 pub mod Lending
 pub mod Opening
 pub mod Owning
 pub mod Plain
 pub mod Reads
+pub mod WorkerCalls
+pub mod WorkerLending
+pub mod WorkerOwning

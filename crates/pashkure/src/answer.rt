@@ -6,13 +6,13 @@ use mm_manager::{Abort, Cancel, Key, Lock, Refusal, Status, TryLock};
 
 pub const OK: u32 = 0;
 
-const HELD: u32 = 1;
+pub const HELD: u32 = 1;
 
-const WAITS: u32 = 2;
+pub const WAITS: u32 = 2;
 
-const DEADLOCK: u32 = 3;
+pub const DEADLOCK: u32 = 3;
 
-const BUSY: u32 = 4;
+pub const BUSY: u32 = 4;
 
 const LATER: u32 = 5;
 
@@ -43,7 +43,9 @@ pub const BAD_RESERVED: u32 = 38;
 
 pub const NO_MEMORY: u32 = 39;
 
-fn of_refusal(refusal: Refusal) -> u32
+pub const BAD_BUCKETS: u32 = 40;
+
+pub fn of_refusal(refusal: Refusal) -> u32
     ensures { result ≡ refusal_number refusal }
 {
     match refusal {

@@ -27,14 +27,14 @@ pub fn fault(config: &PlainConfig) -> u32
     if is_out(config.name_bytes, NamesConfig::MAX_NAME_BYTES) {
         return BAD_NAME_BYTES;
     }
-    if config.reserved != 0 {
+    if config.buckets != 0 || config.reserved != 0 {
         return BAD_RESERVED;
     }
     OK
 }
 
 /// Returns whether a number is not from 1 to this one.
-fn is_out(number: u32, most: u32) -> bool
+pub(crate) fn is_out(number: u32, most: u32) -> bool
     ensures { result ≡ is_out number most }
 {
     number == 0 || number > most

@@ -22,7 +22,8 @@ pub struct PlainConfig {
     pub names: u32,
     pub name_bytes: u32,
     pub seed: u64,
-    pub reserved: u64,
+    pub buckets: u32,
+    pub reserved: u32,
 }
 
 /// Whose wait ended: it was given the name of this number, or it was aborted.

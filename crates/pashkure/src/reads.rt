@@ -5,13 +5,13 @@
 ghost use Rattle.std.specs.Prelude.{◌≡◌, false, IfSome, is_some};
 ghost use Rattle.mm_manager.specs.Totals.{nothing_counted};
 ghost use Rattle.pashkure.specs.Calls.{IsOpen};
-ghost use Rattle.pashkure.specs.Reads.{wake_at, filled, LooksAt, HasName, TellsLook, TellsName, TellsOwner};
+ghost use Rattle.pashkure.specs.Reads.{wake_at, TellsLook, TellsName, TellsOwner};
 ghost use Rattle.pashkure.specs.Plain.{counts_of};
 
-use crate::answer::{FREE, NOT_OPEN, OK, of_status};
+use crate::answer::NOT_OPEN;
 use crate::handle::Handle;
 use crate::plain::{PlainCounts, PlainKey, PlainSeen, PlainWake};
-use mm_manager::{Key, LockManager, Status};
+use crate::tell::{tell_look, tell_name, tell_owner, tell_totals, tell_woken};
 
 /// The wake of this index of those that the last call told of: first who was given a name, and then whose abort came due. False, and nothing
 /// is written, if there are fewer.
@@ -26,13 +26,7 @@ pub extern "C" fn pashkure_woken(handle: &mut Handle, index: usize, woken: &mut 
     if !handle.is_open() {
         return false;
     }
-    match wake_at(handle.manager(), index) {
-        Some(wake) => {
-            *woken = wake;
-            true
-        }
-        None => false,
-    }
+    tell_woken(handle.manager(), index, woken)
 }
 
 /// Returns what is in a slot: 0, 2 or 3 of a transaction that is active, waits or is in a deadlock, or 7 if there is none, and then nothing is
@@ -46,13 +40,7 @@ pub extern "C" fn pashkure_look(handle: &mut Handle, slot: u32, seen: &mut Plain
     if !handle.is_open() {
         return NOT_OPEN;
     }
-    match look(handle.manager(), slot) {
-        Some((key, status)) => {
-            *seen = PlainSeen::of(key, status);
-            of_status(status)
-        }
-        None => FREE,
-    }
+    tell_look(handle.manager(), slot, seen)
 }
 
 /// The name of a number, and its owner: 0, or 7 if nobody has the number, and then nothing is written. The length is written, and the
@@ -72,15 +60,7 @@ pub extern "C" fn pashkure_name(
     if !handle.is_open() {
         return NOT_OPEN;
     }
-    match named(handle.manager(), number) {
-        Some((name, key)) => {
-            *length = name.len();
-            *owner = PlainKey::of(key);
-            fill(name, bytes);
-            OK
-        }
-        None => FREE,
-    }
+    tell_name(handle.manager(), number, bytes, length, owner)
 }
 
 /// Returns the owner of a name: 0, or 7 if nobody owns it, and then nothing is written.
@@ -93,13 +73,7 @@ pub extern "C" fn pashkure_owner(handle: &mut Handle, name: &[u8], owner: &mut P
     if !handle.is_open() {
         return NOT_OPEN;
     }
-    match handle.manager().owner(name) {
-        Some(key) => {
-            *owner = PlainKey::of(key);
-            OK
-        }
-        None => FREE,
-    }
+    tell_owner(handle.manager(), name, owner)
 }
 
 /// What was counted; nothing, of a closed handle.
@@ -113,50 +87,5 @@ pub extern "C" fn pashkure_totals(handle: &mut Handle, counts: &mut PlainCounts)
         *counts = PlainCounts::NONE;
         return;
     }
-    let manager = handle.manager();
-    *counts = PlainCounts::of(manager.totals(), manager.events());
-}
-
-/// The wake of this index.
-fn wake_at(manager: &LockManager, index: usize) -> Option<PlainWake>
-    ensures { result ≡ wake_at manager.now index }
-{
-    let granted = manager.granted();
-    if index < granted.len() {
-        return Some(PlainWake::granted(granted[index]));
-    }
-    let key = manager.aborted().get(index - granted.len())?;
-    Some(PlainWake::aborted(*key))
-}
-
-/// The transaction of a slot, and what it does.
-fn look(manager: &LockManager, slot: u32) -> Option<(Key, Status)>
-    ensures { LooksAt manager.now slot result }
-{
-    let key = manager.transaction_at(slot)?;
-    match manager.status(key) {
-        Ok(status) => Some((key, status)),
-        Err(_) => unreachable!(),
-    }
-}
-
-/// Copies a name to the head of these bytes, if they have room for it.
-fn fill(name: &[u8], bytes: &mut [u8])
-    ensures { bytes.new ≡ filled name.now bytes.old }
-{
-    if name.len() <= bytes.len() {
-        bytes[..name.len()].copy_from_slice(name);
-    }
-}
-
-/// The name of a number, and its owner.
-fn named(manager: &LockManager, number: u32) -> Option<(&[u8], Key)>
-    ensures { HasName manager.now number result }
-{
-    let name = manager.name(number)?;
-    manager.keeps_laws();
-    match manager.owner(name) {
-        Some(key) => Some((name, key)),
-        None => unreachable!(),
-    }
+    *counts = tell_totals(handle.manager());
 }

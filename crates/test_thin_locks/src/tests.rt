@@ -7,7 +7,7 @@ mod helpers;
 mod together;
 
 use crate::tests::alone::{each_name_is_known, nine_names_and_a_long_one, one_name_by_two};
-use crate::tests::together::cross_often;
+use crate::tests::together::{cross_often, share_one_place};
 use mm_thin_locks::{ManagerConfig, ThinLocks, ThinLocksConfig};
 use std::alloc::Global;
 use std::process::Abort;
@@ -23,6 +23,7 @@ enum Work {
     NineNames,
     OneNameByTwo,
     Cross,
+    OnePlace,
 }
 
 impl Work {
@@ -39,6 +40,15 @@ impl Work {
             Work::NineNames => nine_names_and_a_long_one(rt, locks),
             Work::OneNameByTwo => one_name_by_two(rt, locks),
             Work::Cross => cross_often(rt, locks, gate, number),
+            Work::OnePlace => share_one_place(rt, locks, gate, number),
+        }
+    }
+
+    /// How many names the manager can have.
+    fn names(self) -> u32 {
+        match self {
+            Work::OnePlace => 1,
+            _ => 16,
         }
     }
 }
@@ -54,7 +64,7 @@ fn on_locks<R: Threads + Wait + Clock + Abort + Sync>(
     let config = ThinLocksConfig {
         manager: ManagerConfig {
             transactions: 4,
-            names: 16,
+            names: work.names(),
             name_bytes: 80,
             seed: 7,
         },
@@ -115,4 +125,12 @@ fn test_one_name_by_two(rt: HostRuntime) {
 #[test]
 fn test_threads_that_cross(rt: HostRuntime) {
     commit_together(&rt, rt.alloc(), Work::Cross, 2, 400);
+}
+
+#[test]
+fn test_one_place_for_two_threads(rt: HostRuntime) {
+    let alone = on_locks(&rt, rt.alloc(), Work::OnePlace, 2, 1);
+    assert_eq!(&rt; alone, 1, "one name has the bucket");
+    let apart = on_locks(&rt, rt.alloc(), Work::OnePlace, 2, 4_096);
+    assert_eq!(&rt; apart, 9, "eight by their words, and one in the manager");
 }

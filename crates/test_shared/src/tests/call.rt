@@ -26,33 +26,17 @@ pub fn call_of(line: &str) -> Option<Call> {
     }
 }
 
-/// Ends the test unless the reply has this text.
-pub fn is_told(rt: &impl Abort, reply: Reply, text: &str) {
+/// Ends the test unless the reply, or that to the refusal, has this text.
+pub fn is_told(rt: &impl Abort, answer: Result<Reply, Refusal>, text: &str) {
+    let reply = answer.unwrap_or_else(|refusal| Reply::Refused(refusal));
     let mut printed = Output::new();
     print_reply(&mut printed, &reply);
     let _newline = printed.pop();
     same(rt, printed.as_slice(), text.as_bytes());
 }
 
-/// The reply to a call, or to its refusal.
-fn reply_of(answer: Result<Reply, Refusal>) -> Reply {
-    match answer {
-        Ok(reply) => reply,
-        Err(refusal) => Reply::Refused(refusal),
-    }
-}
-
 /// Makes the call on a shared table, which stands, and has no call for the totals: they are those of nothing then.
 pub fn on_shared<N: Name, A: Ledger, V: Ledger, B: Ledger, R: Wait>(
-    rt: &R,
-    table: &SharedTable<N, A, V, B>,
-    pass: &mut Pass<N, A, V, B>,
-    call: Call,
-) -> Reply {
-    reply_of(answer(rt, table, pass, call))
-}
-
-fn answer<N: Name, A: Ledger, V: Ledger, B: Ledger, R: Wait>(
     rt: &R,
     table: &SharedTable<N, A, V, B>,
     pass: &mut Pass<N, A, V, B>,
@@ -86,22 +70,8 @@ pub fn on_shared_waking<N: Name, A: Ledger, V: Ledger, B: Ledger, R: Wait>(
     pass: &mut Pass<N, A, V, B>,
     wake: &mut Vec<u32>,
     call: Call,
-) -> Reply
-    requires { table.now ≤ vec_capacity wake.old }
-    ensures { table.now ≤ vec_capacity wake.new }
-{
-    reply_of(answer_waking(rt, table, pass, wake, call))
-}
-
-fn answer_waking<N: Name, A: Ledger, V: Ledger, B: Ledger, R: Wait>(
-    rt: &R,
-    table: &SharedTable<N, A, V, B>,
-    pass: &mut Pass<N, A, V, B>,
-    wake: &mut Vec<u32>,
-    call: Call,
 ) -> Result<Reply, Refusal>
     requires { table.now ≤ vec_capacity wake.old }
-    ensures { table.now ≤ vec_capacity wake.new }
 {
     match call {
         Call::Release { key, resource } => {
@@ -117,6 +87,6 @@ fn answer_waking<N: Name, A: Ledger, V: Ledger, B: Ledger, R: Wait>(
             answer.map(|()| Reply::Aborted)
         }
         Call::Settle => table.settle_waking(rt, pass, wake).map(Reply::Settled),
-        _ => answer(rt, table, pass, call),
+        _ => on_shared(rt, table, pass, call),
     }
 }

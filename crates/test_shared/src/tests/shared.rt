@@ -3,13 +3,12 @@
 ghost use Rattle.std.specs.Prelude.{◌≡◌};
 
 mod look;
-mod wakes;
 
 use crate::tests::rows::beside_a_table;
 use crate::tests::same::same;
-use look::{Step, watch};
+use look::Step;
 use mm_shared::{Config, Name, Pass, Prepared, Report, SharedTable};
-use std::alloc::{AllocError, Global};
+use std::alloc::Global;
 use std::marker::Brand;
 use std::process::Abort;
 use std::sync::Wait;
@@ -35,10 +34,8 @@ pub fn config(processes: u32, resources: u32) -> Config {
 pub enum Work {
     /// The calls of a script.
     Script(&'static Row),
-    /// Calls, and looks at the board, and what the table has counted then.
+    /// Calls, looks at the board, and what the table has counted then.
     Steps(&'static [Step], Report),
-    /// Calls that list whom to wake.
-    Wakes,
 }
 
 impl Work {
@@ -50,14 +47,15 @@ impl Work {
         table: &SharedTable<N, A, V, B>,
         pass: &mut Pass<N, A, V, B>,
         other: &mut Pass<N, A, V, B>,
-    ) -> Result<Report, AllocError> {
+    ) -> Report {
         match self {
-            Work::Script(row) => Ok(beside_a_table(rt, alloc, table, pass, row)),
+            Work::Script(row) => beside_a_table(rt, alloc, table, pass, row),
             Work::Steps(steps, report) => {
-                watch(rt, table, pass, other, steps);
-                Ok(report)
+                for step in steps {
+                    step.make(rt, alloc, table, pass, other);
+                }
+                report
             }
-            Work::Wakes => wakes::list_all(rt, alloc, table, pass),
         }
     }
 }
@@ -68,7 +66,7 @@ fn on_named<N: Name, A: Ledger, V: Ledger, B: Ledger, R: Wait + Abort>(
     alloc: Global,
     prepared: Prepared,
     work: Work,
-) -> Result<(), AllocError>
+)
     requires board { prepared.board ≡ N.board }
     requires accepted { (prepared.accepted.name ≡ A.name) × (prepared.accepted.parts ≡ A.parts) }
     requires verdicts { (prepared.verdicts.name ≡ V.name) × (prepared.verdicts.parts ≡ V.parts) }
@@ -78,8 +76,7 @@ fn on_named<N: Name, A: Ledger, V: Ledger, B: Ledger, R: Wait + Abort>(
     let mut other = pass.split(&table, PARTS);
     let done = work.done(rt, alloc, &table, &mut pass, &mut other);
     pass.join(&table, other);
-    same(rt, table.into_report(pass), done.ok());
-    done.map(|_| ())
+    same(rt, table.into_report(pass), Some(done));
 }
 
 /// Opens a table of this configuration, and does the work on it. Ends the test unless the table is closed with what the work is to make.
@@ -90,6 +87,6 @@ pub fn on_a_table<R: Wait + Abort>(
     work: Work,
 ) -> Result<(), Fail> {
     let prepared = Prepared::new(alloc, config)?;
-    on_named::<Brand, Brand, Brand, Brand, R>(rt, alloc, prepared, work)?;
+    on_named::<Brand, Brand, Brand, Brand, R>(rt, alloc, prepared, work);
     Ok(())
 }

@@ -1,7 +1,7 @@
 //! What a client does at each answer, call by call: which calls it makes of its table and of its gate, in which order, how many turns
 //! that takes, and how it ends. Expected calls are those of the rules of docs/WORKLOADS.md, by hand.
 
-use crate::tests::passes::all_pass;
+use crate::tests::passes::passes;
 use crate::tests::script::{
     ABORT, Answer, BEGIN, CLEAR, Call, DEADLOCK, FINISH, GRANTED, LEAVE, Line, Script, TRANSMIT,
     WAITS,
@@ -14,6 +14,7 @@ use std::alloc::Global;
 
 /// The steps of a client's first transaction, how many it makes, and the turns of each; the calls that it makes with their answers, and how
 /// many transactions before its last one finished and were aborted, and how that one ended.
+#[derive(Drop)]
 struct Case {
     name: &'static str,
     work: &'static [WorkStep],
@@ -86,25 +87,26 @@ const IS_GRANTED: Line = (Call::Transmit, Answer::Refused(Refusal::NotWaiting));
 
 const IS_GRANTED_LATER: Line = (Call::Detect, Answer::Refused(Refusal::NotWaiting));
 
-const CANNOT_FINISH: Line = (Call::Finish, Answer::Refused(Refusal::Waiting));
+const NO_BEGIN: Line = (Call::Begin, Answer::Refused(Refusal::CountsExhausted));
 
-const COUNTS: Answer = Answer::Refused(Refusal::CountsExhausted);
+const NO_ACQUIRE: Line = (Call::Acquire(0), Answer::Refused(Refusal::NoResource));
 
-const LABELS: Answer = Answer::Refused(Refusal::LabelsExhausted);
+const NO_RELEASE: Line = (Call::Release(0), Answer::Refused(Refusal::NotOwner));
 
-const NO_RESOURCE: Answer = Answer::Refused(Refusal::NoResource);
+const NO_TRANSMIT: Line = (Call::Transmit, Answer::Refused(Refusal::Stale));
 
-const NOT_OWNER: Answer = Answer::Refused(Refusal::NotOwner);
+const NO_DETECT: Line = (Call::Detect, Answer::Refused(Refusal::CountsExhausted));
 
-const STALE: Answer = Answer::Refused(Refusal::Stale);
+const NO_ABORT: Line = (Call::Abort, Answer::Refused(Refusal::LabelsExhausted));
+
+const NO_FINISH: Line = (Call::Finish, Answer::Refused(Refusal::Waiting));
 
 /// A turn for the begin, one for each asking at the gate, and one for each round of waiting, a transmit and a detect. A begin that finds no free
 /// slot is tried again, a turn each. A verdict, new or standing, leads to an abort, and what is left of the work is not done. If a client waits
 /// no longer, the resource is its own, and it goes on with its next step. If its turns are used up, it makes no further call of the table.
 ///
-/// A transaction that finished or was aborted is followed by the next one, which has all turns anew. One that used up its turns or was refused is
-/// the last one. After a refusal, but of `begin` and `finish`, the client tries `finish` once, whatever the answer.
-static CASES: [Case; 18] = [
+/// A transaction that finished or was aborted is followed by the next one, which has all turns anew. One that used up its turns is the last one.
+static CASES: [Case; 11] = [
     Case {
         name: "it goes on to its end, past a meeting",
         work: &MEETS,
@@ -210,94 +212,64 @@ static CASES: [Case; 18] = [
         calls: &[BEGIN, GRANTED, FINISH, BEGIN, WAITS, LEAVE],
         ends: (1, 0, End::Spent),
     },
-    Case {
-        name: "a begin is refused",
-        work: &[],
-        transactions: 3,
-        turns: 9,
-        calls: &[(Call::Begin, COUNTS), LEAVE],
-        ends: (0, 0, End::Refused(15)),
-    },
-    Case {
-        name: "an acquire is refused",
-        work: &ONE,
-        transactions: 3,
-        turns: 9,
-        calls: &[BEGIN, (Call::Acquire(0), NO_RESOURCE), FINISH, LEAVE],
-        ends: (0, 0, End::Refused(2)),
-    },
-    Case {
-        name: "a release is refused",
-        work: &FREES,
-        transactions: 1,
-        turns: 9,
-        calls: &[BEGIN, (Call::Release(0), NOT_OWNER), FINISH, LEAVE],
-        ends: (0, 0, End::Refused(5)),
-    },
-    Case {
-        name: "a transmit is refused",
-        work: &ONE,
-        transactions: 1,
-        turns: 9,
-        calls: &[BEGIN, WAITS, (Call::Transmit, STALE), FINISH, LEAVE],
-        ends: (0, 0, End::Refused(1)),
-    },
-    Case {
-        name: "a detect is refused",
-        work: &ONE,
-        transactions: 1,
-        turns: 9,
-        calls: &[
-            BEGIN,
-            WAITS,
-            TRANSMIT,
-            (Call::Detect, COUNTS),
-            CANNOT_FINISH,
-            LEAVE,
-        ],
-        ends: (0, 0, End::Refused(15)),
-    },
-    Case {
-        name: "an abort is refused",
-        work: &ONE,
-        transactions: 1,
-        turns: 9,
-        calls: &[
-            BEGIN,
-            WAITS,
-            TRANSMIT,
-            DEADLOCK,
-            (Call::Abort, LABELS),
-            CANNOT_FINISH,
-            LEAVE,
-        ],
-        ends: (0, 0, End::Refused(7)),
-    },
-    Case {
-        name: "a finish is refused",
-        work: &[],
-        transactions: 1,
-        turns: 9,
-        calls: &[BEGIN, CANNOT_FINISH, LEAVE],
-        ends: (0, 0, End::Refused(3)),
-    },
 ];
 
-/// The first case in which a client makes other calls, or ends otherwise.
-fn wrong_case(alloc: Global) -> Option<&'static str> {
-    for case in &CASES {
-        let is_right = match (case.work.to_vec(alloc), stream(alloc, case.transactions)) {
-            (Ok(work), Some(stream)) => runs_so(case, work, stream),
-            _ => false,
-        };
-        if !is_right {
-            return Some(case.name);
-        }
+/// What is refused, the steps of a client, the calls that it makes with their answers, and the number of the refusal.
+type Refused = (&'static str, &'static [WorkStep], &'static [Line], u8);
+
+/// After a refusal, but of `begin` and `finish`, the client tries `finish` once, whatever the answer. No transaction follows.
+static REFUSED: [Refused; 7] = [
+    ("a begin", &[], &[NO_BEGIN, LEAVE], 15),
+    ("an acquire", &ONE, &[BEGIN, NO_ACQUIRE, FINISH, LEAVE], 2),
+    ("a release", &FREES, &[BEGIN, NO_RELEASE, FINISH, LEAVE], 5),
+    (
+        "a transmit",
+        &ONE,
+        &[BEGIN, WAITS, NO_TRANSMIT, FINISH, LEAVE],
+        1,
+    ),
+    (
+        "a detect",
+        &ONE,
+        &[BEGIN, WAITS, TRANSMIT, NO_DETECT, NO_FINISH, LEAVE],
+        15,
+    ),
+    (
+        "an abort",
+        &ONE,
+        &[BEGIN, WAITS, TRANSMIT, DEADLOCK, NO_ABORT, NO_FINISH, LEAVE],
+        7,
+    ),
+    ("a finish", &[], &[BEGIN, NO_FINISH, LEAVE], 3),
+];
+
+/// Whether the client makes the calls of this case, and ends so.
+fn is_right(alloc: Global, case: &Case) -> bool {
+    match (case.work.to_vec(alloc), stream(alloc, case.transactions)) {
+        (Ok(work), Some(stream)) => runs_so(case, work, stream),
+        _ => false,
     }
-    None
 }
 
 #[test]
 fn a_client_goes_on_waits_and_ends(rt: HostRuntime) {
-    all_pass(&rt, wrong_case(rt.alloc()));
+    for case in &CASES {
+        passes(&rt, case.name, is_right(rt.alloc(), case));
+    }
+}
+
+#[test]
+fn a_client_is_refused(rt: HostRuntime) {
+    for row in &REFUSED {
+        let (name, work, calls, refusal) = *row;
+        let case = Case {
+            name,
+            work,
+            transactions: 3,
+            turns: 9,
+            calls,
+            ends: (0, 0, End::Refused(refusal)),
+        };
+        passes(&rt, name, is_right(rt.alloc(), &case));
+    }
 }

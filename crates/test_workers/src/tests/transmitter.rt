@@ -1,6 +1,6 @@
 //! What a transmitter does at each answer, call by call. Expected calls are those of the rules of docs/WORKLOADS.md, by hand.
 
-use crate::tests::passes::all_pass;
+use crate::tests::passes::passes;
 use crate::tests::script::{Answer, Call, DEADLOCK, Line, Script};
 use crate::tests::scripted::{ScriptedGate, ScriptedSteps};
 use mm_shared::Refusal;
@@ -67,21 +67,14 @@ static CASES: [Case; 5] = [
     },
 ];
 
-/// The first case in which a transmitter for four processes makes other calls.
-fn wrong_case() -> Option<&'static str> {
+/// Each transmitter is one for four processes.
+#[test]
+fn a_transmitter_looks_transmits_and_detects(rt: HostRuntime) {
     for case in &CASES {
         let script = &Script::new(case.calls);
         let steps = ScriptedSteps::new(script);
         let mut transmitter = Transmitter::new(steps, ScriptedGate { script }, 4, case.turns);
         transmitter.run();
-        if !script.is_over() {
-            return Some(case.name);
-        }
+        passes(&rt, case.name, script.is_over());
     }
-    None
-}
-
-#[test]
-fn a_transmitter_looks_transmits_and_detects(rt: HostRuntime) {
-    all_pass(&rt, wrong_case());
 }

@@ -1,10 +1,11 @@
 //! What is read on the board of a shared table, without its lock.
 
-use crate::tests::call::{call_of, is_told, on_shared};
+use crate::tests::call::{call_of, is_told, on_shared, on_shared_waking};
 use crate::tests::same::same;
 use crate::tests::shared::{Work, config, on_a_table};
 use mm_label::Label;
 use mm_shared::{HintKind, Name, Pass, Report, SharedTable};
+use std::alloc::Global;
 use std::process::Abort;
 use std::sync::Wait;
 use std::sync::ledger::Ledger;
@@ -18,79 +19,61 @@ type Seen = (u32, u32, HintKind);
 pub enum Step {
     /// A call, as a script has it, and its reply.
     Calls(&'static str, &'static str),
+    /// A call in the form that lists the processes to wake, its reply, and these.
+    Wakes(&'static str, &'static str, &'static [u32]),
     /// The label of a process: its counter and its process.
     Peeks(u32, u64, u32),
     /// The first hints from each process of two on, and past both of them.
     Scans([Option<Seen>; 3]),
 }
 
-/// The label of a process on the board; `None` if it is not one of the table's. It has no handle, so it may not wait.
-fn peeked<N: Name, A: Ledger, V: Ledger, B: Ledger>(
-    table: &SharedTable<N, A, V, B>,
-    pass: &mut Pass<N, A, V, B>,
-    process: u32,
-) -> Option<Label> {
-    if process >= table.processes() {
-        return None;
-    }
-    Some(table.peek(pass, process))
-}
-
-/// The first hint from this process on. It has no handle, so it may not wait.
-fn scanned<N: Name, A: Ledger, V: Ledger, B: Ledger>(
-    table: &SharedTable<N, A, V, B>,
-    pass: &mut Pass<N, A, V, B>,
-    from: u32,
-) -> Option<Seen> {
-    let hint = table.scan(pass, from)?;
-    Some((hint.process, hint.holder, hint.kind))
-}
-
-/// Makes a call. Ends the test if it has another reply.
-fn calls<N: Name, A: Ledger, V: Ledger, B: Ledger, R: Wait + Abort>(
+/// Makes a call in the form that lists the processes to wake. Ends the test if it has another reply, or lists other ones.
+fn wakes<N: Name, A: Ledger, V: Ledger, B: Ledger, R: Wait + Abort>(
     rt: &R,
+    alloc: Global,
     table: &SharedTable<N, A, V, B>,
     pass: &mut Pass<N, A, V, B>,
-    line: &str,
-    reply: &str,
+    (line, reply, woken): (&str, &str, &[u32]),
 ) {
+    let processes = table.processes() as usize;
+    let mut wake = Vec::with_capacity(alloc, processes).expect(rt, "memory");
     let call = call_of(line).expect(rt, "a call");
-    is_told(rt, on_shared(rt, table, pass, call), reply);
+    let answer = on_shared_waking(rt, table, pass, &mut wake, call);
+    is_told(rt, answer, reply);
+    same(rt, wake.as_slice(), woken);
 }
 
 impl Step {
-    /// Makes the step. Ends the test if something else comes of it.
-    fn make<N: Name, A: Ledger, V: Ledger, B: Ledger, R: Wait + Abort>(
+    /// Makes the step. Ends the test if something else comes of it. A look at the board has no handle, so it may not wait.
+    pub fn make<N: Name, A: Ledger, V: Ledger, B: Ledger, R: Wait + Abort>(
         self,
         rt: &R,
+        alloc: Global,
         table: &SharedTable<N, A, V, B>,
         pass: &mut Pass<N, A, V, B>,
         other: &mut Pass<N, A, V, B>,
     ) {
         match self {
-            Step::Calls(line, reply) => calls(rt, table, pass, line, reply),
+            Step::Calls(line, reply) => {
+                let call = call_of(line).expect(rt, "a call");
+                is_told(rt, on_shared(rt, table, pass, call), reply);
+            }
+            Step::Wakes(line, reply, woken) => {
+                wakes(rt, alloc, table, pass, (line, reply, woken));
+            }
             Step::Peeks(process, counter, of) => {
-                same(rt, peeked(table, other, process), Label::new(counter, of));
+                assert!(rt; process < table.processes());
+                let label = Some(table.peek(other, process));
+                same(rt, label, Label::new(counter, of));
             }
             Step::Scans(hints) => {
                 for from in 0..3usize {
-                    same(rt, scanned(table, other, from as u32), hints[from]);
+                    let hint = table.scan(other, from as u32);
+                    let seen = hint.map(|hint| (hint.process, hint.holder, hint.kind));
+                    same(rt, seen, hints[from]);
                 }
             }
         }
-    }
-}
-
-/// Makes the steps one after the other.
-pub fn watch<N: Name, A: Ledger, V: Ledger, B: Ledger, R: Wait + Abort>(
-    rt: &R,
-    table: &SharedTable<N, A, V, B>,
-    pass: &mut Pass<N, A, V, B>,
-    other: &mut Pass<N, A, V, B>,
-    steps: &[Step],
-) {
-    for step in steps {
-        step.make(rt, table, pass, other);
     }
 }
 
@@ -107,18 +90,19 @@ const SECOND_IS_EQUAL: Option<Seen> = Some((1, 2, HintKind::Equal));
 const THIRD_IS_EQUAL: Option<Seen> = Some((2, 0, HintKind::Equal));
 
 /// A resource that two wait for is handed over twice, and each time the board shows the waits. Then each of three owns one
-/// resource and waits for that of the next, and a settle finds the deadlock.
-static QUEUE_AND_SETTLE: [Step; 26] = [
+/// resource and waits for that of the next, and a settle finds the deadlock. The forms that list processes list those that changed.
+static QUEUE_AND_SETTLE: [Step; 28] = [
     Step::Calls("begin", "key 0.1"),
     Step::Calls("begin", "key 1.1"),
     Step::Calls("begin", "key 2.1"),
     Step::Calls("acquire 0.1 0", "granted"),
     Step::Calls("acquire 1.1 0", "waits 0.1 1.1"),
     Step::Calls("acquire 2.1 0", "waits 0.1 1.2"),
-    Step::Calls("release 0.1 0", "to 1.1"),
+    Step::Wakes("release 0.1 0", "to 1.1", &[1, 2]),
+    Step::Wakes("release 0.1 0", "refused 5 NotOwner", &[]),
     Step::Peeks(1, 1, 1),
     Step::Peeks(2, 2, 2),
-    Step::Calls("finish 1.1", "finished"),
+    Step::Wakes("finish 1.1", "finished", &[2]),
     Step::Peeks(2, 2, 2),
     Step::Scans(NONE),
     Step::Calls("begin", "key 1.2"),
@@ -129,12 +113,13 @@ static QUEUE_AND_SETTLE: [Step; 26] = [
     Step::Calls("acquire 2.1 1", "waits 0.1 3.2"),
     Step::Peeks(0, 2, 0),
     Step::Peeks(1, 3, 1),
-    Step::Calls("settle", "settled 3 1"),
+    Step::Wakes("settle", "settled 3 1", &[0, 1, 2]),
     Step::Peeks(0, 3, 2),
     Step::Peeks(1, 3, 2),
     Step::Scans(THREE_ARE_EQUAL),
-    Step::Calls("abort 2.1", "aborted"),
+    Step::Wakes("abort 2.1", "aborted", &[1, 2]),
     Step::Scans([FIRST_IS_EQUAL, None, None]),
+    Step::Wakes("settle", "settled 0 0", &[]),
 ];
 
 const THREE_ARE_EQUAL: [Option<Seen>; 3] = [FIRST_IS_EQUAL, SECOND_IS_EQUAL, THIRD_IS_EQUAL];
@@ -142,7 +127,7 @@ const THREE_ARE_EQUAL: [Option<Seen>; 3] = [FIRST_IS_EQUAL, SECOND_IS_EQUAL, THI
 #[test]
 fn the_board_shows_a_queue_and_a_settle(rt: HostRuntime) -> Result<(), Fail> {
     let report = Report {
-        accepted: 16,
+        accepted: 17,
         verdicts: 1,
         aborts: 1,
     };

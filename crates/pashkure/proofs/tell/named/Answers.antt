@@ -1,6 +1,6 @@
 use Rattle.std.proofs.Common.{◌≡◌, ◌∙◌, Some, None, sym}
 use Rattle.pashkure.proofs.Kept.{named_is_owned}
-use Rattle.pashkure.proofs.reads.named.Goals as goal
+use Rattle.pashkure.proofs.tell.named.Goals as goal
 
 pub unreachable-requires : goal.unreachable-requires
 unreachable-requires c =

@@ -1,0 +1,52 @@
+-- `word` reads one field, and changes nothing.
+use Rattle.std.proofs.Common.{List, [], ◌∷◌, refl, sym}
+use base.Fraction.{full_share}
+use base.Fml.{ftrue, flft}
+use mir.Syntax.{named, w64}
+use mir.Val.{Val, vint}
+use types.Kit.{‵, ◌⊛◌, ◌$◌, ◌∵◌, !, qed, move, keep, split, join, fsplit3, rewrite, suffices, frame, group, done}
+use types.Part.{whole, sub, look_in}
+use types.Run.{stop, fld, load, of_opd, returns, enter}
+use types.ByLocal.{alloc_all, pass_all, free_all, look_at, through, sets}
+use contract.Running.{tables}
+use denote.Builtin.{u64}
+use denote.Laws.{shows}
+use denote.Memory.{cell_at}
+use denote.Plain.{uint_Makes}
+use denote.Ref.{MutRef, mut_vals, mut_Tells}
+use denote.Signature.{plain}
+use denote.Steps.{nothing, owned, opens, closes, peeks}
+use denote.Triple.Walked.{Stays, walk_of, stay_ref, Goes-ref, ends_at}
+use Rattle.core.proofs.mem.Facts.{says_two}
+use Rattle.std.proofs.raw_atomic.Walks.{proved}
+use Rattle.pashkure.specs.contracts.worker_handle.WorkerHandle.{the_row as R}
+use Rattle.pashkure.proofs.worker_handle.WorkerHandle.TheLaws.{lowers}
+use Rattle.pashkure.specs.contracts.worker_handle.WorkerHandle.word as f
+use Rattle.pashkure.proofs.worker_handle.WorkerHandle.word.Statement.{statement}
+use Rattle.pashkure.proofs.worker_handle.WorkerHandle.word.Code as code
+
+abbrev stayed : Stays f.ended.signature.params f.ended.kept
+stayed = (stay_ref (0 ∷ []) tt (plain (λ _. R)), tt)
+
+pub word_spec : {M : Type 1} → statement M
+word_spec 𝓤 𝓛 𝓜 𝓡 wired =
+    let c = f.clauses 𝓛 𝓜.mem 𝓡.returns in let W = walk_of 𝓛 f.ended stayed c in let 𝓣 = tables 𝓤 𝓛.H 𝓜 𝓡 𝓡.env in
+    proved 𝓛 f.ended stayed c 𝓜 𝓡 (Goes-ref 𝓛 1 0 tt (plain (λ _. R)), tt)
+    f.Key.name code.function (code.unfolded 𝓤 𝓛.H 𝓜 𝓡 wired)
+    (λ κs. (mut_vals, tt)) (λ κs. (mut_Tells (named 0) κs.0 R, tt)) (λ κs qs bounds a _ are.
+    let b = a.0.ref_ptr.0 in let o = a.0.ref_ptr.1 in let h = a.0.now in let vs = mut_vals a.0 in
+    let y : W.Ghost = ((κs, qs, bounds, a, (vs, tt)), tt) in
+    qed 𝓛 (((‵ (flft κs.0 qs.0) ⊛ ‵ ftrue) ⊛ ‵ ((MutRef (named 0) κs.0 R).own_val a.0 vs) ⊛ ‵ ftrue) ∷ ‵ ftrue ∷ []) ∵
+    split ! $ split ! $ move ! (2 ∷ []) $ split ! $ keep ! (0 ∷ 2 ∷ []) $
+    enter ! _ _ _ _ _ $ alloc_all ! (λ l. pass_all ! refl ((tt, tt), tt) $
+    fsplit3 ! $ move ! (1 ∷ 2 ∷ 3 ∷ []) $ opens ! tt R b o (λ us.
+    move ! (1 ∷ []) $ peeks ! R _ (shows 𝓛 R) h us (λ is. let word = lowers.val_is h us is in let small = is.0.1.1.1.0.1 in
+    let Cell = λ (ws : List Val). ‵ (cell_at full_share R.mir ws b o) in
+    rewrite ! 1 Cell word refl $
+    sets ! (of_opd ! (load ! (through ! refl (fld ! refl (stop !))) (look_in ! 1 (sub ! 1 refl (whole !))))) refl (tt, record { fits = small }) $
+    rewrite ! 1 Cell (sym word) refl $ move ! (1 ∷ []) $ closes ! tt R h us b o $
+    -- [two parts of self; the token; self's first part]
+    returns ! (look_at ! 0 refl) $ free_all ! refl $ move ! (3 ∷ []) $
+    suffices ! _ (ends_at 𝓛 f.ended stayed c y (vint w64 h.state) h.state (h, tt) (tt, tt)) $ says_two ! (refl, refl) $
+    group ! 3 $ nothing ! $ move ! (1 ∷ 0 ∷ []) $ join ! $ nothing ! $ move ! (2 ∷ 0 ∷ []) $ join ! $ frame ! $ frame ! $
+    owned ! u64 _ (uint_Makes 𝓛 w64) h.state _ (refl, small) $ done !))))

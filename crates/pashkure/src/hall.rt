@@ -1,0 +1,77 @@
+//! What lies behind the mutex of a program in C.
+ghost use Rattle.std.specs.Prelude.{◌≡◌, IfSome};
+ghost use Rattle.mm_desk.specs.Calls.{AbortsAt, CommitsAt};
+ghost use Rattle.pashkure.specs.DeskCalls.{GivesNameBack, IsNew};
+ghost use Rattle.pashkure.specs.WorkerCalls.{GivesSomeUp};
+
+use crate::giving_up::{give_back, leave_all, let_go_all};
+use mm_desk::{Desk, DeskConfig, Room, Unlocked};
+use mm_manager::Refusal;
+use mm_thin::{GiveUp, Worker};
+use std::alloc::Global;
+use std::marker::Model;
+
+/// A desk, and room for what an end looks at. A contract sees a `HallState`.
+#[derive(Drop)]
+pub struct Hall {
+    pub(crate) desk: Desk,
+    pub(crate) room: Room,
+}
+
+impl Model for Hall {
+    ghost use Rattle.std.specs.Prelude.{vec_capacity};
+    ghost use Rattle.pashkure.specs.Hall.{HallState};
+
+    ghost Value = { HallState };
+
+    ghost view = { λ h. record { desk = h.desk; room = vec_capacity h.room.numbers } };
+}
+
+impl Hall {
+    /// A desk of this configuration, and room for each name; `None` if a number is out of its range, or a request for memory was refused.
+    pub(crate) fn open(alloc: Global, config: DeskConfig) -> Option<Hall>
+        ensures { IfSome result (IsNew config.manager.names) }
+    {
+        let Ok(desk) = Desk::open(alloc, config) else {
+            return None;
+        };
+        let Ok(room) = Room::open(alloc, config.manager.names) else {
+            return None;
+        };
+        Some(Hall { desk, room })
+    }
+
+    /// Gives a name back that a worker could not give back by itself, or had not taken. `None`: it could by now, and the manager is not asked.
+    /// Else all that the worker has taken and that is fat is let go first: a bucket may be lent to it for another name.
+    pub(crate) fn unlock(
+        &mut self,
+        worker: &mut Worker,
+        name: &[u8],
+    ) -> Option<Result<Unlocked, Refusal>>
+        ensures { GivesNameBack self.old worker.old name.now result self.new worker.new }
+    {
+        if let GiveUp::Done = give_back(worker, name) {
+            return None;
+        }
+        let_go_all(worker);
+        Some(self.desk.unlock(worker.at(), name))
+    }
+
+    /// Ends the transaction of a worker that waits for nothing. Whatever the answer, the worker has left first what it had taken.
+    pub(crate) fn commit(&mut self, worker: &mut Worker) -> Result<Unlocked, Refusal>
+        ensures commits { CommitsAt self.old.desk worker.old.at self.old.room result self.new.desk }
+        ensures leaves { GivesSomeUp worker.old worker.new }
+    {
+        leave_all(worker);
+        self.desk.commit(worker.at(), &mut self.room)
+    }
+
+    /// Ends the transaction of a worker, be it in a deadlock or not, as `commit` does.
+    pub(crate) fn abort(&mut self, worker: &mut Worker) -> Result<Unlocked, Refusal>
+        ensures aborts { AbortsAt self.old.desk worker.old.at self.old.room result self.new.desk }
+        ensures leaves { GivesSomeUp worker.old worker.new }
+    {
+        leave_all(worker);
+        self.desk.abort(worker.at(), &mut self.room)
+    }
+}
