@@ -6,7 +6,7 @@ set xlabel "threads"
 set logscale x 2
 set logscale y 10
 set xrange [0.8:20]
-set yrange [3e4:1.2e7]
+set yrange [3e4:2.4e7]
 set xtics ("1" 1, "2" 2, "4" 4, "16" 16)
 set ytics ("30,000" 3e4, "100,000" 1e5, "300,000" 3e5, "1 million" 1e6, "3 million" 3e6, "10 million" 1e7)
 set grid
@@ -19,7 +19,8 @@ do for [n = 1:3] {
   set title count(n) . " names"
   if (n > 1) { unset ylabel; set ytics ("" 3e4, "" 1e5, "" 3e5, "" 1e6, "" 3e6, "" 1e7) }
   if (n == 2) { set key at screen 0.5, 0.15 center top maxrows 2 samplen 2 width -1 } else { set key off }
-  plot "transfers.tsv" using "threads":(column("names") == names(n) ? column("with") : NaN) lc rgb "#8e44ad" lw 2 pt 11 ps 0.8 title "begin\\_with", \
+  plot "transfers.tsv" using "threads":(column("names") == names(n) ? column("thin") : NaN) lc rgb "#000000" lw 2 pt 15 ps 0.7 title "ThinLocks", \
+    "" using "threads":(column("names") == names(n) ? column("with") : NaN) lc rgb "#8e44ad" lw 2 pt 11 ps 0.8 title "begin\\_with", \
     "" using "threads":(column("names") == names(n) ? column("all") : NaN) lc rgb "#1f6fb2" lw 2 pt 9 ps 0.8 title "lock\\_all", \
     "" using "threads":(column("names") == names(n) ? column("one") : NaN) lc rgb "#1f6fb2" dt 2 lw 2 pt 8 ps 0.8 title "lock, one by one", \
     "" using "threads":(column("names") == names(n) ? column("c") : NaN) lc rgb "#d68910" lw 2 pt 6 ps 0.8 title "from C", \

@@ -6,8 +6,6 @@ the process that made it was killed. A slot belongs to one process, and no two p
 
 python3 lib/bank.py SOCKET FILE SLOT SEED: moves money between accounts under locks until it is told to stop, or is killed.
 """
-from __future__ import annotations
-
 import contextlib
 import mmap
 import os

@@ -1,6 +1,4 @@
 """What the tests of the Python client have in common."""
-from __future__ import annotations
-
 import asyncio
 import contextlib
 import logging
@@ -10,7 +8,6 @@ from typing import Any, Awaitable, Callable
 from lib.world import LIMIT, same, until  # noqa: F401
 
 from pashkure import aio
-
 
 logging.getLogger("pashkure").addHandler(logging.NullHandler())  # so that a warning is no line on standard error
 

@@ -1,7 +1,5 @@
 """Scripts and requests that are drawn by chance. A model goes along, so that most of them do something; some lines are odd, and some bytes
 are changed."""
-from __future__ import annotations
-
 import random
 from typing import Any, Optional
 

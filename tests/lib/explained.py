@@ -1,6 +1,4 @@
 """Reads the text of `mmdetect explain`: each line with its number and its reply, and what stands below it."""
-from __future__ import annotations
-
 import re
 from dataclasses import dataclass, field
 

@@ -1,6 +1,4 @@
 """Runs with calls of the C library that fail, are short, or are late (fault.c)."""
-from __future__ import annotations
-
 import functools
 import os
 import struct

@@ -1,6 +1,4 @@
 """Follows the text of `mmdetect explain` line by line, and holds it against the model."""
-from __future__ import annotations
-
 import copy
 from dataclasses import dataclass
 from typing import Iterator, Optional

@@ -1,6 +1,4 @@
 """Reads wait-for graphs as the program prints them: for Mermaid, by a small grammar, and for Graphviz."""
-from __future__ import annotations
-
 import re
 from dataclasses import dataclass, field
 
@@ -29,7 +27,7 @@ class Graph:
 
     nodes: dict[str, tuple[str, str, str]] = field(default_factory=dict)
     edges: set[tuple[str, int, str]] = field(default_factory=set)
-    resources: dict[int, str | None] = field(default_factory=dict)
+    resources: "dict[int, str | None]" = field(default_factory=dict)
 
     def add_node(self, key: str, text: list[str], mark: str) -> None:
         name, private, public = text

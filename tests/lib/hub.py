@@ -1,6 +1,4 @@
 """The lock service with connections, by crates/mm_connections/README.md, on top of the service: `C REQUEST` and `- C`."""
-from __future__ import annotations
-
 import re
 from typing import Optional
 
@@ -151,7 +149,7 @@ class Hub:
         owners = [b"%d" % self.began[key] if key in self.began else b"-" for key in live]
         return [b"list %d" % len(live), *(b"* %b %b %b" % (key, owner, self.service.status(key)) for key, owner in zip(live, owners))]
 
-    def counts(self) -> list[bytes]:
+    def counts(self) -> "list[bytes]":
         service, events = self.service, self.service.events
         said = [*service.counts, service.waits, service.withdrawn, events, 2**43 - 1 - events, 2**62 - 2**20 - events]
         return [b" ".join([b"counts", *(b"%d" % number for number in said)])]
@@ -164,12 +162,12 @@ class Hub:
         self.began = {other: owner for other, owner in self.began.items() if other.split(b".")[0] != process}
         self.began[key] = connection
 
-    def told(self, events: list[bytes]) -> list[bytes]:
+    def told(self, events: "list[bytes]") -> "list[bytes]":
         """Each event with the number of the connection that it concerns."""
         owners = [OPERATOR if event.startswith(b"* deadlock") else self.began.get(event.split(b" ")[2]) for event in events]
         return [b"%d %b" % (owner, event) for owner, event in zip(owners, events) if owner is not None]
 
-    def hang_up(self, connection: int) -> list[bytes]:
+    def hang_up(self, connection: int) -> "list[bytes]":
         lines: list[bytes] = []
         for key in [key for key, owner in reversed(list(self.began.items())) if owner == connection]:
             del self.began[key]

@@ -1,6 +1,4 @@
 """Runs the tests of one module, and counts them."""
-from __future__ import annotations
-
 import importlib
 import logging
 import os
@@ -48,7 +46,7 @@ class Result(unittest.TestResult):
     def addFailure(self, test: unittest.TestCase, err: tuple) -> None:
         self.tells(test, "".join(traceback.format_exception(*err)))
 
-    def addSubTest(self, test: unittest.TestCase, subtest: unittest.TestCase, err: tuple | None) -> None:
+    def addSubTest(self, test: unittest.TestCase, subtest: unittest.TestCase, err: "tuple | None") -> None:
         if err is not None:
             self.tells(test, f"{subtest}\n" + "".join(traceback.format_exception(*err)))
 

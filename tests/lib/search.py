@@ -1,6 +1,4 @@
 """Searches for an input to which the program answers otherwise than a model, and cuts it short."""
-from __future__ import annotations
-
 import os
 import random
 from typing import Any, Callable, Iterator, NamedTuple, Optional

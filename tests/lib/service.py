@@ -2,8 +2,6 @@
 
 It says each reply exactly, `carried` and `later` among them, and the order of grants. That order is promised by no page: a transaction that ends hands over its names by their numbers, and a name that
 nobody owned gets the number that was freed last, or else the least that was never used. If nobody waits for any, what was granted last is freed first."""
-from __future__ import annotations
-
 import re
 from collections import deque
 from typing import Callable, Iterable, Optional

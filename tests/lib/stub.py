@@ -9,8 +9,6 @@ It writes to LOG the words it was started with, and each line that comes. It ans
   end N        nothing, and ends with this status
   LINE         heard, and the bytes of the line as hexadecimal digits
 """
-from __future__ import annotations
-
 import os
 import sys
 

@@ -2,8 +2,6 @@
 
 It keeps labels, and searches the wait-for graph too: each verdict is one that a search finds, and a settle leaves no cycle without one.
 """
-from __future__ import annotations
-
 import re
 from typing import Any, Optional
 

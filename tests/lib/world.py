@@ -1,6 +1,4 @@
 """What the tests run: the program, a server in front of it, and connections to one."""
-from __future__ import annotations
-
 import contextlib
 import glob
 import os
@@ -39,11 +37,10 @@ FLAGS = ["-std=c11", "-Wall", "-Wextra", "-Wpedantic", "-Wshadow", "-Wconversion
 
 
 def built_server(path: str, *flags: str) -> str:
-    """Builds it there, of the sources below TESTED_SOURCES if that is in the environment. Returns the path, or nothing if there is no compiler."""
+    """Builds it there. Returns the path, or nothing if there is no compiler."""
     if not shutil.which("cc"):
         return ""
-    sources = glob.glob(os.path.join(os.environ.get("TESTED_SOURCES") or TOP, "server", "*.c"))
-    subprocess.run(["cc", *FLAGS, *(flags or ("-O1",)), "-o", path, *sources], check=True)
+    subprocess.run(["cc", *FLAGS, *(flags or ("-O1",)), "-o", path, *glob.glob(os.path.join(TOP, "server", "*.c"))], check=True)
     return path
 
 
@@ -97,7 +94,7 @@ def read(path: str) -> str:
         return file.read()
 
 
-def write(path: str, data: str | bytes) -> None:
+def write(path: str, data: "str | bytes") -> None:
     with open(path, "wb") as file:
         file.write(data if isinstance(data, bytes) else data.encode())
 
@@ -178,7 +175,7 @@ class Case(unittest.TestCase):
         self._files += 1
         return os.path.join(self.folder, f"{self._files}.{name}")
 
-    def file(self, name: str, data: str | bytes) -> str:
+    def file(self, name: str, data: "str | bytes") -> str:
         """The path of a new file with this text."""
         path = self.path(name)
         write(path, data)
@@ -190,11 +187,11 @@ class Case(unittest.TestCase):
         os.chmod(path, 0o755)
         return path
 
-    def run_program(self, *words: str, given: bytes | str = b"", **how: Any) -> Run:
+    def run_program(self, *words: str, given: "bytes | str" = b"", **how: Any) -> Run:
         """Runs the program with these words."""
         return run(PROGRAM, *words, given=given if isinstance(given, bytes) else given.encode(), **how)
 
-    def ends(self, told: Run, status: int = 0, out: bytes | str = b"", err: bytes | str | None = b"") -> Run:
+    def ends(self, told: Run, status: int = 0, out: "bytes | str" = b"", err: "bytes | str | None" = b"") -> Run:
         """Fails unless a run ended so. With None something, whatever it is, has to be on standard error."""
         wanted = [text if isinstance(text, bytes) or text is None else text.encode() for text in (out, err)]
         self.assertEqual(told.out, wanted[0], "standard output")

@@ -1,6 +1,4 @@
 """What pip makes of the Python package, as its users call it and without a network."""
-from __future__ import annotations
-
 import base64
 import hashlib
 import importlib.util

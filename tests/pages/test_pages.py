@@ -1,6 +1,4 @@
 """The pages: what they say of the sources, the commands that they show, those that a reader pastes, and the crates that a reader copies."""
-from __future__ import annotations
-
 import importlib.util
 import os
 import pathlib

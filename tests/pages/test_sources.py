@@ -1,6 +1,4 @@
 """What no clause says, read in the sources: that two calls take no lock, and that five have no loop."""
-from __future__ import annotations
-
 import os
 import re
 import sys

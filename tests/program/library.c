@@ -10,21 +10,18 @@ void __real_free(void *memory);
 void *__wrap_malloc(size_t size);
 void __wrap_free(void *memory);
 
-void *__wrap_malloc(size_t size)
-{
+void *__wrap_malloc(size_t size) {
     mallocs++;
     bytes += size;
     return mallocs == refused ? NULL : __real_malloc(size);
 }
 
-void __wrap_free(void *memory)
-{
+void __wrap_free(void *memory) {
     frees += memory != NULL;
     __real_free(memory);
 }
 
-static pashkure opened(uint32_t transactions, uint32_t names)
-{
+static pashkure opened(uint32_t transactions, uint32_t names) {
     pashkure locks = PASHKURE_CLOSED;
     pashkure_config config = PASHKURE_CONFIG;
     config.transactions = transactions;
@@ -34,8 +31,7 @@ static pashkure opened(uint32_t transactions, uint32_t names)
     return locks;
 }
 
-static pashkure_key begun(pashkure *locks)
-{
+static pashkure_key begun(pashkure *locks) {
     pashkure_key key = {9, 0};
     GIVES(pashkure_begin(locks, &key), PASHKURE_OK);
     return key;
@@ -46,8 +42,7 @@ static pashkure_result locks_name(pashkure *locks, pashkure_key key, const char 
 static int is_same(pashkure_key one, pashkure_key other) { return one.slot == other.slot && one.generation == other.generation; }
 
 /* The name of a number, as text. */
-static const char *named(const pashkure *locks, uint32_t number)
-{
+static const char *named(const pashkure *locks, uint32_t number) {
     static char text[9];
     pashkure_key owner;
     size_t length = 0;
@@ -57,8 +52,7 @@ static const char *named(const pashkure *locks, uint32_t number)
 }
 
 /* The waits from a slot on, holder by holder, as "slot:name>", and what ended the walk: '.' that the first one is back, else what is there. */
-static const char *walk(const pashkure *locks, uint32_t first)
-{
+static const char *walk(const pashkure *locks, uint32_t first) {
     static char text[200];
     char *end = text;
     uint32_t slot = first;
@@ -78,8 +72,7 @@ static const char *walk(const pashkure *locks, uint32_t first)
 }
 
 /* What the last call told: "slot+number" of each that was given a name, "slot-" of each that ended. */
-static const char *woken(const pashkure *locks)
-{
+static const char *woken(const pashkure *locks) {
     static char text[200];
     char *end = text;
     pashkure_wake wake;
@@ -91,13 +84,11 @@ static const char *woken(const pashkure *locks)
     return text;
 }
 
-TEST(version)
-{
+TEST(version) {
     CHECK(pashkure_version() == PASHKURE_VERSION);
 }
 
-TEST(closed_manager)
-{
+TEST(closed_manager) {
     pashkure locks = PASHKURE_CLOSED, zero;
     pashkure_key key = {7, 7};
     pashkure_seen seen;
@@ -128,15 +119,14 @@ TEST(closed_manager)
     GIVES(pashkure_begin(&locks, &key), PASHKURE_NOT_OPEN);
 }
 
-TEST(refused_open)
-{
+TEST(refused_open) {
     const uint32_t is = PASHKURE_VERSION;
     const struct { pashkure_config config; pashkure_result result; } rows[] = {
-        {{is, 1, 1, 1, 0, 0}, PASHKURE_OK}, {{is, 65536, 65536, 1024, 0, 0}, PASHKURE_OK}, {{is + 1, 1, 1, 1, 0, 0}, PASHKURE_OK},
-        {{is + 1000, 1, 1, 1, 0, 0}, PASHKURE_BAD_VERSION}, {{is + 1000000, 1, 1, 1, 0, 0}, PASHKURE_BAD_VERSION}, {{is - 1, 0, 0, 0, 0, 1}, PASHKURE_BAD_VERSION},
-        {{is, 0, 0, 0, 0, 1}, PASHKURE_BAD_TRANSACTIONS}, {{is, 65537, 1, 1, 0, 0}, PASHKURE_BAD_TRANSACTIONS}, {{is, 1, 0, 0, 0, 1}, PASHKURE_BAD_NAMES},
-        {{is, 1, 65537, 1, 0, 0}, PASHKURE_BAD_NAMES}, {{is, 1, 1, 0, 0, 1}, PASHKURE_BAD_NAME_BYTES}, {{is, 1, 1, 1025, 0, 0}, PASHKURE_BAD_NAME_BYTES},
-        {{is, 1, 1, 1, 0, 1}, PASHKURE_BAD_RESERVED}, {{0, 0, 0, 0, 0, 0}, PASHKURE_BAD_VERSION},
+        {{is, 1, 1, 1, 0, 0, 0}, PASHKURE_OK}, {{is, 65536, 65536, 1024, 0, 0, 0}, PASHKURE_OK}, {{is + 1, 1, 1, 1, 0, 0, 0}, PASHKURE_OK},
+        {{is + 1000, 1, 1, 1, 0, 0, 0}, PASHKURE_BAD_VERSION}, {{is + 1000000, 1, 1, 1, 0, 0, 0}, PASHKURE_BAD_VERSION}, {{is - 1, 0, 0, 0, 0, 0, 1}, PASHKURE_BAD_VERSION},
+        {{is, 0, 0, 0, 0, 0, 1}, PASHKURE_BAD_TRANSACTIONS}, {{is, 65537, 1, 1, 0, 0, 0}, PASHKURE_BAD_TRANSACTIONS}, {{is, 1, 0, 0, 0, 0, 1}, PASHKURE_BAD_NAMES},
+        {{is, 1, 65537, 1, 0, 0, 0}, PASHKURE_BAD_NAMES}, {{is, 1, 1, 0, 0, 0, 1}, PASHKURE_BAD_NAME_BYTES}, {{is, 1, 1, 1025, 0, 0, 0}, PASHKURE_BAD_NAME_BYTES},
+        {{is, 1, 1, 1, 0, 0, 1}, PASHKURE_BAD_RESERVED}, {{is, 1, 1, 1, 0, 1, 0}, PASHKURE_BAD_RESERVED}, {{0, 0, 0, 0, 0, 0, 0}, PASHKURE_BAD_VERSION},
     };
     pashkure locks = PASHKURE_CLOSED, was;
     pashkure_config config = PASHKURE_CONFIG, zero;
@@ -156,8 +146,7 @@ TEST(refused_open)
     pashkure_close(&locks);
 }
 
-TEST(transactions)
-{
+TEST(transactions) {
     pashkure locks = opened(3, 1);
     pashkure_key keys[3], none = {7, 7}, next;
     int seen[3] = {0, 0, 0};
@@ -176,8 +165,7 @@ TEST(transactions)
     pashkure_close(&locks);
 }
 
-TEST(requests)
-{
+TEST(requests) {
     pashkure locks = opened(4, 4);
     pashkure_key a = begun(&locks), b = begun(&locks), owner = {7, 7};
     GIVES(pashkure_owner(&locks, "x", 1, &owner), PASHKURE_FREE);
@@ -200,8 +188,7 @@ TEST(requests)
     pashkure_close(&locks);
 }
 
-TEST(order_of_waiters)
-{
+TEST(order_of_waiters) {
     pashkure locks = opened(4, 4);
     pashkure_key t[4];
     pashkure_wake wake = {{7, 7}, 7, 7};
@@ -219,8 +206,7 @@ TEST(order_of_waiters)
     pashkure_close(&locks);
 }
 
-TEST(deadlock_by_names)
-{
+TEST(deadlock_by_names) {
     pashkure locks = opened(8, 8);
     pashkure_key t[4];
     pashkure_seen seen;
@@ -249,8 +235,7 @@ TEST(deadlock_by_names)
     pashkure_close(&locks);
 }
 
-TEST(cancelled_wait)
-{
+TEST(cancelled_wait) {
     pashkure locks = opened(8, 8);
     pashkure_key a = begun(&locks), b = begun(&locks);
     pashkure_counts counts;
@@ -272,8 +257,7 @@ TEST(cancelled_wait)
     pashkure_close(&locks);
 }
 
-TEST(behind_a_victim)
-{
+TEST(behind_a_victim) {
     pashkure locks = opened(8, 8);
     pashkure_key a = begun(&locks), b = begun(&locks);
     pashkure_seen seen;
@@ -292,8 +276,7 @@ TEST(behind_a_victim)
 }
 
 /* An abort that was LATER comes due by a cancel too, once no victim is ahead any more. */
-TEST(cancelled_wait_of_who_aborts)
-{
+TEST(cancelled_wait_of_who_aborts) {
     pashkure locks = opened(8, 8);
     pashkure_key a = begun(&locks), b = begun(&locks), c = begun(&locks), d = begun(&locks);
     pashkure_seen seen;
@@ -315,8 +298,7 @@ TEST(cancelled_wait_of_who_aborts)
     pashkure_close(&locks);
 }
 
-TEST(names)
-{
+TEST(names) {
     pashkure locks = opened(2, 2);
     pashkure_key a = begun(&locks), owner = {7, 7};
     const unsigned char name[3] = {0, 255, 0};
@@ -341,8 +323,7 @@ TEST(names)
     pashkure_close(&locks);
 }
 
-TEST(moved_and_opened_again)
-{
+TEST(moved_and_opened_again) {
     pashkure locks = opened(2, 2), there = locks;
     pashkure_key a = begun(&there), again;
     GIVES(locks_name(&there, a, "x"), PASHKURE_OK);
@@ -356,8 +337,7 @@ TEST(moved_and_opened_again)
 }
 
 /* Every request for memory is one of an open, each can be refused, and all is given back. */
-TEST(memory)
-{
+TEST(memory) {
     pashkure_config config = PASHKURE_CONFIG;
     pashkure locks = PASHKURE_CLOSED;
     unsigned long requests;
@@ -387,8 +367,7 @@ TEST(memory)
 }
 
 /* What an open takes is at most what the header says, and nearly that. */
-TEST(bytes_of_an_open)
-{
+TEST(bytes_of_an_open) {
     static const uint32_t SIZES[][3] = {{1, 1, 1}, {1024, 4096, 64}, {65536, 65536, 64}, {1024, 65536, 64}, {65536, 4096, 8}, {64, 1024, 1024}};
     for (size_t i = 0; i < sizeof SIZES / sizeof *SIZES; i++) {
         pashkure locks = PASHKURE_CLOSED;
@@ -405,8 +384,7 @@ TEST(bytes_of_an_open)
     }
 }
 
-TEST(messages)
-{
+TEST(messages) {
     for (int result = 0; result < 96; result++) printf("%d %s\n", result, pashkure_message((pashkure_result)result));
 }
 
@@ -415,8 +393,7 @@ static const struct test TESTS[] = {
     ROW(behind_a_victim), ROW(cancelled_wait_of_who_aborts), ROW(names), ROW(moved_and_opened_again), ROW(memory), ROW(bytes_of_an_open), ROW(messages),
 };
 
-int main(int count, char **words)
-{
+int main(int count, char **words) {
     (void)count;
     return tested(TESTS, sizeof TESTS / sizeof *TESTS, words);
 }

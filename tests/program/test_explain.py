@@ -1,6 +1,4 @@
 """What `mmdetect explain` prints, beside a table by the rules."""
-from __future__ import annotations
-
 import os
 import random
 

@@ -1,6 +1,4 @@
 """The program while calls of the C library below it fail, do less than they were asked for, or are late."""
-from __future__ import annotations
-
 import os
 import random
 import subprocess

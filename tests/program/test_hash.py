@@ -1,6 +1,4 @@
 """Which names share a list of the program's hash, by the seed."""
-from __future__ import annotations
-
 import re
 
 from lib.world import PROGRAM, Case, run, wants

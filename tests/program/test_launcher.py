@@ -1,7 +1,5 @@
 """What ./mmdetect does if no program is built of its sources, in a checkout of a few small crates, with a command that stands for the
 toolchain; and what a person at a terminal is told, and nobody else."""
-from __future__ import annotations
-
 import glob
 import os
 import re
@@ -85,7 +83,7 @@ class Checkout(Case):
     def wrapped(self, *words: str, build: str = "", given: bytes = b"begin", path: str = "", **how: object) -> Run:
         return run(f"{self.top}/mmdetect", *words, given=given, env=self.env(build, path), **how)
 
-    def gives(self, status: int, out: str, err: str | None, calls: str, *words: str, build: str = "") -> Run:
+    def gives(self, status: int, out: str, err: "str | None", calls: str, *words: str, build: str = "") -> Run:
         """With these words and a script mmdetect ends so, and calls the toolchain so."""
         told = self.ends(self.wrapped(*words, build=build), status, out, err)
         self.called(calls)

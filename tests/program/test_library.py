@@ -1,6 +1,4 @@
 """The C library: its header by the compilers, header and crate compared both ways, and each behaviour of the header by a program in C."""
-from __future__ import annotations
-
 import os
 import re
 import subprocess
@@ -19,9 +17,9 @@ STANDARDS = [(f"{compiler} {standard}", compiler, language, standard)
              for compilers, language, standards in ((("gcc", "clang"), "c", "c99 c11 c17"), (("g++", "clang++"), "c++", "c++98 c++11 c++14 c++17 c++20"))
              for compiler in compilers for standard in standards.split()]  # fmt: skip
 SIZES = {"u32": 4, "u64": 8, "*mut u8": 8}
-RECORDS = {"pashkure": "Handle", "pashkure_key": "PlainKey", "pashkure_config": "PlainConfig", "pashkure_wake": "PlainWake",
-           "pashkure_seen": "PlainSeen", "pashkure_counts": "PlainCounts"}  # fmt: skip
-"""Each struct of the header, and the record of the crate."""
+RECORDS = {"pashkure": "Handle", "pashkure_desk": "DeskHandle", "pashkure_worker": "WorkerHandle", "pashkure_key": "PlainKey",
+           "pashkure_config": "PlainConfig", "pashkure_wake": "PlainWake", "pashkure_seen": "PlainSeen", "pashkure_counts": "PlainCounts"}  # fmt: skip
+"""Each struct of the headers, and the record of the crate."""
 OF_SLEEPERS = {"TIMED_OUT": 9, "INTERRUPTED": 10, "NOT_ASKED": 11}
 """The results that no call of the crate gives."""
 
@@ -30,7 +28,7 @@ def text_of(*path: str) -> str:
     return read(os.path.join(*path))
 
 
-HEADER = re.sub(r"/\*.*?\*/", "", text_of(INCLUDE, "pashkure.h"), flags=re.S)
+HEADER, DESK = (re.sub(r"/\*.*?\*/", "", text_of(INCLUDE, f"{name}.h"), flags=re.S) for name in ("pashkure", "pashkure_desk"))
 SOURCES = "".join(text_of(CRATE, name) for name in sorted(os.listdir(CRATE)))
 TESTS = re.findall(r"^TEST\((\w+)\)", text_of(SOURCE), re.M)
 
@@ -40,8 +38,9 @@ class HeaderOnly(Case):
     def test_compiles(self, _: str, compiler: str, language: str, standard: str) -> None:
         """Each header alone, and what is written in C, compile without a warning."""
         wants(compiler)
-        alone = [self.file(f"{name}.c", f'#include "{name}.h"\n') for name in ("pashkure", "pashkure_threads")]
-        for source in (*alone, f"{INCLUDE}/pashkure_text.c", *([f"{INCLUDE}/pashkure_threads.c"] if language == "c" else [])):
+        alone = [self.file(f"{name}.c", f'#include "{name}.h"\n') for name in ("pashkure", "pashkure_threads", "pashkure_desk")]
+        threads = [f"{INCLUDE}/pashkure_threads.c", f"{INCLUDE}/pashkure_threads_open.c"] if standard in ("c11", "c17") else []
+        for source in (*alone, f"{INCLUDE}/pashkure_text.c", *threads):
             command = [compiler, "-x", language, f"-std={standard}", *FLAGS, f"-I{INCLUDE}", "-fsyntax-only", source]
             self.ends(run(*command))
 
@@ -79,16 +78,16 @@ class Agreement(LibraryCase):
     """What the header says of names and numbers is what the crate has, and the other way round."""
 
     def test_functions(self) -> None:
-        header = set(re.findall(r"\b(pashkure_\w+)\(", HEADER))
+        header, desk = (set(re.findall(r"\b(pashkure_\w+)\(", text)) for text in (HEADER, DESK))
         exports = set(re.findall(r'#\[unsafe\(no_mangle\)\]\npub extern "C" fn (\w+)', SOURCES))
-        self.assertEqual(header, exports | {"pashkure_message"})
+        self.assertEqual(header | desk, exports | {"pashkure_message"})
         header |= set(re.findall(r"\b(pashkure_locks_\w+)\(", text_of(INCLUDE, "pashkure_threads.h").partition("#endif")[2]))
-        self.assertEqual(self.symbols("--extern-only", f"{self.top}/lib/libpashkure.a"), header)
+        self.assertEqual(self.symbols("--extern-only", f"{self.top}/lib/libpashkure.a"), header | desk)
         self.assertEqual(self.symbols("--dynamic", f"{self.top}/lib/libpashkure.so"), header)
 
     def test_parameters(self) -> None:
         """Each call has the parameters of the header in their order; a slice is a pointer and a length, and an allocator is nothing."""
-        for name, given in re.findall(r"\b(pashkure_\w+)\(([^)]*)\)", HEADER):
+        for name, given in re.findall(r"\b(pashkure_\w+)\(([^)]*)\)", HEADER + DESK):
             if name == "pashkure_message":
                 continue
             found = re.search(rf"extern \"C\" fn {name}\(([^)]*)\)", SOURCES)
@@ -108,7 +107,9 @@ class Agreement(LibraryCase):
         for name, number in re.findall(r"Refusal::(\w+) => (\d+)", SOURCES):
             crate[re.sub(r"(?<=[a-z])(?=[A-Z])", "_", name).upper()] = int(number)
         self.assertEqual(header, {**crate, **OF_SLEEPERS})
-        self.assertEqual(len(set(header.values())), len(header))
+        desk = re.findall(r"\bPASHKURE_([A-Z_]+[A-Z]) = (\d+)", DESK)
+        self.assertEqual(sorted(desk), sorted(re.findall(r"\bconst (\w+): u32 = (\d+);", text_of(CRATE, "desk_answer.rt"))))
+        self.assertEqual(len({*header.values(), *(int(number) for _, number in desk)}), len(header) + len(desk))
         version = re.search(r"#define PASHKURE_VERSION (\d+)u", HEADER)
         assert version
         self.assertIn(f"pub const VERSION: u32 = {int(version[1]):_};", SOURCES)
@@ -123,18 +124,18 @@ class Agreement(LibraryCase):
             for name, kind in members:
                 align = 4 if kind in ("u32", "PlainKey") else 8
                 place += -place % align
-                rows.append(f"{struct} {'manager' if name == 'at' else name} {place}")
+                rows.append(f"{struct} {'manager' if (struct, name) == ('pashkure', 'at') else name} {place}")
                 place += sizes[kind]
             sizes[record] = place
             rows.append(f"{struct} size {place + -place % (4 if struct in ('pashkure_key', 'pashkure_wake', 'pashkure_seen') else 8)}")
         lines = []
-        for body, struct in re.findall(r"typedef struct pashkure\w* {(.*?)} (\w+);", HEADER, re.S):
+        for body, struct in re.findall(r"typedef struct pashkure\w* {(.*?)} (\w+);", HEADER + DESK, re.S):
             for declared in filter(str.strip, body.split(";")):
                 for member in re.sub(r"^\s*\w+ \*?", "", declared).split(","):
                     lines.append(f'printf("{struct} {member.strip()} %zu\\n", offsetof({struct}, {member.strip()}));')
             lines.append(f'printf("{struct} size %zu\\n", sizeof({struct}));')
-        source = self.file("sizes.c", '#include "pashkure.h"\n#include <stdio.h>\nint main(void) {' + "\n".join(lines) + "return 0;}\n")
-        self.assertEqual(sorted(run(self.built(source)).out.decode().splitlines()), sorted(rows))
+        source = self.file("sizes.c", '#include "pashkure_desk.h"\n#include <stdio.h>\nint main(void) {' + "\n".join(lines) + "return 0;}\n")
+        self.assertEqual(sorted(run(self.built(source, f"-I{INCLUDE}")).out.decode().splitlines()), sorted(rows))
 
     def test_messages(self) -> None:
         """Each result of the header has a text of its own, and no other number has one."""

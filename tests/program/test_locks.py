@@ -1,6 +1,4 @@
 """The lock service over pipes. What is wanted here was worked out by hand from docs/SERVICE.md."""
-from __future__ import annotations
-
 from lib.world import Case, each
 
 LONG = "x" * 1024

@@ -1,7 +1,5 @@
 """The program with each request for memory refused in turn, with starts of threads refused, and in little space; and calls that request no
 memory."""
-from __future__ import annotations
-
 import glob
 import json
 import os
@@ -10,7 +8,7 @@ import resource
 from typing import Callable, Optional
 
 from lib.faults import FaultCase, variables
-from lib.world import LIMIT, PROGRAM, TOP, Run, each, read, run
+from lib.world import IS_SLOW, LIMIT, PROGRAM, TOP, Run, each, read, run
 
 REFUSED, AMPLE = "refused", "as with ample memory"
 NO_MEMORY = b"refused 10 Memory\n"
@@ -311,7 +309,7 @@ class Opened(MemoryCase):
     def test_crowd_that_locks_names(self, way: str, threads: int, names: int) -> None:
         """However many transactions the threads make, the requests are those of the opening and of the starts, and no name has two owners."""
         locks, told = self.built("bench_locks"), []
-        for milliseconds in "1", "500":
+        for milliseconds in "1", "60000" if IS_SLOW else "500":
             told.append(self.counted("", locks, way, str(threads), str(names), milliseconds))
             self.assertEqual((told[-1].run.status, told[-1].run.err), (0, b""))
         few, many = (int(each.run.out.split()[1]) for each in told)

@@ -1,6 +1,4 @@
 """Random scripts and requests: what is kept in tests/corpus, those of one seed, and those of a new seed, each as a model answers."""
-from __future__ import annotations
-
 import os
 
 from lib import search, service

@@ -1,6 +1,4 @@
 """The crate for Rust over the C library: its tests by cargo, its example, how its build finds the library, and its declarations against the headers."""
-from __future__ import annotations
-
 import os
 import re
 import shutil

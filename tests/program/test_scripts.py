@@ -1,6 +1,4 @@
 """Scripts: from files, from pipes and typed, with devices that fail, and the worked ones."""
-from __future__ import annotations
-
 import ast
 import glob
 import os

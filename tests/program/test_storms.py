@@ -1,7 +1,5 @@
 """Storms, and the reports of storms and workloads. What the clients of a storm acquire is computed here anew from the published algorithm
 of the generator, PCG-XSH-RR with 64 bits of state and words of 32 bits (M. E. O'Neill, 2014; the C library's pcg32)."""
-from __future__ import annotations
-
 import json
 import os
 import re

@@ -1,10 +1,9 @@
 """The C library for threads: each promise of pashkure_threads.h by a program in C, plain and under the compiler's sanitizers."""
-from __future__ import annotations
-
+import os
 import re
 import unittest
 
-from lib.world import TOP, Run, each, run
+from lib.world import IS_SLOW, TOP, Run, each, run
 from program import test_library
 from program.test_library import HERE, INCLUDE, text_of
 
@@ -12,6 +11,7 @@ SOURCE = f"{HERE}/threads.c"
 TESTS = re.findall(r"^TEST\((\w+)\)", text_of(SOURCE), re.M)
 ROW_STORE = (b"rows 0 and 1 have 0 and 0, after 1 deadlock\nrow 4: the name was not granted in time\n"
              b"rows 2, 3 and 4 have 1, 0 and 1\nrow 5: the request was interrupted\n")  # fmt: skip
+LAYER = f"-I{INCLUDE}"
 WRAPPED = "-Wl," + ",".join(f"--wrap={name}" for name in re.findall(r"^WRAP\([^,]+, (\w+),", text_of(SOURCE), re.M))
 
 
@@ -19,11 +19,11 @@ class Threads(test_library.LibraryCase):
     @classmethod
     def setUpClass(cls) -> None:
         super().setUpClass()
-        cls.program = cls.compiled(f"{cls.top}/plain", "-pthread", WRAPPED, SOURCE)
+        cls.program = cls.compiled(f"{cls.top}/plain", "-pthread", LAYER, WRAPPED, SOURCE)
 
     @each(TESTS)
     def test_plain(self, name: str) -> None:
-        self.passes(run(self.program, name))
+        self.passes(run(self.program, name, env={**os.environ, "ROUNDS": "20000" if IS_SLOW else "100"}))
 
     @each(["address,undefined", "thread"])
     def test_sanitized(self, kind: str) -> None:
@@ -31,7 +31,7 @@ class Threads(test_library.LibraryCase):
         flags = [f"-fsanitize={kind}", "-fno-sanitize-recover=all"]
         if run("cc", *flags, "-o", self.path("empty"), self.file("empty.c", "int main(void) { return 0; }\n")).status:
             raise unittest.SkipTest(f"the compiler has no -fsanitize={kind}")
-        self.passes(run(self.built("-pthread", WRAPPED, *flags, SOURCE, f"{INCLUDE}/pashkure_threads.c")))
+        self.passes(run(self.built("-pthread", LAYER, WRAPPED, *flags, SOURCE, f"{INCLUDE}/pashkure_threads.c", f"{INCLUDE}/pashkure_threads_open.c")))
 
     def example(self, name: str) -> Run:
         return run(self.built("-std=c99", "-pthread", f"{TOP}/examples/{name}.c"))

@@ -1,6 +1,4 @@
 """Help, the version, and words that are wrong."""
-from __future__ import annotations
-
 import os
 import re
 import subprocess

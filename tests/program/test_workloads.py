@@ -1,6 +1,4 @@
 """Workloads: how they end, what is said of them, and files that are none."""
-from __future__ import annotations
-
 import json
 import os
 import re
@@ -50,7 +48,7 @@ def greatest(key: str, most: int) -> str:
 
 # Each text with what a person is told of it: the place and the cause. No clause says which place is told, so these were written by hand from
 # docs/WORKLOADS.md. One that is a workload has no such line.
-TEXTS: list[tuple[str, str | bytes, str | None]] = [
+TEXTS: "list[tuple[str, str | bytes, str | None]]" = [
     *((f"without {key}", changed(text, ""), f"the key {key} is missing") for key, text in [
         ("processes", '"processes":2,'), ("resources", '"resources":2,'), ("label_limit", '"label_limit":1000,'),
         ("generation_limit", '"generation_limit":9,'), ("transmitters", '"transmitters":1,'), ("turns", '"turns":10000000,')]),
@@ -95,7 +93,7 @@ def lines(finished: int = 0, aborted: int = 0, spent: int = 0, refused: int = 0)
 
 
 class Workloads(Case):
-    def runs(self, path: str, status: int, out: str, told: str | None = None) -> str:
+    def runs(self, path: str, status: int, out: str, told: "str | None" = None) -> str:
         """Runs a file without a flag and with --verbose: the same is on standard output. Returns what else --verbose says."""
         self.ends(self.run_program("threads", path), status, out)
         return self.ends(self.run_program("threads", path, "--verbose"), status, out, told).err.decode()
@@ -130,7 +128,7 @@ class Workloads(Case):
         self.assertRegex(self.ends(told, 3, b"", told.err).err.decode(), rf"(?s)\A{path}: .*\nread fault\n\Z")
 
     @each(TEXTS)
-    def test_texts(self, name: str, text: str | bytes, told: str | None) -> None:
+    def test_texts(self, name: str, text: "str | bytes", told: "str | None") -> None:
         path = self.file("workload", text)
         if told is None:
             self.runs(path, 0, CROSSWISE_LINES)

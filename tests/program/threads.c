@@ -1,6 +1,7 @@
 /* The C library's layer for threads, a promise of its header a test: `threads NAME` runs one, `threads` all. It waits for states and never for a
- * time; an alarm ends what hangs. Calls of the C library, and pashkure_cancel, come here first by -Wl,--wrap. */
+ * time; an alarm ends what hangs. Calls of the C library, and pashkure_desk_cancel, come here first by -Wl,--wrap. */
 #define _POSIX_C_SOURCE 200809L
+#include "pashkure_desk.h"
 #include "pashkure_threads.h"
 
 #include "check.h"
@@ -27,71 +28,66 @@ static struct timespec untils[2]; /* of the last two sleeps with a time */
 /* A function in place of another one, which is __real_.. here. */
 #define WRAP(type, name, ...) type __real_##name(__VA_ARGS__); type __wrap_##name(__VA_ARGS__); type __wrap_##name(__VA_ARGS__)
 
-WRAP(void *, malloc, size_t size)
-{
+WRAP(void *, malloc, size_t size) {
     bytes += is_counting ? size : 0;
     return is_counting && ++requests == refused ? NULL : __real_malloc(size);
 }
 
-WRAP(void *, calloc, size_t count, size_t size)
-{
+WRAP(void *, calloc, size_t count, size_t size) {
     bytes += is_counting ? count * size : 0;
     return is_counting && ++requests == refused ? NULL : __real_calloc(count, size);
 }
 
-WRAP(void, free, void *memory)
-{
+WRAP(void, free, void *memory) {
     frees += is_counting && memory != NULL;
     __real_free(memory);
 }
 
-WRAP(pashkure_result, pashkure_cancel, pashkure *core, pashkure_key key)
-{
-    pashkure_result told = __real_pashkure_cancel(core, key);
+WRAP(pashkure_result, pashkure_desk_cancel, pashkure_desk *desk, uint32_t slot) {
+    pashkure_result told = __real_pashkure_desk_cancel(desk, slot);
     carried += told == PASHKURE_CARRIED;
     return told;
 }
 
-WRAP(int, pthread_mutex_trylock, pthread_mutex_t *mutex)
-{
+WRAP(int, pthread_mutex_trylock, pthread_mutex_t *mutex) {
     int told = __real_pthread_mutex_trylock(mutex);
     missed += told != 0;
     return told;
 }
 
 /* A thread that is woken while `is_late` comes to the mutex only afterwards. */
-WRAP(int, pthread_cond_wait, pthread_cond_t *news, pthread_mutex_t *mutex)
-{
+WRAP(int, pthread_cond_wait, pthread_cond_t *news, pthread_mutex_t *mutex) {
     int told = __real_pthread_cond_wait(news, mutex);
     while (is_late) (void)pthread_mutex_unlock(mutex), (void)sched_yield(), (void)pthread_mutex_lock(mutex);
     return told;
 }
 
 /* While `has_time` no time is over: a thread is woken without a reason, as it may be. */
-WRAP(int, pthread_cond_timedwait, pthread_cond_t *news, pthread_mutex_t *mutex, const struct timespec *until)
-{
+WRAP(int, pthread_cond_timedwait, pthread_cond_t *news, pthread_mutex_t *mutex, const struct timespec *until) {
     int told = __real_pthread_cond_timedwait(news, mutex, until);
     untils[0] = untils[1];
     untils[1] = *until;
     return told == ETIMEDOUT && has_time ? 0 : told;
 }
 
-static pashkure_key begun(void)
-{
+static pashkure_key begun(void) {
     pashkure_key key;
     GIVES(pashkure_locks_begin(locks, &key), PASHKURE_OK);
     return key;
 }
 
-/* Opens a manager in which `live` transactions are begun, and the first one owns x, the second one y. */
-static void opened(uint32_t live, uint32_t names)
-{
-    const pashkure_key none = {0, 0};
+static void opens(uint32_t transactions, uint32_t names) {
     pashkure_config config = PASHKURE_CONFIG;
-    config.transactions = live + 12;
+    config.transactions = transactions;
     config.names = names;
     config.name_bytes = 8;
     GIVES(pashkure_locks_open(&locks, &config), PASHKURE_OK);
+}
+
+/* Opens a manager in which `live` transactions are begun, and the first one owns x, the second one y. */
+static void opened(uint32_t live, uint32_t names) {
+    const pashkure_key none = {0, 0};
+    opens(live + 12, names);
     for (uint32_t i = 0; i < 5; i++) *KEYS[i] = i < live ? begun() : none;
     if (live > 0) GIVES(pashkure_locks_lock(locks, a, "x", 1, PASHKURE_FOREVER), PASHKURE_OK);
     if (live > 1) GIVES(pashkure_locks_lock(locks, b, "y", 1, PASHKURE_FOREVER), PASHKURE_OK);
@@ -102,24 +98,24 @@ static void interrupted(pashkure_key key) { GIVES(pashkure_locks_interrupt(locks
 static void ends(pashkure_key key) { GIVES(pashkure_locks_commit(locks, key), PASHKURE_OK); }
 
 /* Ends those of `opened` that are live, and closes: none but these may be. */
-static void shut(void)
-{
+static void shut(void) {
     for (size_t i = 0; i < 5; i++) (void)pashkure_locks_abort(locks, *KEYS[i]);
     GIVES(pashkure_locks_close(locks), PASHKURE_OK);
 }
 
-static pashkure_result state(pashkure_key key)
-{
+static pashkure_result state(pashkure_key key) {
     pashkure_seen seen;
-    pashkure_result is = pashkure_look(pashkure_locks_hold(locks), key.slot, &seen);
+    pashkure_result is;
+    pashkure_locks_hold(locks);
+    is = pashkure_locks_look(locks, key.slot, &seen);
     pashkure_locks_let_go(locks);
     return is;
 }
 
-static pashkure_counts totals(void)
-{
+static pashkure_counts totals(void) {
     pashkure_counts counts;
-    pashkure_totals(pashkure_locks_hold(locks), &counts);
+    pashkure_locks_hold(locks);
+    pashkure_locks_totals(locks, &counts);
     pashkure_locks_let_go(locks);
     return counts;
 }
@@ -127,30 +123,26 @@ static pashkure_counts totals(void)
 /* A thread that locks one name. */
 struct sleeper { pthread_t thread; pashkure_key key; const char *name; int64_t time; pashkure_result result; };
 
-static void *sleeps(void *argument)
-{
+static void *sleeps(void *argument) {
     struct sleeper *my = argument;
     return my->result = lock(my->key, my->name, my->time), NULL;
 }
 
 /* Starts it. When this returns, it sleeps: who holds the mutex sees that it waits. */
-static void starts(struct sleeper *sleeper, pashkure_key key, const char *name, int64_t time)
-{
+static void starts(struct sleeper *sleeper, pashkure_key key, const char *name, int64_t time) {
     *sleeper = (struct sleeper){.key = key, .name = name, .time = time};
     CHECK(pthread_create(&sleeper->thread, NULL, sleeps, sleeper) == 0);
     while (state(key) != PASHKURE_WAITS) sched_yield();
 }
 
-static pashkure_result result_of(struct sleeper *sleeper)
-{
+static pashkure_result result_of(struct sleeper *sleeper) {
     CHECK(pthread_join(sleeper->thread, NULL) == 0);
     return sleeper->result;
 }
 
 struct note { int calls; pashkure_result result; pthread_t thread; };
 
-static void notes(void *context, pashkure_key key, pashkure_result result)
-{
+static void notes(void *context, pashkure_key key, pashkure_result result) {
     struct note *note = context;
     CHECK(state(key) != PASHKURE_WAITS); /* the mutex is free */
     note->calls++;
@@ -158,26 +150,26 @@ static void notes(void *context, pashkure_key key, pashkure_result result)
     note->thread = pthread_self();
 }
 
-static pashkure_result ask(pashkure_key key, const char *name, struct note *note)
-{
+static pashkure_result ask(pashkure_key key, const char *name, struct note *note) {
     return pashkure_locks_ask(locks, key, name, strlen(name), notes, note);
 }
 
 static void handles(int number) { is_signalled = number != 0; }
 
-TEST(memory)
-{
+TEST(memory) {
     pashkure_config config = PASHKURE_CONFIG;
     pashkure core = PASHKURE_CLOSED;
-    unsigned long wanted, of_core;
+    unsigned long wanted, of_core, of_opening;
+    config.transactions = config.names = 64;
     is_counting = true;
     GIVES(pashkure_open(&core, &config), PASHKURE_OK);
     of_core = bytes;
     pashkure_close(&core);
     requests = frees = bytes = 0;
+    config.buckets = 1000;
     GIVES(pashkure_locks_open(&locks, &config), PASHKURE_OK);
-    CHECK(bytes - of_core < 90 * config.transactions);
-    wanted = requests;
+    CHECK(bytes - of_core < 24 * config.buckets + 12 * config.names + 2500 * config.transactions);
+    wanted = requests, of_opening = frees;
     for (int i = 0; i < 100; i++) {
         a = begun(), b = begun();
         GIVES(lock(a, "x", 0), PASHKURE_OK);
@@ -185,7 +177,7 @@ TEST(memory)
         ends(a);
         ends(b);
     }
-    CHECK(requests == wanted && frees == 0);
+    CHECK(requests == wanted && frees == of_opening);
     shut();
     CHECK(requests == wanted && frees == wanted);
     for (refused = 1; refused <= wanted; refused++) {
@@ -195,21 +187,24 @@ TEST(memory)
     }
     is_counting = false;
     locks = (pashkure_locks *)&config;
+    config.reserved = 1;
+    GIVES(pashkure_locks_open(&locks, &config), PASHKURE_BAD_RESERVED);
     config.names = 0;
     GIVES(pashkure_locks_open(&locks, &config), PASHKURE_BAD_NAMES);
     CHECK(locks == NULL);
     GIVES(pashkure_locks_close(NULL), PASHKURE_OK);
 }
 
-TEST(refusals)
-{
+TEST(refusals) {
     opened(2, 2);
     GIVES(lock(b, "x", 0), PASHKURE_BUSY);
     GIVES(lock(b, "x", INT64_MIN), PASHKURE_BUSY);
     CHECK(totals().waits == 0);
     GIVES(lock(b, "", 0), PASHKURE_NAME_EMPTY);
     GIVES(lock(b, "123456789", LONG), PASHKURE_NAME_TOO_LONG);
-    GIVES(lock(b, "z", LONG), PASHKURE_NAMES_FULL);
+    GIVES(lock(a, "y", 0), PASHKURE_BUSY); /* now the manager has x and y */
+    GIVES(lock(b, "z", LONG), PASHKURE_OK);
+    GIVES(lock(a, "z", LONG), PASHKURE_NAMES_FULL);
     GIVES(pashkure_locks_unlock(locks, b, "x", 1), PASHKURE_NOT_OWNER);
     for (int i = 0; i < 12; i++) KEPT[i] = begun();
     GIVES(pashkure_locks_begin(locks, &c), PASHKURE_TRANSACTIONS_FULL);
@@ -224,8 +219,7 @@ TEST(refusals)
     shut();
 }
 
-TEST(order_of_sleepers)
-{
+TEST(order_of_sleepers) {
     struct sleeper first, second, other;
     opened(4, 4);
     GIVES(lock(a, "z", 0), PASHKURE_OK);
@@ -245,8 +239,7 @@ TEST(order_of_sleepers)
 
 static long long between(struct timespec from, struct timespec to) { return (to.tv_sec - from.tv_sec) * 1000000000ll + to.tv_nsec - from.tv_nsec; }
 
-TEST(time_out)
-{
+TEST(time_out) {
     struct timespec from, to;
     struct sleeper sleeper;
     opened(3, 4);
@@ -264,8 +257,7 @@ TEST(time_out)
 }
 
 /* The victim is b; a waits for it, and c and d wait behind a. */
-TEST(deadlock)
-{
+TEST(deadlock) {
     struct sleeper given, timed, both;
     opened(5, 8);
     has_time = true;
@@ -293,8 +285,7 @@ TEST(deadlock)
 }
 
 /* A time that is over behind a victim, whose abort grants the name: nothing is left of that time then. */
-TEST(behind_a_victim)
-{
+TEST(behind_a_victim) {
     struct sleeper given, timed;
     int before = carried;
     opened(4, 8);
@@ -315,8 +306,7 @@ TEST(behind_a_victim)
     shut();
 }
 
-TEST(interrupt)
-{
+TEST(interrupt) {
     struct sleeper sleeper;
     opened(2, 4);
     interrupted(a);
@@ -335,15 +325,13 @@ TEST(interrupt)
     shut();
 }
 
-static void *locks_all(void *argument)
-{
+static void *locks_all(void *argument) {
     GIVES(pashkure_locks_lock_all(locks, c, argument, 2, LONG), PASHKURE_OK);
     return NULL;
 }
 
 /* The time is one for all: both waits end at the same one. */
-TEST(several_names)
-{
+TEST(several_names) {
     pashkure_request two[2] = {{"x", 1, PASHKURE_BUSY}, {"y", 1, PASHKURE_BUSY}};
     pashkure_request three[3] = {{"w", 1, PASHKURE_BUSY}, {"x", 1, PASHKURE_BUSY}, {"z", 1, PASHKURE_BUSY}};
     pthread_t thread;
@@ -365,15 +353,13 @@ TEST(several_names)
     shut();
 }
 
-static void ends_itself(void *context, pashkure_key key, pashkure_result result)
-{
+static void ends_itself(void *context, pashkure_key key, pashkure_result result) {
     notes(context, key, result);
     if (key.slot != KEPT[9].slot) GIVES(pashkure_locks_commit(locks, KEPT[9]), PASHKURE_WAITING); /* it is not told yet */
     ends(key);
 }
 
-TEST(wake_calls)
-{
+TEST(wake_calls) {
     struct note told[10] = {{0}}, other = {0};
     opened(2, 16);
     for (char name = '0'; name <= '9'; name++) GIVES(pashkure_locks_ask(locks, a, &name, 1, notes, &other), PASHKURE_OK);
@@ -394,8 +380,7 @@ TEST(wake_calls)
     shut();
 }
 
-static void refuses_all(pashkure_key key)
-{
+static void refuses_all(pashkure_key key) {
     GIVES(lock(key, "z", 0), PASHKURE_WAITING);
     GIVES(ask(key, "z", NULL), PASHKURE_WAITING);
     GIVES(pashkure_locks_unlock(locks, key, "x", 1), PASHKURE_WAITING);
@@ -404,8 +389,7 @@ static void refuses_all(pashkure_key key)
 }
 
 /* Of a thread that was given the name too, as long as it has not seen it. A signal is no news. */
-TEST(one_request_at_a_time)
-{
+TEST(one_request_at_a_time) {
     struct sleeper sleeper;
     struct sigaction action = {.sa_handler = handles};
     opened(2, 4);
@@ -425,38 +409,64 @@ TEST(one_request_at_a_time)
     shut();
 }
 
-static void *begins(void *argument) { return *(pashkure_key *)argument = begun(), NULL; }
+static void *locks_x(void *argument) {
+    (void)argument;
+    GIVES(lock(a, "x", PASHKURE_FOREVER), PASHKURE_OK);
+    return NULL;
+}
 
-TEST(hold)
-{
-    pashkure_counts counts;
+TEST(hold) {
+    pashkure_key owner;
+    pashkure_seen seen;
+    struct note told = {0};
+    size_t length;
+    char name[8];
     pthread_t thread;
-    const pashkure *view;
-    opened(0, 1);
-    view = pashkure_locks_hold(locks);
+    opened(0, 2);
+    for (int i = 0; i < 3; i++) ends(begun()); /* of which the desk knows nothing */
+    b = begun(), a = begun();
+    GIVES(lock(b, "y", 0), PASHKURE_OK);
+    pashkure_locks_hold(locks);
+    GIVES(pashkure_locks_owner(locks, "y", 1, &owner), PASHKURE_FREE);
+    pashkure_locks_let_go(locks);
+    GIVES(pashkure_locks_hold_all(locks), PASHKURE_OK);
     missed = 0;
-    CHECK(pthread_create(&thread, NULL, begins, &a) == 0);
+    CHECK(pthread_create(&thread, NULL, locks_x, NULL) == 0);
     while (missed < 3) sched_yield();
-    pashkure_totals(view, &counts);
-    CHECK(counts.begun == 0);
+    GIVES(pashkure_locks_owner(locks, "x", 1, &owner), PASHKURE_FREE);
+    GIVES(pashkure_locks_owner(locks, "y", 1, &owner), PASHKURE_OK);
+    CHECK(owner.slot == b.slot && owner.generation == b.generation);
+    GIVES(pashkure_locks_name(locks, 0, name, sizeof name, &length, &owner), PASHKURE_OK);
+    CHECK(length == 1 && name[0] == 'y' && owner.slot == b.slot && owner.generation == b.generation);
     pashkure_locks_let_go(locks);
     CHECK(pthread_join(thread, NULL) == 0);
+    GIVES(ask(a, "y", &told), PASHKURE_WAITS);
+    pashkure_locks_hold(locks);
+    GIVES(pashkure_locks_look(locks, a.slot, &seen), PASHKURE_WAITS);
+    CHECK(seen.key.generation == a.generation && seen.holder.slot == b.slot && seen.holder.generation == b.generation);
+    pashkure_locks_let_go(locks);
+    ends(b);
+    CHECK(state(b) == PASHKURE_FREE && totals().committed == 4 && totals().aborted == 0);
+    b = begun();
+    GIVES(lock(b, "z", 0), PASHKURE_OK);
+    pashkure_locks_hold(locks);
+    GIVES(pashkure_locks_owner(locks, "z", 1, &owner), PASHKURE_FREE); /* by its word again */
+    pashkure_locks_let_go(locks);
     shut();
 }
 
-enum { THREADS = 8, NAMES = 8, ROUNDS = 1000 };
-static int in_hands[NAMES]; /* plain: a name in two hands is a race */
-static _Atomic(pashkure_key) now[THREADS];
+enum { MOST_THREADS = 64, MOST_NAMES = 1000 };
+static struct { int threads, names, rounds; } of;
+static int in_hands[MOST_NAMES]; /* plain: a name in two hands is a race */
+static _Atomic(pashkure_key) now[MOST_THREADS];
 
-static void posts(void *context, pashkure_key key, pashkure_result result)
-{
+static void posts(void *context, pashkure_key key, pashkure_result result) {
     CHECK(key.generation != 0);
     *(atomic_int *)context = (int)result;
 }
 
 /* Locks the name in one of four ways. */
-static pashkure_result locks_somehow(pashkure_key key, const int *name, unsigned how)
-{
+static pashkure_result locks_somehow(pashkure_key key, const int *name, unsigned how) {
     atomic_int mail = PASHKURE_WAITS;
     pashkure_result told;
     if (how < 3) return pashkure_locks_lock(locks, key, name, sizeof *name, how == 0 ? PASHKURE_FOREVER : how == 1 ? 100000 : 0);
@@ -466,18 +476,17 @@ static pashkure_result locks_somehow(pashkure_key key, const int *name, unsigned
     return (pashkure_result)mail;
 }
 
-static void *works(void *argument)
-{
+static void *works(void *argument) {
     _Atomic(pashkure_key) *place = argument;
     unsigned random = (unsigned)(place - now) + 1;
-    for (int round = 0; round < ROUNDS; round++) {
+    for (int round = 0; round < of.rounds; round++) {
         pashkure_key key = begun();
         int mine[3], count = 0;
         pashkure_result told = PASHKURE_OK;
         *place = key;
-        (void)pashkure_locks_interrupt(locks, now[rand_r(&random) % THREADS]);
+        (void)pashkure_locks_interrupt(locks, now[rand_r(&random) % of.threads]);
         for (int i = 0; i < 3 && PASHKURE_OWNS(told); i++) {
-            const int name = rand_r(&random) % NAMES;
+            const int name = rand_r(&random) % of.names;
             told = locks_somehow(key, &name, (unsigned)rand_r(&random) % 4);
             if (told == PASHKURE_OK) CHECK(in_hands[mine[count++] = name]++ == 0);
             sched_yield();
@@ -493,23 +502,55 @@ static void *works(void *argument)
     return NULL;
 }
 
-TEST(crowd)
-{
-    pthread_t threads[THREADS];
-    opened(0, 64);
-    for (int i = 0; i < THREADS; i++) CHECK(pthread_create(&threads[i], NULL, works, (void *)&now[i]) == 0);
-    for (int i = 0; i < THREADS; i++) CHECK(pthread_join(threads[i], NULL) == 0);
-    CHECK(totals().begun == THREADS * ROUNDS && totals().deadlocks > 0 && totals().withdrawn > 0);
-    shut();
+/* No name is in two hands. */
+static void come(int count, int of_names, int of_rounds) {
+    pthread_t threads[MOST_THREADS];
+    pashkure_counts counts;
+    of.threads = count, of.names = of_names, of.rounds = of_rounds;
+    opens((uint32_t)count, MOST_NAMES);
+    for (int i = 0; i < count; i++) CHECK(pthread_create(&threads[i], NULL, works, (void *)&now[i]) == 0);
+    for (int i = 0; i < count; i++) CHECK(pthread_join(threads[i], NULL) == 0);
+    counts = totals();
+    CHECK(counts.begun == (uint64_t)count * (uint64_t)of_rounds && counts.begun == counts.committed + counts.aborted);
+    GIVES(pashkure_locks_close(locks), PASHKURE_OK);
+}
+
+TEST(crowd) { come(8, 8, 1000); }
+
+TEST(large_crowd) {
+    const char *rounds = getenv("ROUNDS");
+    come(64, 1000, rounds == NULL ? 100 : atoi(rounds));
+}
+
+#if defined(__SANITIZE_ADDRESS__) || defined(__SANITIZE_THREAD__)
+enum { MANY = 1024 };
+#else
+enum { MANY = 32768 };
+#endif
+
+/* Far more names than the manager has room for, since nobody waits for one. */
+TEST(many_names) {
+    static pashkure_key keys[MANY];
+    pashkure_config config = PASHKURE_CONFIG;
+    config.transactions = MANY;
+    config.names = 2 * MANY;
+    config.buckets = 128 * MANY;
+    GIVES(pashkure_locks_open(&locks, &config), PASHKURE_OK);
+    for (uint32_t i = 0; i < 8 * MANY; i++) {
+        if (i % 8 == 0) keys[i / 8] = begun();
+        GIVES(pashkure_locks_lock(locks, keys[i / 8], &i, sizeof i, 0), PASHKURE_OK);
+    }
+    CHECK(totals().begun == MANY);
+    for (uint32_t i = 0; i < MANY; i++) ends(keys[i]);
+    GIVES(pashkure_locks_close(locks), PASHKURE_OK);
 }
 
 static const struct test TESTS[] = {
     ROW(memory), ROW(refusals), ROW(order_of_sleepers), ROW(time_out), ROW(deadlock), ROW(behind_a_victim), ROW(interrupt),
-    ROW(several_names), ROW(wake_calls), ROW(one_request_at_a_time), ROW(hold), ROW(crowd),
+    ROW(several_names), ROW(wake_calls), ROW(one_request_at_a_time), ROW(hold), ROW(crowd), ROW(large_crowd), ROW(many_names),
 };
 
-int main(int count, char **words)
-{
+int main(int count, char **words) {
     (void)count;
     alarm(300);
     return tested(TESTS, sizeof TESTS / sizeof *TESTS, words);

@@ -1,7 +1,5 @@
 """Processes that move money between accounts under locks, some of which are killed: the sum stays, no two ever own an account at one time,
 and nobody waits for the dead."""
-from __future__ import annotations
-
 import os
 import random
 import signal

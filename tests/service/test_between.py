@@ -1,7 +1,5 @@
 """Lines of all bytes of several connections at once, cut anywhere: what the server gives the program is exactly what each client sent, behind
 its number; the program alone, given the same, writes the same; and each client is told exactly what is for it."""
-from __future__ import annotations
-
 import random
 import signal
 import socket

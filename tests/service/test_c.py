@@ -1,6 +1,4 @@
 """The C client: with replies that are written in replies.c, and with a service; built with sanitizers, and with calls that fail or are short."""
-from __future__ import annotations
-
 import os
 import re
 import shutil
@@ -31,13 +29,16 @@ class CCase(FaultCase):
         super().setUpClass()
         cls.scratch = tempfile.TemporaryDirectory(prefix="pashkure.")
         cls.addClassCleanup(cls.scratch.cleanup)
-        for name, source in ("replies", f"{HERE}/replies.c"), ("service", f"{HERE}/service.c"), ("bank", f"{CLIENT}/bank.c"):
-            for kind, flags in ("", []), (".sanitized", SANITIZED):
-                subprocess.run(["cc", *FLAGS, *flags, "-o", cls.program(name + kind), source, f"{CLIENT}/pashkure_remote.c"], check=True)
 
     @classmethod
     def program(cls, name: str) -> str:
-        return os.path.join(cls.scratch.name, name)
+        """A program of this name, plain or `.sanitized`, which is built at its first use."""
+        path = os.path.join(cls.scratch.name, name)
+        if not os.path.exists(path):
+            kind, _, is_sanitized = name.partition(".")
+            sources = [f"{CLIENT}/bank.c" if kind == "bank" else f"{HERE}/{kind}.c", f"{CLIENT}/pashkure_remote.c"]
+            subprocess.run(["cc", *FLAGS, *(SANITIZED if is_sanitized else []), "-o", path, *sources], check=True)
+        return path
 
 
 class Replies(CCase):
@@ -123,7 +124,7 @@ class Service(CCase):
 
     def test_bank_by_threads_of_a_sanitizer(self) -> None:
         """Two threads at two connections share nothing that they change at once."""
-        path = self.program("bank.threads")
+        path = self.path("bank")
         told = run("cc", *FLAGS, "-fsanitize=thread", "-o", path, f"{CLIENT}/bank.c", f"{CLIENT}/pashkure_remote.c")
         if told.status or run(path).status != 2:
             self.skipTest("this C compiler has no thread sanitizer that runs here (Debian's package libtsan)")

@@ -1,6 +1,4 @@
 """How a server starts and ends, and what its clients are told. The server is known by its command and its socket alone."""
-from __future__ import annotations
-
 import os
 import signal
 import socket

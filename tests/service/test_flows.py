@@ -1,7 +1,5 @@
 """What the Python client does without I/O: the protocol cut at each byte, calls that are left at each moment, time-outs by a clock of the
 test's own, names and keys, pauses, and that the forms for threads and for tasks are one."""
-from __future__ import annotations
-
 import asyncio
 import contextlib
 import inspect
@@ -11,7 +9,6 @@ import os
 import random
 import re
 import subprocess
-import sys
 import types
 import unittest.mock
 from typing import Any, Callable, Optional
@@ -24,6 +21,7 @@ import pashkure
 from pashkure import Aborted, Deadlock, Full, Interrupted, LockError, LocksLost, MustAbort, NotOwner, ProtocolError, Retry, Timeout, aio, flows, wire
 from pashkure.backend import Watch
 from pashkure.locks import Transaction
+from pashkure.service import Service
 from pashkure.values import encoded, key_bytes
 from pashkure.wire import Ask, Call, Conversation, Party
 
@@ -76,7 +74,7 @@ class Wire(Case):
         """All replies with events between them, cut at each byte, give the same answers."""
         text = b"".join(lines(reply) + (lines(EVENTS[0]) if number % 5 == 0 else b"") for number, (_, reply) in enumerate(DIALOGUE)) + lines(EVENTS[1])
         wanted = [tuple(lines(reply)[:-1].split(b"\n")[0].split(b" ")) + tuple(lines(reply)[:-1].split(b"\n")[1:]) for _, reply in DIALOGUE]
-        for cut in range(len(text) + 1):
+        for cut in range(1, len(text)):
             talk, calls, party = self.talk(*(word for word, _ in DIALOGUE))
             talk.feed(text[:cut])
             talk.feed(text[cut:])
@@ -306,7 +304,7 @@ class Clock(Case):
 
     def test_time_out(self) -> None:
         """It gives up at the time, and not before, whatever wakes it."""
-        error = self.told(flows.WOKEN, 9.999, 10.0, (b"cancelled",))
+        error = self.told(0.0, 9.999, 10.0, (b"cancelled",))
         same((type(error), error.name, self.untils), (Timeout, "a", [10.0] * 3))
         same([ask.word for ask in self.asked], [b"lock", b"cancel"])
 
@@ -331,9 +329,9 @@ class Clock(Case):
     def test_interrupted(self) -> None:
         """An interrupt takes the wait back, once; if it was granted in between, the next wait is interrupted."""
         same(type(self.told((b"cancelled",), interrupts=1)), Interrupted)
-        same(type(self.told(flows.WOKEN, (b"cancelled",), interrupts=2)), Interrupted)
-        same(type(self.told(flows.WOKEN, (b"carried",), 0.001, (b"cancelled",), interrupts=2)), Interrupted)
-        same(self.told(flows.WOKEN, (b"refused", b"not-waiting"), (b"granted", b"9.9", b"a"), interrupts=2), None)
+        same(type(self.told(0.0, (b"cancelled",), interrupts=2)), Interrupted)
+        same(type(self.told(0.0, (b"carried",), 0.001, (b"cancelled",), interrupts=2)), Interrupted)
+        same(self.told(0.0, (b"refused", b"not-waiting"), (b"granted", b"9.9", b"a"), interrupts=2), None)
 
     def test_slow_wait(self) -> None:
         """A wait that is slow is told once, while it waits on."""
@@ -344,7 +342,7 @@ class Clock(Case):
 class Silent:
     """A session of which nothing may be asked."""
 
-    epoch, is_used = 1, False
+    epoch, watch = 1, Watch()
 
     def __getattr__(self, name: str) -> Any:
         raise AssertionError(f"{name} was called")
@@ -355,9 +353,9 @@ class Arguments(Case):
 
     def callers(self) -> list[tuple[Any, Any]]:
         """Locks and a transaction of each form, of which nothing may be asked."""
-        plain = pashkure.Locks(Silent(), Watch(), Retry())
-        tx = Transaction(Silent(), Watch())
-        tasks = aio.Locks(Silent(), Watch(), Retry())
+        plain = pashkure.Locks(Silent(), Retry())
+        tx = Transaction(Silent())
+        tasks = aio.Locks(Silent(), Retry())
         return [(plain, tx), (tasks, tasks.transaction())]
 
     def test_names(self) -> None:
@@ -409,25 +407,23 @@ class FakeLocks(contextlib.AbstractContextManager, contextlib.AbstractAsyncConte
     """Locks in both forms whose transactions only count, and whose work takes its time by a clock of the test's own."""
 
     def __init__(self, form: Any, retry: Retry) -> None:
-        self.begun, self.now, self.pauses = 0, 0.0, []
-        self.locks = form.Locks(None, Watch(None, None), retry)
+        self.begun, self.now, self.pauses, self.is_plain = 0, 0.0, [], form is pashkure
+        self.pause = Service.pause if self.is_plain else self.sleeps
+        self.locks = form.Locks(self, retry)
         self.locks.transaction = self.transaction
-        self.is_plain = form is pashkure
 
     def transaction(self) -> Any:
         self.begun += 1
         return self
 
+    async def sleeps(self, seconds: float) -> None:
+        same(aio.service.Service.pause, asyncio.sleep)
+        self.pauses.append(seconds)
+
     def run(self, work: Callable[..., Any]) -> Any:
         async def works(tx: Any) -> Any:
             return work(tx)
 
-        async def sleeps(seconds: float) -> None:
-            self.pauses.append(seconds)
-
-        if not self.is_plain:
-            same(type(self.locks)._pause, asyncio.sleep)
-            self.locks._pause = sleeps
         with unittest.mock.patch("pashkure.calls.monotonic", lambda: self.now), unittest.mock.patch("pashkure.backend.sleep", self.pauses.append):
             return self.locks.run(work) if self.is_plain else asyncio.run(self.locks.run(works))
 

@@ -1,6 +1,4 @@
 """What the front does with lines, numbers and connections, before a program that knows nothing of locks (lib/stub.py) and notes each line."""
-from __future__ import annotations
-
 import contextlib
 import os
 import resource

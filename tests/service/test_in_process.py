@@ -1,6 +1,4 @@
 """The Python client in process: the cases that it has in common with the service, and what differs."""
-from __future__ import annotations
-
 import asyncio
 import gc
 import os

@@ -1,7 +1,5 @@
 """The Python client over a socket: each call and each exception, with threads and with asyncio; what the operator sees; events and the log; and a
 service for tests."""
-from __future__ import annotations
-
 import contextlib
 import gc
 import logging
@@ -97,7 +95,7 @@ class Calls(Opener):
         same(locks.totals(), Totals(4, 2, 2, 1))
 
     def test_deadlock(self) -> None:
-        """A deadlock is told to the one who closes the cycle, and the others go on after its abort"""
+        """A deadlock is told to the one who closes the cycle, and the others go on after its abort. Who waits refuses all other calls"""
         locks = self.locks
         one, two = locks.transaction("1"), locks.transaction("2")
         thread = waiting(one, "2")
@@ -109,8 +107,8 @@ class Calls(Opener):
         for call in (two.lock, "3"), (two.try_lock, "3"), (two.unlock, "2"), (two.commit,):
             raises(MustAbort, *call)
         same(two.holds(), ["2"])
-        raises(Waiting, one.commit)
-        raises(Waiting, one.try_lock, "3")
+        for call in (one.commit,), (one.try_lock, "3"), (one.lock, "3"), (one.holds,):
+            raises(Waiting, *call)
         two.abort()
         same(thread.ends(), None)
         same(one.holds(), ["1", "2"])
@@ -309,16 +307,6 @@ class Calls(Opener):
         one.abort()
         locks.close()
 
-    def test_waiting(self) -> None:
-        """A second thread that calls a transaction which waits is told so."""
-        one, two = self.locks.transaction("a"), self.locks.transaction()
-        thread = waiting(two, "a")
-        for call in (two.lock, "b"), (two.commit,), (two.holds,):
-            raises(Waiting, *call)
-        one.commit()
-        same(thread.ends(), None)
-        two.commit()
-
     def test_events(self) -> None:
         """Each begin, lock, commit and abort is told, also one that fails; what the hook raises is logged, and so is a slow wait and a deadlock."""
         told: List[Event] = []
@@ -331,18 +319,20 @@ class Calls(Opener):
         with self.assertLogs("pashkure", logging.INFO) as logs:  # type: ignore[attr-defined]
             one, two = locks.transaction("a"), locks.transaction()
             two.lock("b")
-            thread = Apart(one.lock, "b")
-            until(lambda: any("has waited for 'b'" in line for line in logs.output), "the slow wait is logged")
+            thread, third = Apart(one.lock, "b"), Apart(locks.transaction, "a")
+            until(lambda: all(any(f"has waited for {name!r}" in line for line in logs.output) for name in "ab"), "the slow waits are logged")
             raises(Deadlock, two.lock, "a")
             two.abort()
             thread.ends()
             one.commit()
+            three = third.ends()
+            three.commit()
         events = [(event.kind, event.key, event.names, type(event.error)) for event in told if event.kind != "connect"]
         none = type(None)
         same((set(events), len(events)), ({("begin", one.key, ("a",), none), ("begin", two.key, (), none), ("lock", two.key, ("b",), none), ("lock", one.key, ("b",), none),
-             ("lock", two.key, ("a",), Deadlock), ("abort", two.key, (), none), ("commit", one.key, (), none)}, 7))  # fmt: skip
-        waited = [event for event in told if event.names == ("b",) and event.key == one.key][0]
-        same(waited.seconds >= waited.waited >= 0.01, True)
+             ("lock", two.key, ("a",), Deadlock), ("abort", two.key, (), none), ("commit", one.key, (), none), ("begin", three.key, ("a",), none), ("commit", three.key, (), none)}, 9))  # fmt: skip
+        waited = [event for event in told if (event.key, event.names) in [(one.key, ("b",)), (three.key, ("a",))]]
+        same([event.seconds >= event.waited >= 0.01 for event in waited], [True, True])
         text = "\n".join(logs.output)
         for part in *self.connected, "deadlock: the request for 'a'", "on_event raised an exception", f"WARNING:pashkure:{one.key} has waited for 'b' of {two.key}":
             self.assertIn(part, text)  # type: ignore[attr-defined]

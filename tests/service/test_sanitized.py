@@ -1,6 +1,4 @@
 """The tests of the server again, with one that is built with sanitizers; and with calls that fail or are short below that."""
-from __future__ import annotations
-
 import os
 import subprocess
 import sys

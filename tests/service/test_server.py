@@ -1,7 +1,5 @@
 """A server with the program: clients that use the keys of others, hang up, and come in thousands, and an operator that does not read. (Lines,
 halves of lines, and bounds are in test_front; what the program says to connections that hang up, in program.test_random.)"""
-from __future__ import annotations
-
 import os
 
 from lib.world import IS_SLOW, LIMIT, Case, Server, Wire, until

@@ -1,7 +1,5 @@
 """The Python client in a wrong world: exceptions of signals at each line, services that are killed, started anew, stopped or none, forks, tasks that
 are cancelled, and calls of the C library that fail, are short or are late, below the client and below the server."""
-from __future__ import annotations
-
 import asyncio
 import contextlib
 import gc
@@ -18,7 +16,7 @@ from typing import Any, Callable, List
 
 from lib.clients import Apart, Asyncio, Opener, raises, same, waiting, waits
 from lib.faults import FaultCase, variables
-from lib.world import LIMIT, SEED, Case, Server, each, environment, read, run, stop, until
+from lib.world import LIMIT, PACKAGE, SEED, TOP, Case, Server, each, environment, read, run, stop, until
 
 import pashkure
 from pashkure import (Aborted, CannotConnect, Closed, Deadlock, Interrupted, Locks, LocksLost, NoTransaction, ProtocolError, ServiceRestarted, Timeout,
@@ -533,56 +531,44 @@ class Tasks(TroubleCase):
 # A program that uses each call of the client, and says at its end what it saw. It is run with faults below it.
 USES = """if True:
     import sys, threading
+    from lib.clients import Asyncio
     from pashkure import Locks, Retry, Timeout
     told = []
-    with Locks.connect(sys.argv[1], retry=Retry(1000, longest=0.05)) as locks:
-        def work(tx, one, two):
-            tx.lock(one)
-            tx.lock(two)
-            told.append((one, two))
-        threads = [threading.Thread(target=locks.run, args=(work, one, two)) for one, two in ["ab", "bc", "ca", "ba"] * 4]
-        for thread in threads: thread.start()
-        for thread in threads: thread.join()
-        with locks.transaction() as tx:
-            tx.lock(*("name/%d" % number + "x" * 40 for number in range(200)))
-            assert len(tx.holds()) == 200
-            other = locks.transaction()
-            try:
-                other.lock("name/0" + "x" * 40, timeout=0.01)
-            except Timeout:
-                told.append("timeout")
-            other.abort()
-        assert locks.totals().begun == locks.totals().committed + locks.totals().aborted
+    locks = (Asyncio if sys.argv[2] == "tasks" else Locks.connect)(sys.argv[1], retry=Retry(1000, longest=0.05))
+    def work(tx, one, two):
+        tx.lock(one)
+        tx.lock(two)
+        told.append((one, two))
+    threads = [threading.Thread(target=locks.run, args=(work, one, two)) for one, two in ["ab", "bc", "ca", "ba"] * 4]
+    for thread in threads: thread.start()
+    for thread in threads: thread.join()
+    with locks.transaction() as tx:
+        tx.lock(*("name/%d" % number + "x" * 40 for number in range(200)))
+        assert len(tx.holds()) == 200
+        other = locks.transaction()
+        try:
+            other.lock("name/0" + "x" * 40, timeout=0.01)
+        except Timeout:
+            told.append("timeout")
+        other.abort()
+    totals = locks.totals()
+    assert totals.begun == totals.committed + totals.aborted
+    getattr(locks, "ends", locks.close)()
     print(len(told))
 """
-ASYNC_USES = """if True:
-    import asyncio, sys
-    from pashkure.aio import Locks
-    from pashkure import Retry
-    async def main():
-        told = []
-        async with Locks.connect(sys.argv[1], retry=Retry(1000, longest=0.05)) as locks:
-            async def work(tx, one, two):
-                await tx.lock(one)
-                await tx.lock(two)
-                told.append((one, two))
-            await asyncio.gather(*(locks.run(work, one, two) for one, two in ["ab", "bc", "ca", "ba"] * 4))
-            async with locks.transaction() as tx:
-                for number in range(200): await tx.lock("name/%d" % number + "x" * 40)
-                assert len(await tx.holds()) == 200
-        print(len(told))
-    asyncio.run(main())
-"""
+USED = (0, b"17\n", b"")
 FAULTS = "read:short%30 write:short%30 recv:short%30 send:short%30 read:EINTR%10 write:EINTR%10 recv:EINTR%10 send:EINTR%10 poll:EINTR%10 epoll_wait:EINTR%10"
 
 
 class Faults(FaultCase):
-    @each([(f"{name} of seed {seed}", text, seed) for seed in (1, SEED) for name, text in (("threads", USES), ("asyncio", ASYNC_USES))])
-    def test_client(self, name: str, text: str, seed: int) -> None:
+    def uses(self, server: Server, form: str, **env: str) -> Any:
+        return run(sys.executable, "-c", USES, server.path, form, env=environment(PYTHONPATH=f"{PACKAGE}:{TOP}/tests", **env))
+
+    @each([(f"{form} of seed {seed}", form, seed) for seed in (1, SEED) for form, _ in FORMS])
+    def test_client(self, name: str, form: str, seed: int) -> None:
         """Signals, and reads and writes that do less than they were asked for, make no difference to the client."""
         log = self.path("log")
-        told = run(sys.executable, "-c", text, self.server("--name-bytes", "64").path, env=environment(**variables(FAULTS, seed, log, only="python")))
-        self.assertEqual(told, (0, b"17\n" if text is USES else b"16\n", b""))
+        self.assertEqual(self.uses(self.server("--name-bytes", "64"), form, **variables(FAULTS, seed, log, only="python")), USED)
         for fault in "recv:short", "send:short", "recv:EINTR", "send:EINTR":
             self.assertIn(fault, read(log))
 
@@ -591,8 +577,7 @@ class Faults(FaultCase):
         """The same below the server."""
         log = self.path("log")
         server = self.server("--name-bytes", "64", env=variables(FAULTS + " read:late=1%5 accept:EINTR%30", seed, log, "pashkure-serve"))
-        told = run(sys.executable, "-c", USES, server.path, env=environment())
-        self.assertEqual(told, (0, b"17\n", b""))
+        self.assertEqual(self.uses(server, "threads"), USED)
         self.assertEqual((server.close(), server.stderr()), (0, ""))
         for fault in "read:short", "write:short", "recv:short", "send:short", "recv:EINTR", "send:EINTR", "epoll_wait:EINTR":
             self.assertIn(fault, read(log))
