@@ -32,6 +32,7 @@ struct seat {
     pashkure_wake_call *wake;     /* NULL if a thread sleeps */
     void *context;
     pthread_cond_t news;          /* its thread sleeps here */
+    _Atomic bool has_news;        /* its wait is over; it looks for that before it sleeps */
     char apart[128];              /* else a thread would write to the line of another one's seat */
 };
 

@@ -7,7 +7,7 @@
 #include <sched.h>
 #include <time.h>
 
-enum { FIRST_YIELDS = 2, TURNS = 8, LOOKS = 3 };
+enum { FIRST_YIELDS = 2, TURNS = 8, LOOKS = 3, YIELDS = 32 };
 
 /* ---- The mutex ---- */
 
@@ -108,6 +108,7 @@ static void end_wait(pashkure_locks *locks, uint32_t slot, pashkure_result over)
     }
     seat->over = over;
     if (seat->wake == NULL) {
+        atomic_store_explicit(&seat->has_news, true, memory_order_relaxed);
         pthread_cond_signal(&seat->news);
         return;
     }
@@ -173,6 +174,16 @@ static bool owns(pashkure_locks *locks, uint32_t slot, const pashkure_request *r
     return pashkure_desk_owner(&locks->desk, request->name, request->length, &owner) == PASHKURE_OK && owner.slot == slot;
 }
 
+/* Yields the processor some times, until there is news: most waits are over in some microseconds, and to be woken takes fifty. Meanwhile others
+ * have the mutex. */
+static void stay_awake(pashkure_locks *locks, struct seat *seat)
+{
+    atomic_store_explicit(&seat->has_news, false, memory_order_relaxed);
+    pthread_mutex_unlock(&locks->mutex);
+    for (int yields = 0; yields < YIELDS && !atomic_load_explicit(&seat->has_news, memory_order_relaxed); yields++) sched_yield();
+    enter(locks);
+}
+
 /* Sleeps as long as the desk says that the transaction waits. */
 static pashkure_result sleep_for(pashkure_locks *locks, uint32_t slot, const pashkure_request *request, struct limit *limit)
 {
@@ -183,6 +194,7 @@ static pashkure_result sleep_for(pashkure_locks *locks, uint32_t slot, const pas
         limit->is_begun = true;
     }
     seat->wake = NULL;
+    stay_awake(locks, seat);
     while (does(locks, slot) == PASHKURE_WAITS) {
         if (!has_end || seat->withdraws_as != PASHKURE_OK)
             pthread_cond_wait(&seat->news, &locks->mutex);

@@ -35,7 +35,8 @@ typedef struct pashkure_request { const void *name; size_t length; pashkure_resu
 
 #define PASHKURE_FOREVER INT64_MAX /* nanoseconds without an end. 0 and less is no time at all: a time that has run out never becomes a long one */
 
-/* Opens a manager: OK. BAD_.. as of pashkure_open, NO_MEMORY: then *locks is NULL. config.buckets is 1 to 16,777,216, or 0 for 8 a name. */
+/* Opens a manager: OK. BAD_.. as of pashkure_open, NO_MEMORY: then *locks is NULL. config.buckets is 1 to 16,777,216, or 0 for one a
+ * name, but 8,192 at least. */
 pashkure_result pashkure_locks_open(pashkure_locks **locks, const pashkure_config *config) PASHKURE_CHECKED;
 
 /* Gives all memory back: OK. IN_USE while a transaction is live: then nothing has changed. No other call may run, or come later. To shut down,

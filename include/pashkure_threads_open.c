@@ -4,7 +4,15 @@
 #include <stdlib.h>
 #include <time.h>
 
-enum { BUCKETS_A_NAME = 8 };
+/* As many buckets as names, but not fewer than this: then two names that are owned seldom share one. More would be slower, since each lies in a
+ * cache line of its own mostly. */
+enum { LEAST_BUCKETS = 8192 };
+
+static uint32_t buckets_of(const pashkure_config *config)
+{
+    if (config->buckets != 0) return config->buckets;
+    return config->names < LEAST_BUCKETS ? LEAST_BUCKETS : config->names;
+}
 
 /* ---- Reading ---- */
 
@@ -114,10 +122,9 @@ pashkure_result pashkure_locks_open(pashkure_locks **locks, const pashkure_confi
     pashkure_locks *opened;
     uint32_t seats;
     pashkure_config numbers = *config;
-    const uint32_t buckets = config->buckets != 0 ? config->buckets : BUCKETS_A_NAME * config->names;
     uint32_t result;
     numbers.buckets = 0;
-    result = pashkure_desk_open(&desk, &numbers, buckets);
+    result = pashkure_desk_open(&desk, &numbers, buckets_of(config));
     *locks = NULL;
     if (result != PASHKURE_OK) return (pashkure_result)result;
     opened = calloc(1, sizeof *opened + config->transactions * sizeof opened->seats[0]);

@@ -37,8 +37,8 @@ impl Config {
         Config { seed, ..self }
     }
 
-    /// Sets how many buckets [`Locks`](crate::Locks) have: 1 to 16,777,216, and 8 for each name if this is not called. A name that nobody else
-    /// wants is locked by the word of its bucket, and two names of one bucket are the manager's.
+    /// Sets how many buckets [`Locks`](crate::Locks) have: 1 to 16,777,216. If this is not called they have one for each name, but 8,192 at
+    /// least. A name that nobody else wants is locked by the word of its bucket, and two names of one bucket are the manager's.
     pub fn buckets(self, buckets: u32) -> Config {
         Config { buckets, ..self }
     }

@@ -42,6 +42,11 @@ impl Way {
             _ => None,
         }
     }
+
+    /// Whether its transactions look whether they are the only owners of their names.
+    pub fn is_crowd(self) -> bool {
+        matches!(self, Way::Crowd | Way::ThinCrowd)
+    }
 }
 
 /// What the threads share.

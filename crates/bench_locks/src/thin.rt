@@ -1,39 +1,20 @@
 //! The transactions of `transfers` and `crowd` at a `ThinLocks`, by a session a thread.
 
-use crate::crowd::owned_twice;
+use crate::crowd::visit_each;
 use crate::names::{MOST, chosen, names_of};
 use crate::shared::{Done, Shared, Way};
-use mm_locks::LockError;
 use mm_thin_locks::Session;
 use rand_core::utils::NextWord;
 use rand_pcg::Lcg64Xsh32;
 use std::sync::Wait;
 use std::sync::atomic::Ordering::SeqCst;
+use std::time::Clock;
 
 /// How many names a transaction of `thin` locks.
 const COUNT: usize = 4;
 
-/// Locks these names, one after the other, and commits. Returns how many were owned by another one too.
-fn visit<R: Wait>(
-    session: &mut Session<'_, R>,
-    shared: &Shared<'_>,
-    numbers: &[u32],
-    names: &[&[u8]],
-) -> Result<u64, LockError> {
-    let mut transaction = session.begin();
-    for name in names {
-        transaction.lock(name)?;
-    }
-    let twice = match shared.way {
-        Way::ThinCrowd => owned_twice(shared.owners, numbers),
-        _ => 0,
-    };
-    transaction.commit()?;
-    Ok(twice)
-}
-
 /// Makes a transaction of names by chance until it is committed.
-fn visit_at_last<R: Wait>(
+fn visit_at_last<R: Wait + Clock>(
     session: &mut Session<'_, R>,
     shared: &Shared<'_>,
     random: &mut Lcg64Xsh32,
@@ -50,7 +31,7 @@ fn visit_at_last<R: Wait>(
     let numbers = chosen(random, bound, count);
     let names = names_of(shared.names, &numbers);
     for _ in 0..u64::MAX {
-        if let Ok(twice) = visit(session, shared, &numbers[..count], &names[..count]) {
+        if let Ok(twice) = visit_each(session.begin(), shared, &numbers[..count], &names[..count]) {
             done.shared = twice;
             break;
         }
@@ -61,7 +42,7 @@ fn visit_at_last<R: Wait>(
 }
 
 /// Makes transactions until it is to stop.
-pub fn work_thinly<R: Wait>(rt: &R, shared: &Shared<'_>, seed: u64) -> Done {
+pub fn work_thinly<R: Wait + Clock>(rt: &R, shared: &Shared<'_>, seed: u64) -> Done {
     let mut random = Lcg64Xsh32::new(seed, 0);
     let mut done = Done::NOTHING;
     let Ok(mut session) = shared.thin.session(rt) else {

@@ -71,7 +71,7 @@ fn sleep<R: Wait>(rt: &R, locks: &Locks) -> Done {
 }
 
 /// Makes transactions until it is to stop.
-fn work<R: Wait>(rt: &R, shared: &Shared<'_>, seed: u64) -> Done {
+fn work<R: Wait + Clock>(rt: &R, shared: &Shared<'_>, seed: u64) -> Done {
     let mut random = Lcg64Xsh32::new(seed, 0);
     let mut done = Done::NOTHING;
     for _ in 0..u64::MAX {

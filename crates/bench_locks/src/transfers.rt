@@ -1,22 +1,15 @@
 //! Transactions of four locks, each of which is made again after a deadlock.
 
+use crate::crowd::visit_each;
 use crate::names::{chosen, names_of};
 use crate::shared::{Done, Shared, Way};
 use mm_locks::{LockError, Locks};
 use rand_pcg::Lcg64Xsh32;
 use std::sync::Wait;
+use std::time::Clock;
 
 /// How many names a transaction locks.
 const COUNT: usize = 4;
-
-/// A transaction that locks these names one after the other.
-pub fn one_by_one<R: Wait>(rt: &R, locks: &Locks, names: &[&[u8]]) -> Result<(), LockError> {
-    let mut transaction = locks.begin(rt)?;
-    for name in names {
-        transaction.lock(name)?;
-    }
-    transaction.commit()
-}
 
 /// A transaction that locks these names by one call.
 fn all_at_once<R: Wait>(rt: &R, locks: &Locks, names: &[&[u8]]) -> Result<(), LockError> {
@@ -40,9 +33,13 @@ fn run<R: Wait>(rt: &R, locks: &Locks, names: &[&[u8]]) -> Result<(), LockError>
 }
 
 /// One transaction, be it committed or not.
-fn transfer<R: Wait>(rt: &R, shared: &Shared<'_>, names: &[&[u8]]) -> Result<(), LockError> {
+fn transfer<R: Wait + Clock>(
+    rt: &R,
+    shared: &Shared<'_>,
+    names: &[&[u8]],
+) -> Result<(), LockError> {
     match shared.way {
-        Way::One => one_by_one(rt, shared.locks, names),
+        Way::One => visit_each(shared.locks.begin(rt)?, shared, &[], names).map(|_| ()),
         Way::All => all_at_once(rt, shared.locks, names),
         Way::With => from_the_start(rt, shared.locks, names),
         _ => run(rt, shared.locks, names),
@@ -50,7 +47,11 @@ fn transfer<R: Wait>(rt: &R, shared: &Shared<'_>, names: &[&[u8]]) -> Result<(),
 }
 
 /// Makes a transaction of four names by chance until it is committed.
-pub fn transfer_at_last<R: Wait>(rt: &R, shared: &Shared<'_>, random: &mut Lcg64Xsh32) -> Done {
+pub fn transfer_at_last<R: Wait + Clock>(
+    rt: &R,
+    shared: &Shared<'_>,
+    random: &mut Lcg64Xsh32,
+) -> Done {
     let mut done = Done::NOTHING;
     let bound = shared.names.len().min(65_536) as u32;
     if bound == 0 {

@@ -5,7 +5,7 @@ use Rattle.mm_names.specs.Names.{name_of}
 use Rattle.mm_lists.specs.Members.{Among}
 use Rattle.mm_manager.specs.LockState.{LockState, Owns}
 use Rattle.mm_rules.specs.TableState.{is_live}
-use Rattle.mm_manager.specs.Permit.{may_cancel}
+use Rattle.mm_manager.specs.Permit.{may_cancel, may_name}
 use Rattle.mm_manager.specs.Calls.{Aborts, Begins, Commits, LocksName, TriesName, UnlocksName, Cancels}
 use Rattle.mm_manager.specs.declared.reply.Abort.TheVariants as aborts
 use Rattle.mm_manager.specs.declared.reply.Cancel as cancel
@@ -152,11 +152,19 @@ abbrev pub FreesIfRefused : {T : Type 0} → DeskState → Result T Refusal → 
 FreesIfRefused asked (Ok told) new = new ≡ asked
 FreesIfRefused asked (Err refusal) new = KeepsManager asked new
 
+-- the name has no bytes or too many, and nothing changes
+abbrev pub RefusesName : {T : Type 0} → DeskState → List ℕ → Result T Refusal → DeskState → Type 0
+RefusesName old name answer new = (refusal : Refusal) × (may_name old.manager.names.name_bytes name ≡ Err refusal) × (answer ≡ Err refusal) × (new ≡ old)
+
 -- the request comes after all that the worker had taken was made fat, so who waits then owns nothing thinly; or a bucket could not be made fat, and nothing is asked for
-abbrev pub AsksAt : DeskState → WorkerState → List ℕ → Result Asked Refusal → DeskState → Type 0
-AsksAt old w name answer new =
+abbrev pub AsksNamed : DeskState → WorkerState → List ℕ → Result Asked Refusal → DeskState → Type 0
+AsksNamed old w name answer new =
     ((mid : DeskState) × KeepsFat old mid × OwnAreFat w mid × ((asked : DeskState) × RequestsAt mid w.at name answer asked × (asked.office ≡ mid.office) × (asked.keys ≡ mid.keys) × FreesIfRefused asked answer new))
     ⊎ (KeepsFat old new × ((answer ≡ Ok Again) ⊎ ((refusal : Refusal) × (answer ≡ Err refusal) × FailsToAdoptOne old refusal new)))
+
+-- these bytes can be no name; or they are asked for
+abbrev pub AsksAt : DeskState → WorkerState → List ℕ → Result Asked Refusal → DeskState → Type 0
+AsksAt old w name answer new = RefusesName old name answer new ⊎ ((may_name old.manager.names.name_bytes name ≡ Ok tt) × AsksNamed old w name answer new)
 
 -- ---- a try
 
@@ -174,10 +182,14 @@ AttemptsAt old at name answer new =
     ⊎ ((k : Key) × (told : Result TryLock Refusal) × (slice_get old.keys at ≡ Some k) × TriesName old.manager k name told new.manager × (answer ≡ tried_of told))
 
 -- the try comes after the name's bucket was made fat; or that could not be done, and nothing is asked for
-abbrev pub TriesAt : DeskState → ℕ → List ℕ → Result Tried Refusal → DeskState → Type 0
-TriesAt old at name answer new =
+abbrev pub TriesNamed : DeskState → ℕ → List ℕ → Result Tried Refusal → DeskState → Type 0
+TriesNamed old at name answer new =
     ((mid : DeskState) × KeepsFat old mid × ((asked : DeskState) × AttemptsAt mid at name answer asked × (asked.office ≡ mid.office) × (asked.keys ≡ mid.keys) × FreesIfRefused asked answer new))
     ⊎ (KeepsFat old new × ((answer ≡ Ok tries.Again) ⊎ ((refusal : Refusal) × (answer ≡ Err refusal) × FailsToAdopt old (bucket_by old.office.of.spread name) refusal new)))
+
+-- these bytes can be no name; or they are tried
+abbrev pub TriesAt : DeskState → ℕ → List ℕ → Result Tried Refusal → DeskState → Type 0
+TriesAt old at name answer new = RefusesName old name answer new ⊎ ((may_name old.manager.names.name_bytes name ≡ Ok tt) × TriesNamed old at name answer new)
 
 -- ---- what holds of any worker and the desk
 

@@ -2,8 +2,9 @@
 ghost use Rattle.std.specs.Prelude.{◌≡◌};
 ghost use Rattle.mm_lists.specs.Members.{Among};
 ghost use Rattle.mm_manager.specs.Calls.{LocksName, TriesName};
+ghost use Rattle.mm_manager.specs.Permit.{may_name};
 ghost use Rattle.mm_thin.specs.Spread.{bucket_by};
-ghost use Rattle.mm_desk.specs.Calls.{AdoptsBucket, RefusesBucket, RefusesOne, KeepsFat, KeepsManager, FattensOne, FattensOwn, asked_of, tried_of, RequestsAt, AsksAt, AttemptsAt, TriesAt};
+ghost use Rattle.mm_desk.specs.Calls.{AdoptsBucket, RefusesBucket, RefusesOne, KeepsFat, KeepsManager, FattensOne, FattensOwn, asked_of, tried_of, RequestsAt, AsksAt, AsksNamed, AttemptsAt, TriesAt, TriesNamed};
 
 use crate::desk::Desk;
 use crate::reply::{Adopted, Asked, Tried};
@@ -13,8 +14,18 @@ use mm_thin::Worker;
 impl Desk {
     /// Asks for a name, for the transaction of a worker. First all that the worker has taken is made fat, and the name's bucket too: who
     /// waits owns nothing thinly. If the request is refused, the name's bucket is freed again, unless the manager has a name of it.
+    ///
+    /// Refused as `NameEmpty` or `NameTooLong` before anything else, and then nothing changes.
     pub fn ask(&mut self, worker: &Worker, name: &[u8]) -> Result<Asked, Refusal>
         ensures { AsksAt self.old worker.now name.now result self.new }
+    {
+        self.may_name(name)?;
+        self.ask_named(worker, name)
+    }
+
+    /// Asks for a name that the manager can have.
+    fn ask_named(&mut self, worker: &Worker, name: &[u8]) -> Result<Asked, Refusal>
+        ensures { AsksNamed self.old worker.now name.now result self.new }
     {
         match self.fatten_all(worker, name) {
             Adopted::Fat => match self.request_at(worker.at(), name) {
@@ -31,8 +42,18 @@ impl Desk {
 
     /// Asks for a name, for the transaction of a worker, and never waits. The name's bucket is made fat; what the worker has taken stays thin.
     /// If the request is refused, the bucket is freed again, unless the manager has a name of it.
+    ///
+    /// Refused as `NameEmpty` or `NameTooLong` before anything else, and then nothing changes.
     pub fn try_lock(&mut self, at: u32, name: &[u8]) -> Result<Tried, Refusal>
         ensures { TriesAt self.old at name.now result self.new }
+    {
+        self.may_name(name)?;
+        self.try_named(at, name)
+    }
+
+    /// Tries a name that the manager can have.
+    fn try_named(&mut self, at: u32, name: &[u8]) -> Result<Tried, Refusal>
+        ensures { TriesNamed self.old at name.now result self.new }
     {
         match self.adopt_name(name) {
             Adopted::Fat => match self.attempt_at(at, name) {
@@ -45,6 +66,19 @@ impl Desk {
             Adopted::Changed => Ok(Tried::Again),
             Adopted::Refused(refusal) => Err(refusal),
         }
+    }
+
+    /// Refuses bytes that can be no name of the manager.
+    fn may_name(&self, name: &[u8]) -> Result<(), Refusal>
+        ensures { result ≡ may_name self.now.manager.names.name_bytes name.now }
+    {
+        if name.is_empty() {
+            return Err(Refusal::NameEmpty);
+        }
+        if name.len() > self.manager().config().name_bytes as usize {
+            return Err(Refusal::NameTooLong);
+        }
+        Ok(())
     }
 
     /// Makes all fat that a worker has taken, and the bucket of the name that it asks for.

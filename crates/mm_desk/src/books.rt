@@ -121,6 +121,7 @@ impl Books {
         ensures commits { Commits self.old.manager key result self.new.manager }
         ensures over { IsOver self.old.manager key self.new.manager }
         ensures spread { self.new.spread ≡ self.old.spread }
+        ensures kept { vec_capacity numbers.new ≡ vec_capacity numbers.old }
     {
         self.manager.keeps_laws();
         self.manager.holds(key, numbers);
@@ -138,6 +139,7 @@ impl Books {
         ensures aborts { Aborts self.old.manager key result self.new.manager }
         ensures over { IsOver self.old.manager key self.new.manager }
         ensures spread { self.new.spread ≡ self.old.spread }
+        ensures kept { vec_capacity numbers.new ≡ vec_capacity numbers.old }
     {
         self.manager.keeps_laws();
         self.manager.holds(key, numbers);

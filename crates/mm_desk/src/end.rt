@@ -18,7 +18,8 @@ impl Desk {
     /// `NotLetGo`: the worker has to let go all that it has taken before. Refused as the manager's commit is, and as `NamesFull` if `room`
     /// is for fewer names than there can be; then nothing changes.
     pub fn commit(&mut self, at: u32, room: &mut Room) -> Result<Unlocked, Refusal>
-        ensures { CommitsAt self.old at (vec_capacity room.old.numbers) result self.new }
+        ensures commits { CommitsAt self.old at (vec_capacity room.old.numbers) result self.new }
+        ensures room { vec_capacity room.new.numbers ≡ vec_capacity room.old.numbers }
     {
         let Some(key) = self.key_of(at) else {
             return Err(Refusal::NoTransaction);
@@ -40,7 +41,8 @@ impl Desk {
 
     /// Ends the transaction of a worker that is in a deadlock, or waits for nothing, as `commit` does. Refused as `Waiting` if it waits and is in no deadlock.
     pub fn abort(&mut self, at: u32, room: &mut Room) -> Result<Unlocked, Refusal>
-        ensures { AbortsAt self.old at (vec_capacity room.old.numbers) result self.new }
+        ensures aborts { AbortsAt self.old at (vec_capacity room.old.numbers) result self.new }
+        ensures room { vec_capacity room.new.numbers ≡ vec_capacity room.old.numbers }
     {
         let Some(key) = self.key_of(at) else {
             return Err(Refusal::NoTransaction);
@@ -131,6 +133,7 @@ impl Desk {
         requires room { self.old.manager.table.config.resources ≤ vec_capacity room.old.numbers }
         requires loans { NoLoansOf self.old key }
         ensures commits { Commits self.old.manager key result self.new.manager }
+        ensures kept { vec_capacity room.new.numbers ≡ vec_capacity room.old.numbers }
         ensures rest { (self.new.office ≡ self.old.office) × (self.new.keys ≡ self.old.keys) }
     {
         self.books.commit(key, &mut room.numbers)
@@ -142,6 +145,7 @@ impl Desk {
         requires active { may_cancel self.old.manager.table key ≡ Ok tt → ⊥ }
         requires loans { NoLoansOf self.old key }
         ensures aborts { Aborts self.old.manager key result self.new.manager }
+        ensures kept { vec_capacity room.new.numbers ≡ vec_capacity room.old.numbers }
         ensures rest { (self.new.office ≡ self.old.office) × (self.new.keys ≡ self.old.keys) }
     {
         self.books.abort(key, &mut room.numbers)

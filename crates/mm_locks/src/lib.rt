@@ -2,6 +2,7 @@
 //!
 //! - `locks`: `Locks`, what threads share.
 //! - `transaction`: `Transaction`, which locks names, and gives all back at its end.
+//! - `lock_names`: what a transaction does, as a trait, which the transactions of `mm_thin_locks` meet too.
 //! - `run`: work that is done again after a deadlock, and `backoff`: the pauses before that.
 //! - `error`: why a call is refused.
 //! - `monitor`: the manager behind the lock, with the processes that it is to wake.
@@ -13,6 +14,7 @@
 
 mod backoff;
 mod error;
+mod lock_names;
 mod locks;
 mod monitor;
 mod parkers;
@@ -23,6 +25,7 @@ mod transaction;
 mod wakes;
 
 pub use error::LockError;
+pub use lock_names::LockNames;
 pub use locks::Locks;
 pub use mm_manager::{ManagerConfig, OpenError, Totals};
 pub use monitor::{Granted, GrantedUpTo, owns};

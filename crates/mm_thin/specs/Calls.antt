@@ -116,7 +116,13 @@ LeavesName w k Done after = (r : RecordView) × (slice_get w.records k ≡ Some 
 LeavesName w k given.Changed after = (after ≡ w) × ((r : RecordView) × (slice_get w.records k ≡ Some r) × (r.taken ≢ []))
 LeavesName w k NotTaken after = (after ≡ w) × ((r : RecordView) → slice_get w.records k ≡ Some r → r.taken ≡ [])
 
--- each record has what it had, or has given it back; and whether one of those from this place on is left that has taken something
+-- a worker gives up a name, if it has taken it
+abbrev pub GivesBack : WorkerState → List ℕ → GiveUp → WorkerState → Type 0
+GivesBack w name Done after = (k : ℕ) × (r : RecordView) × (slice_get w.records k ≡ Some r) × IsFor r name × (after ≡ with_record w k (idle r))
+GivesBack w name given.Changed after = HasTaken w.records name × (after ≡ w)
+GivesBack w name NotTaken after = (HasTaken w.records name → ⊥) × (after ≡ w)
+
+-- each record has what it had, or has given it up; and whether one of those from this place on is left that has taken something
 pub record GivesBackFrom (old : WorkerState) (from : ℕ) (is_left : Bool) (new : WorkerState) : Type 0 where
   pub of : new.of ≡ old.of
   pub at : new.at ≡ old.at
@@ -128,3 +134,7 @@ pub record GivesBackFrom (old : WorkerState) (from : ℕ) (is_left : Bool) (new 
 -- the same of all records
 abbrev pub GivesAllBack : WorkerState → Bool → WorkerState → Type 0
 GivesAllBack old is_left new = GivesBackFrom old 0 is_left new
+
+-- each record has what it had, or has given it up
+abbrev pub GivesSomeUp : WorkerState → WorkerState → Type 0
+GivesSomeUp old new = (is_left : Bool) × GivesAllBack old is_left new

@@ -4,6 +4,7 @@
 mod buckets;
 mod config;
 mod desk_part;
+mod giving_up;
 mod looks;
 mod office;
 mod opening;

@@ -1,7 +1,7 @@
 //! A transaction's part of the words.
 ghost use Rattle.std.specs.Prelude.{◌≡◌, ◌≢◌, ◌≤◌, ◌<◌, ◌+◌, ◌⊎◌, ℕ, [], Some, length, slice_get, IfSome, IfNone, nat_eq};
 ghost use Rattle.mm_thin.specs.declared.views.RecordView.{RecordView};
-ghost use Rattle.mm_thin.specs.Calls.{IsFor, HasTaken, IsFull, AreIdleFrom, TakesAt, TakesName, LeavesName, GivesAllBack};
+ghost use Rattle.mm_thin.specs.Calls.{IsFor, HasTaken, IsFull, AreIdleFrom, TakesAt, TakesName, LeavesName};
 
 use crate::buckets::Buckets;
 use crate::place::Place;
@@ -163,26 +163,10 @@ impl Worker {
 
     /// Returns from which place on all have taken nothing.
     #[inline(always)]
-    fn used(&self) -> usize
+    pub(crate) fn used(&self) -> usize
         ensures { AreIdleFrom result self.now.records }
     {
         self.used
-    }
-
-    /// Gives back all that it has taken, but for what is fat. Returns whether something is left. One compare-and-swap for each name.
-    #[inline]
-    pub fn give_back_all(&mut self) -> bool
-        ensures { GivesAllBack self.old result self.new }
-    {
-        let mut is_left = false;
-        let mut k = self.used();
-        while k > 0 {
-            k -= 1;
-            if let GiveUp::Changed = self.give_back(k) {
-                is_left = true;
-            }
-        }
-        is_left
     }
 }
 

@@ -171,10 +171,10 @@ impl Hall {
         ensures kept { self.new.pending ≡ self.old.pending }
     {
         let at = worker.at();
-        if gives_back(worker, name) {
+        if let GiveUp::Done = worker.give_back_name(name) {
             return Ok(Unlocked::Done);
         }
-        let_go_all(worker);
+        let _ = worker.let_go_all();
         self.desk.unlock(at, name)
     }
 
@@ -184,7 +184,7 @@ impl Hall {
         ensures in_time { IfErr result (λ error. error ≢ LockError.TimedOut) }
     {
         let at = worker.at();
-        leave_all(worker);
+        let _ = worker.leave_all();
         let answer = self.desk.commit(at, &mut self.room);
         if is_done(&answer) {
             self.pending.note_end(wakes, self.desk.manager());
@@ -200,7 +200,7 @@ impl Hall {
         ensures { RollsBack self.old.desk worker.old.at self.new.desk }
     {
         let at = worker.at();
-        leave_all(worker);
+        let _ = worker.leave_all();
         self.abort(at, wakes);
     }
 
@@ -224,30 +224,6 @@ impl Hall {
     /// What the manager counted since the opening.
     pub(crate) fn totals(&self) -> Totals {
         self.desk.manager().totals()
-    }
-}
-
-/// Gives a name back by the worker alone, if its bucket is not fat. Returns whether that is done.
-fn gives_back(worker: &mut Worker, name: &[u8]) -> bool {
-    match worker.find(name) {
-        Some(k) => matches!(worker.give_back(k), GiveUp::Done),
-        None => false,
-    }
-}
-
-/// Gives all back that a worker has taken, or lets it go if it is fat. While the lock is held no bucket changes from the one to the other.
-fn leave_all(worker: &mut Worker) {
-    for k in 0..worker.places() {
-        if let GiveUp::Changed = worker.give_back(k) {
-            let _ = worker.let_go(k);
-        }
-    }
-}
-
-/// Lets all go that a worker has taken, and that is fat.
-fn let_go_all(worker: &mut Worker) {
-    for k in 0..worker.places() {
-        let _ = worker.let_go(k);
     }
 }
 

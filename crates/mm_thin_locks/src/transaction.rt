@@ -200,10 +200,8 @@ impl<'s, 'm, R: Wait> Transaction<'s, 'm, R> {
         if self.is_victim {
             return Err(LockError::Deadlock);
         }
-        if let Some(k) = self.session.worker.find(name) {
-            if let GiveUp::Done = self.session.worker.give_back(k) {
-                return Ok(());
-            }
+        if let GiveUp::Done = self.session.worker.give_back_name(name) {
+            return Ok(());
         }
         self.is_known = true;
         self.session.unlock(name)

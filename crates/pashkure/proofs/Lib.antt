@@ -2,7 +2,6 @@ mod AsBox
 pub mod Behind
 mod DeskAsBox
 mod DeskValues
-pub mod GivingUp
 pub mod Kept
 mod Nobody
 mod Values

@@ -1,5 +1,5 @@
 -- Which numbers stand for which answer of a desk and of a worker. No two answers of a call have one number.
-use Rattle.std.specs.Prelude.{ℕ, Option, Some, None, Result, Ok, Err}
+use Rattle.std.specs.Prelude.{ℕ, Bool, true, false, Option, Some, None, Result, Ok, Err}
 use Rattle.mm_manager.specs.declared.refusal.Refusal.{Refusal}
 use Rattle.mm_desk.specs.declared.reply.Adopted.{Adopted}
 use Rattle.mm_desk.specs.declared.reply.Adopted.TheVariants as adopted
@@ -29,6 +29,11 @@ abbrev pub given_number : GiveUp → ℕ
 given_number given.Done = 0
 given_number given.Changed = 12
 given_number given.NotTaken = 7
+
+-- whether something is left that a worker could not give back
+abbrev pub left_number : Bool → ℕ
+left_number false = 0
+left_number true = 12
 
 abbrev pub asked_number : Result Asked Refusal → ℕ
 asked_number (Ok asked.Granted) = 0

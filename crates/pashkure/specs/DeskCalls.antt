@@ -9,7 +9,7 @@ use Rattle.mm_desk.specs.declared.reply.Tried.{Tried}
 use Rattle.mm_desk.specs.declared.reply.Unlocked.{Unlocked}
 use Rattle.mm_desk.specs.All.{AdoptsBelow, FreesBelow}
 use Rattle.mm_desk.specs.Calls.{AbortsAt, AsksAt, BeginsAt, CancelsAt, CommitsAt, HasNoNames, KeepsFat, KeepsManager, TriesAt, UnlocksAt}
-use Rattle.mm_thin.specs.Calls.{AddsWorker}
+use Rattle.mm_thin.specs.Calls.{AddsWorker, GivesBack, GivesSomeUp}
 use Rattle.mm_thin.specs.Parts.{WorkerState}
 use Rattle.mm_thin.specs.Views.{no_desk}
 use Rattle.mm_thin.specs.declared.config.TheConstants.ThinConfig.{MAX_BUCKETS}
@@ -20,7 +20,7 @@ use Rattle.pashkure.specs.DeskAnswer.{adopted_number, asked_number, ended_number
 use Rattle.pashkure.specs.DeskOwning.{desk_word}
 use Rattle.pashkure.specs.Hall.{HallState}
 use Rattle.pashkure.specs.Opening.{config_fault, is_out}
-use Rattle.pashkure.specs.WorkerCalls.{GivesBack, GivesSomeUp, HasWorker}
+use Rattle.pashkure.specs.WorkerCalls.{HasWorker}
 use Rattle.pashkure.specs.declared.desk_handle.DeskHandle.{DeskHandle}
 use Rattle.pashkure.specs.declared.plain.PlainConfig.{PlainConfig}
 use Rattle.pashkure.specs.declared.plain.PlainKey.{PlainKey}
@@ -75,10 +75,10 @@ abbrev pub TellsUnlockAt : HallState → WorkerState → List ℕ → ℕ → Ha
 TellsUnlockAt old w name told new after = (answer : Option (Result Unlocked Refusal)) × (told ≡ unlocked_number answer) × GivesNameBack old w name answer new after
 
 abbrev pub TellsCommitAt : HallState → ℕ → ℕ → HallState → Type 0
-TellsCommitAt old at told new = (answer : Result Unlocked Refusal) × (told ≡ ended_number answer) × CommitsAt old.desk at old.room answer new.desk
+TellsCommitAt old at told new = (answer : Result Unlocked Refusal) × (told ≡ ended_number answer) × CommitsAt old.desk at old.room answer new.desk × (new.room ≡ old.room)
 
 abbrev pub TellsAbortAt : HallState → ℕ → ℕ → HallState → Type 0
-TellsAbortAt old at told new = (answer : Result Unlocked Refusal) × (told ≡ ended_number answer) × AbortsAt old.desk at old.room answer new.desk
+TellsAbortAt old at told new = (answer : Result Unlocked Refusal) × (told ≡ ended_number answer) × AbortsAt old.desk at old.room answer new.desk × (new.room ≡ old.room)
 
 abbrev pub TellsCancelAt : HallState → ℕ → ℕ → HallState → Type 0
 TellsCancelAt old at told new =

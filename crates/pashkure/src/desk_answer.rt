@@ -1,6 +1,6 @@
 //! The number of each answer of a desk and of a worker, as `include/pashkure_desk.h` has it.
 ghost use Rattle.std.specs.Prelude.{◌≡◌};
-ghost use Rattle.pashkure.specs.DeskAnswer.{adopted_number, asked_number, ended_number, given_number, take_number, tried_number, unlocked_number, worker_error_number};
+ghost use Rattle.pashkure.specs.DeskAnswer.{adopted_number, asked_number, ended_number, given_number, left_number, take_number, tried_number, unlocked_number, worker_error_number};
 
 use crate::answer::{BUSY, DEADLOCK, FREE, HELD, NO_MEMORY, OK, WAITS, of_refusal};
 use mm_desk::{Adopted, Asked, Tried, Unlocked};
@@ -43,6 +43,13 @@ pub fn of_given(answer: GiveUp) -> u32
         GiveUp::Changed => AGAIN,
         GiveUp::NotTaken => FREE,
     }
+}
+
+/// Of a worker that was to give all back.
+pub fn of_left(is_left: bool) -> u32
+    ensures { result ≡ left_number is_left }
+{
+    if is_left { AGAIN } else { OK }
 }
 
 pub fn of_asked(answer: Result<Asked, Refusal>) -> u32

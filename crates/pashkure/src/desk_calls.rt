@@ -1,7 +1,8 @@
 //! The calls that change a desk. Of a closed handle each answers `NOT_OPEN`, and changes nothing.
 ghost use Rattle.std.specs.Prelude.{◌≡◌, ◌⊎◌};
 ghost use Rattle.pashkure.specs.DeskCalls.{FreesAll, HasDesk, TellsAbortAt, TellsAdoptAll, TellsAsk, TellsBeginAt, TellsCancelAt, TellsCommitAt, TellsTryAt, TellsUnlockAt};
-ghost use Rattle.pashkure.specs.WorkerCalls.{GivesSomeUp, HasWorker};
+ghost use Rattle.mm_thin.specs.Calls.{GivesSomeUp};
+ghost use Rattle.pashkure.specs.WorkerCalls.{HasWorker};
 
 use crate::answer::{NOT_OPEN, of_begin, of_cancel};
 use crate::desk_answer::{of_adopted, of_asked, of_ended, of_tried, of_unlocked};

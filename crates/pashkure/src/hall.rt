@@ -2,9 +2,8 @@
 ghost use Rattle.std.specs.Prelude.{◌≡◌, IfSome};
 ghost use Rattle.mm_desk.specs.Calls.{AbortsAt, CommitsAt};
 ghost use Rattle.pashkure.specs.DeskCalls.{GivesNameBack, IsNew};
-ghost use Rattle.pashkure.specs.WorkerCalls.{GivesSomeUp};
+ghost use Rattle.mm_thin.specs.Calls.{GivesSomeUp};
 
-use crate::giving_up::{give_back, leave_all, let_go_all};
 use mm_desk::{Desk, DeskConfig, Room, Unlocked};
 use mm_manager::Refusal;
 use mm_thin::{GiveUp, Worker};
@@ -50,28 +49,30 @@ impl Hall {
     ) -> Option<Result<Unlocked, Refusal>>
         ensures { GivesNameBack self.old worker.old name.now result self.new worker.new }
     {
-        if let GiveUp::Done = give_back(worker, name) {
+        if let GiveUp::Done = worker.give_back_name(name) {
             return None;
         }
-        let_go_all(worker);
+        let _ = worker.let_go_all();
         Some(self.desk.unlock(worker.at(), name))
     }
 
     /// Ends the transaction of a worker that waits for nothing. Whatever the answer, the worker has left first what it had taken.
     pub(crate) fn commit(&mut self, worker: &mut Worker) -> Result<Unlocked, Refusal>
         ensures commits { CommitsAt self.old.desk worker.old.at self.old.room result self.new.desk }
+        ensures room { self.new.room ≡ self.old.room }
         ensures leaves { GivesSomeUp worker.old worker.new }
     {
-        leave_all(worker);
+        let _ = worker.leave_all();
         self.desk.commit(worker.at(), &mut self.room)
     }
 
     /// Ends the transaction of a worker, be it in a deadlock or not, as `commit` does.
     pub(crate) fn abort(&mut self, worker: &mut Worker) -> Result<Unlocked, Refusal>
         ensures aborts { AbortsAt self.old.desk worker.old.at self.old.room result self.new.desk }
+        ensures room { self.new.room ≡ self.old.room }
         ensures leaves { GivesSomeUp worker.old worker.new }
     {
-        leave_all(worker);
+        let _ = worker.leave_all();
         self.desk.abort(worker.at(), &mut self.room)
     }
 }

@@ -10,7 +10,7 @@
 //!
 //! - `desk_handle`, `worker_handle`: a desk and a worker as a program in C holds them. `hall`: a desk with its room.
 //! - `desk_answer`: the number of each of their answers.
-//! - `desk_opening`, `desk_calls`, `desk_reads`: the calls of a desk. `worker_calls`, `giving_up`: those of a worker alone.
+//! - `desk_opening`, `desk_calls`, `desk_reads`: the calls of a desk. `worker_calls`: those of a worker alone.
 #![tactic(auto)]
 
 mod answer;
@@ -20,7 +20,6 @@ mod desk_calls;
 mod desk_handle;
 mod desk_opening;
 mod desk_reads;
-mod giving_up;
 mod hall;
 mod handle;
 mod opening;

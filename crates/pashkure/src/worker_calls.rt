@@ -2,9 +2,8 @@
 ghost use Rattle.std.specs.Prelude.{◌≡◌};
 ghost use Rattle.pashkure.specs.WorkerCalls.{HasWorker, TellsGiveBack, TellsGiveBackAll, TellsTake};
 
-use crate::answer::{NOT_OPEN, OK};
-use crate::desk_answer::{AGAIN, of_given, of_take};
-use crate::giving_up::{give_back, give_back_all, leave_all};
+use crate::answer::NOT_OPEN;
+use crate::desk_answer::{of_given, of_left, of_take};
 use crate::worker_handle::WorkerHandle;
 use std::alloc::Global;
 
@@ -17,7 +16,7 @@ pub extern "C" fn pashkure_worker_close(alloc: Global, worker: &mut WorkerHandle
     if !worker.is_open() {
         return;
     }
-    leave_all(worker.worker());
+    let _ = worker.worker().leave_all();
     let held = std::mem::replace(worker, WorkerHandle::closed());
     drop(held.into_parts(alloc).into_box());
 }
@@ -45,7 +44,7 @@ pub extern "C" fn pashkure_worker_give_back(worker: &mut WorkerHandle, name: &[u
     if !worker.is_open() {
         return NOT_OPEN;
     }
-    of_given(give_back(worker.worker(), name))
+    of_given(worker.worker().give_back_name(name))
 }
 
 /// Gives all back that the worker has taken, but for what is fat.
@@ -58,9 +57,5 @@ pub extern "C" fn pashkure_worker_give_back_all(worker: &mut WorkerHandle) -> u3
     if !worker.is_open() {
         return NOT_OPEN;
     }
-    if give_back_all(worker.worker()) {
-        OK
-    } else {
-        AGAIN
-    }
+    of_left(worker.worker().give_back_all())
 }

@@ -1,5 +1,5 @@
 use Rattle.std.proofs.Common.{refl, inl}
-use Rattle.mm_desk.proofs.desk.Desk.try_lock.Goals as goal
+use Rattle.mm_desk.proofs.desk.Desk.try_named.Goals as goal
 
 pub returns-in-Ok : goal.returns-in-Ok
 returns-in-Ok c = inl (c.adopt_name.new.self, c.adopt_name.ensures.keeps, (c.attempt_at.new.self, c.in-Ok.ensures.tries, c.attempt_at.ensures.rest.0, c.attempt_at.ensures.rest.1, refl))

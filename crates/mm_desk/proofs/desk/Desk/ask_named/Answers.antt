@@ -1,6 +1,6 @@
 use Rattle.std.proofs.Common.{Ok, Err, refl, subst, inl}
 use Rattle.mm_desk.specs.Calls.{RequestsAt}
-use Rattle.mm_desk.proofs.desk.Desk.ask.Goals as goal
+use Rattle.mm_desk.proofs.desk.Desk.ask_named.Goals as goal
 
 pub returns-in-Ok : goal.returns-in-Ok
 returns-in-Ok c = inl (
