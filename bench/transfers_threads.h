@@ -26,7 +26,8 @@ static void close_session(uint32_t session);
 /* Locks four names and gives them back. Whether the transaction had all of them; else it was aborted after a deadlock. */
 static int transfer(uint32_t session, const uint32_t *chosen);
 
-struct done {
+/* A cache line of its own for each thread, or two. */
+struct __attribute__((aligned(128))) done {
     uint64_t seed, commits, aborts;
 };
 

@@ -15,6 +15,9 @@
 
 #define NOBODY UINT32_MAX
 
+/* So many bytes lie between what two threads write. Else both would write to one cache line, which halves their speed. */
+enum { APART = 128 };
+
 /* What a word of a seat says, beside the generation: nobody has the slot; its transaction is in no call; it is in a call, or waits. */
 enum { FREE, IDLE, CALLING };
 
@@ -33,7 +36,8 @@ struct seat {
     void *context;
     pthread_cond_t news;          /* its thread sleeps here */
     _Atomic bool has_news;        /* its wait is over; it looks for that before it sleeps */
-    char apart[128];              /* else a thread would write to the line of another one's seat */
+    void *between;                /* memory between its worker and the next one, which nobody uses */
+    char apart[APART];
 };
 
 struct pashkure_locks {
@@ -43,7 +47,7 @@ struct pashkure_locks {
     uint32_t withdrawing;         /* how many seats are to withdraw */
     bool has_all;                 /* all names were brought to the desk */
     uint32_t first_due, last_due; /* wake calls to make, in order */
-    char apart[128];
+    char apart[APART];
     struct seat seats[];
 };
 

@@ -88,6 +88,7 @@ static void destroy(pashkure_locks *locks, uint32_t seats)
     while (seats > 0) {
         struct seat *seat = &locks->seats[--seats];
         pthread_cond_destroy(&seat->news);
+        free(seat->between);
         pashkure_worker_close(&seat->worker);
     }
     pthread_mutex_destroy(&locks->mutex);
@@ -99,7 +100,9 @@ static void destroy(pashkure_locks *locks, uint32_t seats)
 static bool make_seat(pashkure_locks *locks, struct seat *seat, const pthread_condattr_t *clock)
 {
     if (pashkure_desk_add_worker(&locks->desk, &seat->worker) != PASHKURE_OK) return false;
-    if (pthread_cond_init(&seat->news, clock) == 0) return true;
+    seat->between = malloc(APART);
+    if (seat->between != NULL && pthread_cond_init(&seat->news, clock) == 0) return true;
+    free(seat->between);
     pashkure_worker_close(&seat->worker);
     return false;
 }

@@ -9,7 +9,7 @@ use std::thread::{self, Parker};
 use std::time::{Clock, Duration};
 
 /// How often a thread yields its processor before it sleeps. Often it is woken in that time, and goes on at once.
-const YIELDS: u32 = 8;
+const YIELDS: u32 = 32;
 
 /// A parker that tells a thread which yields whether it was woken.
 #[derive(Drop)]
