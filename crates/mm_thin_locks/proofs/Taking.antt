@@ -1,9 +1,9 @@
 -- What a worker has when it has taken a name.
-use Rattle.std.proofs.Common.{◌≡◌, ◌≢◌, ℕ, zero, suc, ◌<◌, List, [], ◌∷◌, Some, length, refl, sym, ap, ◌∙◌, subst, inl, inr, arith, set, get_or}
+use Rattle.std.proofs.Common.{◌≡◌, ℕ, zero, suc, ◌<◌, List, [], ◌∷◌, Some, length, refl, sym, ap, ◌∙◌, subst, arith, set}
 use Rattle.std.specs.Prelude.{slice_get}
 use Rattle.mm_lists.proofs.Lemmas.Set.{slice_get-set_same}
 use Rattle.mm_thin.specs.Parts.{WorkerState, bucket_of}
-use Rattle.mm_thin.specs.Calls.{HasTaken, TakesName, with_record}
+use Rattle.mm_thin.specs.Calls.{HasTaken, TakesName}
 use Rattle.mm_thin.specs.Views.{with_taken}
 use Rattle.mm_thin.specs.declared.views.RecordView.{RecordView}
 use Rattle.mm_thin.specs.declared.reply.Take.{Take}

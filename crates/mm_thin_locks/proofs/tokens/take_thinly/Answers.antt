@@ -1,4 +1,4 @@
-use Rattle.mm_thin_locks.proofs.Taking.{taken_has, held_has, same_at}
+use Rattle.mm_thin_locks.proofs.Taking.{taken_has, held_has}
 use Rattle.mm_thin_locks.proofs.tokens.take_thinly.Goals as goal
 
 pub taken-requires : goal.taken-requires

@@ -1,4 +1,4 @@
-use Rattle.std.proofs.Common.{Ok, refl, sym, subst, inl, inr}
+use Rattle.std.proofs.Common.{Ok, subst, inl, inr}
 use Rattle.mm_desk.specs.Calls.{TriesAt}
 use Rattle.mm_thin_locks.proofs.Owning.{try_granted_owns, try_held_owns}
 use Rattle.mm_thin_locks.proofs.hall.Hall.try_lock.Goals as goal
