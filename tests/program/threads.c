@@ -21,7 +21,7 @@ static pashkure_locks *locks;
 static pashkure_key a, b, c, d, e, *const KEYS[] = {&a, &b, &c, &d, &e}, KEPT[12];
 static bool is_counting;
 static unsigned long requests, frees, bytes, refused; /* while `is_counting`. `refused`: this request for memory is refused, counted from 1 */
-static atomic_int carried, missed;
+static atomic_int carried, missed, timed; /* timed: how many sleeps with a time have begun */
 static atomic_bool is_late, is_signalled, has_time;
 static struct timespec untils[2]; /* of the last two sleeps with a time */
 
@@ -64,6 +64,7 @@ WRAP(int, pthread_cond_wait, pthread_cond_t *news, pthread_mutex_t *mutex) {
 
 /* While `has_time` no time is over: a thread is woken without a reason, as it may be. */
 WRAP(int, pthread_cond_timedwait, pthread_cond_t *news, pthread_mutex_t *mutex, const struct timespec *until) {
+    timed++;
     int told = __real_pthread_cond_timedwait(news, mutex, until);
     untils[0] = untils[1];
     untils[1] = *until;
@@ -128,7 +129,7 @@ static void *sleeps(void *argument) {
     return my->result = lock(my->key, my->name, my->time), NULL;
 }
 
-/* Starts it. When this returns, it sleeps: who holds the mutex sees that it waits. */
+/* Starts it. When this returns, it waits, and sleeps or is about to. */
 static void starts(struct sleeper *sleeper, pashkure_key key, const char *name, int64_t time) {
     *sleeper = (struct sleeper){.key = key, .name = name, .time = time};
     CHECK(pthread_create(&sleeper->thread, NULL, sleeps, sleeper) == 0);
@@ -336,10 +337,11 @@ TEST(several_names) {
     pashkure_request three[3] = {{"w", 1, PASHKURE_BUSY}, {"x", 1, PASHKURE_BUSY}, {"z", 1, PASHKURE_BUSY}};
     pthread_t thread;
     opened(4, 8);
+    const int before = timed;
     CHECK(pthread_create(&thread, NULL, locks_all, two) == 0);
-    while (state(c) != PASHKURE_WAITS) sched_yield();
+    while (timed == before) sched_yield();
     ends(a);
-    while (totals().waits < 2) sched_yield();
+    while (timed == before + 1) sched_yield();
     ends(b);
     CHECK(pthread_join(thread, NULL) == 0 && between(untils[0], untils[1]) == 0);
     GIVES(pashkure_locks_lock_all(locks, d, three, 3, SHORT), PASHKURE_TIMED_OUT);
