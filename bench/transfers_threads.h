@@ -1,6 +1,6 @@
 /* The threads of bench/transfers in C: a program includes this file, and gives the locks by four functions. `PROGRAM THREADS NAMES MILLISECONDS`
-   makes transactions of four locks each in so many threads. It prints how many nanoseconds that took, how many transactions were committed, and
-   how often one was aborted after a deadlock. */
+   makes transactions of four locks each in so many threads; if NAMES is 0, each thread has four names of its own. It prints how many nanoseconds
+   that took, how many transactions were committed, and how often one was aborted after a deadlock. */
 #include <pthread.h>
 #include <stdatomic.h>
 #include <stdint.h>
@@ -14,6 +14,7 @@ enum { NAME_BYTES = 16, MAX_THREADS = 64 };
 
 static char (*names)[NAME_BYTES + 1];
 static uint32_t name_count;
+static int is_own; /* each thread has names of its own */
 static atomic_bool stop;
 static pthread_barrier_t gate;
 
@@ -65,8 +66,11 @@ static void *work(void *argument) {
     uint32_t chosen[4];
     uint32_t session = open_session();
     pthread_barrier_wait(&gate);
+    for (uint32_t place = 0; place < 4; place++)
+        chosen[place] = 4 * (uint32_t)(done->seed - 1) + place;
     while (!atomic_load(&stop)) {
-        four_names(&state, chosen);
+        if (!is_own)
+            four_names(&state, chosen);
         while (!transfer(session, chosen))
             done->aborts++;
         done->commits++;
@@ -86,6 +90,9 @@ int main(int count, char **words) {
         return 2;
     int threads = atoi(words[1]);
     name_count = (uint32_t)atoi(words[2]);
+    is_own = name_count == 0;
+    if (is_own)
+        name_count = 4 * (uint32_t)threads;
     make_names();
     open_locks();
     pthread_barrier_init(&gate, NULL, (unsigned)threads + 1);
