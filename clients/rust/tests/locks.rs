@@ -127,7 +127,7 @@ fn several_names_are_locked_in_their_order() {
 
 #[test]
 fn wrong_use_is_an_error() {
-    let locks = Locks::open(&Config::new(2, 1).name_bytes(8)).unwrap();
+    let locks = Locks::open(&Config::new(2, 1).name_bytes(8).buckets(8).seed(7)).unwrap();
     let (mut transaction, mut other) = (owner(&locks, "x"), owner(&locks, "y"));
     assert_eq!(other.try_lock(b"x"), Ok(None)); // so the manager has x, and no room
     assert_eq!(locks.begin().unwrap_err(), LockError::TransactionsFull);
