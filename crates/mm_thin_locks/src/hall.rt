@@ -3,6 +3,7 @@ ghost use Rattle.std.specs.Prelude.{◌≡◌, ◌≢◌, ◌↔◌, ◌<◌, []
 ghost use Rattle.mm_bit_set.specs.BitSet.{HasNoneFrom};
 ghost use Rattle.mm_locks.specs.Overdue.{NotesEnd};
 ghost use Rattle.mm_locks.specs.Wakes.{IsToWake};
+ghost use Rattle.mm_thin.specs.Calls.{GivesSomeUp};
 ghost use Rattle.mm_thin_locks.specs.Granted.{OwnsAt, OwnsFor};
 ghost use Rattle.mm_thin_locks.specs.Calls.{AsksFor, TriesFor, HandsBack, UnlocksFor, CommitsFor, RollsBack, TakesBack, told_of};
 
@@ -180,6 +181,7 @@ impl Hall {
 
     /// Ends a transaction. One whose end is refused is rolled back.
     pub(crate) fn commit(&mut self, worker: &mut Worker, wakes: &mut Wakes) -> Result<(), LockError>
+        ensures leaves { GivesSomeUp worker.old worker.new }
         ensures commits { CommitsFor self.old.desk worker.old.at result self.new.desk }
         ensures in_time { IfErr result (λ error. error ≢ LockError.TimedOut) }
     {
@@ -197,7 +199,8 @@ impl Hall {
 
     /// Ends a transaction, be it in a deadlock or not.
     pub(crate) fn roll_back(&mut self, worker: &mut Worker, wakes: &mut Wakes)
-        ensures { RollsBack self.old.desk worker.old.at self.new.desk }
+        ensures leaves { GivesSomeUp worker.old worker.new }
+        ensures rolls_back { RollsBack self.old.desk worker.old.at self.new.desk }
     {
         let at = worker.at();
         let _ = worker.leave_all();
