@@ -1,8 +1,8 @@
 /* The seats of pashkure_threads.c. Each slot has one, with the worker that takes names by their words, without the mutex. All else is a call of
  * the desk, and made with the mutex.
  *
- * Of a seat, who has set its word to CALLING reads and writes the rest without the mutex, but for `interrupted`, which is atomic, and what belongs
- * to a wait, which is written with the mutex. */
+ * Of a seat, who has set its word to CALLING reads and writes the rest without the mutex, but for `interrupted` and `has_news`,
+ * which are atomic, and what else belongs to a wait, which is written with the mutex. */
 #ifndef PASHKURE_SEATS_H
 #define PASHKURE_SEATS_H
 

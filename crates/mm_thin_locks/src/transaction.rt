@@ -59,10 +59,10 @@ impl<'s, 'm, R: Wait> Transaction<'s, 'm, R> {
     ///
     /// If nobody else owns a name of its bucket, that is one compare-and-swap; a ninth name, and one of more than 63 bytes, is the manager's. If
     /// another one owns it the thread looks some times more, and then waits in the manager; all that the transaction has locked is the manager's
-    /// from then on. `Deadlock` comes at once, if the wait would close a cycle of
-    /// waits; no other call makes a victim of one that sleeps. The transaction is then to be dropped: it keeps what it owns until that, so
-    /// that its caller can undo what it did, and each further call is refused as `Deadlock` too. A name that it owns already is `Ok`, and is
-    /// owned once. Refused as `Deadlock`, `NameEmpty`, `NameTooLong`, `NamesFull`, `CountsFull` or `LabelsFull`, as `LockManager::lock` is.
+    /// from then on. `Deadlock` comes at once, if the wait would close a cycle of waits; no other call makes a victim of one that sleeps. The
+    /// transaction is then to be dropped: it keeps what it owns until that, so that its caller can undo what it did, and each further call is
+    /// refused as `Deadlock` too. A name that it owns already is `Ok`, and is owned once. Refused as `Deadlock`,
+    /// `NameEmpty`, `NameTooLong`, `NamesFull`, `CountsFull` or `LabelsFull`, as `LockManager::lock` is.
     #[inline]
     pub fn lock<'n>(&mut self, name: &'n [u8]) -> Result<Granted<'n>, LockError>
         ensures granted { IfOk result (IsFor self.old.session.now.worker.at name.now) }

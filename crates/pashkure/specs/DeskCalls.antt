@@ -8,7 +8,7 @@ use Rattle.mm_desk.specs.declared.reply.Asked.{Asked}
 use Rattle.mm_desk.specs.declared.reply.Tried.{Tried}
 use Rattle.mm_desk.specs.declared.reply.Unlocked.{Unlocked}
 use Rattle.mm_desk.specs.All.{AdoptsBelow, FreesBelow}
-use Rattle.mm_desk.specs.Calls.{AbortsAt, AsksAt, BeginsAt, CancelsAt, CommitsAt, HasNoNames, KeepsFat, KeepsManager, TriesAt, UnlocksAt}
+use Rattle.mm_desk.specs.Calls.{AbortsAt, AsksAt, BeginsAt, CancelsAt, CommitsAt, HasNoNames, KeepsFat, KeepsManager, RefusesOne, TriesAt, UnlocksAt}
 use Rattle.mm_thin.specs.Calls.{AddsWorker, GivesBack, GivesSomeUp}
 use Rattle.mm_thin.specs.Parts.{WorkerState}
 use Rattle.mm_thin.specs.Views.{no_desk}
@@ -92,7 +92,7 @@ TellsBeginAt old at written told key new =
 
 abbrev pub TellsAdoptAll : HallState → ℕ → HallState → Type 0
 TellsAdoptAll old told new =
-    (answer : Adopted) × (told ≡ adopted_number answer) × AdoptsBelow old.desk.office.of.table.words answer new.desk × KeepsFat old.desk new.desk × (new.room ≡ old.room)
+    (answer : Adopted) × (told ≡ adopted_number answer) × AdoptsBelow old.desk.office.of.table.words answer new.desk × KeepsFat old.desk new.desk × RefusesOne old.desk answer new.desk × (new.room ≡ old.room)
 
 abbrev pub FreesAll : HallState → HallState → Type 0
 FreesAll old new = FreesBelow old.desk old.desk.office.of.table.words new.desk × KeepsManager old.desk new.desk × (new.room ≡ old.room)
