@@ -96,7 +96,7 @@ impl Desk {
     }
 
     /// Makes all fat that a worker has taken.
-    pub(crate) fn fatten_own(&mut self, worker: &Worker) -> Adopted
+    fn fatten_own(&mut self, worker: &Worker) -> Adopted
         ensures own { FattensOwn worker.now result self.new }
         ensures keeps { KeepsFat self.old self.new }
         ensures refused { RefusesOne self.old result self.new }

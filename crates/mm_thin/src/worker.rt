@@ -74,7 +74,7 @@ impl Worker {
     }
 
     /// Returns the number of the record that has taken this name.
-    pub fn find(&self, name: &[u8]) -> Option<usize>
+    pub(crate) fn find(&self, name: &[u8]) -> Option<usize>
         ensures some { IfSome result (λ k. (r : RecordView) × (slice_get self.now.records k ≡ Some r) × IsFor r name.now) }
         ensures none { IfNone result (HasTaken self.now.records name.now → ⊥) }
     {
@@ -136,7 +136,7 @@ impl Worker {
 
     /// Gives back what this record has taken, unless its bucket is fat. One compare-and-swap.
     #[inline]
-    pub fn give_back(&mut self, k: usize) -> GiveUp
+    pub(crate) fn give_back(&mut self, k: usize) -> GiveUp
         ensures { LeavesName self.old k result self.new }
     {
         if k >= self.places.len() {
@@ -150,7 +150,7 @@ impl Worker {
     /// Lets go what this record has taken, if the office has made its bucket fat: it stays fat. One compare-and-swap.
     ///
     /// `Changed` also while the office is just making it fat.
-    pub fn let_go(&mut self, k: usize) -> GiveUp
+    pub(crate) fn let_go(&mut self, k: usize) -> GiveUp
         ensures { LeavesName self.old k result self.new }
     {
         if k >= self.places.len() {
