@@ -2,7 +2,7 @@
  * service_load echo-server PATH: a server of one thread that sends back what it gets.
  *
  * WHAT is service (mmdetect serve), redis or echo; service-joined and redis-joined send the end of a transaction together with the begin of the
- * next one. KIND is requests, which locks and unlocks a name of the client's own; ordered, transactions
+ * next one, and after a wait with the lock of the rest; service-ahead sends a whole transaction in one message, since it was begun ahead. KIND is requests, which locks and unlocks a name of the client's own; ordered, transactions
  * of four names out of NAMES in rising order; or any, the same in any order. It prints how many requests, or transactions that committed, and
  * how many deadlocks or tries in vain, there were a second. */
 #define _GNU_SOURCE
@@ -23,7 +23,7 @@
 
 struct client {
     const char *path;
-    bool is_redis, is_any, is_joined;
+    bool is_redis, is_any, is_joined, is_ahead;
     unsigned names;
     int socket, number;
     char input[65536];
@@ -31,7 +31,13 @@ struct client {
     uint64_t chance, done, vain;
     char kept[256]; /* the end of a transaction, which is sent with what comes next */
     int kept_length;
+    char begun[32]; /* a transaction that was begun ahead */
+    char replies[3][64];
+    bool is_granted; /* the line that a wait has ended has come */
 };
+
+/* How a transaction ended: IN_VAIN, it was the victim of a deadlock. */
+enum ended { DONE, IN_VAIN, TOO_EARLY };
 
 static double seconds_for;
 static const char *what, *kind;
@@ -132,55 +138,108 @@ static void draw(struct client *client, unsigned *names)
 
 /* ---- the service ---- */
 
-/* Waits for the grant of a wait, and returns false if the transaction was aborted instead. */
-static bool is_granted(struct client *client)
+/* Reads so many replies. The line that a wait has ended may stand between them. */
+static void read_replies(struct client *client, int count)
 {
-    return strncmp(line_of(client), "* granted ", 10) == 0;
+    for (int i = 0; i < count;) {
+        char *line = line_of(client);
+        if (strncmp(line, "* granted ", 10) == 0)
+            client->is_granted = true;
+        else
+            snprintf(client->replies[i++], sizeof client->replies[0], "%s", line);
+    }
 }
 
-/* One transaction: begun with all names; the rest is asked for after each grant. Returns whether it committed. */
-static bool transaction(struct client *client, const unsigned *names)
+static void await_grant(struct client *client)
 {
-    char text[256], key[32], *reply;
-    int length = snprintf(text, sizeof text, "begin %u %u %u %u\n", names[0], names[1], names[2], names[3]), next = 0;
-    bool ends_another = client->kept_length > 0;
+    if (!client->is_granted)
+        must(strncmp(line_of(client), "* granted ", 10) == 0, "grant");
+    client->is_granted = false;
+}
+
+/* Begins a transaction. Its names are asked for with the begin; or, if it was begun ahead, by a lock, with the commit and the begin of the next one
+ * in the same message. Returns the reply to that. */
+static const char *start(struct client *client, const unsigned *names, char *key)
+{
+    char text[256];
+    int ended = client->kept_length > 0, length;
+    if (client->is_ahead) {
+        strcpy(key, client->begun);
+        length = snprintf(text, sizeof text, "lock %s %u %u %u %u\ncommit %s\nbegin\n", key, names[0], names[1], names[2], names[3], key);
+    } else {
+        length = snprintf(text, sizeof text, "begin %u %u %u %u\n", names[0], names[1], names[2], names[3]);
+    }
     send_text(client, text, (size_t)length);
-    if (ends_another)
-        must(strcmp(line_of(client), "committed") == 0, "commit");
-    reply = line_of(client);
-    must(sscanf(reply, "begun %31s", key) == 1, reply);
-    reply += 6 + strlen(key);
-    reply += *reply == ' ';
-    for (;;) {
-        int place = 0;
-        if (*reply == '\0' || strcmp(reply, "granted") == 0)
-            break;
+    read_replies(client, ended);
+    must(!ended || strcmp(client->replies[0], "committed") == 0, "commit");
+    read_replies(client, client->is_ahead ? 3 : 1);
+    if (client->is_ahead) {
+        must(sscanf(client->replies[2], "begun %31s", client->begun) == 1, client->replies[2]);
+        return client->replies[0];
+    }
+    must(sscanf(client->replies[0], "begun %31s", key) == 1, client->replies[0]);
+    return client->replies[0][6 + strlen(key)] == ' ' ? client->replies[0] + 7 + strlen(key) : "granted";
+}
+
+/* Asks for the rest of the names, with the commit in the same message if the end is joined to what comes next. */
+static const char *ask_rest(struct client *client, const unsigned *names, int next, const char *key)
+{
+    char text[256];
+    int length = snprintf(text, sizeof text, "lock %s", key);
+    for (int i = next; i < OWNED; i++)
+        length += snprintf(text + length, sizeof text - (size_t)length, " %u", names[i]);
+    length += snprintf(text + length, sizeof text - (size_t)length, "\n");
+    if (client->is_joined)
+        length += snprintf(text + length, sizeof text - (size_t)length, "commit %s\n", key);
+    send_text(client, text, (size_t)length);
+    read_replies(client, client->is_joined ? 2 : 1);
+    return client->replies[0];
+}
+
+/* Commits a transaction that owns all of its names, or keeps the commit for the next message. */
+static void commit(struct client *client, const char *key)
+{
+    char text[64];
+    int length = snprintf(text, sizeof text, "commit %s\n", key);
+    if (client->is_joined) {
+        memcpy(client->kept, text, (size_t)length);
+        client->kept_length = length;
+        return;
+    }
+    send_text(client, text, (size_t)length);
+    must(strcmp(line_of(client), "committed") == 0, "commit");
+}
+
+/* One transaction. A commit that was sent with a lock is refused if the lock waits; if the wait ended before the commit had its turn, the transaction
+ * has ended without the rest of its names, and does not count. */
+static enum ended transaction(struct client *client, const unsigned *names)
+{
+    char key[32], text[64];
+    const char *reply = start(client, names, key);
+    bool has_commit = client->is_ahead;
+    int next = 0, place = 0;
+    while (strcmp(reply, "granted") != 0) {
         if (strncmp(reply, "deadlock ", 9) == 0) {
             send_text(client, text, (size_t)snprintf(text, sizeof text, "abort %s\n", key));
             must(strcmp(line_of(client), "aborted") == 0, "abort");
-            return false;
+            return IN_VAIN;
         }
         must(strncmp(reply, "waits ", 6) == 0, reply);
-        if (next < OWNED - 1)
-            must(sscanf(reply, "waits %d ", &place) == 1, reply);
-        must(is_granted(client), "grant");
-        next += place + 1;
+        must(next == OWNED - 1 || sscanf(reply, "waits %d ", &place) == 1, reply);
+        next += next == OWNED - 1 ? 1 : place + 1;
+        await_grant(client);
+        if (has_commit && strcmp(client->replies[1], "committed") == 0)
+            return TOO_EARLY;
+        has_commit = client->is_joined && next < OWNED;
         if (next == OWNED)
             break;
-        length = snprintf(text, sizeof text, "lock %s", key);
-        for (int i = next; i < OWNED; i++)
-            length += snprintf(text + length, sizeof text - (size_t)length, " %u", names[i]);
-        text[length++] = '\n';
-        send_text(client, text, (size_t)length);
-        reply = line_of(client);
+        reply = ask_rest(client, names, next, key);
     }
-    if (client->is_joined) {
-        client->kept_length = snprintf(client->kept, sizeof client->kept, "commit %s\n", key);
-        return true;
-    }
-    send_text(client, text, (size_t)snprintf(text, sizeof text, "commit %s\n", key));
-    must(strcmp(line_of(client), "committed") == 0, "commit");
-    return true;
+    if (has_commit)
+        must(strcmp(client->replies[1], "committed") == 0, client->replies[1]);
+    else
+        commit(client, key);
+    return DONE;
 }
 
 /* ---- Redis: a script sets four keys that are not there, or none ---- */
@@ -207,7 +266,7 @@ static int with_keys(char *text, size_t room, const unsigned *names)
     return length;
 }
 
-static bool redis_transaction(struct client *client, const unsigned *names)
+static enum ended redis_transaction(struct client *client, const unsigned *names)
 {
     char text[512];
     int length = snprintf(text, sizeof text, "*8\r\n$7\r\nEVALSHA\r\n$40\r\n%s\r\n$1\r\n4\r\n", script_sum);
@@ -228,11 +287,11 @@ static bool redis_transaction(struct client *client, const unsigned *names)
     if (client->is_joined) {
         memcpy(client->kept, text, (size_t)length);
         client->kept_length = length;
-        return true;
+        return DONE;
     }
     send_text(client, text, (size_t)length);
     line_of(client);
-    return true;
+    return DONE;
 }
 
 /* ---- clients ---- */
@@ -274,14 +333,17 @@ static void *run(void *given)
         load_script(client);
     while (client->is_redis && script_sum[39] == '\0')
         usleep(1000);
+    if (client->is_ahead) {
+        send_text(client, "begin\n", 6);
+        must(sscanf(line_of(client), "begun %31s", client->begun) == 1, "begin");
+    }
     while (now() < end) {
         draw(client, names);
-        if (client->is_redis ? redis_transaction(client, names) : transaction(client, names)) {
-            client->done++;
-        } else {
-            client->vain++;
+        enum ended ended = client->is_redis ? redis_transaction(client, names) : transaction(client, names);
+        client->done += ended == DONE;
+        client->vain += ended == IN_VAIN;
+        if (ended == IN_VAIN)
             sleep_some(client, 200);
-        }
     }
     if (client->kept_length > 0) {
         send_text(client, "", 0);
@@ -291,7 +353,7 @@ static void *run(void *given)
 }
 
 /* Sends back what comes, of all clients. */
-static int echo_server(const char *path)
+static void echo_server(const char *path)
 {
     struct sockaddr_un address = {.sun_family = AF_UNIX};
     static char bytes[65536];
@@ -320,7 +382,7 @@ static int echo_server(const char *path)
 int main(int count, char **words)
 {
     if (count == 3 && strcmp(words[1], "echo-server") == 0)
-        return echo_server(words[2]);
+        echo_server(words[2]);
     int clients = count == 7 ? atoi(words[3]) : 0;
     uint64_t done = 0, vain = 0;
     if (clients < 1 || clients > 4096) {
@@ -335,7 +397,8 @@ int main(int count, char **words)
     for (int i = 0; i < clients; i++) {
         all[i] = (struct client){.path = words[2], .number = i, .names = (unsigned)atoi(words[6]), .chance = (uint64_t)i * 977 + 1};
         all[i].is_redis = strncmp(what, "redis", 5) == 0;
-        all[i].is_joined = strstr(what, "-joined") != NULL;
+        all[i].is_ahead = strcmp(what, "service-ahead") == 0;
+        all[i].is_joined = strstr(what, "-joined") != NULL || all[i].is_ahead;
         all[i].is_any = strcmp(kind, "any") == 0;
         must(pthread_create(&threads[i], NULL, run, &all[i]) == 0, "thread");
     }
