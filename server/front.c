@@ -18,7 +18,7 @@
 
 enum {
     LOOKS = 100,
-    PASSES = 16, /* lines of each ready client that are passed on before the system is asked what has come */
+    PASSES = 16, /* turns of each ready client before the system is asked what has come */
     EVENTS = 512,
     SIZE = 262144,
     RETRY = 100, /* milliseconds until it accepts again if there was no room */
@@ -214,7 +214,7 @@ static void listens(struct front *front)
         watch_accepts(front, true);
 }
 
-/* Passes on one line of each ready client, and then again, up to some times. */
+/* Gives each ready client its turn, and then again, up to some times. */
 static void passes_on(struct front *front)
 {
     for (int pass = 0; pass < PASSES && front->ready.first != NULL; pass++) {

@@ -96,7 +96,7 @@ void lines_turn(struct front *front, struct client *client)
             return;
         end = end_of_line(client);
     }
-    if (end != NULL) {
+    for (uint64_t taken = 0; end != NULL && taken < front->options.turn && lines_may_take(client); taken++) {
         char *line = buffer_bytes(&client->in);
         passes_line(front, client, line, (size_t)(end - line));
         client->skips = false;

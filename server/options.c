@@ -24,6 +24,7 @@ static const char usage[] =
     "  --each N            how many transactions a client can have at once\n"
     "  --connections N     how many clients can be connected at once (16384 if missing)\n"
     "  --unread BYTES      what a client may leave unread before it is hung up\n"
+    "  --turn N            how many lines it takes of a client in its turn (1 if missing)\n"
     "  --epoch E           the epoch of fences; without it one that rises at each start\n"
     "  --epoch-file PATH   the file of the last epoch (the socket's path and .epoch if missing)\n"
     "  --heartbeat-fd N    a descriptor on which lines come; the server stops if none comes\n"
@@ -55,6 +56,7 @@ static const struct number_option numbers[] = {
     {"connections", offsetof(struct options, connections), 1, 65535},
     {"epoch", offsetof(struct options, epoch), 1, INT64_MAX},
     {"unread", offsetof(struct options, unread), 1, INT64_MAX},
+    {"turn", offsetof(struct options, turn), 1, 64},
     {"heartbeat-fd", offsetof(struct options, heartbeat_fd), 0, INT32_MAX},
     {"heartbeat-ms", offsetof(struct options, heartbeat_ms), 1, INT32_MAX},
 };
@@ -162,7 +164,7 @@ static bool reads_words(struct options *options, int count, char **words)
 
 bool options_read(struct options *options, int count, char **words, int *status)
 {
-    *options = (struct options){.program = "mmdetect", .transactions = 65536, .names = 65536, .name_bytes = 64, .connections = 16384};
+    *options = (struct options){.program = "mmdetect", .transactions = 65536, .names = 65536, .name_bytes = 64, .connections = 16384, .turn = 1};
     for (int place = 1; place < count; place++)
         if (strcmp(words[place], "--help") == 0 || strcmp(words[place], "-h") == 0) {
             *status = fputs(usage, stdout) < 0 || fflush(stdout) != 0 ? 3 : 0;

@@ -103,8 +103,10 @@ class Lines(StubCase):
         with open(self.log, "rb") as file:
             self.assertNotIn(b"- 0", file.read().split(b"\n"))
 
-    def test_one_of_each_in_a_round(self) -> None:
-        server, count = self.stubbed(), 60
+    @each([1, 4])
+    def test_turns(self, turn: int) -> None:
+        """One line of each in a round, or as many as are asked for."""
+        server, count = self.stubbed("--turn", str(turn)), 60
         wires = [self.wire(server) for _ in range(4)]
         for wire in wires:
             wire.ask(b"first")
@@ -116,9 +118,10 @@ class Lines(StubCase):
         for wire in wires:
             wire.lines(count)
         came = self.came()
-        for number in range(count):
-            group = came[number * len(wires) : (number + 1) * len(wires)]
-            self.assertEqual(sorted(group), [b"%d %d" % (place, number) for place in range(1, len(wires) + 1)])
+        for first in range(0, count, turn):
+            group = came[first * len(wires) : (first + turn) * len(wires)]
+            turns = [group[place : place + turn] for place in range(0, len(group), turn)]
+            self.assertEqual(sorted(turns), [[b"%d %d" % (place, number) for number in range(first, first + turn)] for place in range(1, len(wires) + 1)])
 
 
 class Bounds(StubCase):
