@@ -127,7 +127,7 @@ class Lines(StubCase):
 class Bounds(StubCase):
     def test_unanswered(self) -> None:
         """At most 64 requests of a client are in the program, and others are served."""
-        server, count = self.stubbed(), 300
+        server, count = self.stubbed("--turn", "5"), 300
         wire, other = self.wire(server), self.wire(server)
         self.asks(self.admin, (b"hold", b"hold"))
         wire.send(b"".join(b"%d\n" % number for number in range(count)))
