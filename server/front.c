@@ -183,7 +183,8 @@ static void takes_event(struct front *front, const struct epoll_event *event, bo
 static int patience(const struct front *front)
 {
     int most = heartbeat_patience(&front->heartbeat);
-    if (front->ready.first != NULL && !lines_are_held(front))
+    bool has_lines = front->ready.first != NULL && !lines_are_held(front);
+    if (has_lines || (buffer_length(&front->program.waiting) > 0 && !front->program.is_full))
         return 0;
     if (front->is_open && !front->accepts && (most < 0 || most > RETRY))
         return RETRY;
@@ -249,19 +250,21 @@ static void tells_clients(struct front *front)
     }
 }
 
+/* Serves until something ends it. It writes to the program before it sends to clients, so that the program works in the meantime. */
 void front_run(struct front *front)
 {
     while (front->end == GOES_ON) {
         heartbeat_look(&front->heartbeat);
-        if (heartbeat_is_late(&front->heartbeat))
+        if (heartbeat_is_late(&front->heartbeat)) {
             front->end = BY_HEARTBEAT;
-        else
-            tells_program(front);
+            return;
+        }
+        passes_on(front);
         if (front->end == GOES_ON)
-            listens(front);
+            tells_program(front);
         tells_clients(front);
         if (front->end == GOES_ON)
-            passes_on(front);
+            listens(front);
     }
 }
 

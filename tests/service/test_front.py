@@ -248,8 +248,10 @@ class Leaving(StubCase):
         wire.send(b"a\n" * 200)
         until(lambda: len(self.came()) == 64, "64 have come")
         wire.close()
-        self.asks(self.admin, (b"let", b"let"))
+        self.admin.send(b"say 0 said|1 * granted 0.1 a\n")  # which can no longer be sent, and nothing comes after it
         until(lambda: b"- 1" in self.came(), "it has hung up")
+        self.assertEqual(self.admin.lines(1), [b"said"])
+        self.asks(self.admin, (b"let", b"let"))
         self.turn()
         self.assertEqual(self.came(), [b"1 a"] * 64 + [b"- 1"])
         self.asks(self.wire(server), (b"b", b"heard 62"))
