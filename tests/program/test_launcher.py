@@ -26,7 +26,7 @@ case $1 in
     find . -type f | sort > "$fake/staged"
     sleep 1000 &
     echo "$$ $!" > "$fake/processes"
-    printf '%s\n' "rt: mm_low proved" "rt: mm_low: its tests are proved"
+    printf 'rt: mm_low'; [ ! -e "$fake/held" ] || sleep 1.2; printf ' proved\nrt: mm_low: its tests are proved\n'
     while [ -e "$fake/held" ]; do sleep 0.1; done
     kill $!
     [ ! -e "$fake/refuses" ] || { echo "  fn one: not proved"; exit 1; }
