@@ -1,120 +1,21 @@
-/* service_load WHAT PATH CLIENTS SECONDS KIND NAMES: clients of a service at a Unix socket, a thread and a connection each, for this many seconds.
+/* service_load WHAT PATH CLIENTS THREADS SECONDS KIND NAMES: clients of a service at a Unix socket, a connection each, for this many seconds.
  * service_load echo-server PATH: a server of one thread that sends back what it gets.
  *
  * WHAT is service (mmdetect serve), redis or echo; service-joined and redis-joined send the end of a transaction together with the begin of the
- * next one, and after a wait with the lock of the rest; service-ahead sends a whole transaction in one message, since it was begun ahead. KIND is requests, which locks and unlocks a name of the client's own; ordered, transactions
- * of four names out of NAMES in rising order; or any, the same in any order. It prints how many requests, or transactions that committed, and
- * how many deadlocks or tries in vain, there were a second. */
-#define _GNU_SOURCE
-#include <poll.h>
-#include <pthread.h>
-#include <stdbool.h>
-#include <stdint.h>
-#include <stdio.h>
-#include <stdlib.h>
-#include <string.h>
+ * next one, and after a wait with the lock of the rest; service-ahead sends a whole transaction in one message, since it was begun ahead. KIND is
+ * requests, which locks and unlocks a name of the client's own; ordered, transactions of four names out of NAMES in rising order; or any, the same
+ * in any order. It prints how many requests, or transactions that committed, and how many deadlocks or tries in vain, there were a second. */
+#include "service_clients.h"
+
 #include <sys/epoll.h>
-#include <sys/socket.h>
-#include <sys/un.h>
-#include <time.h>
-#include <unistd.h>
 
 #define OWNED 4
-
-struct client {
-    const char *path;
-    bool is_redis, is_any, is_joined, is_ahead;
-    unsigned names;
-    int socket, number;
-    char input[65536];
-    size_t start, end;
-    uint64_t chance, done, vain;
-    char kept[256]; /* the end of a transaction, which is sent with what comes next */
-    int kept_length;
-    char begun[32]; /* a transaction that was begun ahead */
-    char replies[3][64];
-    bool is_granted; /* the line that a wait has ended has come */
-};
 
 /* How a transaction ended: IN_VAIN, it was the victim of a deadlock. */
 enum ended { DONE, IN_VAIN, TOO_EARLY };
 
 static double seconds_for;
 static const char *what, *kind;
-
-static void must(bool is_so, const char *text)
-{
-    if (!is_so) {
-        perror(text);
-        exit(1);
-    }
-}
-
-static double now(void)
-{
-    struct timespec time;
-    clock_gettime(CLOCK_MONOTONIC, &time);
-    return (double)time.tv_sec + (double)time.tv_nsec / 1e9;
-}
-
-static unsigned drawn(struct client *client, unsigned below)
-{
-    client->chance = client->chance * 6364136223846793005u + 1442695040888963407u;
-    return (unsigned)((client->chance >> 33) % below);
-}
-
-static void send_all(struct client *client, const char *text, size_t length)
-{
-    while (length > 0) {
-        ssize_t count = send(client->socket, text, length, MSG_NOSIGNAL);
-        must(count > 0, "send");
-        text += count;
-        length -= (size_t)count;
-    }
-}
-
-/* Sends the text, after what was kept. */
-static void send_text(struct client *client, const char *text, size_t length)
-{
-    char both[1024];
-    int kept = client->kept_length;
-    if (kept == 0) {
-        send_all(client, text, length);
-        return;
-    }
-    memcpy(both, client->kept, (size_t)kept);
-    memcpy(both + kept, text, length);
-    client->kept_length = 0;
-    send_all(client, both, (size_t)kept + length);
-}
-
-/* The next line, without its end. It stays until the next call. The client waits in poll, as those of pgbench do: Linux wakes a client that
- * waits in recv when the server takes the request, and then again when there is a reply. */
-static char *line_of(struct client *client)
-{
-    for (;;) {
-        char *from = client->input + client->start, *end = memchr(from, '\n', client->end - client->start);
-        if (end != NULL) {
-            client->start = (size_t)(end - client->input) + 1;
-            *end = '\0';
-            return from;
-        }
-        memmove(client->input, from, client->end - client->start);
-        client->end -= client->start;
-        client->start = 0;
-        struct pollfd file = {.fd = client->socket, .events = POLLIN};
-        must(poll(&file, 1, -1) == 1, "poll");
-        ssize_t count = recv(client->socket, client->input + client->end, sizeof client->input - 1 - client->end, 0);
-        must(count > 0, "recv");
-        client->end += (size_t)count;
-    }
-}
-
-static void sleep_some(struct client *client, unsigned most)
-{
-    struct timespec pause = {0, (long)drawn(client, most) * 1000};
-    nanosleep(&pause, NULL);
-}
 
 /* Four different numbers. */
 static void draw(struct client *client, unsigned *names)
@@ -316,9 +217,8 @@ static void requests(struct client *client, double end)
         }
 }
 
-static void *run(void *given)
+static void run(struct client *client)
 {
-    struct client *client = given;
     struct sockaddr_un address = {.sun_family = AF_UNIX};
     double end = now() + seconds_for;
     unsigned names[OWNED];
@@ -327,12 +227,12 @@ static void *run(void *given)
     must(connect(client->socket, (struct sockaddr *)&address, sizeof address) == 0, "connect");
     if (strcmp(kind, "requests") == 0) {
         requests(client, end);
-        return NULL;
+        return;
     }
     if (client->is_redis && client->number == 0)
         load_script(client);
     while (client->is_redis && script_sum[39] == '\0')
-        usleep(1000);
+        sleep_some(client, 1000);
     if (client->is_ahead) {
         send_text(client, "begin\n", 6);
         must(sscanf(line_of(client), "begun %31s", client->begun) == 1, "begin");
@@ -349,7 +249,6 @@ static void *run(void *given)
         send_text(client, "", 0);
         line_of(client);
     }
-    return NULL;
 }
 
 /* Sends back what comes, of all clients. */
@@ -383,27 +282,26 @@ int main(int count, char **words)
 {
     if (count == 3 && strcmp(words[1], "echo-server") == 0)
         echo_server(words[2]);
-    int clients = count == 7 ? atoi(words[3]) : 0;
+    int clients = count == 8 ? atoi(words[3]) : 0, threads = count == 8 ? atoi(words[4]) : 0;
     uint64_t done = 0, vain = 0;
-    if (clients < 1 || clients > 4096) {
-        fprintf(stderr, "usage: service_load WHAT PATH CLIENTS SECONDS KIND NAMES\n");
+    if (clients < 1 || clients > 4096 || threads < 1 || threads > clients) {
+        fprintf(stderr, "usage: service_load WHAT PATH CLIENTS THREADS SECONDS KIND NAMES\n");
         return 2;
     }
     what = words[1];
-    kind = words[5];
-    seconds_for = atof(words[4]);
+    kind = words[6];
+    seconds_for = atof(words[5]);
     struct client *all = calloc((size_t)clients, sizeof *all);
-    pthread_t *threads = calloc((size_t)clients, sizeof *threads);
+    must(all != NULL, "clients");
     for (int i = 0; i < clients; i++) {
-        all[i] = (struct client){.path = words[2], .number = i, .names = (unsigned)atoi(words[6]), .chance = (uint64_t)i * 977 + 1};
+        all[i] = (struct client){.path = words[2], .number = i, .names = (unsigned)atoi(words[7]), .chance = (uint64_t)i * 977 + 1};
         all[i].is_redis = strncmp(what, "redis", 5) == 0;
         all[i].is_ahead = strcmp(what, "service-ahead") == 0;
         all[i].is_joined = strstr(what, "-joined") != NULL || all[i].is_ahead;
         all[i].is_any = strcmp(kind, "any") == 0;
-        must(pthread_create(&threads[i], NULL, run, &all[i]) == 0, "thread");
     }
+    run_all(all, clients, threads);
     for (int i = 0; i < clients; i++) {
-        pthread_join(threads[i], NULL);
         done += all[i].done;
         vain += all[i].vain;
     }
