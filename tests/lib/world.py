@@ -308,13 +308,13 @@ class Wire:
 
     def __init__(self, path: str) -> None:
         self.socket = socket.socket(socket.AF_UNIX)
-        self.socket.settimeout(LIMIT)
         self.rest = b""
         try:
-            self.socket.connect(path)
+            self.socket.connect(path)  # waits if many others connect
         except OSError:
             self.socket.close()
             raise
+        self.socket.settimeout(LIMIT)
 
     def send(self, data: bytes) -> None:
         self.socket.sendall(data)

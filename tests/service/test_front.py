@@ -1,7 +1,6 @@
 """What the front does with lines, numbers and connections, before a program that knows nothing of locks (lib/stub.py) and notes each line."""
 import contextlib
 import os
-import resource
 import signal
 import socket
 import stat
@@ -10,7 +9,7 @@ import time
 from typing import Any
 
 from lib.faults import FaultCase, variables
-from lib.world import IS_SLOW, LIMIT, TOP, Server, Wire, each, environment, read, run, stop, until, wants, write
+from lib.world import LIMIT, TOP, Server, Wire, each, environment, read, run, stop, until, wants, write
 from service.test_server import ServerCase, fills
 
 STUB = os.path.join(TOP, "tests", "lib", "stub.py")
@@ -248,9 +247,8 @@ class Leaving(StubCase):
         wire.send(b"a\n" * 200)
         until(lambda: len(self.came()) == 64, "64 have come")
         wire.close()
-        self.admin.send(b"say 0 said|1 * granted 0.1 a\n")  # which can no longer be sent, and nothing comes after it
+        self.asks(self.admin, (b"say 0 said|1 * granted 0.1 a", b"said"))  # the event can no longer be sent, and nothing comes after it
         until(lambda: b"- 1" in self.came(), "it has hung up")
-        self.assertEqual(self.admin.lines(1), [b"said"])
         self.asks(self.admin, (b"let", b"let"))
         self.turn()
         self.assertEqual(self.came(), [b"1 a"] * 64 + [b"- 1"])
@@ -277,23 +275,6 @@ class Leaving(StubCase):
         self.assertEqual(self.wire(server).all(), FULL)
         self.assertIn("the system gives 40 descriptors, so at most 8 clients are served\n", server.stderr())
         self.assertEqual(self.words()[1:3], ["--connections", "9"])
-
-    def test_many(self) -> None:
-        """Hundreds at once, and with --slow ten thousand, each with its own replies."""
-        server, count = self.stubbed(), 10_000 if IS_SLOW else 400
-        resource.setrlimit(resource.RLIMIT_NOFILE, (resource.getrlimit(resource.RLIMIT_NOFILE)[1],) * 2)
-        wires = [self.wire(server) for _ in range(count)]
-        for turn in range(3):
-            for number, wire in enumerate(wires):
-                wire.send(b"%d\n" % (number + turn) * 3)
-            for number, wire in enumerate(wires):
-                self.assertEqual(wire.lines(3), [b"heard " + (b"%d" % (number + turn)).hex().encode()] * 3)
-        for wire in wires[::2]:
-            wire.close()
-        until(lambda: len([line for line in self.came() if line.startswith(b"- ")]) == count // 2, "half of them have hung up")
-        self.has_not_grown(server, 0, 40_000_000)
-        for number, wire in enumerate(wires[1::2]):
-            self.asks(wire, (b"%d" % number, b"heard " + (b"%d" % number).hex().encode()))
 
 
 class Operators(StubCase):

@@ -1,18 +1,46 @@
 """A server with the program: clients that use the keys of others, hang up, and come in thousands, and an operator that does not read. (Lines,
 halves of lines, and bounds are in test_front; what the program says to connections that hang up, in program.test_random.)"""
+import multiprocessing
 import os
+import random
+from multiprocessing.connection import Connection
 
-from lib.world import IS_SLOW, LIMIT, Case, Server, Wire, until
+from lib.world import IS_SLOW, LIMIT, SEED, Case, Server, Wire, same, until
+
+CROWDS, SIZE, KILLS = (20, 500, 200) if IS_SLOW else (8, 50, 16)
+
+
+def crowd(path: str, place: int, told: Connection) -> None:
+    """Makes connections, each of which begins a transaction with a name of its own, and then asks what it owns, again and again."""
+    wires = {b"%d/%d" % (place, number): Wire(path) for number in range(SIZE)}
+    keys = {name: wire.ask(b"begin " + name).split(b" ")[1:] for name, wire in wires.items()}
+    for name, (key, *waits) in keys.items():
+        same(wires[name].lines(len(waits[:1])), [b"* granted %b %b" % (key, name)][: len(waits)])
+    told.send("they own their names")
+    while True:
+        for name, wire in wires.items():
+            same(wire.ask(b"holds " + keys[name][0]), b"holds " + name)
+
+
+class Crowd:
+    def __init__(self, path: str, place: int) -> None:
+        self.told, end = multiprocessing.Pipe(False)
+        self.process = multiprocessing.Process(target=crowd, args=(path, place, end), daemon=True)
+        self.process.start()
+        end.close()
+
+    def kill(self, waits: bool = True) -> None:
+        """Kills the process, once its connections own their names if that is waited for. Fails if it has ended by itself."""
+        assert (not waits or self.told.poll(LIMIT) and self.told.recv()) and self.process.is_alive(), "an end of its own"
+        self.process.kill()
+        self.process.join()
 
 
 def begun(wire: Wire, *names: bytes) -> bytes:
     """The key of a new transaction, which owns these names."""
-    key = wire.ask(b"begin")
-    assert key.startswith(b"begun "), key
-    for name in names:
-        reply = wire.ask(b"lock %b %b" % (key[6:], name))
-        assert reply == b"granted", reply
-    return key[6:]
+    reply, *told = wire.ask(b" ".join([b"begin", *names])).split(b" ")
+    assert reply == b"begun" and len(told) == 1, (reply, told)
+    return told[0]
 
 
 def fills(wire: Wire, data: bytes, witness: Wire, server: Server, asked: bytes = b"owner nobody") -> int:
@@ -71,23 +99,19 @@ class Clients(ServerCase):
         until(lambda: self.counts(other)[2] == 4, "all are aborted")
         begun(other, b"0", b"1", b"2", b"3")
 
-    def test_connections(self) -> None:
-        """Thousands of connections one after another, each of which hangs up with a lock, leave nothing."""
-        server, count = self.server("--transactions", "3"), 20_000 if IS_SLOW else 2_000
-        other = self.wire(server)
-        for number in range(count):
-            wire = Wire(server.path)
-            key = until(lambda wire=wire: wire.ask(b"begin"), "")
-            while key == b"refused transactions-full":  # the abort of the one before may be on its way
-                key = wire.ask(b"begin")
-            if wire.ask(b"lock %b a" % key[6:]) != b"granted":
-                self.assertEqual(wire.lines(1), [b"* granted %b a" % key[6:]])
-            if number % 2:
-                self.asks(wire, (b"commit " + key[6:], b"committed"))
-            wire.close()
-            if number == count // 10:
-                before = server.memory(), server.descriptors()
-        until(lambda: other.ask(b"owner a") == b"free", "the last one is aborted")
-        self.assertEqual(self.counts(other)[:2], [count, count // 2])
-        until(lambda: server.descriptors() <= before[1], "all connections are closed")
-        self.has_not_grown(server, before[0], 4_000_000)
+    def test_crowds(self) -> None:
+        """Hundreds of connections of processes that are killed, with --slow ten thousand: what a dead one owned can be had, and nothing of it is left."""
+        server, chance = self.server(), random.Random(SEED)
+        wire, files = self.wire(server), server.descriptors()
+        crowds = [Crowd(server.path, place) for place in range(CROWDS)]
+        self.assertTrue(all(each.told.poll(LIMIT) for each in crowds))
+        before = server.memory()
+        for place in chance.choices(range(CROWDS), k=KILLS):
+            crowds[place].kill(chance.random() < 2 / 3)
+            crowds[place] = Crowd(server.path, place)
+        self.assertTrue(all(each.told.poll(LIMIT) for each in crowds))
+        self.has_not_grown(server, 0, 40_000_000)
+        self.has_not_grown(server, before, 4_000_000)
+        for each in crowds:
+            each.kill()
+        until(lambda: server.descriptors() <= files and self.counts(wire)[0] == self.counts(wire)[2], "all have hung up, and all is aborted")
