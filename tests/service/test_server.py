@@ -102,16 +102,16 @@ class Clients(ServerCase):
     def test_crowds(self) -> None:
         """Hundreds of connections of processes that are killed, with --slow ten thousand: what a dead one owned can be had, and nothing of it is left."""
         server, chance = self.server(), random.Random(SEED)
-        wire, files = self.wire(server), server.descriptors()
+        wire = self.wire(server)
         crowds = [Crowd(server.path, place) for place in range(CROWDS)]
         self.assertTrue(all(each.told.poll(LIMIT) for each in crowds))
-        before = server.memory()
+        memory, files = server.memory(), server.descriptors() - CROWDS * SIZE
         for place in chance.choices(range(CROWDS), k=KILLS):
             crowds[place].kill(chance.random() < 2 / 3)
             crowds[place] = Crowd(server.path, place)
         self.assertTrue(all(each.told.poll(LIMIT) for each in crowds))
         self.has_not_grown(server, 0, 40_000_000)
-        self.has_not_grown(server, before, 4_000_000)
+        self.has_not_grown(server, memory, 4_000_000)
         for each in crowds:
             each.kill()
         until(lambda: server.descriptors() <= files and self.counts(wire)[0] == self.counts(wire)[2], "all have hung up, and all is aborted")
