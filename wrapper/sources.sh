@@ -1,8 +1,9 @@
-# Sourced by mmdetect, wrapper/prove, wrapper/library, wrapper/serve and run_tests: what the program and the C library are made from, and whether those that
+# Sourced by mmdetect, run_tests and the commands of this folder: what the program and the C library are made from, and whether those that
 # stand are of that. The variable top is the folder that has crates.txt.
 
 program=$top/crates/mm_detect/out/mm_detect
 library=$top/crates/pashkure/out/libpashkure.a
+server=${program%/*}/pashkure-serve
 # What each was made from stands beside it, in FILE.sources: a line with the digest of the sources and that of the file, and a line with the
 # toolchain.
 

@@ -57,14 +57,15 @@ class Checkout(Case):
         self.top, self.fake = self.path("checkout"), self.path("fake")
         self.work = self.path("work")
         crates = [f"{self.top}/crates/{crate}/src" for crate in ("mm_low", "mm_other", "mm_detect", "pashkure", "example_script")]
-        for folder in (self.work, *(f"{self.fake}/{name}" for name in ("bin", "tmp", "c")), *crates, f"{self.top}/crates/mm_detect/must-fail"):
+        for folder in (self.work, f"{self.top}/server", *(f"{self.fake}/{name}" for name in ("bin", "tmp", "c")), *crates, f"{self.top}/crates/mm_detect/must-fail"):
             os.makedirs(folder)
         shutil.copytree(os.path.join(TOP, "wrapper"), f"{self.top}/wrapper")
         shutil.copy(os.path.join(TOP, "mmdetect"), self.top)
         self.low = f"{self.top}/crates/mm_low/src/lib.rt"
         for path, text in (("crates.txt", "mm_low:\nmm_other:\nexample_script: mm_low\nmm_detect: mm_low kit # the program\npashkure staticlib: mm_low\n"),
                            ("HANDLES", "Handles allowed: none.\n"), ("crates/mm_low/src/lib.rt", "low\n"),
-                           ("crates/mm_detect/src/main.rt", "main\n"), ("crates/pashkure/src/lib.rt", "calls\n"), ("crates/mm_detect/must-fail/one.edit", "edit\n")):  # fmt: skip
+                           ("crates/mm_detect/src/main.rt", "main\n"), ("crates/pashkure/src/lib.rt", "calls\n"), ("crates/mm_detect/must-fail/one.edit", "edit\n"),
+                           ("server/main.c", "int main(void) { return 0; }\n"), ("server/text.h", "")):  # fmt: skip
             write(f"{self.top}/{path}", text)
         write(f"{self.fake}/version", "kit-1\n")
         write(f"{self.fake}/calls", "")
@@ -173,6 +174,7 @@ class Tries(Checkout):
 class Proofs(Checkout):
     def test_how_far_it_is(self) -> None:
         """A proof says how far it is, and runs nothing. What is proved: the crates of the program, without edits."""
+        wants("cc")
         told = self.wrapped("prove")
         err = re.sub(rb"\d+ s$", b"N s", told.err, flags=re.M).decode()
         self.ends(told._replace(err=err.encode()), 0, "", "mmdetect: the program is proved and built; from nothing that takes about a quarter of an "
@@ -295,7 +297,6 @@ class Serves(Checkout):
 
     def setUp(self) -> None:
         super().setUp()
-        os.makedirs(f"{self.top}/server")
         write(f"{self.top}/server/main.c", '#include "text.h"\nint main(int n, char **w) { puts(TEXT); while (*++w) puts(*w); return n > 20; }\n')
         self.text("one")
         self.front = f"{self.top}/crates/mm_detect/out/pashkure-serve"
@@ -307,9 +308,8 @@ class Serves(Checkout):
     def test_proved_program(self) -> None:
         """It is built for its sources, and started with the proved program unless another one is named."""
         wants("cc")
-        self.proved()
+        self.gives(0, "", None, "ci cc", "prove")
         words, program = ["serve", "--socket", "x y", "--quiet"], f"{self.top}/crates/mm_detect/out/mm_detect"
-        self.gives(0, f"one\n--program\n{program}\n--socket\nx y\n--quiet\n", "", "cc", *words)
         self.gives(0, f"one\n--program\n{program}\n--socket\nx y\n--quiet\n", "", "", *words)
         self.text("two")
         self.gives(0, "two\n--program\nother\n", "", "cc", "serve", "--program", "other")
