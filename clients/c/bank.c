@@ -1,7 +1,7 @@
 /* Two threads move money between two accounts, in opposite directions: one locks accounts/1 first, the other one accounts/2. If each has
  * its first account and asks for its second one, the service tells one of them of a deadlock; that one aborts and tries again.
  *
- * cc -std=c11 -O2 -pthread -o bank bank.c pashkure_remote.c && ./bank SOCKET */
+ * cc -std=c11 -O2 -pthread -o bank *.c && ./bank SOCKET */
 #define _POSIX_C_SOURCE 200809L
 
 #include "pashkure_remote.h"

@@ -28,6 +28,7 @@ extern "C" {
 #define PASHKURE_REMOTE_NAME_BYTES 1024  /* the longest name that any service accepts */
 #define PASHKURE_REMOTE_FENCE_BYTES 42   /* room for the text of a fence, and the zero at its end */
 #define PASHKURE_REMOTE_FOREVER UINT_MAX /* of milliseconds: without an end */
+#define PASHKURE_REMOTE_REPLY_MILLISECONDS 10000 /* in which the service has to answer, unless pashkure_remote_reply_within says otherwise */
 
 /* ---- Results. Each keeps its number. ---- */
 typedef enum pashkure_remote_result {
@@ -56,7 +57,7 @@ typedef enum pashkure_remote_result {
     PASHKURE_REMOTE_NOT_OPEN = 32,          /* the connection is closed */
     PASHKURE_REMOTE_IN_USE = 33,            /* of open: the connection is open */
 
-    PASHKURE_REMOTE_LOST = 64,             /* the service has ended, or ended the connection: all that was locked over it is given back */
+    PASHKURE_REMOTE_LOST = 64,             /* the service has ended, hangs, or ended the connection: all that was locked over it is lost */
     PASHKURE_REMOTE_PROTOCOL = 65,         /* the service answered what this client does not understand */
     PASHKURE_REMOTE_CANNOT_CONNECT = 66,   /* of open: errno says why */
     PASHKURE_REMOTE_BAD_NAME = 67,         /* it is empty, longer than 1,024 bytes, or has a space or a control character. Nothing was sent */
@@ -65,6 +66,7 @@ typedef enum pashkure_remote_result {
     PASHKURE_REMOTE_NOT_DEADLOCKED = 82,   /* it was told of no deadlock */
     PASHKURE_REMOTE_TOO_MANY = 83,         /* it owns more names than a reply has */
     PASHKURE_REMOTE_CONNECTIONS_FULL = 84, /* the service has as many clients as it can */
+    PASHKURE_REMOTE_OTHER_PROTOCOL = 85,   /* of open: the service speaks another protocol. Restart it first, from this client's version */
     PASHKURE_REMOTE_RESULT_BITS_ = 0x7fffffff /* no result: gives the enum 32 bits with each compiler */
 } pashkure_remote_result;
 
@@ -100,6 +102,9 @@ typedef struct pashkure_remote_connection {
     pashkure_remote_result fault; /* why it is closed; OK: nobody opened it, or it was closed by a call */
     pashkure_remote_each_wait *each;
     void *context;
+    uint64_t deadlocks;          /* how many it was told of */
+    unsigned reply_milliseconds; /* in which the service has to answer; 0: PASHKURE_REMOTE_REPLY_MILLISECONDS */
+    int64_t call_end, due;       /* when the time of the call ends, 0: it has none; when the line has to be there */
     size_t start, end; /* the bytes of input that were received and are not yet read */
     char input[2048];
 } pashkure_remote_connection;
@@ -111,8 +116,13 @@ typedef struct pashkure_remote_connection {
 
 /* ---- Opening and closing ---- */
 
-/* Connects to the service at this path: OK, or IN_USE, CANNOT_CONNECT, CONNECTIONS_FULL, LOST, PROTOCOL. */
+/* Connects to the service at this path: OK, or IN_USE, CANNOT_CONNECT, CONNECTIONS_FULL, LOST, PROTOCOL, OTHER_PROTOCOL. */
 pashkure_remote_result pashkure_remote_open(pashkure_remote_connection *connection, const char *path);
+
+/* Says in how many milliseconds the service has to answer each request from now on, 1 at least. If it does not, the connection is closed, and the call
+ * returns LOST. While a call waits for a lock the service has to answer once in this time too. To a call with a time of its own it has to answer
+ * within a second after that, if this is sooner. The connection may be closed or open. */
+void pashkure_remote_reply_within(pashkure_remote_connection *connection, unsigned milliseconds);
 
 /* Closes the connection: the service aborts what was begun on it. Nothing, if it is closed. */
 void pashkure_remote_close(pashkure_remote_connection *connection);

@@ -273,7 +273,7 @@ static void test_reads(void) {
     char text[PASHKURE_REMOTE_FENCE_BYTES];
     size_t row;
     replies("owner 7.3\nfree\nactive\nwaiting a 1.1\nwaiting a 1.1 aborting\ndeadlock a 1.1\ntotals 4 3 2 18446744073709551615\n"
-            "counts 1 2 3 4 5 6 7 8 9\nfence 9223372036854775807 42\nhello 1 7 65536 1024 64\n");
+            "counts 1 2 3 4 5 6 7 8 9 of-a-later-version-and-longer-than-any-word 1\nfence 9223372036854775807 42\nhello 2 7 65536 1024 64 later\n");
     GIVES(OK, pashkure_remote_owner(&here, "a", &owner));
     CHECK(same(owner, KEY(7, 3)));
     GIVES(FREE, pashkure_remote_owner(&here, "a", &owner));
@@ -296,8 +296,10 @@ static void test_reads(void) {
     GIVES(OK, pashkure_remote_hello(&here, &service));
     CHECK(service.epoch == 7 && service.transactions == 65536 && service.names == 1024 && service.name_bytes == 64);
     CHECK(sent("owner a\nowner a\nstatus 0.1\nstatus 0.1\nstatus 0.1\nstatus 0.1\ntotals\ncounts\nfence 0.1 a\nhello\n"));
-    replies("hello 2 7 65536 1024 64\n"); /* another protocol */
-    GIVES(PROTOCOL, pashkure_remote_hello(&here, &service));
+    for (row = 0; row < 2; row++) {
+        replies(row == 0 ? "hello 1 7 65536 1024 64\n" : "hello 3\n");
+        GIVES(OTHER_PROTOCOL, pashkure_remote_hello(&here, &service));
+    }
     replies("fence 1 9223372036854775808\n");
     GIVES(PROTOCOL, pashkure_remote_fence_of(&here, first, "a", &fence));
 }
@@ -316,7 +318,7 @@ static void test_lists(void) {
     char text[256] = "", told[256] = "";
     pashkure_remote_on_deadlock(&here, add_wait, told);
     replies("holds\nholds a b c\n* granted 5.1 x\ngraph 0\ngraph 2\n* 0.1 a 1.1\n* 1.1 b 2.1\n* deadlock 3.1 x 4.1 y\ncycle 0.1 a 1.1 b\n"
-            "* granted 6.1 x\ncycle 0.1 a 1.1 b 2.1 c ..\nlist 0\nlist 3\n* 0.1 1 active\n* 1.1 - waiting a 0.1 aborting\n* 2.1 3 deadlock b 0.1\n"
+            "* granted 6.1 x\ncycle 0.1 a 1.1 b 2.1 c ..\nlist 0\nlist 3\n* 0.1 1 active 7 later\n* 1.1 - waiting a 0.1 aborting later\n* 2.1 3 deadlock b 0.1 of-a-later-version-and-longer-than-any-word\n"
             "* deadlock 5.1 a ..\nfree\n");
     GIVES(OK, pashkure_remote_holds(&here, first, add_name, text));
     GIVES(OK, pashkure_remote_holds(&here, first, add_name, text));
@@ -412,17 +414,44 @@ static void test_taken_back(void) {
 /* A lock that may take more than 2 to the 31 milliseconds. (What poll is told the test of the program reads in a log.) */
 static void test_long_time(void) {
     static const struct turn granted[] = {LOCKED, {NULL, "* granted 0.1 a\n"}, {0, 0}};
+    pashkure_remote_reply_within(&here, PASHKURE_REMOTE_FOREVER);
     GIVES(OK, after_turns(granted, PASHKURE_REMOTE_FOREVER - 1));
+}
+
+/* A reply to a lock that may take no time is due a second later. (What poll is told the test of the program reads in a log.) */
+static void test_short_time(void) {
+    static const struct turn granted[] = {{"lock 0.1 a\n", "waits 1.1\n* granted 0.1 a\n"}, {0, 0}};
+    GIVES(OK, after_turns(granted, 0));
+}
+
+/* A service that says nothing for the time of a reply is asked what became of the wait, and is lost if it does not answer. */
+static void test_looks(void) {
+    static const struct turn granted[] = {LOCKED, {"status 0.1\n", "waiting a 1.1\n"}, {"status 0.1\n", "* granted 0.1 a\nactive\n"}, {0, 0}};
+    static const struct turn over[] = {LOCKED, {"status 0.1\n", "* aborted 0.1\nrefused no-transaction\n"}, {0, 0}};
+    pashkure_remote_reply_within(&here, 200);
+    GIVES(OK, after_turns(granted, PASHKURE_REMOTE_FOREVER));
+    GIVES(ABORTED, after_turns(over, PASHKURE_REMOTE_FOREVER));
+    pashkure_remote_reply_within(&here, 1);
+    replies("waits 1.1\n");
+    GIVES(LOST, pashkure_remote_lock(&here, first, "a"));
+    CHECK(sent("lock 0.1 a\nstatus 0.1\n"));
+    replies("");
+    GIVES(LOST, pashkure_remote_commit(&here, first));
+    replies("");
+    GIVES(LOST, pashkure_remote_listen(&here, PASHKURE_REMOTE_FOREVER));
+    CHECK(sent("hello\n"));
+    replies("hello 2 7 1 1 1\n* deadlock 3.1 x 4.1 y\n");
+    GIVES(PROTOCOL, pashkure_remote_listen(&here, PASHKURE_REMOTE_FOREVER)); /* nobody asked for the first line */
 }
 
 /* A message for each result, each another one, which names what there is none left of. */
 static void test_messages(void) {
-    static const char *const parts[85] = {"done", "owned the name before", "waits for the name", "cycle", "another transaction owns", "as soon as",
+    static const char *const parts[86] = {"done", "owned the name before", "waits for the name", "cycle", "another transaction owns", "as soon as",
         "cannot be taken back", "nobody owns", "aborted while", "in time", [16] = "has ended", "to be aborted", "the transaction waits", "does not wait",
         [21] = "longer", "does not own", "transactions", "names", "wait", "counted", [32] = "is closed", "is open", [64] = "lost", "does not understand",
-        "no connection", "control", [80] = "operator", "epoch", "no deadlock", "more names", "clients"};
+        "no connection", "control", [80] = "operator", "epoch", "no deadlock", "more names", "clients", "restart the service first"};
     int place, other;
-    for (place = 0; place < 85; place++) {
+    for (place = 0; place < 86; place++) {
         const char *message = pashkure_remote_message((pashkure_remote_result)place);
         CHECK(strstr(message, parts[place] == NULL ? "no result of this client" : parts[place]) != NULL);
         for (other = 0; other < place && parts[place] != NULL; other++)
@@ -432,7 +461,8 @@ static void test_messages(void) {
 
 int main(int count, char *words[]) {
     static const struct test tests[] = {TEST(words), TEST(refusals), TEST(other_openings), TEST(names), TEST(waits), TEST(several), TEST(many_names),
-        TEST(reads), TEST(lists), TEST(bad_replies), TEST(closed), TEST(time_outs), TEST(taken_back), TEST(long_time), TEST(messages)};
+        TEST(reads), TEST(lists), TEST(bad_replies), TEST(closed), TEST(time_outs), TEST(taken_back), TEST(long_time), TEST(short_time),
+        TEST(looks), TEST(messages)};
     there = -1;
     return tested(tests, sizeof tests / sizeof *tests, count > 1 ? words[1] : "");
 }

@@ -1,4 +1,5 @@
 """The C client: with replies that are written in replies.c, and with a service; built with sanitizers, and with calls that fail or are short."""
+import glob
 import os
 import re
 import shutil
@@ -11,6 +12,7 @@ from lib.world import CLIENTS, LIMIT, SEED, TOP, Server, each, read, run, wants
 
 HERE = os.path.join(TOP, "tests", "service")
 CLIENT = os.path.join(CLIENTS, "c")
+SOURCES = sorted(set(glob.glob(f"{CLIENT}/*.c")) - {f"{CLIENT}/bank.c"})
 FLAGS = ["-std=c11", "-Wall", "-Wextra", "-Wpedantic", "-Werror", "-O1", "-g", "-pthread", f"-I{CLIENT}"]
 SANITIZED = ["-fsanitize=address,undefined", "-fno-sanitize-recover=all"]
 LIMITS = ["--transactions", "64", "--names", "2048", "--name-bytes", "64"]
@@ -36,7 +38,7 @@ class CCase(FaultCase):
         path = os.path.join(cls.scratch.name, name)
         if not os.path.exists(path):
             kind, _, is_sanitized = name.partition(".")
-            sources = [f"{CLIENT}/bank.c" if kind == "bank" else f"{HERE}/{kind}.c", f"{CLIENT}/pashkure_remote.c"]
+            sources = [f"{CLIENT}/bank.c" if kind == "bank" else f"{HERE}/{kind}.c", *SOURCES]
             subprocess.run(["cc", *FLAGS, *(SANITIZED if is_sanitized else []), "-o", path, *sources], check=True)
         return path
 
@@ -63,11 +65,18 @@ class Replies(CCase):
 
     def test_long_time(self) -> None:
         """A time of more than 2 to the 31 milliseconds is not told to poll as a short one."""
+        self.assertEqual(set(self.told("long_time")), {2**31 - 1})
+
+    def test_short_time(self) -> None:
+        """A reply is due a second after the time of the call that waits for it."""
+        self.assertIn(max(self.told("short_time")), range(2, 1002))
+
+    def told(self, name: str) -> list[int]:
+        """For how many milliseconds the program of this name tells poll to wait."""
         log = self.path("log")
         env = {**os.environ, **variables("poll:told recv:short=10", log=log)}  # so that it reads `waits 1.1`, and then has to wait
-        self.passes(run(self.program("replies"), "long_time", env=env))
-        told = re.findall(r"^poll:told=(-?\d+)@", read(log), re.M)
-        self.assertEqual(set(told), {"-1", str(2**31 - 1)}, "without an end, as for a reply, or the longest time")
+        self.passes(run(self.program("replies"), name, env=env))
+        return [int(number) for number in re.findall(r"^poll:told=(-?\d+)@", read(log), re.M)]
 
     def test_faults_are_made(self) -> None:
         """The tests above would show nothing if no call failed."""
@@ -125,7 +134,7 @@ class Service(CCase):
     def test_bank_by_threads_of_a_sanitizer(self) -> None:
         """Two threads at two connections share nothing that they change at once."""
         path = self.path("bank")
-        told = run("cc", *FLAGS, "-fsanitize=thread", "-o", path, f"{CLIENT}/bank.c", f"{CLIENT}/pashkure_remote.c")
+        told = run("cc", *FLAGS, "-fsanitize=thread", "-o", path, f"{CLIENT}/bank.c", *SOURCES)
         if told.status or run(path).status != 2:
             self.skipTest("this C compiler has no thread sanitizer that runs here (Debian's package libtsan)")
         self.passes(run(path, self.started().path))
@@ -135,7 +144,7 @@ class Sources(CCase):
     def test_compilers(self) -> None:
         """No compiler warns, and the header is one of C++ too."""
         header = self.file("header.cc", '#include "pashkure_remote.h"\npashkure_remote_connection connection = PASHKURE_REMOTE_CLOSED;\n')
-        for compiler, standard, source in [(compiler, "c11", f"{CLIENT}/pashkure_remote.c") for compiler in ("gcc", "clang")] + [
+        for compiler, standard, source in [(compiler, "c11", source) for compiler in ("gcc", "clang") for source in SOURCES] + [
             (compiler, "c++98", header) for compiler in ("g++", "clang++")]:  # fmt: skip
             if shutil.which(compiler):
                 self.passes(run(compiler, f"-std={standard}", *FLAGS[1:], "-c", "-o", os.devnull, source))
