@@ -6,6 +6,7 @@ by pkg-config. If something is missing, the package has a module `_pashkure` in 
 """
 import base64
 import hashlib
+import json
 import os
 import pathlib
 import re
@@ -18,7 +19,15 @@ import tempfile
 import zipfile
 
 HERE = pathlib.Path(__file__).resolve().parent
-NAME = "pashkure"
+PROJECT = (HERE / "pyproject.toml").read_text(encoding="utf-8")
+
+
+def _said(field):
+    """What pyproject.toml says of the package. A line of it is read as JSON: Python before 3.11 has no reader for TOML."""
+    return json.loads(re.search(f"^{field} = (.*)$", PROJECT, re.M)[1])
+
+
+NAME = _said("name")
 VERSION = re.search('^__version__ = "(.*)"$', (HERE / NAME / "__init__.py").read_text(encoding="utf-8"), re.M)[1]
 INFO = f"{NAME}-{VERSION}.dist-info"
 EXTENSION = "_pashkure"
@@ -26,16 +35,13 @@ METADATA = f"""\
 Metadata-Version: 2.1
 Name: {NAME}
 Version: {VERSION}
-Summary: Exclusive locks on names for transactions, with deadlocks told at once
-Requires-Python: >=3.9
-Classifier: Operating System :: POSIX
-Classifier: Programming Language :: Python :: 3
-Classifier: Typing :: Typed
-Description-Content-Type: text/markdown
+Summary: {_said("description")}
+Requires-Python: {_said("requires-python")}
+{"".join(f"Classifier: {classifier}" + chr(10) for classifier in _said("classifiers"))}Description-Content-Type: text/markdown
 
 {(HERE / "README.md").read_text(encoding="utf-8")}"""
 PARTS = {"METADATA": METADATA, "WHEEL": "Wheel-Version: 1.0\nGenerator: build_backend\nRoot-Is-Purelib: {}\nTag: {}\n",
-         "entry_points.txt": f"[console_scripts]\n{NAME} = {NAME}.__main__:main\n"}  # fmt: skip
+         "entry_points.txt": f"[console_scripts]\n{NAME} = {_said(NAME)}\n"}  # fmt: skip
 
 
 def build_wheel(folder, settings=None, metadata=None):

@@ -6,6 +6,7 @@ import inspect
 import itertools
 import math
 import os
+import pickle
 import random
 import re
 import subprocess
@@ -35,9 +36,9 @@ DIALOGUE = [
     ("owner", "owner 2.7"), ("owner", "free"), ("status", "active"), ("status", "waiting a\\xff 2.7"), ("status", "waiting a 2.7 aborting"),
     ("status", "deadlock a 2.7"), ("holds", "holds"), ("holds", "holds a b"), ("holds", "refused too-many"), ("cycle", "cycle 0.1 a 2.7 b"),
     ("cycle", "cycle 0.1 a 2.7 b .."), ("cycle", "refused not-deadlocked"), ("fence", "fence 7 8"), ("fence", "refused no-epoch"), ("totals", "totals 1 2 3 4"),
-    ("hello", "hello 1 2 3 4 5"), ("hello", "refused connections-full"), ("counts", "counts 1 2 3 4 5 6 7 8 9"), ("graph", "graph 0"),
-    ("graph", "graph 2\n* 0.1 a 2.7\n* 2.7 b 0.1"), ("list", "list 3\n* 0.1 1 active\n* 1.1 - waiting a 0.1 aborting\n* 2.1 2 deadlock b 1.1"),
-    ("clients", "clients 1\n* 1 2 3 4"),
+    ("hello", "hello 1 2 3 4 5"), ("hello", "refused connections-full"), ("counts", "counts 1 2 3 4 5 6 7 8 9 10 later"), ("graph", "graph 0"),
+    ("graph", "graph 2\n* 0.1 a 2.7\n* 2.7 b 0.1"), ("list", "list 3\n* 0.1 1 active 7\n* 1.1 - waiting a 0.1 aborting later\n* 2.1 2 deadlock b 1.1"),
+    ("clients", "clients 1\n* 1 2 3 4 later"),
 ]  # fmt: skip
 """Each request with each of its replies, by docs/SERVICE.md."""
 EVENTS = ["* granted 9.9 a", "* aborted 9.9"]
@@ -283,10 +284,10 @@ class Left(Case):
 class Clock(Case):
     """A lock with a time-out, by a clock of the test's own."""
 
-    def told(self, *steps: Any, deadline: float = 10.0, interrupts: int = -1, slow: float = math.inf) -> Any:
+    def told(self, *steps: Any, deadline: float = 10.0, interrupts: int = -1, slow: float = math.inf, looks: float = math.inf) -> Any:
         """Runs a lock whose answers these are, and returns how it ended. A number is a time at which the wait returns nothing."""
         now, self.warned, self.asked, self.untils = [0.0], [], [], []
-        state = flows.State(slow, lambda *told: self.warned.append(told), STEPS)
+        state = flows.State(slow, looks, lambda *told: self.warned.append(told), STEPS)
         with unittest.mock.patch("pashkure.flows.monotonic", lambda: now[0]):
             flow, answer = flows.lock(state, [b"a"], deadline), None
             try:
@@ -307,6 +308,16 @@ class Clock(Case):
         error = self.told(0.0, 9.999, 10.0, (b"cancelled",))
         same((type(error), error.name, self.untils), (Timeout, "a", [10.0] * 3))
         same([ask.word for ask in self.asked], [b"lock", b"cancel"])
+
+    @each([("a time", 10.0), ("none", math.inf)])
+    def test_looks(self, name: str, deadline: float) -> None:
+        """A service from which nothing comes for the time of a reply has to answer, each time. To a call with a time it has to within a second of it."""
+        waiting = (b"waiting", b"a", b"9.1")
+        same(self.told(2.0, waiting, 4.5, waiting, (b"granted", b"9.9", b"a"), deadline=deadline, looks=2.0), None)
+        same((self.untils, [ask.word for ask in self.asked]), ([2.0, 4.0, 6.5], [b"lock", b"status", b"status"]))
+        same({ask.deadline for ask in self.asked}, {deadline + 1.0})
+        self.told(12.0, (b"carried",), deadline=deadline, interrupts=3)
+        same(self.asked[-1].deadline, max(deadline, 12.0) + 1.0)
 
     def test_carried(self) -> None:
         """It tries again after pauses of 1 to 100 ms, each twice as long."""
@@ -342,7 +353,7 @@ class Clock(Case):
 class Silent:
     """A session of which nothing may be asked."""
 
-    epoch, watch = 1, Watch()
+    epoch, watch, reply_timeout = 1, Watch(), math.inf
 
     def __getattr__(self, name: str) -> Any:
         raise AssertionError(f"{name} was called")
@@ -366,7 +377,7 @@ class Arguments(Case):
                 for name in NO_TEXTS:
                     raises(TypeError, call, name)
                 for name in "x" * 1025, "ä" * 513, b"x" * 10**6:
-                    raises(pashkure.NameTooLong, call, name)
+                    same(raises(pashkure.NameTooLong, call, name).limit, 1024)
 
     def test_every_byte(self) -> None:
         """A name of each byte is sent as it is, or refused."""
@@ -389,6 +400,11 @@ class Arguments(Case):
             raises(pashkure.CannotConnect, call, "0.1")
             for key in NO_KEYS:
                 raises(ValueError, call, key)
+
+    def test_pickle(self) -> None:
+        """Locks say that each process opens its own."""
+        for locks, _ in self.callers():
+            self.assertRaisesRegex(TypeError, "each process opens its own", pickle.dumps, locks)
 
     def test_times(self) -> None:
         for locks, tx in self.callers():

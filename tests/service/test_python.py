@@ -23,7 +23,7 @@ class Calls(Opener):
     locks: Any
     form: Any
     paths: List[str] = []
-    connected = ("connected",)  # what is logged at the start
+    connected = ("{path}: connected",)  # what is logged at the start
 
     def setUp(self) -> None:
         super().setUp()  # type: ignore[misc]
@@ -246,9 +246,9 @@ class Calls(Opener):
                 same(locks.owner(same_name), tx.key)
             tx.unlock("a")
             for call in tx.lock, tx.try_lock, tx.unlock:
-                raises(NameTooLong, call, "x" * 21)
-                raises(NameTooLong, call, "ä" * 2000)
-                raises(NameTooLong, call, "x" * 100_000)
+                for name, limit in ("x" * 21, 20), ("ä" * 2000, 1024), ("x" * 100_000, 1024):
+                    error = raises(NameTooLong, call, name)
+                    same((error.name, error.limit), (name, limit))
             tx.lock("after")
             for zeros in f"00{tx.key}", tx.key.zfill(20), tx.key:
                 same(self.operator.status(zeros).state, "active")
@@ -334,7 +334,7 @@ class Calls(Opener):
         waited = [event for event in told if (event.key, event.names) in [(one.key, ("b",)), (three.key, ("a",))]]
         same([event.seconds >= event.waited >= 0.01 for event in waited], [True, True])
         text = "\n".join(logs.output)
-        for part in *self.connected, "deadlock: the request for 'a'", "on_event raised an exception", f"WARNING:pashkure:{one.key} has waited for 'b' of {two.key}":
+        for part in *(part.format(path=locks) for part in self.connected), f"{two.key}: deadlock: the request for 'a'", f"{one.key}: on_event raised an exception", f"WARNING:pashkure:{one.key} has waited for 'b' of {two.key}":
             self.assertIn(part, text)  # type: ignore[attr-defined]
 
 

@@ -340,8 +340,8 @@ class Hangs(TroubleCase):
         options = {"reply_timeout": 0.2, "connect_timeout": 0.2}
         locks, watch = self.opened(form, server.path, **options), self.opened(Locks.connect, server.path)
         holder = watch.transaction("held")
-        txs = [self.opened(form, server.path, **options).transaction(f"{number}") for number in range(4)]
-        waiter = waiting(txs[3], "held", timeout=0.3)
+        txs = [self.opened(form, server.path, **options).transaction(f"{number}") for number in range(5)]
+        waiter, patient = waiting(txs[3], "held", timeout=0.3), waiting(txs[4], "held")
         for call, wanted in ((txs[0].lock, "a"), LocksLost), ((txs[1].commit,), LocksLost), ((locks.transaction, "b"), CannotConnect), ((locks.totals,), CannotConnect):
             stop(server.process.pid)
             same(type(Apart(*call).ends()), wanted, str(call))
@@ -349,6 +349,7 @@ class Hangs(TroubleCase):
         stop(server.process.pid)
         raises(LocksLost, txs[2].commit, timeout=0.05)
         self.assertIn(type(waiter.ends()), (LocksLost, Timeout))
+        same(type(patient.ends()), LocksLost)
         for tx in txs:
             same(Apart(tx.abort).ends(), None)
         same(Apart(locks.close).ends(), None)
@@ -370,7 +371,7 @@ class Hangs(TroubleCase):
         os.kill(server.process.pid, signal.SIGCONT)
         self.none_is_left(self.opened(Locks.connect, server.path))
 
-    @each([("nonsense", b"nonsense\n", ProtocolError), ("another protocol", b"hello 2 1 1 1 1\n", ProtocolError), ("nothing", b"", CannotConnect)])
+    @each([("nonsense", b"nonsense\n", ProtocolError), ("of before", b"hello 1 1 1 1 1\n", ProtocolError), ("later", b"hello 3 1 1 1 1 1\n", ProtocolError), ("nothing", b"", CannotConnect)])
     def test_no_service(self, name: str, says: bytes, wanted: Any) -> None:
         """What is no lock service is told as such."""
         path = self.path("socket")

@@ -14,7 +14,7 @@ from .errors import (Aborted, BadName, CannotConnect, Closed, Deadlock, Full, In
 from .locks import Locks, Operator, Transaction
 from .values import Client, Counts, Event, Fence, Live, Name, Retry, Status, Totals
 
-__version__ = "0.1.0"
+__version__ = "0.2.0"
 __all__ = ["Aborted", "BadName", "CannotConnect", "Client", "Closed", "Counts", "Deadlock", "Event", "Fence", "Full", "Interrupted", "Live",
            "LockError", "Locks", "LocksLost", "Misuse", "MustAbort", "Name", "NameTooLong", "NoTransaction", "NotOwner", "Operator", "ProtocolError",
            "Retry", "ServiceRestarted", "Status", "Timeout", "Totals", "Transaction", "Wait", "Waiting"]  # fmt: skip

@@ -2,8 +2,9 @@
 import logging
 import os
 import weakref
+from functools import partial
 from time import monotonic, sleep
-from typing import Any, Callable, Coroutine, Iterable, List, Optional, Sequence, TypeVar
+from typing import Any, Callable, Coroutine, Iterable, Iterator, List, Optional, Sequence, TypeVar
 
 from .errors import Closed, Deadlock, LocksLost, ServiceRestarted, again
 from .flows import State
@@ -35,12 +36,20 @@ def each(items: Iterable[R]) -> List[R]:
 os.register_at_fork(after_in_child=lambda: [item.forget() for item in each(FORGOTTEN)])
 
 
+def made(flow: Callable[..., Any], *args: Any) -> Iterator[Any]:
+    """The coroutine of a flow, as the first item. An exception of a signal cannot come between its making and its first step in a `for`, as it can
+    behind a call. Python would say of that coroutine that it was never awaited."""
+    return iter(partial(flow, *args), None)
+
+
 def now(flow: Callable[..., Coroutine[Any, Any, R]], *args: Any) -> R:
     """Runs a flow of a thread."""
-    try:
-        flow(*args).send(None)
-    except StopIteration as end:
-        return end.value  # type: ignore[no-any-return]
+    for coroutine in made(flow, *args):
+        try:
+            coroutine.send(None)
+        except StopIteration as end:
+            return end.value  # type: ignore[no-any-return]
+        break
     raise RuntimeError("a flow of a thread was suspended")
 
 
@@ -55,15 +64,15 @@ class Watch:
     def __init__(self, on_event: OnEvent = None, slow_wait: Optional[float] = None) -> None:
         self._on_event, self.slow_wait = on_event, seconds(slow_wait, "slow_wait")
 
-    def connection(self, error: Optional[Closed]) -> None:
-        """A connection was made, or it was lost."""
-        log.log(logging.INFO if error is None else logging.WARNING, "%s", "connected" if error is None else error)
+    def connection(self, way: str, error: Optional[Closed]) -> None:
+        """A connection by this way was made, or it was lost."""
+        log.log(logging.INFO if error is None else logging.WARNING, "%s: %s", way, "connected" if error is None else error)
         self._tell(Event("connect") if error is None else Event("lost", error=error))
 
     def call(self, kind: str, state: State, names: Sequence[bytes], start: float, error: Optional[BaseException]) -> None:
         """A call of a transaction has ended."""
         if isinstance(error, Deadlock):
-            log.info("deadlock: %s", error)
+            log.info("%s: deadlock: %s", state.key.decode("ascii"), error)
         if kind and state.key and self._on_event is not None:
             waited = state.waited if kind in ("begin", "lock") else 0.0
             self._tell(Event(kind, state.key.decode("ascii"), tuple(map(decoded, names)), monotonic() - start, waited, error))  # type: ignore[arg-type]
@@ -76,7 +85,7 @@ class Watch:
             try:
                 self._on_event(event)
             except Exception:
-                log.exception("on_event raised an exception")
+                log.exception("%s: on_event raised an exception at %s", event.key or "no transaction", event.kind)
 
 
 class Ending:
@@ -96,6 +105,8 @@ class Session(Party, Ending):
 
     epoch = 0
     """The number of the service's start."""
+    name_bytes = 0
+    """How many bytes a name may have."""
     _is_woken = False
 
     ask: Callable[[Ask], Any]

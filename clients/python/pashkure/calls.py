@@ -1,6 +1,5 @@
 """The calls that threads and tasks have in common. Each is a flow, which `_drive` runs: now, or when it is awaited."""
 import contextlib
-import copy
 import math
 import threading
 import warnings
@@ -8,7 +7,7 @@ from time import monotonic
 from typing import Any, Awaitable, Callable, Coroutine, List, Optional, Sequence, Tuple, Type, TypeVar
 
 from . import flows
-from .backend import BY_DROP, LOST, RESTARTED, now
+from .backend import BY_DROP, LOST, RESTARTED, made, now
 from .errors import Aborted, CannotConnect, Closed, Deadlock, LockError, LocksLost, MustAbort, NoTransaction, Waiting, again
 from .in_process import Manages
 from .values import Fence, Name, Retry, Status, Totals, decoded, encoded, seconds
@@ -28,7 +27,7 @@ class Calls:
 
     def __init__(self, backend: Any, names: Tuple[bytes, ...] = (), timeout: float = math.inf) -> None:
         self._backend, self._names, self._timeout = backend, names, timeout
-        self._state = flows.State(backend.watch.slow_wait, backend.watch.slow)
+        self._state = flows.State(backend.watch.slow_wait, backend.reply_timeout, backend.watch.slow)
         self._busy = threading.Lock()  # held within a call, and never waited for
 
     @property
@@ -134,7 +133,8 @@ class Calls:
             if self._is_aborted:
                 raise Aborted("another task aborted the transaction before it had begun")
             try:
-                return await flow(state, *args)
+                for coroutine in made(flow, state, *args):
+                    return await coroutine
             except LocksLost as lost:
                 if state.key:
                     raise
@@ -152,9 +152,10 @@ class Calls:
             raise Aborted("another call aborts it") if self._is_aborted else Waiting("another thread or task is inside a call of this transaction")
         start, error, self._state.waited = monotonic(), None, 0.0
         try:
-            result = await flow(self._state, *args)
-            self._is_aborted = self._is_aborted and not self._state.is_over  # a commit that was made counts
-            return result
+            for coroutine in made(flow, self._state, *args):
+                result = await coroutine
+                self._is_aborted = self._is_aborted and not self._state.is_over  # a commit that was made counts
+                return result
         except BaseException as told:
             error = told
             error = await self._after(kind, told)
@@ -230,9 +231,10 @@ class Opened(Manages):
 
     def retrying(self: L, retry: Retry) -> L:
         """The same locks, whose `run` tries otherwise."""
-        locks = copy.copy(self)
-        locks._retry = retry
-        return locks
+        return type(self)(self._backend, retry)
+
+    def __reduce__(self) -> Any:
+        raise TypeError("locks cannot be pickled: each process opens its own")
 
     def owner(self, name: Name) -> Optional[str]:
         """The key of the transaction that owns the name, if one does."""

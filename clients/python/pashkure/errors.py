@@ -75,14 +75,24 @@ class NoTransaction(Misuse): """The transaction has ended."""
 class MustAbort(Misuse): """The transaction was told of a deadlock, and the call is none of `abort`, `status` and `holds`."""
 class Waiting(Misuse): """Another thread or task is inside a call of this transaction, such as a `lock` that waits."""
 class NotOwner(Misuse): """The transaction does not own the name."""
-class NameTooLong(Misuse): """The name has more bytes than a name may have."""
 class BadName(Misuse, ValueError): """It can be no name: it is empty, or has spaces or control characters."""
 # fmt: on
+
+
+class NameTooLong(Misuse):
+    """The name has more bytes than a name may have: `limit`."""
+
+    def __init__(self, name: str, limit: int) -> None:
+        super().__init__(name, limit)
+        self.name, self.limit = name, limit
+
+    def __str__(self) -> str:
+        return f"the name {self.name!r} has more than {self.limit} bytes"
+
 
 _REFUSALS = {
     b"must-abort": MustAbort("the transaction was told of a deadlock, and can only be aborted"),
     b"waiting": Waiting("the transaction waits for a lock"),
-    b"name-too-long": NameTooLong("the name has more bytes than a name may have"),
     b"not-owner": NotOwner("the transaction does not own the name"),
     b"operator": Misuse("only the operator may ask for this, at the operator's socket"),
     b"no-epoch": Misuse("the service was started without an epoch, so it has no fences"),

@@ -8,13 +8,15 @@ from dataclasses import dataclass
 from time import monotonic
 from typing import Any, Callable, List, Optional, Sequence, Tuple, TypeVar
 
-from .errors import Aborted, Closed, Deadlock, Interrupted, LockError, ProtocolError, Timeout, Wait, refusal
-from .values import Status, decoded
+from .errors import Aborted, Closed, Deadlock, Interrupted, LockError, NameTooLong, ProtocolError, Timeout, Wait, refusal
+from .values import Counts, Status, decoded
 from .wire import LONGEST, Answer, Ask, cut
 
 R = TypeVar("R")
 OWNED = (b"granted", b"held")
 SHORTEST, LONGEST_PAUSE = 0.001, 0.1
+REPLY_SLACK = 1.0
+"""Seconds after the time of a call in which a reply to it is still taken."""
 
 
 @dataclass
@@ -22,6 +24,7 @@ class State:
     """What is known of a transaction."""
 
     slow_wait: float = math.inf
+    reply_timeout: float = math.inf  # in so many seconds of a wait the service has to answer once
     warn: Optional[Callable[[bytes, str, str, float], None]] = None
     session: Any = None
     key: bytes = b""
@@ -35,7 +38,7 @@ class State:
 async def begin(state: State, names: Sequence[bytes], deadline: float) -> None:
     """Begins a transaction that owns these names. Where it cannot own all, none is left."""
     part = names[: cut(names, LONGEST - len(b"begin"))]
-    words: Answer = await state.session.ask(Ask(b"begin", tuple(part)))
+    words: Answer = await state.session.ask(Ask(b"begin", tuple(part), _due(deadline)))
     state.is_over = words[0] != b"begun"
     if state.is_over:
         raise refusal(words[-1])
@@ -53,7 +56,7 @@ async def lock(state: State, names: Sequence[bytes], deadline: float) -> None:
     await settle(state)
     while names:
         part = names[: cut(names, LONGEST - len(b"lock ") - len(state.key))]
-        words: Answer = await state.session.ask(Ask(b"lock", tuple(part)))
+        words: Answer = await state.session.ask(Ask(b"lock", tuple(part), _due(deadline)))
         names = names[await _owned(state, part, words, deadline) :]
 
 
@@ -69,7 +72,12 @@ async def _owned(state: State, names: Sequence[bytes], words: Answer, deadline: 
         return place + 1
     if words[0] == b"deadlock":
         raise (await _deadlock(state, names[place], words[-1]))
-    raise _refused(state, words)
+    raise _refused(state, words, names[place])
+
+
+def _due(deadline: float) -> float:
+    """When the reply to a request of a call with this deadline has to be there."""
+    return max(deadline, monotonic()) + REPLY_SLACK
 
 
 async def _deadlock(state: State, name: bytes, holder: bytes) -> Deadlock:
@@ -79,13 +87,14 @@ async def _deadlock(state: State, name: bytes, holder: bytes) -> Deadlock:
 
 
 async def _waited(state: State, name: str, holder: str, deadline: float) -> None:
-    """Returns when the wait was granted. At the deadline, and if it is interrupted, the request is taken back, and this raises."""
+    """Returns when the wait was granted. At the deadline, and if it is interrupted, the request is taken back, and this raises. A service that
+    hangs ends it too: it is asked again and again."""
     state.waits = Status("waiting", name, holder)
     start, pause, is_tried = monotonic(), SHORTEST, False
-    warns, until = start + state.slow_wait, deadline
+    warns, until, looks = start + state.slow_wait, deadline, start + state.reply_timeout
     try:
         while True:
-            told: Optional[Answer] = None if state.is_interrupted and not is_tried else await state.session.wait(min(until, warns))
+            told: Optional[Answer] = None if state.is_interrupted and not is_tried else await state.session.wait(min(until, warns, looks))
             if told is not None:
                 break
             now = monotonic()
@@ -93,8 +102,11 @@ async def _waited(state: State, name: str, holder: str, deadline: float) -> None
                 state.warn(state.key, name, holder, now - start)
                 warns = math.inf
             if now < until and not state.is_interrupted:
+                if now >= looks:
+                    await state.session.ask(Ask(b"status", (), _due(deadline)))
+                    looks = monotonic() + state.reply_timeout
                 continue
-            words: Answer = await state.session.ask(Ask(b"cancel"))
+            words: Answer = await state.session.ask(Ask(b"cancel", (), _due(deadline)))
             if words[0] == b"cancelled":
                 is_interrupted, state.is_interrupted = state.is_interrupted, False
                 raise Interrupted(f"the wait for {name!r} was interrupted") if is_interrupted else Timeout(name)
@@ -128,7 +140,7 @@ async def asked(state: State, ask: Ask, read: Callable[[Answer], R]) -> R:
     words: Answer = await state.session.ask(ask)
     state.is_over = not state.key or words[0] == b"committed"
     if words[0] == b"refused":
-        raise _refused(state, words)
+        raise _refused(state, words, *ask.names)
     return read(words)
 
 
@@ -139,8 +151,19 @@ async def abort(state: State) -> bool:
     return words[0] != b"later"
 
 
-def _refused(state: State, words: Answer) -> LockError:
-    """What a refusal says, or the end of a wait. This side did not end a live transaction."""
+async def next_told(session: Any, reply_timeout: float) -> Answer:
+    """What an operator is told next. In so many seconds the service has to answer once."""
+    while True:
+        told: Optional[Answer] = await session.wait(monotonic() + reply_timeout)
+        if told is not None:
+            return told
+        await session.ask(Ask(b"hello"))
+
+
+def _refused(state: State, words: Answer, name: bytes = b"") -> LockError:
+    """What a refusal says, of a request for this name, or the end of a wait. This side did not end a live transaction."""
+    if words[-1] == b"name-too-long":
+        return NameTooLong(decoded(name), state.session.name_bytes)
     if words[0] == b"refused" and (words[-1] != b"no-transaction" or not state.key):
         return refusal(words[-1])
     state.is_over = True
@@ -151,7 +174,12 @@ def status_of(words: Sequence[bytes]) -> Status:
     """What a transaction does, by the words of a reply."""
     if words[0] == b"active":
         return Status("active")
-    return Status("waiting" if words[0] == b"waiting" else "deadlock", decoded(words[1]), words[2].decode("ascii"), len(words) == 4)
+    return Status("waiting" if words[0] == b"waiting" else "deadlock", decoded(words[1]), words[2].decode("ascii"), words[3:4] == (b"aborting",))
+
+
+def counts_of(words: Answer) -> Counts:
+    """What was counted, by the words of a reply. Further words are of a later version."""
+    return Counts(*map(int, words[1:10]))
 
 
 def waits_of(words: Answer) -> List[Wait]:

@@ -2,6 +2,7 @@
 from __future__ import annotations
 
 import importlib
+import math
 import os
 import threading
 import weakref
@@ -11,7 +12,7 @@ from typing import Any, Callable, Dict, List, Optional, Sequence, Type, TypeVar
 from . import backend
 from .backend import BY_CLOSE, BY_DROP, BY_FORK, FORGOTTEN, OnEvent, Watch, each, slept
 from .errors import Closed, Misuse, Wait, again
-from .flows import waits_of
+from .flows import counts_of, waits_of
 from .values import Counts, Retry, decoded
 from .wire import Answer, Ask
 
@@ -34,7 +35,7 @@ class Inside(backend.Session):
 
     def __init__(self, owner: "InProcess") -> None:
         super().__init__()
-        self._manager, self._slots = owner.manager, owner.transactions
+        self._manager, self._slots, self.name_bytes = owner.manager, owner.transactions, owner.name_bytes
         self._seat = owner.extension.Seat(self._bell())
 
     def _bell(self) -> Callable[[], None]:
@@ -182,9 +183,10 @@ class InProcess(backend.Ending):
     """The manager, and its sessions."""
 
     pause = staticmethod(slept)
+    reply_timeout = math.inf  # each request is answered at once
 
     def __init__(self, transactions: int, names: int, name_bytes: int, watch: Watch) -> None:
-        self.extension, self.transactions, self.watch = extension(), transactions, watch
+        self.extension, self.transactions, self.name_bytes, self.watch = extension(), transactions, name_bytes, watch
         self.manager = self.extension.Manager(transactions, names, name_bytes, int.from_bytes(os.urandom(8), "little"))
         self._sessions: "weakref.WeakSet[Inside]" = weakref.WeakSet()
         FORGOTTEN.add(self)
@@ -257,7 +259,7 @@ class Manages:
 
     def counts(self) -> Counts:
         """What was counted, and how many events are left until the locks have to be opened again."""
-        return self._told(b"counts", lambda words: Counts(*map(int, words[1:])))
+        return self._told(b"counts", lambda words: counts_of(words))
 
     def _told(self, word: bytes, read: Callable[[Answer], R]) -> R:
         if not isinstance(self._backend, InProcess):

@@ -7,7 +7,7 @@ from typing import TYPE_CHECKING, Any, Callable, Iterator, List, Optional, Tuple
 from .backend import OnEvent, Watch, now
 from .calls import Calls, Opened
 from .errors import Wait
-from .flows import cycle_of, status_of, waits_of
+from .flows import counts_of, cycle_of, next_told, status_of, waits_of
 from .service import Path, Service
 from .values import Client, Counts, Live, Name, Retry, Status, decoded, encoded, key_bytes, seconds
 from .wire import Answer, Ask
@@ -136,16 +136,16 @@ class Operator(Closes):
 
     def counts(self) -> Counts:
         """What the service has counted."""
-        return self._ask(b"counts", lambda words: Counts(*map(int, words[1:])))
+        return self._ask(b"counts", lambda words: counts_of(words))
 
     def clients(self) -> List[Client]:
         """Who is connected."""
-        return self._ask(b"clients", lambda words: [Client(*map(int, line.split(b" ")[1:])) for line in words[2:]])
+        return self._ask(b"clients", lambda words: [Client(*map(int, line.split(b" ")[1:5])) for line in words[2:]])
 
     def deadlocks(self) -> Iterator[Tuple[Wait, ...]]:
         """Each deadlock from now on, as its waits, the victim's first, over a connection of its own. Raises `Closed` at its end."""
         session = now(self._backend.find, math.inf)
-        told: Iterator[Answer] = iter(lambda: now(session.wait, math.inf), None)
+        told: Iterator[Answer] = iter(lambda: now(next_told, session, self._backend.reply_timeout), None)
         return (cycle_of(words[1:]) for words in told)
 
     def _ask(self, word: bytes, read: Callable[[Answer], R], *names: bytes) -> R:

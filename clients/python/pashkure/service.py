@@ -16,6 +16,8 @@ from .wire import Answer, Ask, Call, Conversation, Party
 
 C = TypeVar("C", bound=Any)  # a connection
 SIZE = 16384
+PROTOCOL = 2
+"""The number of the protocol, which the reply to `hello` begins with."""
 Path = Union[str, bytes, "os.PathLike[str]", "os.PathLike[bytes]"]
 LONGEST = 1e6
 """Seconds that the calls of the system take; more are as good as for ever."""
@@ -53,7 +55,7 @@ class Ways(Ending, Generic[C]):
                 try:
                     found = await self._tried(self.paths[place], max(0.1, min(self.reply_timeout, deadline - monotonic())))
                     self._way = place
-                    self.tell(None)
+                    self.tell(found.way, None)
                     if self.why is not None:
                         found.end(self.why)
                     return found
@@ -77,14 +79,16 @@ class Ways(Ending, Generic[C]):
             line = b""
         if call.answer[0] != b"hello":
             raise Full("connections")
-        if call.answer[1] != b"1":
-            raise ProtocolError(f"the service speaks protocol {call.answer[1].decode()}, and this package protocol 1")
-        epoch = found.epoch = int(call.answer[2])
+        protocol, epoch, _, _, found.name_bytes = map(int, call.answer[1:6])
+        if protocol != PROTOCOL:
+            wanted = "restart the service first, from this package's version" if protocol < PROTOCOL else "install a later version of this package"
+            raise ProtocolError(f"the service speaks protocol {protocol}, and this package protocol {PROTOCOL}: {wanted}")
+        found.epoch = epoch
         if epoch < self.epoch:
             raise ConnectionError(f"the service's epoch {epoch} is below {self.epoch}, which was seen before: it has to be started anew")
         is_new, self.epoch = 0 < self.epoch < epoch, max(self.epoch, epoch)
         if is_new:
-            self.tell(again(RESTARTED))
+            self.tell(found.way, again(RESTARTED))
 
     def __str__(self) -> str:
         return " or ".join(map(os.fsdecode, self.paths))
@@ -103,9 +107,9 @@ class Session(backend.Session):
 
     _pipe: Tuple[int, ...] = ()  # by which a wait is woken
 
-    def __init__(self, service: "Service", connection: Socket) -> None:
+    def __init__(self, service: "Service", connection: Socket, way: str) -> None:
         super().__init__()
-        self.service, self.epoch = service, service.epoch
+        self.service, self.epoch, self.way = service, service.epoch, way
         self._socket, self.talk = connection, Conversation(self)
         self.poll = select.poll()
         self.poll.register(connection, select.POLLIN)
@@ -172,7 +176,7 @@ class Session(backend.Session):
             why = self.why or (again(error) if isinstance(error, ProtocolError) else late(self._socket.gettimeout()) if is_late else LOST)
             self.end(why)
             if is_new:
-                self.service.tell(again(why))
+                self.service.tell(self.way, again(why))
             raise again(why) from error
 
     async def exchanged(self, line: bytes) -> bytes:
@@ -221,7 +225,7 @@ class Service(Ways[Session]):
         connection.settimeout(limit)
         try:
             connection.connect(path)
-            session = Session(self, connection)
+            session = Session(self, connection, os.fsdecode(path))
             self._all.add(session)
             FORGOTTEN.add(session)
             await self.hello(session)

@@ -26,7 +26,7 @@ def encoded(name: Name) -> bytes:
     if not _NAME.match(data):
         raise BadName(f"{name!r} is no name: a name has at least one byte, and no spaces or control characters")
     if len(data) > LONGEST_NAME:
-        raise NameTooLong(f"a name of {len(data)} bytes; no service takes more than {LONGEST_NAME}")
+        raise NameTooLong(decoded(data), LONGEST_NAME)
     return data
 
 

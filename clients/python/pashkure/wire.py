@@ -25,10 +25,11 @@ Answer = Tuple[bytes, ...]
 
 _KEY, _NAME, _N = rb"[0-9]{1,10}\.[0-9]{1,10}", rb"[!-~\x80-\xff]+", rb"[0-9]{1,20}"
 _PAIRS = rb"(?: KEY NAME)+(?: \.\.)?"
+_MORE = rb"(?: NAME)*"  # words of a later version, which are passed over
 
 
 def _pattern(text: bytes) -> "re.Pattern[bytes]":
-    return re.compile(text.replace(b"PAIRS", _PAIRS).replace(b"KEY", _KEY).replace(b"NAME", _NAME).replace(b"#", _N))
+    return re.compile(text.replace(b"PAIRS", _PAIRS).replace(b"MORE", _MORE).replace(b"KEY", _KEY).replace(b"NAME", _NAME).replace(b"#", _N))
 
 
 REPLIES = {
@@ -38,7 +39,7 @@ REPLIES = {
         b"try": rb"granted|held|busy KEY", b"unlock": rb"unlocked", b"commit": rb"committed", b"abort": rb"aborted|later",
         b"cancel": rb"cancelled|carried", b"owner": rb"owner KEY|free", b"status": rb"active|(?:waiting|deadlock) NAME KEY(?: aborting)?",
         b"holds": rb"holds(?: NAME)*", b"cycle": rb"cyclePAIRS", b"fence": rb"fence # #", b"totals": rb"totals(?: #){4}",
-        b"hello": rb"hello(?: #){5}", b"counts": rb"counts(?: #){9}", b"graph": rb"graph #", b"list": rb"list #", b"clients": rb"clients #",
+        b"hello": rb"hello(?: #){5}MORE", b"counts": rb"counts(?: #){9}MORE", b"graph": rb"graph #", b"list": rb"list #", b"clients": rb"clients #",
     }.items()
 }  # fmt: skip
 PLAIN = (b"begin", b"owner", b"totals", b"hello")
@@ -46,8 +47,8 @@ PLAIN = (b"begin", b"owner", b"totals", b"hello")
 EVENT = _pattern(rb"\* (?:granted KEY NAME|aborted KEY|deadlockPAIRS)")
 LINES = {
     b"graph": _pattern(rb"\* KEY NAME KEY"),
-    b"list": _pattern(rb"\* KEY (?:#|-) (?:active|(?:waiting|deadlock) NAME KEY(?: aborting)?)"),
-    b"clients": _pattern(rb"\* # # # #"),
+    b"list": _pattern(rb"\* KEY (?:#|-) (?:active|(?:waiting|deadlock) NAME KEY(?: aborting)?)MORE"),
+    b"clients": _pattern(rb"\* # # # #MORE"),
 }
 """The lines that follow a reply, for the requests whose replies have some."""
 

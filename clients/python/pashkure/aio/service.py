@@ -2,6 +2,7 @@
 import asyncio
 import contextlib
 import math
+import os
 import socket
 from time import monotonic
 from typing import Any, List, Optional, Tuple
@@ -43,8 +44,11 @@ class Sleeper(backend.Session):
 class Connection(asyncio.Protocol, backend.Ending):
     """One connection, for any number of transactions."""
 
-    def __init__(self, service: "Service", own: socket.socket) -> None:
-        self.service, self.own, self.epoch = service, own, service.epoch
+    name_bytes = 0
+    """How many bytes a name may have."""
+
+    def __init__(self, service: "Service", own: socket.socket, way: str) -> None:
+        self.service, self.own, self.epoch, self.way = service, own, service.epoch, way
         self.loop, self.talk = asyncio.get_running_loop(), Conversation()
         self.can_write = asyncio.Event()
         self.can_write.set()
@@ -102,7 +106,7 @@ class Connection(asyncio.Protocol, backend.Ending):
             self._timer.cancel()
         self._transport.abort()
         if self in self.service.connections and why is not BY_CLOSE:
-            self.service.tell(again(why))
+            self.service.tell(self.way, again(why))
         self.can_write.set()
         self.talk.lost()
 
@@ -127,7 +131,7 @@ class Session(Sleeper):
 
     def __init__(self, connection: Connection) -> None:
         super().__init__()
-        self.connection, self.epoch = connection, connection.epoch
+        self.connection, self.epoch, self.name_bytes = connection, connection.epoch, connection.name_bytes
         self._last: Optional[Call] = None  # the last request
 
     async def ask(self, ask: Ask) -> Answer:
@@ -140,7 +144,7 @@ class Session(Sleeper):
         while call.answer is None:
             self.check()
             if monotonic() >= ask.deadline:
-                raise LocksLost(f"the service did not answer {ask.word.decode()} in time")
+                self.end(LocksLost(f"the service did not answer {ask.word.decode()} in time"))
             await self._sleep(ask.deadline)
         return call.answer
 
@@ -218,7 +222,7 @@ class Service(Ways[Connection]):
         return connection
 
     async def _tried(self, path: Any, limit: float) -> Connection:
-        connection = Connection(self, socket.socket(socket.AF_UNIX))
+        connection = Connection(self, socket.socket(socket.AF_UNIX), os.fsdecode(path))
         try:
             await asyncio.wait_for(connection.opened(path), limit)
             return connection
