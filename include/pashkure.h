@@ -29,7 +29,7 @@
 #include <stddef.h>
 #include <stdint.h>
 
-#define PASHKURE_VERSION 1000u /* of this header: major * 1,000,000 + minor * 1,000 + patch */
+#define PASHKURE_VERSION 2000u /* of this header: major * 1,000,000 + minor * 1,000 + patch */
 
 #if defined(__GNUC__) || defined(__clang__)
 #define PASHKURE_CHECKED __attribute__((warn_unused_result)) /* an answer that is not looked at is a bug */

@@ -142,7 +142,7 @@ class Hub:
         return [b"fence %d %d" % (self.epoch, self.service.events)]
 
     def hello(self) -> list[bytes]:
-        return [b"hello 1 %d %d %d %d" % (self.epoch or 0, self.service.table.processes, self.service.names_limit, self.service.name_bytes)]
+        return [b"hello 2 %d %d %d %d" % (self.epoch or 0, self.service.table.processes, self.service.names_limit, self.service.name_bytes)]
 
     def list(self) -> list[bytes]:
         live = sorted(self.service.keys, key=self.service.keys.__getitem__)

@@ -59,7 +59,7 @@ class Install(Case):
 
     def is_used(self, path: object) -> None:
         """The package that is installed locks a name, and lies at this path; its script runs."""
-        self.assertEqual(self.runs(self.bin / "python", "-c", USE), f"['a'] 0.1.0 {path}\n")
+        self.assertEqual(self.runs(self.bin / "python", "-c", USE), f"['a'] 0.2.0 {path}\n")
         told = run(str(self.bin / "pashkure"), env=self.environment)
         self.assertEqual((told.status, told.out, b"mmdetect serve" in told.err), (2, b"", True))
         self.addCleanup(self.pip, "uninstall", "-y", "pashkure")
@@ -84,14 +84,14 @@ class Install(Case):
         wheels = []
         for name in "one", "two":
             self.pip("wheel", "--no-index", "-w", self.room / name, CLIENT)
-            wheels.append(self.room / name / "pashkure-0.1.0-py3-none-any.whl")
+            wheels.append(self.room / name / "pashkure-0.2.0-py3-none-any.whl")
         self.assertEqual(*(wheel.read_bytes() for wheel in wheels))
         with zipfile.ZipFile(wheels[0]) as wheel:
             files = {name: wheel.read(name) for name in wheel.namelist()}
         self.assertIn(b"without its C extension", files["_pashkure.py"])
         self.assertEqual({name: data for name, data in files.items() if ".dist-info/" not in name and name != "_pashkure.py"}, sources())
         digests = {name: base64.urlsafe_b64encode(hashlib.sha256(data).digest()).decode().rstrip("=") for name, data in files.items()}
-        record = "pashkure-0.1.0.dist-info/RECORD"
+        record = "pashkure-0.2.0.dist-info/RECORD"
         lines = [f"{name},sha256={digests[name]},{len(data)}" for name, data in files.items() if name != record]
         self.assertEqual(sorted(files[record].decode().splitlines()), sorted([*lines, f"{record},,"]))
 
@@ -99,6 +99,6 @@ class Install(Case):
         """An archive of the sources can be installed too."""
         code = f"import sys; sys.path.insert(0, {str(CLIENT)!r}); import build_backend; print(build_backend.build_sdist('.'))"
         name = self.runs(sys.executable, "-c", code).strip()
-        self.assertEqual(name, "pashkure-0.1.0.tar.gz")
+        self.assertEqual(name, "pashkure-0.2.0.tar.gz")
         self.pip("install", "--no-index", self.room / name)
         self.is_used(self.library() / "pashkure" / "__init__.py")

@@ -174,13 +174,13 @@ class Linked(LibraryCase):
     def test_written(self) -> None:
         self.assertEqual(self.written.err.decode(), f"mmdetect: the C library is in {self.top}\n")
         files = {os.path.relpath(os.path.join(at, name), self.top) for at, _, names in os.walk(self.top) for name in names}
-        self.assertEqual(files, {"include/pashkure.h", "include/pashkure_threads.h", "lib/libpashkure.a", "lib/libpashkure.so", "lib/libpashkure.so.0.1", "lib/pkgconfig/pashkure.pc"})
+        self.assertEqual(files, {"include/pashkure.h", "include/pashkure_threads.h", "lib/libpashkure.a", "lib/libpashkure.so", "lib/libpashkure.so.0.2", "lib/pkgconfig/pashkure.pc"})
 
     def test_shared(self) -> None:
         """The shared object has its name with the major and the minor number, and needs the C library alone."""
         wants("readelf")
         told = run("readelf", "--dynamic", f"{self.top}/lib/libpashkure.so").out.decode()
-        self.assertEqual(re.findall(r"(?:NEEDED|SONAME).*\[(.*)\]", told), ["libc.so.6", "libpashkure.so.0.1"])
+        self.assertEqual(re.findall(r"(?:NEEDED|SONAME).*\[(.*)\]", told), ["libc.so.6", "libpashkure.so.0.2"])
         self.assertNotIn("TEXTREL", told)
         source = self.file("shared.c", '#include "pashkure.h"\nint main(void) { return pashkure_version() != PASHKURE_VERSION; }\n')
         self.ends(run(self.built(source, archive=False)))
@@ -211,11 +211,11 @@ class Linked(LibraryCase):
         told = self.passes(run("pkg-config", "--cflags", "--libs", "pashkure", env=env))
         places = [os.path.normpath(word[2:]) for word in told.out.decode().split() if word[:2] in ("-I", "-L")]
         self.assertEqual(places, [f"{self.top}/include", f"{self.top}/lib"])
-        self.ends(run("pkg-config", "--modversion", "pashkure", env=env), 0, "0.1.0\n")
+        self.ends(run("pkg-config", "--modversion", "pashkure", env=env), 0, "0.2.0\n")
 
     def test_folder_by_a_relative_path(self) -> None:
         self.ends(run(f"{TOP}/mmdetect", "library", "in/here", cwd=self.folder), 0, "", "mmdetect: the C library is in in/here\n")
-        self.assertEqual(sorted(os.listdir(f"{self.folder}/in/here/lib")), ["libpashkure.a", "libpashkure.so", "libpashkure.so.0.1", "pkgconfig"])
+        self.assertEqual(sorted(os.listdir(f"{self.folder}/in/here/lib")), ["libpashkure.a", "libpashkure.so", "libpashkure.so.0.2", "pkgconfig"])
 
     def test_folder_that_cannot_be_written(self) -> None:
         place = self.file("file", "")

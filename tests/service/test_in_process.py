@@ -230,7 +230,7 @@ class Installed(LibraryCase):
     ])  # fmt: skip
     def test_without(self, what: str, variables: Any, patch: str, why: str) -> None:
         """The package is installed all the same, and `in_process` says what was missing."""
-        self.assertEqual(self.wheel(patch, **variables), "pashkure-0.1.0-py3-none-any.whl")
+        self.assertEqual(self.wheel(patch, **variables), "pashkure-0.2.0-py3-none-any.whl")
         told = self.used()
         self.assertEqual(told.status, 1)
         self.assertIn(f"ImportError: pashkure was installed without its C extension: {why}", told.err.decode())

@@ -3,7 +3,7 @@ use crate::Key;
 use std::os::raw::{c_char, c_void};
 
 /// The version of the headers of which these are the declarations.
-pub const VERSION: u32 = 1000;
+pub const VERSION: u32 = 2000;
 
 /// A time without an end.
 pub const FOREVER: i64 = i64::MAX;

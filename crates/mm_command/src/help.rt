@@ -173,7 +173,7 @@ counts, which are 'refused operator' to others. Further requests:
   cycle K         cycle K NAME K NAME ..: the cycle that K closed, each with the
                   name that it waits for, at most 16, then '..'
   fence K NAME    fence E F: the epoch, and the count of events, of a name of K
-  hello           hello 1 E TRANSACTIONS NAMES BYTES: the protocol, the epoch or
+  hello           hello 2 E TRANSACTIONS NAMES BYTES: the protocol, the epoch or
                   0, and --transactions, --names and --name-bytes
   list            list N, and N lines '* K C STATE': each live transaction, its
                   connection or -, and its status

@@ -51,7 +51,7 @@ FenceText h k name out = (owner : Option Key) × ((o : Key) → (owner ≡ Some 
 -- the protocol, the epoch, and the numbers of the opening
 abbrev pub hello_text : Hub → List ℕ
 hello_text h =
-    (codes "hello 1 " ++ decimal (unwrap_or h.options.epoch 0)) ++ (codes " " ++ decimal h.manager.table.config.processes) ++ (codes " " ++ decimal h.manager.table.config.resources)
+    (codes "hello 2 " ++ decimal (unwrap_or h.options.epoch 0)) ++ (codes " " ++ decimal h.manager.table.config.processes) ++ (codes " " ++ decimal h.manager.table.config.resources)
     ++ (codes " " ++ decimal h.manager.names.name_bytes)
 
 -- the totals, the events, and how many are left

@@ -154,7 +154,7 @@ impl ServedManager {
         ensures { output.new.items ≡ output.old.items ++ line_text (hello_text (hub_of self.now)) }
     {
         let config = self.manager.config();
-        print_number(output, b"hello 1 ", self.options.epoch.unwrap_or(0));
+        print_number(output, b"hello 2 ", self.options.epoch.unwrap_or(0));
         print_number(output, b" ", u64::from(config.transactions));
         print_number(output, b" ", u64::from(config.names));
         print_number(output, b" ", u64::from(config.name_bytes));

@@ -11,7 +11,7 @@ is_out n most = nat_eq n 0 || nat_lt most n
 -- the number of the first fault, in the order of the members; 0 if there is none. A header is served that has the library's major and minor numbers, 0 and 1
 abbrev pub config_fault : PlainConfig → ℕ
 config_fault c =
-    if nat_eq (c.header / 1000) 1 then
+    if nat_eq (c.header / 1000) 2 then
     if is_out c.transactions MAX_PROCESSES then 35 else
     if is_out c.names MAX_NAMES then 36 else
     if is_out c.name_bytes MAX_NAME_BYTES then 37 else

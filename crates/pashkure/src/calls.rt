@@ -17,7 +17,7 @@ use std::alloc::Global;
 /// Returns the version of the library: 1,000,000 times the major number, and 1,000 times the minor one, and the patch.
 #[unsafe(no_mangle)]
 pub extern "C" fn pashkure_version() -> u32
-    ensures { result ≡ 1000 }
+    ensures { result ≡ 2000 }
 {
     VERSION
 }

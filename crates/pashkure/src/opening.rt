@@ -8,7 +8,7 @@ use mm_names::NamesConfig;
 use mm_settled::Config;
 
 /// The version of the library: `major * 1_000_000 + minor * 1_000 + patch`.
-pub const VERSION: u32 = 1_000;
+pub const VERSION: u32 = 2_000;
 
 /// Returns the number of the first fault of a configuration, in the order of its members; 0 if it has none.
 pub fn fault(config: &PlainConfig) -> u32
