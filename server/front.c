@@ -80,25 +80,49 @@ static bool makes_events(struct front *front)
     return true;
 }
 
+static void is_told_to_end(struct front *front)
+{
+    struct signalfd_siginfo told;
+    if (read(front->signals, &told, sizeof told) != sizeof told)
+        return;
+    front->signal = (int)told.ssi_signo;
+    front->end = BY_SIGNAL;
+}
+
+/* Starts the program, and greets it. */
+static bool starts_program(struct front *front)
+{
+    if (!program_start(&front->program, &front->options, front->epoch, (uint64_t)front->connections + 1))
+        return false;
+    if (lines_greet(front) && watch_file(front, front->program.out, EPOLLIN, FROM_PROGRAM))
+        return true;
+    says("memory was refused");
+    program_end(&front->program);
+    return false;
+}
+
+/* Begins as far as no client is concerned: the sockets are opened when the program has answered. Without a heartbeat nothing is begun, and
+   the server has its end. */
 bool front_begin(struct front *front, int socket)
 {
     const struct options *options = &front->options;
     heartbeat_begin(&front->heartbeat, options);
+    front->program.name = options->program;
     if (!place_lock(&front->place, options->socket) || (options->admin != NULL && !place_lock(&front->admin_place, options->admin)))
         return false;
     front->place.socket = socket;
     if ((socket < 0 && !place_is_free(&front->place)) || (options->admin != NULL && !place_is_free(&front->admin_place)))
         return false;
-    if (!makes_tables(front) || !makes_events(front) || !epoch_take(options, &front->epoch))
+    if (!makes_tables(front) || !makes_events(front))
         return false;
-    if (!program_start(&front->program, options, front->epoch, (uint64_t)front->connections + 1))
-        return false;
-    if (!lines_greet(front) || !watch_file(front, front->program.out, EPOLLIN, FROM_PROGRAM)) {
-        says("memory was refused");
-        program_end(&front->program);
-        return false;
+    if (!heartbeat_wait(&front->heartbeat, front->signals)) {
+        front->end = BY_HEARTBEAT;
+        is_told_to_end(front);
+        return true;
     }
-    return true;
+    if (!epoch_take(options, &front->epoch))
+        return false;
+    return starts_program(front);
 }
 
 /* Opens the sockets once the program has answered. */
@@ -150,15 +174,6 @@ static void serves(struct front *front, struct client *client, unsigned events)
     }
     client->is_stalled = !client->is_ready && !client->is_over;
     watch_reads(front, client, false); /* it has its turn later */
-}
-
-static void is_told_to_end(struct front *front)
-{
-    struct signalfd_siginfo told;
-    if (read(front->signals, &told, sizeof told) != sizeof told)
-        return;
-    front->signal = (int)told.ssi_signo;
-    front->end = BY_SIGNAL;
 }
 
 /* Takes an event. Those of the listeners come last, when the numbers of those that left are free. */
@@ -268,13 +283,14 @@ void front_run(struct front *front)
     }
 }
 
-/* Closes a client, after one more send of what it is owed. */
-static void closes(struct client *client, bool is_sent)
+/* Closes a client, after one more send of what it is owed, unless the heartbeat is late. */
+static void closes(struct front *front, struct client *client)
 {
     if (client == NULL || client->file < 0)
         return;
-    if (is_sent && buffer_length(&client->out) > 0)
-        is_sent = send(client->file, buffer_bytes(&client->out), buffer_length(&client->out), MSG_NOSIGNAL | MSG_DONTWAIT) > 0;
+    bool is_sent = buffer_length(&client->out) > 0 && front->end != BY_HEARTBEAT && !heartbeat_is_late(&front->heartbeat);
+    if (is_sent)
+        send(client->file, buffer_bytes(&client->out), buffer_length(&client->out), MSG_NOSIGNAL | MSG_DONTWAIT);
     close(client->file);
     buffer_clear(&client->in);
     buffer_clear(&client->out);
@@ -293,7 +309,7 @@ static int says_why(const struct front *front, int status)
     else if (front->end == BY_NONSENSE)
         says("%s wrote what is no reply", name);
     else if (front->end == BY_HEARTBEAT)
-        says("no line came on descriptor %d for %lld milliseconds", front->heartbeat.file, (long long)front->heartbeat.limit);
+        says("no line that counts came on descriptor %d for %lld milliseconds", front->heartbeat.file, (long long)front->heartbeat.limit);
     else if (front->end == BY_MEMORY)
         says("memory was refused");
     return front->end == BY_SIGNAL ? 0 : 1;
@@ -301,13 +317,12 @@ static int says_why(const struct front *front, int status)
 
 int front_end(struct front *front)
 {
-    bool is_sent = front->end != BY_HEARTBEAT && !heartbeat_is_late(&front->heartbeat);
     for (unsigned number = 1; number <= front->connections; number++) {
-        closes(front->clients[number], is_sent);
+        closes(front, front->clients[number]);
         free(front->clients[number]);
     }
     for (unsigned place = 0; place < ADMINS; place++)
-        closes(&front->admins[place], is_sent);
+        closes(front, &front->admins[place]);
     place_close(&front->place);
     if (front->options.admin != NULL)
         place_close(&front->admin_place);

@@ -27,8 +27,9 @@ static const char usage[] =
     "  --turn N            how many lines it takes of a client in its turn (1 if missing)\n"
     "  --epoch E           the epoch of fences; without it one that rises at each start\n"
     "  --epoch-file PATH   the file of the last epoch (the socket's path and .epoch if missing)\n"
-    "  --heartbeat-fd N    a descriptor on which lines come; the server stops if none comes\n"
-    "  --heartbeat-ms N    for this long\n"
+    "  --heartbeat-fd N    a descriptor on which lines come, each the time in milliseconds from\n"
+    "                      which it counts (CLOCK_BOOTTIME); the server starts with the first\n"
+    "  --heartbeat-ms N    it stops when the last one is this old\n"
     "  --quiet             no lines for start, end and deadlocks on standard error\n";
 
 struct text_option {

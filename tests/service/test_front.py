@@ -1,15 +1,17 @@
 """What the front does with lines, numbers and connections, before a program that knows nothing of locks (lib/stub.py) and notes each line."""
 import contextlib
 import os
+import select
 import signal
 import socket
 import stat
+import subprocess
 import sys
 import time
-from typing import Any
+from typing import Any, Callable
 
 from lib.faults import FaultCase, variables
-from lib.world import LIMIT, TOP, Server, Wire, each, environment, read, run, stop, until, wants, write
+from lib.world import LIMIT, TOP, Server, Wire, answers, each, environment, read, run, stop, until, wants, write
 from service.test_server import ServerCase, fills
 
 STUB = os.path.join(TOP, "tests", "lib", "stub.py")
@@ -434,59 +436,111 @@ class Program(StubCase):
 class Heartbeat(StubCase, FaultCase):
     """Lines without which the server stops. Its clock is the test's: it jumps after so many looks at it."""
 
-    def beaten(self, *rules: str) -> Server:
-        """A server that needs a line in ten minutes, and a pipe for them."""
+    def words(self) -> list[str]:
+        """Of a server that needs a line in ten minutes, and a pipe for them."""
         self.reads, self.writes = os.pipe()
         self.addCleanup(os.close, self.reads)
-        self.faults = self.path("faults")
+        return ["--heartbeat-fd", str(self.reads), "--heartbeat-ms", "600000"]
+
+    def beats(self, *seconds: float) -> None:
+        """Writes lines that count from so many seconds after now, by the clock without its jumps."""
+        now = time.clock_gettime(time.CLOCK_BOOTTIME)
+        os.write(self.writes, b"".join(b"%d\n" % (1000 * (now + second)) for second in seconds))
+
+    def beaten(self, *rules: str) -> Server:
+        """A server that had a line. Its clock and what it sends are noted."""
+        words, self.faults = self.words(), self.path("faults")
+        self.beats(0)
         env = variables(" ".join([*rules, "boottime:told", "send:told"]), log=self.faults, only="pashkure-serve")
-        words = ["--heartbeat-fd", str(self.reads), "--heartbeat-ms", "600000"]
         return self.stubbed(*words, env=env, pass_fds=[self.reads])
 
-    def asks_to_the_end(self, wire: Wire, heartbeat: bytes) -> None:
+    def asks_to_the_end(self, wire: Wire, beats: Callable[[], Any]) -> None:
         """Asks until the server has closed the connection."""
         with contextlib.suppress(BrokenPipeError, ConnectionResetError):
             for _ in range(2_000):
-                os.write(self.writes, heartbeat)
+                beats()
                 wire.send(b"a\n")
                 if not wire.socket.recv(65536):
                     return
             self.fail("it goes on")
 
-    def stops(self, server: Server, wires: list[Wire], jumps: int) -> None:
-        """Fails unless the server has ended with a line that says why, closed all connections, and sent nothing more when its clock had jumped so often."""
-        for wire in wires:
-            self.assertEqual(wire.all(), b"")
+    def has_stopped(self, server: Server) -> None:
+        """Fails unless the server has ended with a line that says why."""
         self.assertEqual((server.process.wait(LIMIT), os.path.exists(server.path)), (1, False))
-        self.assertEqual(server.stderr(), f"pashkure: no line came on descriptor {self.reads} for 600000 milliseconds\n")
-        before, jump, behind = read(self.faults).partition(f"boottime:told={jumps}@")
-        self.assertEqual(("send:" in before, bool(jump), "send:" in behind), (True, True, False))
+        self.assertEqual(server.stderr(), f"pashkure: no line that counts came on descriptor {self.reads} for 600000 milliseconds\n")
 
     @each([400, *range(501, 509)])
     def test_no_line_in_time(self, looks: int) -> None:
-        """It stops, whatever it is about to do: also if lines were written before the jump, since they may be as old as the last look."""
+        """It stops, whatever it is about to do, closes all connections, and sends nothing more: also if lines come that are as old as the jump."""
         server = self.beaten(f"boottime:jump=601>{looks}")
         wires = [self.wire(server) for _ in range(3)]
-        self.asks_to_the_end(wires[0], b"" if looks == 400 else b"beat\n")
-        self.stops(server, wires, 601)
+        self.asks_to_the_end(wires[0], (lambda: None) if looks == 400 else (lambda: self.beats(0)))
+        self.assertEqual([wire.all() for wire in wires], [b""] * 3)
+        self.has_stopped(server)
+        before, jump, behind = read(self.faults).partition("boottime:told=601@")
+        self.assertEqual(("send:" in before, bool(jump), "send:" in behind), (True, True, False))
+        os.close(self.writes)
+
+    @each([[b"beat\n", b"\n", b"lease 1 expired or revoked.\n"], [b"-1\n", b"+%d\n", b"%d \n", b" %d\n", b"%d\r\n", b"0x%d\n", b"1%d.\n"],
+           [b"1%d\n", b"%d0\n"], [b"9" * 19 + b"\n", b"1" + b"0" * 30 + b"%d\n", b"9" * 300 + b"%d\n"], [b"x\n%d"], [b""]])  # fmt: skip
+    def test_what_is_no_line(self, lines: list[bytes]) -> None:
+        """Any other text is none, and neither are a number of the future, one that is too large, the end of the descriptor and bytes without a newline."""
+        server = self.beaten("boottime:jump=601>400")
+        wire, now = self.wire(server), int(1000 * (time.clock_gettime(time.CLOCK_BOOTTIME) + 599))
+        if lines[0] == b"":
+            os.close(self.writes)
+            self.writes = os.open(os.devnull, os.O_WRONLY)
+        text = b"".join(line.replace(b"%d", b"%d" % now) for line in lines)  # which would count after the jump
+        self.asks_to_the_end(wire, lambda: os.write(self.writes, text))
+        self.has_stopped(server)
         os.close(self.writes)
 
     def test_lines_in_time(self) -> None:
-        """It goes on as long as lines come. The end of the descriptor is none, and neither are bytes without a newline."""
-        for last in b"", b"no newline":
-            server = self.beaten(*(f"boottime:jump=250>{looks}" for looks in range(300, 2300, 50)))
-            wire = self.wire(server)
-            for _ in range(200):
-                os.write(self.writes, b"beat\n")
-                self.asks(wire, (b"a", b"heard 61"))
-            self.assertIsNone(server.process.poll())
-            self.assertIn("boottime:told=2500@", read(self.faults))
-            if not last:
-                os.close(self.writes)
-                self.writes = os.open(os.devnull, os.O_WRONLY)
-            self.asks_to_the_end(wire, last)
-            self.assertEqual((server.process.wait(LIMIT), server.stderr().count("no line came")), (1, 1))
-            os.close(self.writes)
+        """It goes on as long as lines come: each of these is of one of the times at which its clock may be, the others are later or smaller; one is cut in two."""
+        server = self.beaten(*(f"boottime:jump=250>{looks}" for looks in range(300, 2300, 50)))
+        wire = self.wire(server)
+        for number in range(200):
+            self.beats(*range(10_000, -1, -250))
+            os.write(self.writes, b"12")
+            self.asks(wire, (b"a", b"heard 61"))
+            os.write(self.writes, b"x\n" if number % 2 else b"\n")
+        self.assertIsNone(server.process.poll())
+        self.assertIn("boottime:told=10000@", read(self.faults))
+        os.close(self.writes)
+
+    def test_first_line(self) -> None:
+        """No socket is opened and no program is started before a line that counts, whatever was in the pipe."""
+        path, started, words = self.path("socket"), self.path("started"), self.words()
+        program = self.script(f'echo > "{started}"; exec "{sys.executable}" "{STUB}" /dev/null "$@"')
+        self.beats(-601, 10_000)
+        os.write(self.writes, b"beat\n")
+        command = [*self.needs_server(), "--quiet", "--socket", path, "--program", program, *words]
+        with subprocess.Popen(command, env=environment(), stderr=subprocess.PIPE, pass_fds=[self.reads]) as server:
+            until(lambda: os.path.exists(path + ".lock") and not select.select([self.reads], [], [], 0)[0], "it has read them")
+            self.assertEqual((os.path.exists(path), os.path.exists(started), server.poll()), (False, False, None))
+            text = b"%d\n" % (1000 * time.clock_gettime(time.CLOCK_BOOTTIME))
+            os.write(self.writes, text[:5])
+            until(lambda: not select.select([self.reads], [], [], 0)[0], "it has read the half")
+            os.write(self.writes, text[5:])
+            until(lambda: answers(path), "it serves")
+            server.terminate()
+            self.assertEqual((server.communicate()[1], server.returncode), (b"", 0))
+        os.close(self.writes)
+
+    @each([(b"", ""), (b"1\n" * 3, ""), (b"beat\n", ""), (b"", "TERM")])
+    def test_without_a_first_line(self, lines: bytes, ends_by: str) -> None:
+        """It ends as if no line had come in time, with status 1, or 0 if it is told to end; no program was started."""
+        path, words = self.path("socket"), [*self.words()[:-1], "600000" if ends_by else "300"]
+        os.write(self.writes, lines)
+        command = [*self.needs_server(), "--socket", path, "--program", "/no/such/program", *words]
+        with subprocess.Popen(command, env=environment(), stderr=subprocess.PIPE, pass_fds=[self.reads]) as server:
+            if ends_by:
+                until(lambda: int(read(f"/proc/{server.pid}/status").partition("SigBlk:")[2].split()[0], 16) != 0, "it waits")
+                server.terminate()
+            told, status = server.communicate()[1].decode(), server.returncode
+        why = "ends by signal 15" if ends_by else f"no line that counts came on descriptor {self.reads} for 300 milliseconds"
+        self.assertEqual((status, told, os.path.exists(path)), (0 if ends_by else 1, f"pashkure: {why}\n", False))
+        os.close(self.writes)
 
 
 class Manager(StubCase):
