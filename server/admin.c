@@ -7,7 +7,7 @@
 #include <stdio.h>
 #include <string.h>
 
-enum { RING = ADMINS * UNANSWERED + 1 };
+enum { RING = ADMINS + 1 };
 
 void admin_asks(struct front *front, struct client *client, bool is_clients)
 {
@@ -53,11 +53,13 @@ static bool takes_reply(struct front *front, const char *line, size_t length)
     front->asker_count--;
     front->last_asked = NULL;
     if (asker.kind == GREETING) {
+        turns_begin(front);
         front->is_open = true;
         return length > 7 && memcmp(line, "totals ", 7) == 0;
     }
     struct client *admin = &front->admins[asker.place];
     admin->unanswered--;
+    turns_answered(front, admin, false);
     if (admin->file < 0)
         return true; /* it has left */
     front->last_asked = admin;

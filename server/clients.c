@@ -51,6 +51,8 @@ static void takes_in(struct front *front, struct client *client, int file)
     client->head_length = (unsigned)snprintf(client->head, sizeof client->head, "%u ", client->number);
     client->watched = 0;
     client->skips = client->is_over = client->is_leaving = client->is_stalled = false;
+    client->is_tried = true;
+    client->tried_until = 0;
     client->process = who.pid;
     client->user = who.uid;
     client->since = clock_seconds();
@@ -96,7 +98,7 @@ void clients_accept(struct front *front, bool is_admin)
     }
 }
 
-/* Tells the program that a client hung up. */
+/* Lets the program be told that a client hung up, when the client has its turn: that may be a long line. */
 static void hangs_up(struct front *front, struct client *client)
 {
     client->is_over = true;
@@ -104,12 +106,9 @@ static void hangs_up(struct front *front, struct client *client)
     buffer_clear(&client->in);
     if (client->number == 0 || client->is_leaving)
         return;
-    client->is_leaving = true;
+    client->is_leaving = client->is_tried = true;
     front->leaving++;
-    if (!buffer_add(&front->program.waiting, "- ", 2)
-        || !buffer_add(&front->program.waiting, client->head, client->head_length - 1)
-        || !buffer_add(&front->program.waiting, "\n", 1))
-        front->end = BY_MEMORY;
+    turns_add(front, client);
 }
 
 /* Closes the socket of a client, and frees its number if nothing of it is left in the program. */
@@ -151,8 +150,14 @@ void client_cut(struct front *front, struct client *client)
     closes(front, client);
 }
 
-void client_came_back(struct front *front, struct client *client)
+void client_came_back(struct front *front, struct client *client, bool has_more)
 {
+    turns_answered(front, client, true);
+    client->is_hanging_up = false;
+    if (has_more) {
+        turns_add(front, client);
+        return;
+    }
     client->is_leaving = false;
     front->leaving--;
     if (client->file >= 0)

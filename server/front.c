@@ -18,7 +18,6 @@
 
 enum {
     LOOKS = 100,
-    PASSES = 16, /* turns of each ready client before the system is asked what has come */
     EVENTS = 512,
     SIZE = 262144,
     RETRY = 100, /* milliseconds until it accepts again if there was no room */
@@ -155,6 +154,7 @@ static void hears(struct front *front)
         front->end = BY_NONSENSE;
     else if (front->is_open && !was_open)
         opens(front);
+    turns_heard(front);
 }
 
 /* A client sent something, reads on, or is gone. */
@@ -166,13 +166,11 @@ static void serves(struct front *front, struct client *client, unsigned events)
         client_send(front, client);
     if (client->file < 0 || (events & ~(unsigned)EPOLLOUT) == 0)
         return;
-    if (!client->is_ready && lines_may_take(client)) {
-        ready_add(front, client);
-        if (lines_are_held(front))
-            watch_reads(front, client, false);
+    if (!client->turn.is_in && lines_may_take(front, client)) {
+        turns_add(front, client);
         return;
     }
-    client->is_stalled = !client->is_ready && !client->is_over;
+    client->is_stalled = !client->turn.is_in && !client->is_over;
     watch_reads(front, client, false); /* it has its turn later */
 }
 
@@ -197,10 +195,9 @@ static void takes_event(struct front *front, const struct epoll_event *event, bo
 /* Says for how many milliseconds nothing needs to be done unless something comes. */
 static int patience(const struct front *front)
 {
-    int most = heartbeat_patience(&front->heartbeat);
-    bool has_lines = front->ready.first != NULL && !lines_are_held(front);
-    if (has_lines || (buffer_length(&front->program.waiting) > 0 && !front->program.is_full))
-        return 0;
+    int most = heartbeat_patience(&front->heartbeat), turn = turns_patience(front);
+    if (turn >= 0 && (most < 0 || most > turn))
+        most = turn;
     if (front->is_open && !front->accepts && (most < 0 || most > RETRY))
         return RETRY;
     return most;
@@ -230,18 +227,6 @@ static void listens(struct front *front)
         watch_accepts(front, true);
 }
 
-/* Gives each ready client its turn, and then again, up to some times. */
-static void passes_on(struct front *front)
-{
-    for (int pass = 0; pass < PASSES && front->ready.first != NULL; pass++) {
-        struct client *last = front->ready.last, *client = NULL;
-        while (client != last && !lines_are_held(front) && front->end == GOES_ON) {
-            client = ready_take(front);
-            lines_turn(front, client);
-        }
-    }
-}
-
 /* Gives the program what waits for it, and looks whether it takes more if it does not take all. */
 static void tells_program(struct front *front)
 {
@@ -257,10 +242,10 @@ static void tells_program(struct front *front)
 /* Sends what came for clients, and looks at each that had a reply. */
 static void tells_clients(struct front *front)
 {
-    while (front->touched.first != NULL && front->end == GOES_ON) {
-        struct client *client = front->touched.first;
-        front->touched.first = client->next_touched;
-        client->is_touched = false;
+    struct link *link;
+    while (front->end == GOES_ON && (link = queue_take(&front->touched)) != NULL) {
+        struct client *client = THING_OF(link, struct client, touched);
+        client->is_answered = false;
         client_send(front, client);
     }
 }
@@ -274,7 +259,7 @@ void front_run(struct front *front)
             front->end = BY_HEARTBEAT;
             return;
         }
-        passes_on(front);
+        turns_take(front);
         if (front->end == GOES_ON)
             tells_program(front);
         tells_clients(front);

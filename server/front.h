@@ -6,12 +6,13 @@
 #include "heartbeat.h"
 #include "place.h"
 #include "program.h"
+#include "queue.h"
 
 enum {
     LINE_BYTES = 1048, /* of the longest request: `unlock`, a key of 16 bytes, a name of 1,024, and two spaces */
-    UNANSWERED = 64, /* requests that a client may have in the program */
+    PROGRAM_LINES = 64, /* lines that are in the program at a time */
+    SHARE = 16, /* of these, those of a client */
     UNREAD = 65536, /* bytes that a client may leave unread before no more of it is read */
-    WAITING = 1048576, /* bytes that may wait for the program before nobody is read */
     ADMINS = 16, /* operators that can be connected at once */
     SPARE = 32, /* descriptors beside those of clients */
 };
@@ -27,18 +28,30 @@ struct client {
     unsigned watched; /* the events that are looked for */
     bool skips; /* the beginning of a line that is too long was dropped */
     bool is_over; /* it ended: nothing more is read of it */
-    bool is_leaving; /* `- C` was passed on, and has not come back */
+    bool is_leaving; /* it hung up, and the program has not answered so yet */
+    bool is_hanging_up; /* `- C` is in the program */
     bool is_stalled; /* it has too much unanswered or unread, so it is read no further for now */
-    bool is_ready, is_touched; /* it is in that queue */
-    struct client *next_ready, *next_touched;
+    bool is_answered; /* the program has answered a line of it in this round */
+    bool is_tried; /* its lines take long, or nothing is known of them yet: so one of all such clients is in the program at a time */
+    int64_t tried_until; /* by the program's work, in microseconds */
+    struct link turn; /* among those that wait for their turn */
+    struct link touched;
     pid_t process;
     uid_t user;
     int64_t since; /* seconds */
 };
 
-/* Clients one after another. */
-struct queue {
-    struct client *first, *last;
+/* Who is next. Nobody's lines keep the program long from those of others: each client has its turn in the order in which they came, and of
+   those whose lines take long one line at all is in the program. */
+struct turns {
+    struct queue ready, tried; /* with lines to be passed on, or a hang-up; those of clients that are tried */
+    unsigned in_program; /* lines that were passed on and are not answered */
+    struct client *in_trial; /* whose line in the program is tried */
+    unsigned answered; /* lines, since the program's work was measured */
+    struct client *judged, *last; /* whose line among these was tried, NULL: nobody's; whose the last one was */
+    bool is_shared; /* others had lines answered since the last one was tried */
+    int64_t work; /* processor time of the program when it was heard last, in microseconds */
+    int64_t rests_until; /* no line is tried before, if others have work; by CLOCK_MONOTONIC, in microseconds */
 };
 
 /* Whose the next reply to connection 0 is. */
@@ -61,10 +74,11 @@ struct front {
     unsigned free_count, leaving; /* how many are free, and of how many `- C` has to come back */
     unsigned full_rounds; /* for how many rounds a client has waited for which there is no number */
     struct client admins[ADMINS];
-    struct asker askers[ADMINS * UNANSWERED + 1]; /* a ring */
+    struct asker askers[ADMINS + 1]; /* a ring: each operator has one request in the program, and there is the greeting */
     unsigned first_asker, asker_count;
     struct client *last_asked; /* the operator that was sent the last reply, if it is still there */
-    struct queue ready, touched; /* with lines to be passed on; with lines to be sent, or a reply less to come */
+    struct turns turns;
+    struct queue touched; /* with lines to be sent, or a reply less to come */
     int events; /* of epoll */
     int signals;
     int signal; /* that ended it */
@@ -82,14 +96,23 @@ int front_end(struct front *front);
 void clients_accept(struct front *front, bool is_admin);
 void client_ends(struct front *front, struct client *client); /* in good order */
 void client_cut(struct front *front, struct client *client); /* at once */
-void client_came_back(struct front *front, struct client *client); /* `- C` */
+void client_came_back(struct front *front, struct client *client, bool has_more); /* `- C`, or `* more C`: it has to hang up again */
 void client_closes_if_done(struct front *front, struct client *client);
 
 /* lines.c: from a client to the program. */
 void lines_turn(struct front *front, struct client *client);
-bool lines_may_take(const struct client *client);
-bool lines_are_held(const struct front *front);
+bool lines_may_take(const struct front *front, const struct client *client);
 bool lines_greet(struct front *front);
+
+/* turns.c: who is next. */
+void turns_begin(struct front *front); /* when the greeting is answered */
+void turns_add(struct front *front, struct client *client);
+void turns_take(struct front *front);
+unsigned turns_lines(const struct front *front, const struct client *client); /* that it may pass on in its turn */
+void turns_passed(struct front *front, struct client *client); /* a line of it */
+void turns_answered(struct front *front, struct client *client, bool is_hang_up);
+void turns_heard(struct front *front); /* what the program wrote */
+int turns_patience(const struct front *front); /* for how many milliseconds nobody has a turn; -1: until the program has answered */
 
 /* replies.c: from the program to a client. */
 bool replies_take(struct front *front, const char *bytes, size_t count);
@@ -100,13 +123,11 @@ void client_touch(struct front *front, struct client *client);
 void admin_asks(struct front *front, struct client *client, bool is_clients);
 bool admin_take(struct front *front, const char *line, size_t length);
 
-/* watch.c: what epoll looks for, and the queues. */
+/* watch.c: what epoll looks for. */
 enum source { OF_CLIENT, OF_ADMIN, OF_PLACE, OF_ADMIN_PLACE, TO_PROGRAM, FROM_PROGRAM, OF_SIGNALS };
 bool watch_file(struct front *front, int file, unsigned events, enum source source);
 void watch_reads(struct front *front, struct client *client, bool is_wanted);
 void watch_writes(struct front *front, struct client *client, bool is_wanted);
 void watch_accepts(struct front *front, bool is_wanted);
-void ready_add(struct front *front, struct client *client);
-struct client *ready_take(struct front *front);
 
 #endif

@@ -10,14 +10,16 @@ enum { SIZE = 4096 };
 static const char malformed[] = "malformed";
 static const char clients[] = "clients";
 
-bool lines_may_take(const struct client *client)
+/* Says how many requests of a client may be in the program. */
+static unsigned share_of(const struct client *client)
 {
-    return client->file >= 0 && !client->is_over && client->unanswered < UNANSWERED && buffer_length(&client->out) <= UNREAD;
+    return client->is_tried || client->number == 0 ? 1 : SHARE;
 }
 
-bool lines_are_held(const struct front *front)
+bool lines_may_take(const struct front *front, const struct client *client)
 {
-    return buffer_length(&front->program.waiting) >= WAITING;
+    return client->file >= 0 && !client->is_over && client->unanswered + turns_lines(front, client) <= share_of(client)
+        && buffer_length(&client->out) <= UNREAD;
 }
 
 /* Passes on a line behind the number of its client. */
@@ -25,6 +27,7 @@ static void passes(struct front *front, struct client *client, const char *line,
 {
     struct buffer *waiting = &front->program.waiting;
     client->unanswered++;
+    turns_passed(front, client);
     if (!buffer_add(waiting, client->head, client->head_length) || !buffer_add(waiting, line, length) || !buffer_add(waiting, "\n", 1))
         front->end = BY_MEMORY;
 }
@@ -50,8 +53,19 @@ static void passes_line(struct front *front, struct client *client, const char *
         passes(front, client, is_long ? malformed : line, is_long ? strlen(malformed) : length);
 }
 
+/* Tells the program that a client hung up. */
+static void passes_hang_up(struct front *front, struct client *client)
+{
+    struct buffer *waiting = &front->program.waiting;
+    client->is_hanging_up = true;
+    turns_passed(front, client);
+    if (!buffer_add(waiting, "- ", 2) || !buffer_add(waiting, client->head, client->head_length - 1) || !buffer_add(waiting, "\n", 1))
+        front->end = BY_MEMORY;
+}
+
 bool lines_greet(struct front *front)
 {
+    front->turns.in_program++;
     front->askers[front->asker_count++] = (struct asker){.kind = GREETING};
     return buffer_add(&front->program.waiting, "0 totals\n", strlen("0 totals\n"));
 }
@@ -85,7 +99,9 @@ static void receives(struct front *front, struct client *client)
 
 void lines_turn(struct front *front, struct client *client)
 {
-    if (!lines_may_take(client)) {
+    if (client->is_leaving && !client->is_hanging_up)
+        passes_hang_up(front, client);
+    if (!lines_may_take(front, client)) {
         client->is_stalled = client->file >= 0 && !client->is_over;
         return;
     }
@@ -96,7 +112,8 @@ void lines_turn(struct front *front, struct client *client)
             return;
         end = end_of_line(client);
     }
-    for (uint64_t taken = 0; end != NULL && taken < front->options.turn && lines_may_take(client); taken++) {
+    unsigned most = turns_lines(front, client);
+    for (unsigned taken = 0; end != NULL && taken < most; taken++) {
         char *line = buffer_bytes(&client->in);
         passes_line(front, client, line, (size_t)(end - line));
         client->skips = false;
@@ -104,7 +121,7 @@ void lines_turn(struct front *front, struct client *client)
         end = end_of_line(client);
     }
     if (end != NULL)
-        ready_add(front, client);
+        turns_add(front, client);
     else
         watch_reads(front, client, true);
 }

@@ -99,7 +99,14 @@ bool program_start(struct program *program, const struct options *options, uint6
         says("%s: %s", program->name, strerror(error));
         return false;
     }
+    if (clock_getcpuclockid(program->pid, &program->clock) != 0)
+        program->clock = CLOCK_MONOTONIC;
     return true;
+}
+
+int64_t program_work(const struct program *program)
+{
+    return clock_microseconds(program->clock);
 }
 
 bool program_flush(struct program *program)

@@ -7,17 +7,11 @@
 #include <string.h>
 #include <sys/socket.h>
 
+static const char back[] = "- ", more[] = "* more ";
+
 void client_touch(struct front *front, struct client *client)
 {
-    if (client->is_touched)
-        return;
-    client->is_touched = true;
-    client->next_touched = NULL;
-    if (front->touched.first == NULL)
-        front->touched.first = client;
-    else
-        front->touched.last->next_touched = client;
-    front->touched.last = client;
+    queue_add(&front->touched, &client->touched);
 }
 
 /* Reads the number at the front of a line, without zeros before it. Returns what stands behind it, or NULL. */
@@ -43,7 +37,10 @@ static bool gives(struct front *front, struct client *client, const char *line, 
     bool is_event = length >= 2 && line[0] == '*' && line[1] == ' ';
     if (!is_event && client->unanswered == 0)
         return false;
-    client->unanswered -= !is_event;
+    if (!is_event) {
+        client->unanswered--;
+        turns_answered(front, client, false);
+    }
     if (client->file < 0)
         return true;
     if (!buffer_add(&client->out, line, length))
@@ -52,22 +49,27 @@ static bool gives(struct front *front, struct client *client, const char *line, 
     return true;
 }
 
+static bool begins_with(const char *line, const char *end, const char *word)
+{
+    return (size_t)(end - line) > strlen(word) && memcmp(line, word, strlen(word)) == 0;
+}
+
 /* Takes a line of the program with its newline. Returns false if it is none that a lock service writes. */
 static bool takes_line(struct front *front, const char *line, const char *end)
 {
     unsigned number;
-    bool is_back = end - line > 2 && line[0] == '-' && line[1] == ' ';
-    const char *rest = number_of(is_back ? line + 2 : line, end, &number);
-    if (rest == NULL || *rest != (is_back ? '\n' : ' '))
+    bool is_back = begins_with(line, end, back), has_more = begins_with(line, end, more), is_hang_up = is_back || has_more;
+    const char *rest = number_of(line + (is_back ? strlen(back) : has_more ? strlen(more) : 0), end, &number);
+    if (rest == NULL || *rest != (is_hang_up ? '\n' : ' '))
         return false;
-    if (number == 0 && !is_back)
+    if (number == 0 && !is_hang_up)
         return admin_take(front, rest + 1, (size_t)(end - rest - 1));
     struct client *client = client_of(front, number);
-    if (client == NULL || (is_back && (!client->is_leaving || client->unanswered > 0)))
+    if (client == NULL || (is_hang_up && (!client->is_hanging_up || client->unanswered > 0)))
         return false;
-    if (is_back)
-        client_came_back(front, client);
-    return is_back || gives(front, client, rest + 1, (size_t)(end - rest - 1));
+    if (is_hang_up)
+        client_came_back(front, client, has_more);
+    return is_hang_up || gives(front, client, rest + 1, (size_t)(end - rest - 1));
 }
 
 bool replies_take(struct front *front, const char *bytes, size_t count)
@@ -132,9 +134,9 @@ void client_send(struct front *front, struct client *client)
     if (left == 0)
         buffer_clear(&client->out);
     watch_writes(front, client, left > 0);
-    if (client->is_stalled && lines_may_take(client)) {
+    if (client->is_stalled && lines_may_take(front, client)) {
         client->is_stalled = false;
-        ready_add(front, client);
+        turns_add(front, client);
     }
     client_closes_if_done(front, client);
 }

@@ -48,24 +48,3 @@ void watch_accepts(struct front *front, bool is_wanted)
     else if (!watch_file(front, front->place.socket, EPOLLIN, OF_PLACE))
         front->end = BY_MEMORY;
 }
-
-void ready_add(struct front *front, struct client *client)
-{
-    if (client->is_ready)
-        return;
-    client->is_ready = true;
-    client->next_ready = NULL;
-    if (front->ready.first == NULL)
-        front->ready.first = client;
-    else
-        front->ready.last->next_ready = client;
-    front->ready.last = client;
-}
-
-struct client *ready_take(struct front *front)
-{
-    struct client *client = front->ready.first;
-    front->ready.first = client->next_ready;
-    client->is_ready = false;
-    return client;
-}

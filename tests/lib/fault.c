@@ -9,6 +9,7 @@
      FAULT_SEED=N      of what is drawn by chance: which calls, and how many bytes if short has no value
      FAULT_LOG=FILE    each fault is written there as a rule, so that FAULTS="$(cat FILE)" does the same again
      FAULT_IN=NAME     only in a program whose file begins with this name
+     FAULT_WORK=FILE   the clocks of other processes' processor time stand at the microseconds of this file: 8 bytes, which it maps
      FAULT_COUNTS=FILE the struct counts below, up to date whenever and however the program ends
 
    The C library's own requests for memory before main are not counted. Those that it makes to start a thread are counted by themselves too. */
@@ -80,6 +81,7 @@ static int log_file = -1;
 static atomic_long made[CALLS];
 static struct counts own;
 static struct counts *counts = &own;
+static const volatile int64_t *work; /* what the processor clocks of others show, if they are set */
 static int is_ready;
 static __thread int is_starting __attribute__((tls_model("initial-exec")));
 static __thread int is_started __attribute__((tls_model("initial-exec")));
@@ -140,6 +142,12 @@ __attribute__((constructor)) static void begin(void) {
     const char *given = getenv("FAULTS"), *file = getenv("FAULT_COUNTS"), *log = getenv("FAULT_LOG"), *number = getenv("FAULT_SEED");
     char *left = text, *rule;
     if (!is_meant()) return;
+    if (getenv("FAULT_WORK") != NULL) {
+        int descriptor = (int)syscall(SYS_openat, AT_FDCWD, getenv("FAULT_WORK"), O_RDONLY);
+        work = mmap(NULL, sizeof *work, PROT_READ, MAP_SHARED, descriptor, 0);
+        if (work == MAP_FAILED) abort();
+        close(descriptor);
+    }
     if (file != NULL) {
         int descriptor = (int)syscall(SYS_openat, AT_FDCWD, file, O_RDWR);
         void *shared = mmap(NULL, sizeof own, PROT_READ | PROT_WRITE, MAP_SHARED, descriptor, 0);
@@ -264,6 +272,10 @@ int open64(const char *path, int flags, ...) __attribute__((alias("open")));
 
 int clock_gettime(clockid_t clock, struct timespec *time) {
     long jump = 0;
+    if (clock < 0 && work != NULL) {
+        *time = (struct timespec){*work / 1000000, *work % 1000000 * 1000};
+        return 0;
+    }
     if (clock == CLOCK_REALTIME || clock == CLOCK_BOOTTIME) faulty(clock == CLOCK_REALTIME ? CLOCK : BOOTTIME, -1, &jump);
     int result = REAL(clock_gettime)(clock, time);
     time->tv_sec += jump;

@@ -43,9 +43,9 @@ def library() -> str:
 KEPT: list[tempfile.TemporaryDirectory[str]] = []
 
 
-def variables(rules: str, seed: int = 1, log: Optional[str] = None, only: Optional[str] = None, counts: Optional[str] = None) -> dict[str, str]:
+def variables(rules: str, seed: int = 1, log: Optional[str] = None, only: Optional[str] = None, counts: Optional[str] = None, work: Optional[str] = None) -> dict[str, str]:
     """The variables of the environment under which these rules hold."""
-    given = {"LD_PRELOAD": library(), "FAULTS": rules, "FAULT_SEED": str(seed), "FAULT_LOG": log, "FAULT_IN": only, "FAULT_COUNTS": counts}
+    given = {"LD_PRELOAD": library(), "FAULTS": rules, "FAULT_SEED": str(seed), "FAULT_LOG": log, "FAULT_IN": only, "FAULT_COUNTS": counts, "FAULT_WORK": work}
     return {name: value for name, value in given.items() if value is not None}
 
 

@@ -24,16 +24,19 @@ LINES = [
 ]  # fmt: skip
 LONG = [b"x" * (LONGEST + 1), b"x" * (LONGEST + 1) + b"\r", b"\r" * (LONGEST + 2), b"x" * LONGEST + b"\r\r", b"-" * 4095, b"x" * 4096, b"x" * 70_000]
 NONSENSE = ["x", "", "1", "1granted", "01 granted", "9 granted", "70000 granted", "123456 x", "- 1", "- 9", "-", "- 0", "- 1 ", " 1 x", "1 a|1 b",
-            "9 * granted 0.1 a", "0 one|0 two"]  # fmt: skip
+            "9 * granted 0.1 a", "0 one|0 two",
+            "* more 1", "* more 9", "* more 0", "* more 1 ", "* more", "* granted 0.1 a"]  # fmt: skip
 
 
-class StubCase(ServerCase):
-    """A server before the stub, and an operator's connection to it."""
+class StubCase(ServerCase, FaultCase):
+    """A server before the stub, and an operator's connection to it. The stub takes no time to do what it is asked but `work`."""
 
-    def stubbed(self, *words: str, **how: Any) -> Server:
+    def stubbed(self, *words: str, rules: str = "", **how: Any) -> Server:
         self.log, self.admin_path = self.file("log", ""), self.path("admin")
         program = self.script(f'exec "{sys.executable}" "{STUB}" "{self.log}" "$@"')
-        server = self.server("--admin", self.admin_path, *words, program=program, **how)
+        self.faults = self.file("faults", "")
+        env = variables(rules, log=self.faults, only="pashkure-serve", work=self.file("work", bytes(8)))
+        server = self.server("--admin", self.admin_path, *words, program=program, env=env, **how)
         self.seen = 0
         self.admin = self.wire(self.admin_path)
         until(lambda: b"- 1" in self.came(), "the first one, who looked whether it answers, has hung up")
@@ -127,19 +130,25 @@ class Lines(StubCase):
 
 class Bounds(StubCase):
     def test_unanswered(self) -> None:
-        """At most 64 requests of a client are in the program, and others are served."""
-        server, count = self.stubbed("--turn", "5"), 300
-        wire, other = self.wire(server), self.wire(server)
+        """At most 16 requests of a client are in the program, and 64 of all; another one has its turn when some are answered."""
+        server, count = self.stubbed("--connections", "6"), 300
+        wires = [self.wire(server) for _ in range(6)]
+        for wire in wires:
+            wire.ask(b"first")
+        self.seen += 6
         self.asks(self.admin, (b"hold", b"hold"))
-        wire.send(b"".join(b"%d\n" % number for number in range(count)))
-        until(lambda: len(self.came()) == 64, "64 have come")
-        other.send(b"other\n")
-        until(lambda: self.came()[64:] == [b"2 other"], "another one is read, and of the first no more")
-        self.turn()
-        self.assertEqual(len(self.came()), 65)
-        self.admin.send(b"let\n")
-        self.assertEqual(wire.lines(count), [b"heard " + (b"%d" % number).hex().encode() for number in range(count)])
-        self.asks(self.wire(server), (b"a", b"heard 61"))
+        for place, wire in enumerate(wires[:5], 1):
+            wire.send(b"".join(b"%d\n" % number for number in range(count)))
+            until(lambda place=place: len(self.came()) == min(16 * place, 64), "16 of each have come, as far as there is room")
+        wires[5].send(b"other\n")
+        for _ in range(5):  # the server has its turns
+            self.assertEqual(self.wire(server).all(), FULL)
+        self.assertEqual(len(self.came()), 64)
+        os.kill(server.program_pid(), signal.SIGUSR1)
+        for wire in wires[:5]:
+            self.assertEqual(wire.lines(count), [b"heard " + (b"%d" % number).hex().encode() for number in range(count)])
+        self.assertEqual(wires[5].lines(1), [b"heard " + b"other".hex().encode()])
+        self.assertLess(self.came().index(b"6 other"), 64 + 32)
 
     def test_unread(self) -> None:
         """Of a client that does not read no more than some replies are asked for. It loses none."""
@@ -206,8 +215,8 @@ class Leaving(StubCase):
         self.asks(self.admin, (b"hold", b"hold"))
         wire.send(b"".join(b"%d\n" % number for number in range(200)) + b"half")
         wire.socket.shutdown(socket.SHUT_WR)
-        self.admin.send(b"say 1 * granted 0.1 a\nlet\n")
-        self.assertEqual(self.admin.lines(1), [b"let"])
+        self.admin.send(b"say 1 * granted 0.1 a|0 said\nlet\n")
+        self.assertEqual(self.admin.lines(2), [b"said", b"let"])
         wanted = b"".join(b"heard " + (b"%d" % number).hex().encode() + b"\n" for number in range(200))
         before, event, after = wire.all().partition(b"* granted 0.1 a\n")
         self.assertEqual((before + after, bool(event)), (wanted, True))
@@ -220,8 +229,8 @@ class Leaving(StubCase):
         self.asks(self.admin, (b"hold", b"hold"))
         wire.socket.shutdown(socket.SHUT_WR)
         until(lambda: b"- 1" in self.came(), "it has hung up")
-        self.admin.send(b"say 1 * granted 0.1 a\nlet\n")
-        self.assertEqual((self.admin.lines(1), wire.all()), ([b"let"], b"* granted 0.1 a\n"))
+        self.admin.send(b"say 1 * granted 0.1 a|0 said\nlet\n")
+        self.assertEqual((self.admin.lines(2), wire.all()), ([b"said", b"let"], b"* granted 0.1 a\n"))
 
     def test_number_that_is_not_free_yet(self) -> None:
         """A number is used again only when its hang-up has been answered."""
@@ -231,11 +240,12 @@ class Leaving(StubCase):
         self.asks(self.admin, (b"hold", b"hold"))
         one.close()
         until(lambda: self.came() == [b"1 one", b"- 1"], "it has hung up")
-        self.admin.send(b"say 1 * granted 0.1 a|0 said\n")  # which can no longer be sent
-        self.assertEqual(self.admin.lines(1), [b"said"])
+        said = b"say 1 * granted 0.1 a|0 said", b"said"  # which can no longer be sent
+        self.asks(self.admin, said)
         two = self.wire(server)
         two.send(b"two\n")
         self.turn()
+        self.asks(self.admin, said)
         self.assertEqual(self.came(), [b"1 one", b"- 1"])
         self.asks(self.admin, (b"let", b"let"))
         self.assertEqual(two.lines(1), [b"heard " + b"two".hex().encode()])
@@ -245,15 +255,17 @@ class Leaving(StubCase):
         """Of one that is gone, and is owed replies, no further line is passed on, and nothing is kept."""
         server = self.stubbed()
         wire = self.wire(server)
+        wire.ask(b"first")
+        self.seen += 1
         self.asks(self.admin, (b"hold", b"hold"))
         wire.send(b"a\n" * 200)
-        until(lambda: len(self.came()) == 64, "64 have come")
+        until(lambda: len(self.came()) == 16, "16 have come")
         wire.close()
         self.asks(self.admin, (b"say 0 said|1 * granted 0.1 a", b"said"))  # the event can no longer be sent, and nothing comes after it
         until(lambda: b"- 1" in self.came(), "it has hung up")
         self.asks(self.admin, (b"let", b"let"))
         self.turn()
-        self.assertEqual(self.came(), [b"1 a"] * 64 + [b"- 1"])
+        self.assertEqual(self.came(), [b"1 a"] * 16 + [b"- 1"])
         self.asks(self.wire(server), (b"b", b"heard 62"))
 
     def test_full(self) -> None:
@@ -277,6 +289,71 @@ class Leaving(StubCase):
         self.assertEqual(self.wire(server).all(), FULL)
         self.assertIn("the system gives 40 descriptors, so at most 8 clients are served\n", server.stderr())
         self.assertEqual(self.words()[1:3], ["--connections", "9"])
+
+
+class Turns(StubCase):
+    """Those whose lines take long, by the processor time of the program, which the test sets."""
+
+    def test_one_that_takes_long(self) -> None:
+        """Of all clients with long lines, or of which nothing is known, one line is in the program at a time; others have turns beside it."""
+        server = self.stubbed()
+        slow, new, quick = [self.wire(server) for _ in range(2)], self.wire(server), self.wire(server)
+        for wire in [*slow, quick]:
+            self.asks(wire, (b"a", b"heard 61"))
+        for wire in slow:
+            self.asks(wire, (b"work 200", b"heard " + b"work 200".hex().encode()))
+        self.seen += 5
+        self.asks(self.admin, (b"hold", b"hold"))
+        for wire in [*slow, new]:
+            wire.send(b"b\n" * 3)
+        until(lambda: len(self.came()) == 1, "one has come")
+        quick.send(b"c\n" * 10)
+        until(lambda: len(self.came()) == 11, "and those of another one")
+        self.turn()
+        self.assertEqual(self.came()[1:], [b"4 c"] * 10)
+        self.admin.send(b"let\n")
+        for wire in [*slow, new]:
+            wire.lines(3)
+        self.assertEqual(self.came()[11:14], [b"2 b", b"3 b", b"1 b"])
+
+    def test_no_longer(self) -> None:
+        """A client whose lines take no longer has its share again, when the program has worked for a tenth of a second."""
+        server = self.stubbed()
+        wire, other = self.wire(server), self.wire(server)
+        for line in b"a", b"work 151":
+            wire.ask(line)
+        for count, most in (698, 1), (2, 16):
+            for _ in range(count):
+                other.ask(b"work 143")  # which is not long, and with the others a tenth of a second
+            wire.ask(b"a")
+            seen = len(self.came())
+            self.asks(self.admin, (b"hold", b"hold"))
+            wire.send(b"c\n" * 30)
+            until(lambda seen=seen, most=most: len(self.came()) == seen + most, "its share has come")
+            self.turn()
+            self.assertEqual(len(self.came()), seen + most)
+            self.asks(self.admin, (b"let", b"let"))
+            wire.lines(30)
+
+    def test_parts_of_a_hang_up(self) -> None:
+        """After `* more C` it is told again, behind those who wait; its number is in use until `- C` has come back."""
+        server = self.stubbed("--connections", "2")
+        wire, other = self.wire(server), self.wire(server)
+        for each_wire in wire, other:
+            each_wire.ask(b"a")
+        self.asks(self.admin, (b"more 3", b"more"), (b"hold", b"hold"))
+        self.seen += 2
+        wire.close()
+        until(lambda: self.came() == [b"- 1"], "it has hung up")
+        other.send(b"b\n")
+        until(lambda: len(self.came()) == 2, "another one has its turn")
+        next_wire = self.wire(server)
+        next_wire.send(b"c\n")
+        self.turn()
+        self.assertEqual(self.came(), [b"- 1", b"2 b"])
+        self.asks(self.admin, (b"let", b"let"))
+        self.assertEqual((other.lines(1), next_wire.lines(1)), ([b"heard 62"], [b"heard 63"]))
+        self.assertEqual(self.came(), [b"- 1", b"2 b", *[b"- 1"] * 3, b"1 c"])
 
 
 class Operators(StubCase):
@@ -433,7 +510,7 @@ class Program(StubCase):
         self.assertEqual((int(count), int(blocked, 16), int(dropped, 16) & 0x7EFF_EFFF), (4, 0, 0))  # (the folder itself is open too)
 
 
-class Heartbeat(StubCase, FaultCase):
+class Heartbeat(StubCase):
     """Lines without which the server stops. Its clock is the test's: it jumps after so many looks at it."""
 
     def words(self) -> list[str]:
@@ -449,10 +526,9 @@ class Heartbeat(StubCase, FaultCase):
 
     def beaten(self, *rules: str) -> Server:
         """A server that had a line. Its clock and what it sends are noted."""
-        words, self.faults = self.words(), self.path("faults")
+        words = self.words()
         self.beats(0)
-        env = variables(" ".join([*rules, "boottime:told", "send:told"]), log=self.faults, only="pashkure-serve")
-        return self.stubbed(*words, env=env, pass_fds=[self.reads])
+        return self.stubbed(*words, rules=" ".join([*rules, "boottime:told", "send:told"]), pass_fds=[self.reads])
 
     def asks_to_the_end(self, wire: Wire, beats: Callable[[], Any]) -> None:
         """Asks until the server has closed the connection."""
