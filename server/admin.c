@@ -20,9 +20,7 @@ static void gives(struct front *front, struct client *admin, const char *line, s
 {
     if (admin == NULL || admin->file < 0)
         return;
-    if (!buffer_add(&admin->out, line, length))
-        client_cut(front, admin);
-    client_touch(front, admin);
+    client_add(front, admin, line, length);
 }
 
 /* Gives an operator the list of the clients that are connected. */
@@ -40,6 +38,8 @@ static void gives_clients(struct front *front, struct client *admin)
         int length = snprintf(line, sizeof line, "* %u %ld %lu %lld\n", number, (long)client->process, (unsigned long)client->user,
                               (long long)(clock_seconds() - client->since));
         gives(front, admin, line, (size_t)length);
+        if (admin->file < 0)
+            return;
     }
 }
 

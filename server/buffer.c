@@ -3,7 +3,10 @@
 #include <stdlib.h>
 #include <string.h>
 
-enum { LEAST = 64 };
+enum {
+    LEAST = 64,
+    MUCH = 65536, /* bytes of memory of which none is given back before all are taken off */
+};
 
 /* Makes room for this many more bytes: by a move to the front if that costs less than it frees, or else by more memory. */
 static bool makes_room(struct buffer *buffer, size_t count)
@@ -36,11 +39,27 @@ bool buffer_add(struct buffer *buffer, const void *bytes, size_t count)
     return true;
 }
 
+/* Gives half of the memory back. */
+static void shrinks(struct buffer *buffer)
+{
+    size_t length = buffer_length(buffer);
+    memmove(buffer->data, buffer_bytes(buffer), length);
+    buffer->start = 0;
+    buffer->end = length;
+    char *data = realloc(buffer->data, buffer->room / 2);
+    if (data == NULL)
+        return;
+    buffer->data = data;
+    buffer->room /= 2;
+}
+
 void buffer_drop(struct buffer *buffer, size_t count)
 {
     buffer->start += count;
     if (buffer->start == buffer->end)
         buffer->start = buffer->end = 0;
+    else if (buffer->room > MUCH && buffer_length(buffer) <= buffer->room / 4)
+        shrinks(buffer);
 }
 
 void buffer_clear(struct buffer *buffer)

@@ -25,7 +25,7 @@ static inline char *buffer_bytes(const struct buffer *buffer)
 /* Adds bytes. Returns false if memory is refused, and then has added nothing. */
 bool buffer_add(struct buffer *buffer, const void *bytes, size_t count);
 
-/* Takes the first bytes off. Keeps the memory. */
+/* Takes the first bytes off. Gives memory back if there is much and most of it is not needed any more. */
 void buffer_drop(struct buffer *buffer, size_t count);
 
 /* Takes all off, and gives the memory back. */

@@ -12,6 +12,7 @@
 #include <unistd.h>
 
 enum {
+    RETRY = 100, /* milliseconds until it accepts again if that failed */
     AT_ONCE = 64, /* clients that are taken in before others have their turn */
     ROUNDS = 4, /* in which the end of one that is gone is read */
 };
@@ -50,7 +51,7 @@ static void takes_in(struct front *front, struct client *client, int file)
     client->file = file;
     client->head_length = (unsigned)snprintf(client->head, sizeof client->head, "%u ", client->number);
     client->watched = 0;
-    client->skips = client->is_over = client->is_leaving = client->is_stalled = false;
+    client->skips = client->is_over = client->is_leaving = client->is_stalled = client->is_alone = false;
     client->is_tried = true;
     client->tried_until = 0;
     client->process = who.pid;
@@ -59,10 +60,36 @@ static void takes_in(struct front *front, struct client *client, int file)
     watch_reads(front, client, true);
 }
 
-/* Says whether an accept failed for want of room. */
-static bool is_want_of_room(int error)
+/* Takes it that an accept failed. If that was not for want of a client or by a signal, it is tried again later, whatever others do. */
+static void accept_failed(struct front *front, struct place *place, int error)
 {
-    return error == EMFILE || error == ENFILE || error == ENOBUFS || error == ENOMEM;
+    if (error == EAGAIN || error == EINTR || error == ECONNABORTED)
+        return;
+    if (!place->has_failed)
+        notes("no client can come to %s for now: %s", place->path, strerror(error));
+    place->has_failed = true;
+    place->retry_at = clock_milliseconds(CLOCK_MONOTONIC) + RETRY;
+    watch_accepts(front, place, false);
+}
+
+/* Looks for clients, also if that failed before. */
+static void accepts_again(struct front *front, struct place *place)
+{
+    place->retry_at = 0;
+    watch_accepts(front, place, true);
+}
+
+void clients_retry(struct front *front)
+{
+    struct place *places[] = {&front->place, &front->admin_place};
+    for (int which = 0; which < 2; which++)
+        if (places[which]->retry_at != 0 && clock_milliseconds(CLOCK_MONOTONIC) >= places[which]->retry_at)
+            accepts_again(front, places[which]);
+}
+
+int clients_patience(const struct front *front)
+{
+    return front->place.retry_at != 0 || front->admin_place.retry_at != 0 ? RETRY : -1;
 }
 
 /* Says whether a client for which there is no number waits: of some that are gone the end may not be read yet, or not be answered. */
@@ -70,22 +97,22 @@ static bool may_become_free(struct front *front)
 {
     if (front->leaving == 0)
         return front->full_rounds++ < ROUNDS;
-    watch_accepts(front, false); /* until a number has come back */
+    watch_accepts(front, &front->place, false); /* until a number has come back */
     return true;
 }
 
 void clients_accept(struct front *front, bool is_admin)
 {
-    int place = is_admin ? front->admin_place.socket : front->place.socket;
+    struct place *place = is_admin ? &front->admin_place : &front->place;
     for (int count = 0; count < AT_ONCE; count++) {
         if (!is_admin && front->free_count == 0 && may_become_free(front))
             return;
-        int file = accept4(place, NULL, NULL, SOCK_CLOEXEC | SOCK_NONBLOCK);
+        int file = accept4(place->socket, NULL, NULL, SOCK_CLOEXEC | SOCK_NONBLOCK);
         if (file < 0) {
-            if (is_want_of_room(errno) && !is_admin)
-                watch_accepts(front, false);
+            accept_failed(front, place, errno);
             return;
         }
+        place->has_failed = false;
         struct client *client = is_admin ? free_admin(front) : free_client(front);
         front->full_rounds = 0;
         if (client != NULL) {
@@ -118,13 +145,15 @@ static void closes(struct front *front, struct client *client)
         close(client->file);
     client->file = -1;
     client->watched = 0;
-    buffer_clear(&client->out);
+    client_forget(front, client);
     if (client == front->last_asked)
         front->last_asked = NULL;
     if (client->number != 0 && !client->is_leaving)
         front->numbers[front->free_count++] = client->number;
-    if (front->is_open)
-        watch_accepts(front, true);
+    if (front->is_open) {
+        accepts_again(front, &front->place);
+        accepts_again(front, &front->admin_place);
+    }
 }
 
 void client_closes_if_done(struct front *front, struct client *client)

@@ -20,7 +20,6 @@ enum {
     LOOKS = 100,
     EVENTS = 512,
     SIZE = 262144,
-    RETRY = 100, /* milliseconds until it accepts again if there was no room */
 };
 
 /* Finds how many clients there may be, by the descriptors that the system gives. */
@@ -129,15 +128,14 @@ static void opens(struct front *front)
 {
     const struct options *options = &front->options;
     bool is_passed = front->place.socket >= 0;
-    if (options->admin != NULL && (!place_open(&front->admin_place, 0600, (gid_t)-1)
-                                   || !watch_file(front, front->admin_place.socket, EPOLLIN, OF_ADMIN_PLACE)))
+    if (options->admin != NULL && !place_open(&front->admin_place, 0600, (gid_t)-1))
         front->end = BY_START;
     else if (!is_passed && !place_open(&front->place, options->mode, options->group_id))
         front->end = BY_START;
-    else
-        watch_accepts(front, true);
     if (front->end != GOES_ON)
         return;
+    watch_accepts(front, &front->admin_place, true);
+    watch_accepts(front, &front->place, true);
     notes("serves at %s, for %u clients, of epoch %llu", options->socket, front->connections, (unsigned long long)front->epoch);
     systemd_tell("READY=1");
 }
@@ -198,9 +196,8 @@ static int patience(const struct front *front)
     int most = heartbeat_patience(&front->heartbeat), turn = turns_patience(front);
     if (turn >= 0 && (most < 0 || most > turn))
         most = turn;
-    if (front->is_open && !front->accepts && (most < 0 || most > RETRY))
-        return RETRY;
-    return most;
+    int retry = clients_patience(front);
+    return retry >= 0 && (most < 0 || most > retry) ? retry : most;
 }
 
 /* Waits until something has come. That is so after some microseconds mostly, and to be woken takes longer: so it looks some times before it sleeps. */
@@ -223,8 +220,7 @@ static void listens(struct front *front)
         takes_event(front, &events[place], false);
     for (int place = 0; place < count && front->end == GOES_ON; place++)
         takes_event(front, &events[place], true);
-    if (count == 0 && front->is_open && front->end == GOES_ON)
-        watch_accepts(front, true);
+    clients_retry(front);
 }
 
 /* Gives the program what waits for it, and looks whether it takes more if it does not take all. */
@@ -248,6 +244,7 @@ static void tells_clients(struct front *front)
         client->is_answered = false;
         client_send(front, client);
     }
+    replies_bound(front);
 }
 
 /* Serves until something ends it. It writes to the program before it sends to clients, so that the program works in the meantime. */

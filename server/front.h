@@ -31,11 +31,13 @@ struct client {
     bool is_leaving; /* it hung up, and the program has not answered so yet */
     bool is_hanging_up; /* `- C` is in the program */
     bool is_stalled; /* it has too much unanswered or unread, so it is read no further for now */
+    bool is_alone; /* its request in the program has a long reply, so no other is passed on beside it */
     bool is_answered; /* the program has answered a line of it in this round */
     bool is_tried; /* its lines take long, or nothing is known of them yet: so one of all such clients is in the program at a time */
     int64_t tried_until; /* by the program's work, in microseconds */
     struct link turn; /* among those that wait for their turn */
     struct link touched;
+    struct link large; /* among those that have more than UNREAD bytes unread, or had */
     pid_t process;
     uid_t user;
     int64_t since; /* seconds */
@@ -64,7 +66,9 @@ enum end { GOES_ON, BY_SIGNAL, BY_PROGRAM, BY_NONSENSE, BY_HEARTBEAT, BY_MEMORY,
 
 struct front {
     struct options options;
-    uint64_t epoch, unread;
+    uint64_t epoch, unread; /* unread: what a client may leave unread */
+    uint64_t unread_sum; /* bytes that all clients have not read yet */
+    struct queue large; /* the clients of which the greatest is hung up when that is too much */
     struct place place, admin_place;
     struct program program;
     struct heartbeat heartbeat;
@@ -83,7 +87,6 @@ struct front {
     int signals;
     int signal; /* that ended it */
     bool is_open; /* the program has answered, and clients may come */
-    bool accepts; /* the listeners are looked at */
     enum end end;
 };
 
@@ -94,6 +97,8 @@ int front_end(struct front *front);
 
 /* clients.c: those that come and go. */
 void clients_accept(struct front *front, bool is_admin);
+void clients_retry(struct front *front); /* accepts again after a failure, when its time has come */
+int clients_patience(const struct front *front); /* milliseconds until then; -1: nothing has failed */
 void client_ends(struct front *front, struct client *client); /* in good order */
 void client_cut(struct front *front, struct client *client); /* at once */
 void client_came_back(struct front *front, struct client *client, bool has_more); /* `- C`, or `* more C`: it has to hang up again */
@@ -115,8 +120,11 @@ void turns_heard(struct front *front); /* what the program wrote */
 int turns_patience(const struct front *front); /* for how many milliseconds nobody has a turn; -1: until the program has answered */
 
 /* replies.c: from the program to a client. */
+bool client_add(struct front *front, struct client *client, const char *line, size_t length);
 bool replies_take(struct front *front, const char *bytes, size_t count);
 void client_send(struct front *front, struct client *client);
+void client_forget(struct front *front, struct client *client); /* what it has not read */
+void replies_bound(struct front *front); /* hangs clients up while too much is unread */
 void client_touch(struct front *front, struct client *client);
 
 /* admin.c: connection 0. */
@@ -128,6 +136,6 @@ enum source { OF_CLIENT, OF_ADMIN, OF_PLACE, OF_ADMIN_PLACE, TO_PROGRAM, FROM_PR
 bool watch_file(struct front *front, int file, unsigned events, enum source source);
 void watch_reads(struct front *front, struct client *client, bool is_wanted);
 void watch_writes(struct front *front, struct client *client, bool is_wanted);
-void watch_accepts(struct front *front, bool is_wanted);
+void watch_accepts(struct front *front, struct place *place, bool is_wanted);
 
 #endif

@@ -18,7 +18,7 @@ static unsigned share_of(const struct client *client)
 
 bool lines_may_take(const struct front *front, const struct client *client)
 {
-    return client->file >= 0 && !client->is_over && client->unanswered + turns_lines(front, client) <= share_of(client)
+    return client->file >= 0 && !client->is_over && (!client->is_alone || client->unanswered == 0) && client->unanswered + turns_lines(front, client) <= share_of(client)
         && buffer_length(&client->out) <= UNREAD;
 }
 
@@ -37,6 +37,27 @@ static bool asks_for_clients(const char *line, size_t length)
 {
     size_t wanted = strlen(clients);
     return length >= wanted && memcmp(line, clients, wanted) == 0 && (length == wanted || (length == wanted + 1 && line[wanted] == '\r'));
+}
+
+/* Says whether a line asks for all names of a transaction. */
+static bool has_long_reply(const char *line, size_t length)
+{
+    static const char word[] = "holds";
+    const char *end = line + length;
+    while (line < end && *line == ' ')
+        line++;
+    return (size_t)(end - line) >= strlen(word) && memcmp(line, word, strlen(word)) == 0;
+}
+
+/* Says whether a line waits until the client has no request in the program: a request with a long reply, or any line after one. So what a
+   client does not read is little more than one such reply. */
+static bool has_to_wait(struct client *client, const char *line, size_t length)
+{
+    bool is_alone = has_long_reply(line, length);
+    if (client->unanswered > 0 && (is_alone || client->is_alone))
+        return true;
+    client->is_alone = is_alone;
+    return false;
 }
 
 /* Passes on what a client sent as one line: unchanged, unless it is longer than a line may be. */
@@ -115,6 +136,11 @@ void lines_turn(struct front *front, struct client *client)
     unsigned most = turns_lines(front, client);
     for (unsigned taken = 0; end != NULL && taken < most; taken++) {
         char *line = buffer_bytes(&client->in);
+        if (has_to_wait(client, line, (size_t)(end - line))) {
+            client->is_stalled = true;
+            watch_reads(front, client, false);
+            return;
+        }
         passes_line(front, client, line, (size_t)(end - line));
         client->skips = false;
         buffer_drop(&client->in, (size_t)(end - line) + 1);

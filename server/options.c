@@ -24,13 +24,16 @@ static const char usage[] =
     "  --each N            how many transactions a client can have at once\n"
     "  --connections N     how many clients can be connected at once (16384 if missing)\n"
     "  --unread BYTES      what a client may leave unread before it is hung up\n"
+    "  --unread-total N    bytes that all may leave unread before the one with most is hung up\n"
+    "                      (268435456 if missing)\n"
     "  --turn N            how many lines it takes of a client in its turn (1 if missing)\n"
     "  --epoch E           the epoch of fences; without it one that rises at each start\n"
     "  --epoch-file PATH   the file of the last epoch (the socket's path and .epoch if missing)\n"
     "  --heartbeat-fd N    a descriptor on which lines come, each the time in milliseconds from\n"
     "                      which it counts (CLOCK_BOOTTIME); the server starts with the first\n"
     "  --heartbeat-ms N    it stops when the last one is this old\n"
-    "  --quiet             no lines for start, end and deadlocks on standard error\n";
+    "  --quiet             no lines for start, end and deadlocks on standard error\n"
+    "  --version           prints the version\n";
 
 struct text_option {
     const char *name;
@@ -57,6 +60,7 @@ static const struct number_option numbers[] = {
     {"connections", offsetof(struct options, connections), 1, 65535},
     {"epoch", offsetof(struct options, epoch), 1, INT64_MAX},
     {"unread", offsetof(struct options, unread), 1, INT64_MAX},
+    {"unread-total", offsetof(struct options, unread_total), 1, INT64_MAX},
     {"turn", offsetof(struct options, turn), 1, 64},
     {"heartbeat-fd", offsetof(struct options, heartbeat_fd), 0, INT32_MAX},
     {"heartbeat-ms", offsetof(struct options, heartbeat_ms), 1, INT32_MAX},
@@ -165,10 +169,14 @@ static bool reads_words(struct options *options, int count, char **words)
 
 bool options_read(struct options *options, int count, char **words, int *status)
 {
-    *options = (struct options){.program = "mmdetect", .transactions = 65536, .names = 65536, .name_bytes = 64, .connections = 16384, .turn = 1};
+    *options = (struct options){.program = "mmdetect", .transactions = 65536, .names = 65536, .name_bytes = 64, .connections = 16384,
+                                .unread_total = (uint64_t)256 << 20, .turn = 1};
     for (int place = 1; place < count; place++)
         if (strcmp(words[place], "--help") == 0 || strcmp(words[place], "-h") == 0) {
             *status = fputs(usage, stdout) < 0 || fflush(stdout) != 0 ? 3 : 0;
+            return false;
+        } else if (strcmp(words[place], "--version") == 0) {
+            *status = puts("pashkure-serve " PASHKURE_VERSION) < 0 || fflush(stdout) != 0 ? 3 : 0;
             return false;
         }
     *status = 2;

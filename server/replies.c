@@ -14,6 +14,55 @@ void client_touch(struct front *front, struct client *client)
     queue_add(&front->touched, &client->touched);
 }
 
+/* Gives a client bytes. Returns false if memory is refused, and then hangs it up. */
+bool client_add(struct front *front, struct client *client, const char *line, size_t length)
+{
+    bool is_added = buffer_add(&client->out, line, length);
+    if (is_added)
+        front->unread_sum += length;
+    else
+        client_cut(front, client);
+    if (buffer_length(&client->out) > UNREAD)
+        queue_add(&front->large, &client->large);
+    client_touch(front, client);
+    return is_added;
+}
+
+void client_forget(struct front *front, struct client *client)
+{
+    front->unread_sum -= buffer_length(&client->out);
+    buffer_clear(&client->out);
+}
+
+/* Finds the client that has most unread, of those with more than UNREAD bytes, and of no others, so that it looks at no more than the bound
+   has such parts. One look hangs one client up; before the next the program has to write as much as that one had. */
+static struct client *greatest(struct front *front)
+{
+    struct queue large = front->large;
+    struct client *greatest = NULL;
+    struct link *link;
+    front->large = (struct queue){0};
+    while ((link = queue_take(&large)) != NULL) {
+        struct client *client = THING_OF(link, struct client, large);
+        if (buffer_length(&client->out) <= UNREAD)
+            continue;
+        queue_add(&front->large, link);
+        if (greatest == NULL || buffer_length(&client->out) > buffer_length(&greatest->out))
+            greatest = client;
+    }
+    return greatest;
+}
+
+void replies_bound(struct front *front)
+{
+    struct client *client;
+    while (front->unread_sum > front->options.unread_total && (client = greatest(front)) != NULL) {
+        notes("client %u is hung up: it left %zu bytes unread, and all clients %llu", client->number, buffer_length(&client->out),
+              (unsigned long long)front->unread_sum);
+        client_cut(front, client);
+    }
+}
+
 /* Reads the number at the front of a line, without zeros before it. Returns what stands behind it, or NULL. */
 static const char *number_of(const char *line, const char *end, unsigned *number)
 {
@@ -41,11 +90,8 @@ static bool gives(struct front *front, struct client *client, const char *line, 
         client->unanswered--;
         turns_answered(front, client, false);
     }
-    if (client->file < 0)
-        return true;
-    if (!buffer_add(&client->out, line, length))
-        client_cut(front, client);
-    client_touch(front, client);
+    if (client->file >= 0)
+        client_add(front, client, line, length);
     return true;
 }
 
@@ -110,13 +156,8 @@ static bool sends(struct front *front, struct client *client)
     if (count < 0)
         return errno == EAGAIN || errno == EINTR;
     buffer_drop(&client->out, (size_t)count);
+    front->unread_sum -= (size_t)count;
     return true;
-}
-
-/* Says how many bytes a client may leave unread. */
-static uint64_t most_unread(const struct front *front, const struct client *client)
-{
-    return client->number != 0 ? front->unread : (uint64_t)128 << 20;
 }
 
 void client_send(struct front *front, struct client *client)
@@ -126,7 +167,7 @@ void client_send(struct front *front, struct client *client)
     if (client->file < 0)
         return;
     size_t left = buffer_length(&client->out);
-    if (left > most_unread(front, client)) {
+    if (client->number != 0 && left > front->unread) {
         notes("client %u is hung up: it left %zu bytes unread", client->number, left);
         client_cut(front, client);
         return;

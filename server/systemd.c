@@ -13,7 +13,7 @@
 
 enum { FIRST = 3 };
 
-/* Says whether a descriptor is of a socket of this machine that listens. */
+/* Says whether a descriptor is of a socket of this machine that listens for streams, in which a line may come in pieces. */
 static bool listens(int file)
 {
     int value = 0;
@@ -21,7 +21,10 @@ static bool listens(int file)
     if (getsockopt(file, SOL_SOCKET, SO_ACCEPTCONN, &value, &length) < 0 || value == 0)
         return false;
     length = sizeof value;
-    return getsockopt(file, SOL_SOCKET, SO_DOMAIN, &value, &length) == 0 && value == AF_UNIX;
+    if (getsockopt(file, SOL_SOCKET, SO_DOMAIN, &value, &length) < 0 || value != AF_UNIX)
+        return false;
+    length = sizeof value;
+    return getsockopt(file, SOL_SOCKET, SO_TYPE, &value, &length) == 0 && value == SOCK_STREAM;
 }
 
 bool systemd_socket(int *socket)
@@ -36,7 +39,7 @@ bool systemd_socket(int *socket)
     if (!is_meant)
         return true;
     if (!is_one || !listens(FIRST) || fcntl(FIRST, F_SETFD, FD_CLOEXEC) < 0 || fcntl(FIRST, F_SETFL, O_NONBLOCK) < 0) {
-        says("LISTEN_FDS: it has to pass one Unix socket that listens");
+        says("LISTEN_FDS: it has to pass one Unix socket that listens, of type SOCK_STREAM");
         return false;
     }
     *socket = FIRST;

@@ -38,13 +38,13 @@ void watch_writes(struct front *front, struct client *client, bool is_wanted)
     watch(front, client, (client->watched & ~(unsigned)EPOLLOUT) | (is_wanted ? EPOLLOUT : 0));
 }
 
-void watch_accepts(struct front *front, bool is_wanted)
+void watch_accepts(struct front *front, struct place *place, bool is_wanted)
 {
-    if (is_wanted == front->accepts)
+    if (place->path == NULL || is_wanted == place->is_watched)
         return;
-    front->accepts = is_wanted;
+    place->is_watched = is_wanted;
     if (!is_wanted)
-        epoll_ctl(front->events, EPOLL_CTL_DEL, front->place.socket, NULL);
-    else if (!watch_file(front, front->place.socket, EPOLLIN, OF_PLACE))
+        epoll_ctl(front->events, EPOLL_CTL_DEL, place->socket, NULL);
+    else if (!watch_file(front, place->socket, EPOLLIN, place == &front->place ? OF_PLACE : OF_ADMIN_PLACE))
         front->end = BY_MEMORY;
 }

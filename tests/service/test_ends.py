@@ -215,6 +215,7 @@ class Starts(StartCase):
     def test_help(self) -> None:
         told = run(*self.needs_server(), "--help", env=environment())
         self.assertEqual((told.status, told.err, told.out.startswith(b"usage: pashkure-serve --socket PATH ")), (0, b"", True))
+        self.ends(run(*self.needs_server(), "--version", env=environment()), 0, "pashkure-serve 0.2.0\n")
 
     def test_group(self) -> None:
         """The socket belongs to the group that was asked for."""

@@ -8,7 +8,7 @@ from lib.faults import FaultCase, variables
 from lib.world import SEED, TOP, built_server, each, environment, run
 from service.test_server import ServerCase
 
-MODULES = ["service.test_front", "service.test_ends", "service.test_server", "service.test_between"]
+MODULES = ["service.test_front", "service.test_bounds", "service.test_ends", "service.test_server", "service.test_between"]
 FAULTS = "read:short%30 write:short%30 recv:short%30 send:short%30 recv:EINTR%10 send:EINTR%10 write:EINTR%10 read:EINTR%10 epoll_wait:EINTR%10 accept:EINTR%20"
 FLAGS = ["-g", "-O1", "-fsanitize=address,undefined", "-fno-sanitize-recover=all", "-fno-omit-frame-pointer", "-static-libasan"]
 OPTIONS = {"ASAN_OPTIONS": "quarantine_size_mb=1:detect_stack_use_after_return=0", "UBSAN_OPTIONS": "print_stacktrace=1"}

@@ -1,0 +1,238 @@
+"""What one client can take from the others at most: places in the program, its time, memory of the server, and its ear for those that come."""
+import os
+import select
+import signal
+
+from lib.world import stop, until
+from service.test_front import FULL, StubCase
+from service.test_server import fills
+
+
+class Bounds(StubCase):
+    def test_unanswered(self) -> None:
+        """At most 16 requests of a client are in the program, and 64 of all; another one has its turn when some are answered."""
+        server, count = self.stubbed("--connections", "6"), 300
+        wires = [self.wire(server) for _ in range(6)]
+        for wire in wires:
+            wire.ask(b"first")
+        self.seen += 6
+        self.asks(self.admin, (b"hold", b"hold"))
+        for place, wire in enumerate(wires[:5], 1):
+            wire.send(b"".join(b"%d\n" % number for number in range(count)))
+            until(lambda place=place: len(self.came()) == min(16 * place, 64), "16 of each have come, as far as there is room")
+        wires[5].send(b"other\n")
+        for _ in range(5):  # the server has its turns
+            self.assertEqual(self.wire(server).all(), FULL)
+        self.assertEqual(len(self.came()), 64)
+        os.kill(server.program_pid(), signal.SIGUSR1)
+        for wire in wires[:5]:
+            self.assertEqual(wire.lines(count), [b"heard " + (b"%d" % number).hex().encode() for number in range(count)])
+        self.assertEqual(wires[5].lines(1), [b"heard " + b"other".hex().encode()])
+        self.assertLess(self.came().index(b"6 other"), 64 + 32)
+
+    def test_unread(self) -> None:
+        """Of a client that does not read no more than some replies are asked for. It loses none."""
+        server, count, size = self.stubbed(), 2000, 10_000
+        wire, before = self.wire(server), server.memory()
+        fills(wire, b"big %d\n" % size * count, self.admin, server, b"turn")
+        self.assertLess(len(self.came()), 64 + 100)
+        self.has_not_grown(server, before, 4_000_000)
+        self.assertEqual(set(wire.lines(100)), {b"x" * size})
+
+    def test_much_that_nobody_asked_for(self) -> None:
+        """Events come all the same, up to --unread bytes. Then the client is hung up, and nothing of it is left."""
+        server = self.stubbed("--unread", "1000000", is_quiet=False)
+        slow, other = self.wire(server), self.wire(server)
+        slow.ask(b"a")
+        self.asks(other, (b"flood 1 100 9000", b"flooded"), (b"a", b"heard 61"))
+        self.assertNotIn(b"- 1", self.came())
+        self.asks(other, (b"flood 1 100 9000", b"flooded"))
+        until(lambda: b"- 1" in self.came(), "it is hung up")
+        self.assertRegex(server.stderr(), r"(?m)^pashkure: client 1 is hung up: it left \d+ bytes unread$")
+        told = slow.all()
+        self.assertEqual(set(told.split(b"\n")[:-1]), {b"* " + b"x" * 100})
+        self.asks(self.wire(server), (b"a", b"heard 61"))
+
+    def test_a_large_line(self) -> None:
+        """A reply of a megabyte comes whole, also to one that reads slowly, and an operator may be told more."""
+        server = self.stubbed()
+        wire = self.wire(server)
+        self.asks(wire, (b"big 3000000", b"x" * 3_000_000), (b"a", b"heard 61"))
+        self.asks(self.admin, (b"big 30000000", b"x" * 30_000_000))
+
+    def test_program_that_is_slow(self) -> None:
+        """While much waits for the program nobody is read, and so nobody makes the server grow."""
+        server, count = self.stubbed("--connections", "120"), 60
+        wires, line = [self.wire(server) for _ in range(120)], b"y" * 1000
+        for wire in wires:
+            wire.ask(b"first")
+        before, pid = server.memory(), server.program_pid()
+        stop(pid)
+        for wire in wires:
+            wire.send((line + b"\n") * count)
+        for _ in range(50):  # the server has its turns
+            self.assertEqual(self.wire(server).all(), FULL)
+        self.has_not_grown(server, before, 4_000_000)
+        os.kill(pid, signal.SIGCONT)
+        for wire in wires:
+            self.assertEqual(wire.lines(count), [b"heard " + line.hex().encode()] * count)
+
+    def test_program_that_is_not_read(self) -> None:
+        """The server goes on to read the program while the program takes nothing."""
+        server = self.stubbed()
+        wires = [self.wire(server) for _ in range(3)]
+        for wire in wires:
+            wire.send(b"big 100000\n" * 50)
+        for wire in wires:
+            self.assertEqual(set(wire.lines(50)), {b"x" * 100_000})
+
+    def test_long_replies(self) -> None:
+        """While a request for all names is in the program, it is the only one of its client."""
+        server = self.stubbed()
+        wire = self.wire(server)
+        wire.ask(b"first")
+        self.seen += 1
+        for lines, most in ([b"holds 0.1", b"a", b"b"], 1), ([b"a", b"b", b"  holds 0.1", b"c"], 2), ([b"holds"] * 3, 1):
+            self.asks(self.admin, (b"hold", b"hold"))
+            seen = len(self.came())
+            wire.send(b"".join(line + b"\n" for line in lines))
+            until(lambda seen=seen, most=most: len(self.came()) == seen + most, "those before it have come, or it alone")
+            self.turn()
+            self.assertEqual(len(self.came()), seen + most)
+            self.asks(self.admin, (b"let", b"let"))
+            self.assertEqual(wire.lines(len(lines)), [b"heard " + line.hex().encode() for line in lines])
+
+
+class Unread(StubCase):
+    """What all clients together leave unread."""
+
+    def steps(self, *words: str) -> int:
+        """How many events of 10,000 bytes a client leaves unread, those in its socket among them, until it is hung up."""
+        server = self.stubbed(*words)
+        slow, other = self.wire(server), self.wire(server)
+        slow.ask(b"a")
+        for count in range(1, 1000):
+            self.asks(other, (b"flood 1 9996 1", b"flooded"))
+            self.turn()
+            if b"- 1" in self.came():
+                return count
+        self.fail("it is not hung up")
+
+    def test_little(self) -> None:
+        """Who leaves up to 64 KiB unread is not hung up for others."""
+        self.assertIn(self.steps("--unread-total", "1") - self.steps("--unread", "1"), (6, 7))
+
+    def test_greatest(self) -> None:
+        """If it is too much, who left most is hung up, and nobody else."""
+        server = self.stubbed("--unread-total", "3000000", is_quiet=False)
+        slow, other = [self.wire(server) for _ in range(3)], self.wire(server)
+        for wire in slow:
+            wire.ask(b"a")
+        for number, count in (2, 100), (3, 200), (1, 120):
+            self.assertNotIn(b"- 3", self.came())
+            self.asks(other, (b"flood %d 9996 %d" % (number, count), b"flooded"))
+        until(lambda: b"- 3" in self.came(), "the greatest is hung up")
+        self.assertRegex(server.stderr(), r"(?m)^pashkure: client 3 is hung up: it left \d+ bytes unread, and all clients \d+$")
+        self.assertEqual((len(slow[1].lines(100)), len(slow[0].lines(120))), (100, 120))
+        self.asks(self.wire(server), (b"a", b"heard 61"))
+        self.assertEqual({b"- 1", b"- 2"} & {*self.came()}, set())
+
+    def test_operator(self) -> None:
+        """One that reads nothing has no more than all clients may have."""
+        server = self.stubbed("--unread-total", "2000000", is_quiet=False)
+        slow = self.wire(self.admin_path)
+        slow.send(b"big 3000000\n")
+        until(lambda: "client 0 is hung up" in server.stderr(), "it is hung up")
+        self.asks(self.wire(server), (b"a", b"heard 61"))
+        self.turn()
+
+    def test_memory(self) -> None:
+        """What was read takes no memory, also if a little is left."""
+        server = self.stubbed("--unread", "100000000")
+        slow, other = self.wire(server), self.wire(server)
+        slow.ask(b"a")
+        before = server.memory()
+        self.asks(other, (b"flood 1 9996 3000", b"flooded"))
+        slow.lines(2960)
+        self.turn()
+        self.has_not_grown(server, before, 10_000_000)
+        slow.lines(40)
+
+
+class Accepts(StubCase):
+    def test_no_room(self) -> None:
+        """After accepts that failed others come in, though a client asks all the time; one line says so for all that failed one after another."""
+        server = self.stubbed(rules=" ".join(f"accept:{error}@{place}" for place, error in enumerate(["ENFILE", "EMFILE", "ENOMEM"] * 2, 10)), is_quiet=False)
+        wire = self.wire(server)
+        for _ in range(8):
+            new = self.wire(server)
+            new.send(b"a\n")
+            until(lambda new=new: wire.ask(b"b") and select.select([new.socket], [], [], 0)[0], "another one is served")
+            self.assertEqual(new.lines(1), [b"heard 61"])
+        self.assertEqual(server.stderr().count("for now: Too many open files in system"), 1)
+        self.assertEqual(server.stderr().count("no client can come"), 1)
+
+
+class Turns(StubCase):
+    """Those whose lines take long, by the processor time of the program, which the test sets."""
+
+    def test_one_that_takes_long(self) -> None:
+        """Of all clients with long lines, or of which nothing is known, one line is in the program at a time; others have turns beside it."""
+        server = self.stubbed()
+        slow, new, quick = [self.wire(server) for _ in range(2)], self.wire(server), self.wire(server)
+        for wire in [*slow, quick]:
+            self.asks(wire, (b"a", b"heard 61"))
+        for wire in slow:
+            self.asks(wire, (b"work 200", b"heard " + b"work 200".hex().encode()))
+        self.seen += 5
+        self.asks(self.admin, (b"hold", b"hold"))
+        for wire in [*slow, new]:
+            wire.send(b"b\n" * 3)
+        until(lambda: len(self.came()) == 1, "one has come")
+        quick.send(b"c\n" * 10)
+        until(lambda: len(self.came()) == 11, "and those of another one")
+        self.turn()
+        self.assertEqual(self.came()[1:], [b"4 c"] * 10)
+        self.admin.send(b"let\n")
+        for wire in [*slow, new]:
+            wire.lines(3)
+        self.assertEqual(self.came()[11:14], [b"2 b", b"3 b", b"1 b"])
+
+    def test_no_longer(self) -> None:
+        """A client whose lines take no longer has its share again, when the program has worked for a tenth of a second."""
+        server = self.stubbed()
+        wire, other = self.wire(server), self.wire(server)
+        for line in b"a", b"work 151":
+            wire.ask(line)
+        for count, most in (698, 1), (2, 16):
+            for _ in range(count):
+                other.ask(b"work 143")  # which is not long, and with the others a tenth of a second
+            wire.ask(b"a")
+            seen = len(self.came())
+            self.asks(self.admin, (b"hold", b"hold"))
+            wire.send(b"c\n" * 30)
+            until(lambda seen=seen, most=most: len(self.came()) == seen + most, "its share has come")
+            self.turn()
+            self.assertEqual(len(self.came()), seen + most)
+            self.asks(self.admin, (b"let", b"let"))
+            wire.lines(30)
+
+    def test_parts_of_a_hang_up(self) -> None:
+        """After `* more C` it is told again, behind those who wait; its number is in use until `- C` has come back."""
+        server = self.stubbed("--connections", "2")
+        wire, other = self.wire(server), self.wire(server)
+        for each_wire in wire, other:
+            each_wire.ask(b"a")
+        self.asks(self.admin, (b"more 3", b"more"), (b"hold", b"hold"))
+        self.seen += 2
+        wire.close()
+        until(lambda: self.came() == [b"- 1"], "it has hung up")
+        other.send(b"b\n")
+        until(lambda: len(self.came()) == 2, "another one has its turn")
+        next_wire = self.wire(server)
+        next_wire.send(b"c\n")
+        self.turn()
+        self.assertEqual(self.came(), [b"- 1", b"2 b"])
+        self.asks(self.admin, (b"let", b"let"))
+        self.assertEqual((other.lines(1), next_wire.lines(1)), ([b"heard 62"], [b"heard 63"]))
+        self.assertEqual(self.came(), [b"- 1", b"2 b", *[b"- 1"] * 3, b"1 c"])
