@@ -46,7 +46,8 @@ struct client {
 /* Who is next. Nobody's lines keep the program long from those of others: each client has its turn in the order in which they came, and of
    those whose lines take long one line at all is in the program. */
 struct turns {
-    struct queue ready, tried; /* with lines to be passed on, or a hang-up; those of clients that are tried */
+    struct queue ready, tried, late; /* with lines to be passed on, or a hang-up; of clients that are tried; of those that had a long line */
+    bool is_late_next; /* of the two last ones that one has its turn */
     unsigned in_program; /* lines that were passed on and are not answered */
     struct client *in_trial; /* whose line in the program is tried */
     unsigned answered; /* lines, since the program's work was measured */

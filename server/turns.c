@@ -26,17 +26,37 @@ void turns_begin(struct front *front)
     front->turns.work = program_work(&front->program);
 }
 
+/* Adds a client to those that it waits among. */
+static void adds(struct turns *turns, struct client *client)
+{
+    bool is_late = turns->work < client->tried_until;
+    queue_add(!client->is_tried ? &turns->ready : is_late ? &turns->late : &turns->tried, &client->turn);
+}
+
 void turns_add(struct front *front, struct client *client)
 {
-    queue_add(client->is_tried ? &front->turns.tried : &front->turns.ready, &client->turn);
+    adds(&front->turns, client);
+}
+
+static bool has_tried(const struct turns *turns)
+{
+    return turns->tried.first != NULL || turns->late.first != NULL;
 }
 
 /* Says whether a line may be tried: one at a time, and after a long one no other as long as that one took, if others have work meanwhile. */
 static bool may_try(const struct turns *turns)
 {
-    if (turns->tried.first == NULL || turns->in_trial != NULL)
+    if (!has_tried(turns) || turns->in_trial != NULL)
         return false;
     return !turns->is_shared || clock_microseconds(CLOCK_MONOTONIC) >= turns->rests_until;
+}
+
+/* Takes one that is tried: one that had a long line and one that had none in turn, so that those who come do not wait for all of the former. */
+static struct client *takes_tried(struct turns *turns)
+{
+    bool is_late = turns->tried.first == NULL || (turns->is_late_next && turns->late.first != NULL);
+    turns->is_late_next = !is_late;
+    return THING_OF(queue_take(is_late ? &turns->late : &turns->tried), struct client, turn);
 }
 
 /* Takes the client that waited longest, of those that are tried if one may be. */
@@ -47,9 +67,9 @@ static struct client *takes_next(struct turns *turns)
         struct client *client = THING_OF(link, struct client, turn);
         if (!client->is_tried)
             return client;
-        queue_add(&turns->tried, link);
+        adds(turns, client);
     }
-    return may_try(turns) ? THING_OF(queue_take(&turns->tried), struct client, turn) : NULL;
+    return may_try(turns) ? takes_tried(turns) : NULL;
 }
 
 unsigned turns_lines(const struct front *front, const struct client *client)
@@ -71,7 +91,7 @@ int turns_patience(const struct front *front)
         return -1;
     if (turns->ready.first != NULL || may_try(turns))
         return 0;
-    if (turns->tried.first == NULL || turns->in_trial != NULL)
+    if (!has_tried(turns) || turns->in_trial != NULL)
         return -1;
     return (int)((turns->rests_until - clock_microseconds(CLOCK_MONOTONIC)) / 1000) + 1;
 }
