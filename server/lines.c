@@ -18,7 +18,8 @@ static unsigned share_of(const struct client *client)
 
 bool lines_may_take(const struct front *front, const struct client *client)
 {
-    return client->file >= 0 && !client->is_over && (!client->is_alone || client->unanswered == 0) && client->unanswered + turns_lines(front, client) <= share_of(client)
+    bool is_open = client->file >= 0 && !client->is_over, is_answered = client->unanswered == 0;
+    return is_open && (is_answered || !client->is_alone) && client->unanswered + turns_lines(front, client) <= share_of(client)
         && buffer_length(&client->out) <= UNREAD;
 }
 
