@@ -15,13 +15,11 @@
 
 #include "pashkure.h"
 
-enum {
-    PASHKURE_AGAIN = 12,      /* another thread changed a word meanwhile, or the bucket is the desk's */
-    PASHKURE_FAT = 13,        /* the bucket is the desk's: ask there */
-    PASHKURE_FULL = 14,       /* the eight records of the worker are taken: ask the desk */
-    PASHKURE_NOT_THIN = 15,   /* the name has no bytes, or more than 63 or than config.name_bytes: ask the desk */
-    PASHKURE_NOT_LET_GO = 27  /* a bucket is still lent to a worker of this number: worker and desk are of two openings */
-};
+#define PASHKURE_AGAIN ((pashkure_result)12)      /* another thread changed a word meanwhile, or the bucket is the desk's */
+#define PASHKURE_FAT ((pashkure_result)13)        /* the bucket is the desk's: ask there */
+#define PASHKURE_FULL ((pashkure_result)14)       /* the eight records of the worker are taken: ask the desk */
+#define PASHKURE_NOT_THIN ((pashkure_result)15)   /* the name has no bytes, or more than 63 or than config.name_bytes: ask the desk */
+#define PASHKURE_NOT_LET_GO ((pashkure_result)27) /* a bucket is still lent to a worker of this number: worker and desk are of two openings */
 
 typedef struct pashkure_desk { void *at; uint64_t state; } pashkure_desk;
 typedef struct pashkure_worker { void *at; uint64_t state; } pashkure_worker;
@@ -32,13 +30,13 @@ typedef struct pashkure_worker { void *at; uint64_t state; } pashkure_worker;
 
 /* OK, or IN_USE, BAD_.. as of pashkure_open, BAD_BUCKETS, NO_MEMORY. It takes all the memory of the desk: that of pashkure_open, 16 bytes a
  * bucket, 648 a transaction and 12 a name. All buckets are free. */
-uint32_t pashkure_desk_open(pashkure_desk *desk, const pashkure_config *config, uint32_t buckets);
+pashkure_result pashkure_desk_open(pashkure_desk *desk, const pashkure_config *config, uint32_t buckets);
 
 /* Gives the memory of the desk back. The words stay until the last worker is closed. */
 void pashkure_desk_close(pashkure_desk *desk);
 
 /* A worker more: OK, or IN_USE (the worker is open), TRANSACTIONS_FULL (there are as many as config.transactions), NO_MEMORY. */
-uint32_t pashkure_desk_add_worker(pashkure_desk *desk, pashkure_worker *worker);
+pashkure_result pashkure_desk_add_worker(pashkure_desk *desk, pashkure_worker *worker);
 
 /* Gives back all that the worker has taken, lets go what is fat, and gives its memory back. */
 void pashkure_worker_close(pashkure_worker *worker);
@@ -46,47 +44,47 @@ void pashkure_worker_close(pashkure_worker *worker);
 /* ---- A worker alone, with no mutex ---- */
 
 /* Takes a name: OK, HELD (taken before), BUSY (another worker has the bucket, for this name or another), FAT, FULL, NOT_THIN. */
-uint32_t pashkure_worker_take(pashkure_worker *worker, const void *name, size_t length);
+pashkure_result pashkure_worker_take(pashkure_worker *worker, const void *name, size_t length);
 
 /* Gives a name back: OK, FREE (the worker has not taken it), AGAIN (its bucket is fat: pashkure_desk_unlock). */
-uint32_t pashkure_worker_give_back(pashkure_worker *worker, const void *name, size_t length);
+pashkure_result pashkure_worker_give_back(pashkure_worker *worker, const void *name, size_t length);
 
 /* Gives all back: OK, or AGAIN if something is left that is fat: pashkure_desk_commit or pashkure_desk_abort. */
-uint32_t pashkure_worker_give_back_all(pashkure_worker *worker);
+pashkure_result pashkure_worker_give_back_all(pashkure_worker *worker);
 
 /* ---- Requests, with the mutex ---- */
 
 /* Makes fat all that the worker has taken, and the name's bucket. Then as pashkure_lock: OK, HELD, WAITS, DEADLOCK. AGAIN: ask again. */
-uint32_t pashkure_desk_ask(pashkure_desk *desk, pashkure_worker *worker, const void *name, size_t length);
+pashkure_result pashkure_desk_ask(pashkure_desk *desk, pashkure_worker *worker, const void *name, size_t length);
 
 /* Makes the name's bucket fat. Then as pashkure_try_lock: OK, HELD, BUSY. AGAIN: try again. */
-uint32_t pashkure_desk_try_lock(pashkure_desk *desk, pashkure_worker *worker, const void *name, size_t length);
+pashkure_result pashkure_desk_try_lock(pashkure_desk *desk, pashkure_worker *worker, const void *name, size_t length);
 
 /* ---- Ends, with the mutex. After OK read pashkure_desk_woken, before any other call that is no reading one ---- */
 
 /* Gives a name back. FREE: the worker did so by itself, nobody waited for it, and pashkure_desk_woken is what it was. Else what the worker has
  * taken and is fat is let go, and then as pashkure_unlock. */
-uint32_t pashkure_desk_unlock(pashkure_desk *desk, pashkure_worker *worker, const void *name, size_t length);
+pashkure_result pashkure_desk_unlock(pashkure_desk *desk, pashkure_worker *worker, const void *name, size_t length);
 
 /* The worker gives back or lets go all that it has taken, also if the end is refused. Then as pashkure_commit. After OK the worker has no live
  * transaction until pashkure_desk_begin. */
-uint32_t pashkure_desk_commit(pashkure_desk *desk, pashkure_worker *worker);
+pashkure_result pashkure_desk_commit(pashkure_desk *desk, pashkure_worker *worker);
 
 /* The same, of one in a deadlock too: OK. WAITING of one that waits and is in no deadlock. */
-uint32_t pashkure_desk_abort(pashkure_desk *desk, pashkure_worker *worker);
+pashkure_result pashkure_desk_abort(pashkure_desk *desk, pashkure_worker *worker);
 
 /* Begins the next transaction of this worker, if it has no live one, and writes the key of its live one: OK. Refusals as of pashkure_begin. Its
  * slot is the worker's number as long as each end is followed by this call before another worker's end. */
-uint32_t pashkure_desk_begin(pashkure_desk *desk, uint32_t at, pashkure_key *key);
+pashkure_result pashkure_desk_begin(pashkure_desk *desk, uint32_t at, pashkure_key *key);
 
 /* Takes the wait of this worker's transaction back, as pashkure_cancel: OK, CARRIED. */
-uint32_t pashkure_desk_cancel(pashkure_desk *desk, uint32_t at);
+pashkure_result pashkure_desk_cancel(pashkure_desk *desk, uint32_t at);
 
 /* ---- All buckets, with the mutex ---- */
 
 /* Makes each bucket fat, so that no worker can take a name, and all that is owned is the manager's: OK. AGAIN: some were changed meanwhile, and
  * are not fat. Else the manager's refusal of a name that was thin, as NAMES_FULL: that bucket and those behind it are what they were. */
-uint32_t pashkure_desk_adopt_all(pashkure_desk *desk);
+pashkure_result pashkure_desk_adopt_all(pashkure_desk *desk);
 
 /* Frees each bucket that is fat, and of which nobody owns a name. */
 void pashkure_desk_free_all(pashkure_desk *desk);
@@ -94,9 +92,12 @@ void pashkure_desk_free_all(pashkure_desk *desk);
 /* ---- Reading the desk's manager, with the mutex: as the calls of pashkure.h. A name that was taken thinly is not there ---- */
 
 bool pashkure_desk_woken(pashkure_desk *desk, size_t index, pashkure_wake *woken);
-uint32_t pashkure_desk_look(pashkure_desk *desk, uint32_t slot, pashkure_seen *seen);
-uint32_t pashkure_desk_name(pashkure_desk *desk, uint32_t number, void *bytes, size_t room, size_t *length, pashkure_key *owner);
-uint32_t pashkure_desk_owner(pashkure_desk *desk, const void *name, size_t length, pashkure_key *owner);
+pashkure_result pashkure_desk_look(pashkure_desk *desk, uint32_t slot, pashkure_seen *seen);
+pashkure_result pashkure_desk_name(pashkure_desk *desk, uint32_t number, void *bytes, size_t room, size_t *length, pashkure_key *owner);
+pashkure_result pashkure_desk_owner(pashkure_desk *desk, const void *name, size_t length, pashkure_key *owner);
 void pashkure_desk_totals(pashkure_desk *desk, pashkure_counts *counts);
+
+/* How many names this worker's transaction owns there. Their numbers are written, as many as there is room for, each once. */
+size_t pashkure_desk_owned(pashkure_desk *desk, uint32_t at, uint32_t *numbers, size_t room);
 
 #endif

@@ -95,8 +95,8 @@ class Agreement(LibraryCase):
             crate: list[str] = []
             for parameter in filter(None, (part.strip() for part in found[1].split(","))):
                 what = parameter.partition(": ")[2]
-                crate += {"Global": [], "&[u8]": ["pointer", "size_t"], "&mut [u8]": ["pointer", "size_t"], "u32": ["uint32_t"], "usize": ["size_t"],
-                          "PlainKey": ["pashkure_key"]}.get(what, ["pointer"])  # fmt: skip
+                crate += {"Global": [], "&[u8]": ["pointer", "size_t"], "&mut [u8]": ["pointer", "size_t"], "&mut [u32]": ["pointer", "size_t"],
+                          "u32": ["uint32_t"], "usize": ["size_t"], "PlainKey": ["pashkure_key"]}.get(what, ["pointer"])  # fmt: skip
             header = ["pointer" if "*" in part else part.split()[0] for part in given.split(",") if part.strip() != "void"]
             self.assertEqual(header, crate, name)
 
@@ -107,7 +107,7 @@ class Agreement(LibraryCase):
         for name, number in re.findall(r"Refusal::(\w+) => (\d+)", SOURCES):
             crate[re.sub(r"(?<=[a-z])(?=[A-Z])", "_", name).upper()] = int(number)
         self.assertEqual(header, {**crate, **OF_SLEEPERS})
-        desk = re.findall(r"\bPASHKURE_([A-Z_]+[A-Z]) = (\d+)", DESK)
+        desk = re.findall(r"\bPASHKURE_([A-Z_]+[A-Z]) \(\(pashkure_result\)(\d+)\)", DESK)
         self.assertEqual(sorted(desk), sorted(re.findall(r"\bconst (\w+): u32 = (\d+);", text_of(CRATE, "desk_answer.rt"))))
         self.assertEqual(len({*header.values(), *(int(number) for _, number in desk)}), len(header) + len(desk))
         version = re.search(r"#define PASHKURE_VERSION (\d+)u", HEADER)

@@ -1,10 +1,10 @@
 -- What calls of the books and the desk do.
-use Rattle.std.specs.Prelude.{◌≡◌, ◌≢◌, ◌⊎◌, ◌/◌, ℕ, Bool, true, false, List, [], length, Option, Some, None, Result, Ok, Err, slice_get, slice_set, ◌<◌}
+use Rattle.std.specs.Prelude.{◌≡◌, ◌≢◌, ◌⊎◌, ◌↔◌, ◌/◌, ℕ, Bool, true, false, List, [], length, Option, Some, None, Result, Ok, Err, slice_get, slice_set, ◌<◌}
 use Rattle.mm_arena.specs.declared.key.Key.{Key}
 use Rattle.mm_names.specs.Names.{name_of}
-use Rattle.mm_lists.specs.Members.{Among}
+use Rattle.mm_lists.specs.Members.{Among, NoRepeat}
 use Rattle.mm_manager.specs.LockState.{LockState, Owns}
-use Rattle.mm_rules.specs.TableState.{is_live}
+use Rattle.mm_rules.specs.TableState.{is_live, owner_of}
 use Rattle.mm_manager.specs.Permit.{may_cancel, may_name}
 use Rattle.mm_manager.specs.Calls.{Aborts, Begins, Commits, LocksName, TriesName, UnlocksName, Cancels}
 use Rattle.mm_manager.specs.declared.reply.Abort.TheVariants as aborts
@@ -190,6 +190,15 @@ TriesNamed old at name answer new =
 -- these bytes can be no name; or they are tried
 abbrev pub TriesAt : DeskState → ℕ → List ℕ → Result Tried Refusal → DeskState → Type 0
 TriesAt old at name answer new = RefusesName old name answer new ⊎ ((may_name old.manager.names.name_bytes name ≡ Ok tt) × TriesNamed old at name answer new)
+
+-- ---- what a worker's transaction owns
+
+-- each number of a name that it owns, once; none if there is no such transaction, or if there is room for this many names and there can be more
+abbrev pub ListsOwned : DeskState → ℕ → ℕ → List ℕ → Type 0
+ListsOwned d at room numbers =
+    ((slice_get d.keys at ≡ None) × (numbers ≡ []))
+    ⊎ ((room < d.manager.table.config.resources) × (numbers ≡ []))
+    ⊎ ((k : Key) × (slice_get d.keys at ≡ Some k) × NoRepeat numbers × ((n : ℕ) → Among n numbers ↔ (owner_of d.manager.table n ≡ Some k)))
 
 -- ---- what holds of any worker and the desk
 

@@ -74,7 +74,7 @@ impl Desk {
     }
 
     /// Whether there is room for each number of a name.
-    fn has_room(&self, room: &Room) -> bool
+    pub(crate) fn has_room(&self, room: &Room) -> bool
         ensures { IsTrue result ↔ (self.now.manager.table.config.resources ≤ vec_capacity room.now.numbers) }
     {
         self.books.manager.config().names as usize <= room.numbers.capacity()

@@ -1,9 +1,10 @@
 //! What the desk tells, and what holds of any worker and the desk.
-ghost use Rattle.std.specs.Prelude.{◌≡◌, Some, slice_get};
-ghost use Rattle.mm_desk.specs.Calls.{OwnsAlone, IsOwned};
+ghost use Rattle.std.specs.Prelude.{◌≡◌, Some, slice_get, vec_capacity};
+ghost use Rattle.mm_desk.specs.Calls.{ListsOwned, OwnsAlone, IsOwned};
 ghost use Rattle.mm_thin.specs.declared.views.RecordView.{RecordView};
 
 use crate::desk::Desk;
+use crate::room::Room;
 use mm_manager::LockManager;
 use mm_thin::Worker;
 
@@ -14,6 +15,21 @@ impl Desk {
         ensures { result.now ≡ self.now.manager }
     {
         &self.books.manager
+    }
+
+    /// Lists in `room` the numbers of the names that the transaction of a worker owns in the manager, each once, in no order that is promised.
+    /// None if there is no such worker, or if `room` is for fewer names than there can be. `O(its names)`.
+    pub fn list_owned(&self, at: u32, room: &mut Room)
+        ensures listed { ListsOwned self.now at (vec_capacity room.old.numbers) room.new.numbers.items }
+        ensures room { vec_capacity room.new.numbers ≡ vec_capacity room.old.numbers }
+    {
+        room.numbers.clear();
+        let Some(key) = self.key_of(at) else {
+            return;
+        };
+        if self.has_room(room) {
+            self.books.manager.holds(key, &mut room.numbers);
+        }
     }
 
     /// Changes nothing. Who owns a name in the manager that a record of a worker has taken is the worker's own transaction; and it owns the

@@ -1,5 +1,5 @@
 //! Room for what the end of a transaction looks at.
-ghost use Rattle.std.specs.Prelude.{◌≤◌, IfOk, vec_capacity};
+ghost use Rattle.std.specs.Prelude.{◌≡◌, ◌≤◌, IfOk, vec_capacity};
 
 use std::alloc::{AllocError, Global};
 
@@ -18,5 +18,12 @@ impl Room {
         let numbers = Vec::with_capacity(alloc, names as usize)?;
         let buckets = Vec::with_capacity(alloc, names as usize)?;
         Ok(Room { numbers, buckets })
+    }
+
+    /// Returns what `Desk::list_owned` listed last, until an end of any transaction.
+    pub fn numbers(&self) -> &[u32]
+        ensures { result.now ≡ self.now.numbers.items }
+    {
+        self.numbers.as_slice()
     }
 }

@@ -1,5 +1,5 @@
 -- What the calls of a desk do: each what the call of a desk of mm_desk does, whole, and its answer as a number.
-use Rattle.std.specs.Prelude.{◌≡◌, ◌≢◌, ◌⊎◌, ◌≤◌, ℕ, List, Option, Some, None, Result, if◌then◌else◌, nat_eq}
+use Rattle.std.specs.Prelude.{◌≡◌, ◌≢◌, ◌⊎◌, ◌≤◌, ℕ, List, ◌++◌, length, take, drop, Option, Some, None, Result, if◌then◌else◌, nat_eq}
 use Rattle.mm_arena.specs.declared.key.Key.{Key}
 use Rattle.mm_manager.specs.declared.refusal.Refusal.{Refusal}
 use Rattle.mm_manager.specs.declared.reply.Cancel as cancel
@@ -8,7 +8,7 @@ use Rattle.mm_desk.specs.declared.reply.Asked.{Asked}
 use Rattle.mm_desk.specs.declared.reply.Tried.{Tried}
 use Rattle.mm_desk.specs.declared.reply.Unlocked.{Unlocked}
 use Rattle.mm_desk.specs.All.{AdoptsBelow, FreesBelow}
-use Rattle.mm_desk.specs.Calls.{AbortsAt, AsksAt, BeginsAt, CancelsAt, CommitsAt, HasNoNames, KeepsFat, KeepsManager, RefusesOne, TriesAt, UnlocksAt}
+use Rattle.mm_desk.specs.Calls.{AbortsAt, AsksAt, BeginsAt, CancelsAt, CommitsAt, HasNoNames, KeepsFat, KeepsManager, ListsOwned, RefusesOne, TriesAt, UnlocksAt}
 use Rattle.mm_thin.specs.Calls.{AddsWorker, GivesBack, GivesSomeUp}
 use Rattle.mm_thin.specs.Parts.{WorkerState}
 use Rattle.mm_thin.specs.Views.{no_desk}
@@ -87,6 +87,16 @@ TellsCancelAt old at told new =
 abbrev pub TellsBeginAt : HallState → ℕ → PlainKey → ℕ → PlainKey → HallState → Type 0
 TellsBeginAt old at written told key new =
     (answer : Result Key Refusal) × (told ≡ begin_number answer) × (key ≡ begun_key answer written) × BeginsAt old.desk at answer new.desk × (new.room ≡ old.room)
+
+-- ---- what a worker's transaction owns
+
+-- a room after as many of these numbers as it has room for were written to its head
+abbrev pub headed : List ℕ → List ℕ → List ℕ
+headed numbers room = take (length room) numbers ++ drop (length numbers) room
+
+-- how many names it owns in the manager, and their numbers as far as there is room
+abbrev pub TellsOwned : HallState → ℕ → List ℕ → ℕ → List ℕ → Type 0
+TellsOwned h at room told new = (numbers : List ℕ) × ListsOwned h.desk at h.room numbers × (told ≡ length numbers) × (new ≡ headed numbers room)
 
 -- ---- all buckets
 

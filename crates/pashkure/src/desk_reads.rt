@@ -1,7 +1,7 @@
 //! The calls that read a desk's manager. They change nothing, and of a closed handle they find nothing.
 ghost use Rattle.std.specs.Prelude.{◌≡◌, false, IfSome, is_some};
 ghost use Rattle.mm_manager.specs.Totals.{nothing_counted};
-ghost use Rattle.pashkure.specs.DeskCalls.{HasDesk};
+ghost use Rattle.pashkure.specs.DeskCalls.{HasDesk, TellsOwned};
 ghost use Rattle.pashkure.specs.Reads.{wake_at, TellsLook, TellsName, TellsOwner};
 ghost use Rattle.pashkure.specs.Plain.{counts_of};
 
@@ -76,6 +76,19 @@ pub extern "C" fn pashkure_desk_owner(
         return NOT_OPEN;
     }
     tell_owner(desk.hall().desk.manager(), name, owner)
+}
+
+/// `Desk::list_owned`. As many numbers are written as there is room for, and it is told how many there are.
+#[unsafe(no_mangle)]
+pub extern "C" fn pashkure_desk_owned(desk: &mut DeskHandle, at: u32, numbers: &mut [u32]) -> usize
+    ensures closed { ¬ HasDesk desk.old → (result ≡ 0) × (numbers.new ≡ numbers.old) }
+    ensures same { desk.new ≡ desk.old }
+    ensures owned { HasDesk desk.old → TellsOwned desk.old.held at numbers.old result numbers.new }
+{
+    if !desk.is_open() {
+        return 0;
+    }
+    desk.hall().list_owned(at, numbers)
 }
 
 /// As `pashkure_totals`.

@@ -1,7 +1,7 @@
 //! What lies behind the mutex of a program in C.
-ghost use Rattle.std.specs.Prelude.{◌≡◌, IfSome};
+ghost use Rattle.std.specs.Prelude.{◌≡◌, IfSome, length};
 ghost use Rattle.mm_desk.specs.Calls.{AbortsAt, CommitsAt};
-ghost use Rattle.pashkure.specs.DeskCalls.{GivesNameBack, IsNew};
+ghost use Rattle.pashkure.specs.DeskCalls.{GivesNameBack, IsNew, TellsOwned, headed};
 ghost use Rattle.mm_thin.specs.Calls.{GivesSomeUp};
 
 use mm_desk::{Desk, DeskConfig, Room, Unlocked};
@@ -56,6 +56,15 @@ impl Hall {
         Some(self.desk.unlock(worker.at(), name))
     }
 
+    /// Writes the numbers of the names that the transaction of a worker owns in the manager, as many as there is room for. Returns how many it owns.
+    pub(crate) fn list_owned(&mut self, at: u32, numbers: &mut [u32]) -> usize
+        ensures listed { TellsOwned self.old at numbers.old result numbers.new }
+        ensures same { self.new ≡ self.old }
+    {
+        self.desk.list_owned(at, &mut self.room);
+        copy_head(self.room.numbers(), numbers)
+    }
+
     /// Ends the transaction of a worker that waits for nothing. Whatever the answer, the worker has left first what it had taken.
     pub(crate) fn commit(&mut self, worker: &mut Worker) -> Result<Unlocked, Refusal>
         ensures commits { CommitsAt self.old.desk worker.old.at self.old.room result self.new.desk }
@@ -75,4 +84,18 @@ impl Hall {
         let _ = worker.leave_all();
         self.desk.abort(worker.at(), &mut self.room)
     }
+}
+
+/// Copies as many of these numbers as there is room for to its head. Returns how many there are.
+fn copy_head(numbers: &[u32], room: &mut [u32]) -> usize
+    ensures count { result ≡ length numbers.now }
+    ensures copied { room.new ≡ headed numbers.now room.old }
+{
+    if numbers.len() <= room.len() {
+        room[..numbers.len()].copy_from_slice(numbers);
+    } else {
+        let count = room.len();
+        room.copy_from_slice(&numbers[..count]);
+    }
+    numbers.len()
 }
