@@ -69,7 +69,7 @@ typedef enum pashkure_result {
     PASHKURE_LABELS_FULL = 25,       /* 8,796,093,022,207 events: nobody may begin to wait any more. End all, close, open */
     PASHKURE_COUNTS_FULL = 26,       /* 4,611,686,018,426,339,328 events: only ends are taken. End all, close, open */
     PASHKURE_NOT_OPEN = 32,          /* the manager is closed */
-    PASHKURE_IN_USE = 33,            /* pashkure_open of an open one */
+    PASHKURE_IN_USE = 33,            /* pashkure_open of an open one; pashkure_locks_close while a transaction is live */
     PASHKURE_BAD_VERSION = 34,       /* the library does not serve config.header, or it is 0: the config did not begin as PASHKURE_CONFIG */
     PASHKURE_BAD_TRANSACTIONS = 35,  /* out of the range beside the member; so the next two */
     PASHKURE_BAD_NAMES = 36,

@@ -28,7 +28,7 @@ const char *pashkure_message(pashkure_result result)
     case PASHKURE_LABELS_FULL: return "nobody can begin to wait any more: the manager has to be opened anew";
     case PASHKURE_COUNTS_FULL: return "as many events were counted as can be: the manager has to be opened anew";
     case PASHKURE_NOT_OPEN: return "the manager is closed";
-    case PASHKURE_IN_USE: return "the manager is open already";
+    case PASHKURE_IN_USE: return "the manager is in use";
     case PASHKURE_BAD_VERSION: return "the library does not serve the header of the program, or the configuration did not begin as PASHKURE_CONFIG";
     case PASHKURE_BAD_TRANSACTIONS: return "transactions is out of range";
     case PASHKURE_BAD_NAMES: return "names is out of range";
