@@ -18,8 +18,14 @@
 /* So many bytes lie between what two threads write. Else both would write to one cache line, which halves their speed. */
 enum { APART = 128 };
 
-/* What a word of a seat says, beside the generation: nobody has the slot; its transaction is in no call; it is in a call, or waits. */
-enum { FREE, IDLE, CALLING };
+/* What a word of a seat says, beside the generation: nobody has the slot; its transaction is in no call; it is in a call, or waits; it ends. */
+enum { FREE, IDLE, CALLING, ENDING };
+
+/* How many slots a word of `may_be_free` is for. */
+enum { SLOTS_OF_WORD = 64 };
+
+/* How many addresses stand for the names, for ThreadSanitizer: a bit each in an uint64_t. */
+enum { ORDERS = 64 };
 
 /* What is kept of each transaction, by its slot. */
 struct seat {
@@ -27,6 +33,8 @@ struct seat {
     _Atomic uint32_t interrupted; /* the generation of the transaction whose next request is to be told; else 0 */
     bool is_known;                /* it may own something at the desk */
     bool is_victim;
+    _Atomic bool has_news;        /* its wait is over; it looks for that before it sleeps */
+    uint64_t orders;              /* for ThreadSanitizer: the addresses of the names that it has taken or asked for */
     pashkure_worker worker;
     _Atomic uint64_t committed, aborted; /* how many of the slot's transactions */
     pashkure_result over;         /* how its last wait ended: OK, TIMED_OUT, INTERRUPTED */
@@ -35,7 +43,6 @@ struct seat {
     pashkure_wake_call *wake;     /* NULL if a thread sleeps */
     void *context;
     pthread_cond_t news;          /* its thread sleeps here */
-    _Atomic bool has_news;        /* its wait is over; it looks for that before it sleeps */
     void *between;                /* memory between its worker and the next one, which nobody uses */
     char apart[APART];
 };
@@ -43,17 +50,29 @@ struct seat {
 struct pashkure_locks {
     pthread_mutex_t mutex;
     pashkure_desk desk;
+    _Atomic uint32_t contenders;   /* how many threads wait for the mutex */
     uint32_t slots;
-    uint32_t withdrawing;         /* how many seats are to withdraw */
-    bool has_all;                 /* all names were brought to the desk */
-    uint32_t first_due, last_due; /* wake calls to make, in order */
-    char apart[APART];
+    _Atomic uint64_t *may_be_free; /* a bit for each slot. If it is not set, a transaction has the slot, and its end sets it */
+    _Atomic uint64_t doubts;       /* above: how often a bit was cleared that may have to be set again; below: how many of these are not decided */
+    uint32_t withdrawing;          /* how many seats are to withdraw */
+    bool has_all;                  /* all names were brought to the desk */
+    uint32_t first_due, last_due;  /* wake calls to make, in order */
+    char orders[ORDERS];           /* for ThreadSanitizer: only their addresses are used */
+    char apart[APART - ORDERS];
     struct seat seats[];
 };
 
 static inline uint64_t word_of(uint32_t generation, uint32_t state) { return (uint64_t)generation << 32 | state; }
 static inline uint32_t state_of(uint64_t word) { return (uint32_t)word; }
 static inline uint32_t generation_of(uint64_t word) { return (uint32_t)(word >> 32); }
+
+/* Sleeps until the mutex is free, and takes it. */
+static inline void sleep_for_mutex(pashkure_locks *locks)
+{
+    atomic_fetch_add_explicit(&locks->contenders, 1, memory_order_relaxed);
+    pthread_mutex_lock(&locks->mutex);
+    atomic_fetch_sub_explicit(&locks->contenders, 1, memory_order_relaxed);
+}
 
 /* ---- ThreadSanitizer, of which a program that is built with it has these. It sees the mutex, but not the words. ---- */
 
@@ -62,16 +81,38 @@ __attribute__((weak)) void __tsan_release(void *address);
 __attribute__((weak)) void AnnotateIgnoreReadsBegin(const char *file, int line);
 __attribute__((weak)) void AnnotateIgnoreReadsEnd(const char *file, int line);
 
-/* What was done before names were given back is seen by who takes one after that. (At the address of the mutex its own order would replace this.) */
-static inline pashkure_result took(pashkure_locks *locks, pashkure_result result)
+/* Which address stands for the name: by FNV-1a. */
+static inline uint32_t order_of(const void *name, size_t length)
 {
-    if (__tsan_acquire != NULL && PASHKURE_OWNS(result)) __tsan_acquire(&locks->desk);
+    const unsigned char *bytes = (const unsigned char *)name;
+    uint32_t hash = 2166136261u;
+    for (size_t i = 0; i < length; i++) hash = (hash ^ bytes[i]) * 16777619u;
+    return (hash ^ hash >> 16) % ORDERS;
+}
+
+/* What was done before a name was given back is seen by who takes it after that. Two names seldom share an address, and so ThreadSanitizer sees
+ * a race of two threads that lock different names. */
+static inline pashkure_result took(pashkure_locks *locks, struct seat *seat, const pashkure_request *request, pashkure_result result)
+{
+    if (__tsan_acquire != NULL && (PASHKURE_OWNS(result) || result == PASHKURE_WAITS)) {
+        const uint32_t order = order_of(request->name, request->length);
+        seat->orders |= (uint64_t)1 << order;
+        if (result != PASHKURE_WAITS) __tsan_acquire(&locks->orders[order]);
+    }
     return result;
 }
 
-static inline void gives(pashkure_locks *locks)
+static inline void gives(pashkure_locks *locks, const void *name, size_t length)
 {
-    if (__tsan_release != NULL) __tsan_release(&locks->desk);
+    if (__tsan_release != NULL) __tsan_release(&locks->orders[order_of(name, length)]);
+}
+
+static inline void gives_all(pashkure_locks *locks, struct seat *seat)
+{
+    if (__tsan_release == NULL) return;
+    for (uint32_t order = 0; order < ORDERS; order++)
+        if (seat->orders >> order & 1) __tsan_release(&locks->orders[order]);
+    seat->orders = 0;
 }
 
 /* Round a call that writes a name which the desk may read, or reads one: it sees no more than that bytes are copied. */

@@ -7,19 +7,49 @@
 #include <sched.h>
 #include <time.h>
 
-enum { FIRST_YIELDS = 2, TURNS = 8, LOOKS = 3, YIELDS = 32 };
+enum { FIRST_YIELDS = 2, LOOKS = 3, YIELDS = 32 };
+
+/* So many nanoseconds a thread stays awake for what others have. If each yield is a turn of another program, it sleeps after the first. */
+enum { AWAKE = 50000 };
+
+/* After so many names an end lets others have the mutex. It lists so many at a time. */
+enum { PORTION = 32, LISTED = 1024 };
+
+/* The longest name that there can be. */
+enum { NAME_BYTES = 1024 };
 
 /* ---- The mutex ---- */
+
+static int64_t now(void)
+{
+    struct timespec at;
+    clock_gettime(CLOCK_MONOTONIC, &at);
+    return (int64_t)at.tv_sec * 1000000000 + at.tv_nsec;
+}
+
+/* Yields the processor so often, if the time does not come before: whether it did not. */
+static bool yields_before(int64_t time, int yields)
+{
+    while (yields-- > 0) {
+        sched_yield();
+        if (now() >= time) return false;
+    }
+    return true;
+}
 
 /* Waits for the mutex, and takes it. To ask for it again at once would slow down the thread that has it, and that is done in a microsecond mostly.
  * So this thread yields its processor twice as often before each further try, while that one makes several calls in a row; then it sleeps. */
 static void contend(pashkure_locks *locks)
 {
-    for (int turn = 0; turn < TURNS; turn++) {
-        for (int yields = FIRST_YIELDS << turn; yields > 0; yields--) sched_yield();
-        if (pthread_mutex_trylock(&locks->mutex) == 0) return;
+    const int64_t end = now() + AWAKE;
+    atomic_fetch_add_explicit(&locks->contenders, 1, memory_order_relaxed);
+    for (int yields = FIRST_YIELDS; yields_before(end, yields); yields *= 2) {
+        if (pthread_mutex_trylock(&locks->mutex) != 0) continue;
+        atomic_fetch_sub_explicit(&locks->contenders, 1, memory_order_relaxed);
+        return;
     }
-    pthread_mutex_lock(&locks->mutex);
+    sleep_for_mutex(locks);
+    atomic_fetch_sub_explicit(&locks->contenders, 1, memory_order_relaxed);
 }
 
 static void enter(pashkure_locks *locks)
@@ -29,18 +59,22 @@ static void enter(pashkure_locks *locks)
 
 /* ---- Seats ---- */
 
-/* The seat of a live transaction, in which this thread is the only one from now on, or NULL and the refusal. */
-static struct seat *take_seat(pashkure_locks *locks, pashkure_key key, pashkure_result *refusal)
+/* The seat of a live transaction, in which this thread is the only one from now on, or NULL and the refusal. `to` is CALLING or ENDING. */
+static struct seat *take_seat_to(uint32_t to, pashkure_locks *locks, pashkure_key key, pashkure_result *refusal)
 {
     struct seat *seat;
     uint64_t word = word_of(key.generation, IDLE);
     *refusal = PASHKURE_NO_TRANSACTION;
     if (key.slot >= locks->slots) return NULL;
     seat = &locks->seats[key.slot];
-    if (atomic_compare_exchange_strong_explicit(&seat->word, &word, word_of(key.generation, CALLING), memory_order_acquire, memory_order_relaxed))
-        return seat;
-    if (word == word_of(key.generation, CALLING)) *refusal = PASHKURE_WAITING;
+    if (atomic_compare_exchange_strong(&seat->word, &word, word_of(key.generation, to))) return seat;
+    if (word == word_of(key.generation, CALLING) || word == word_of(key.generation, ENDING)) *refusal = PASHKURE_WAITING;
     return NULL;
+}
+
+static struct seat *take_seat(pashkure_locks *locks, pashkure_key key, pashkure_result *refusal)
+{
+    return take_seat_to(CALLING, locks, key, refusal);
 }
 
 static void leave_seat(struct seat *seat, pashkure_key key)
@@ -48,9 +82,15 @@ static void leave_seat(struct seat *seat, pashkure_key key)
     atomic_store_explicit(&seat->word, word_of(key.generation, IDLE), memory_order_release);
 }
 
-static void free_seat(struct seat *seat, pashkure_key key)
+/* Frees a seat whose word says ENDING, and sets its bit if somebody has cleared it. Who clears it looks at the word after that, and sets it again
+ * if the transaction ends: then this may have looked before. */
+static void free_seat(pashkure_locks *locks, struct seat *seat, pashkure_key key)
 {
+    _Atomic uint64_t *bits = &locks->may_be_free[key.slot / SLOTS_OF_WORD];
+    const uint64_t bit = (uint64_t)1 << key.slot % SLOTS_OF_WORD;
+    const bool is_set = (atomic_load(bits) & bit) != 0;
     atomic_store_explicit(&seat->word, word_of(key.generation, FREE), memory_order_release);
+    if (!is_set) atomic_fetch_or(bits, bit);
 }
 
 /* Whether the transaction is to be told of an interrupt, which it is once. */
@@ -69,7 +109,7 @@ static void interrupt_next(struct seat *seat)
 }
 
 /* What the transaction in the slot does, as the desk knows it: OK, WAITS or DEADLOCK. */
-static uint32_t does(pashkure_locks *locks, uint32_t slot)
+static pashkure_result does(pashkure_locks *locks, uint32_t slot)
 {
     pashkure_seen seen;
     return pashkure_desk_look(&locks->desk, slot, &seen);
@@ -131,7 +171,7 @@ static void tell(pashkure_locks *locks)
 static void withdraw(pashkure_locks *locks, uint32_t slot, pashkure_result as)
 {
     struct seat *seat = &locks->seats[slot];
-    const uint32_t told = pashkure_desk_cancel(&locks->desk, slot);
+    const pashkure_result told = pashkure_desk_cancel(&locks->desk, slot);
     if (told == PASHKURE_OK) {
         tell(locks);
         end_wait(locks, slot, as);
@@ -178,9 +218,11 @@ static bool owns(pashkure_locks *locks, uint32_t slot, const pashkure_request *r
  * have the mutex. */
 static void stay_awake(pashkure_locks *locks, struct seat *seat)
 {
+    const int64_t end = now() + AWAKE;
     atomic_store_explicit(&seat->has_news, false, memory_order_relaxed);
     pthread_mutex_unlock(&locks->mutex);
-    for (int yields = 0; yields < YIELDS && !atomic_load_explicit(&seat->has_news, memory_order_relaxed); yields++) sched_yield();
+    for (int yields = 0; yields < YIELDS && !atomic_load_explicit(&seat->has_news, memory_order_relaxed); yields++)
+        if (!yields_before(end, 1)) break;
     enter(locks);
 }
 
@@ -210,7 +252,7 @@ static pashkure_result sleep_for(pashkure_locks *locks, uint32_t slot, const pas
 /* Asks the desk; with the mutex. A transaction that is live here has one at the desk, unless no more can be counted there. */
 static pashkure_result ask(pashkure_locks *locks, struct seat *seat, const pashkure_request *request, bool may_wait)
 {
-    uint32_t result;
+    pashkure_result result;
     seat->is_known = true;
     hides();
     do {
@@ -219,27 +261,26 @@ static pashkure_result ask(pashkure_locks *locks, struct seat *seat, const pashk
     } while (result == PASHKURE_AGAIN);
     shows();
     seat->is_victim = result == PASHKURE_DEADLOCK;
-    return result == PASHKURE_NO_TRANSACTION ? PASHKURE_COUNTS_FULL : (pashkure_result)result;
+    return result == PASHKURE_NO_TRANSACTION ? PASHKURE_COUNTS_FULL : result;
 }
 
 /* Takes the name without the mutex, if nobody has its bucket. */
 static pashkure_result take(pashkure_locks *locks, struct seat *seat, const pashkure_request *request)
 {
-    uint32_t result;
+    pashkure_result result;
     hides();
     result = pashkure_worker_take(&seat->worker, request->name, request->length);
     shows();
-    return took(locks, (pashkure_result)result);
+    return took(locks, seat, request, result);
 }
 
 /* The same, and looks some times more while another one has the bucket. */
 static pashkure_result take_soon(pashkure_locks *locks, struct seat *seat, const pashkure_request *request)
 {
     pashkure_result result = take(locks, seat, request);
-    for (int look = 0; result == PASHKURE_BUSY && look < LOOKS; look++) {
-        for (int yields = 1 << look; yields > 0; yields--) sched_yield();
-        result = take(locks, seat, request);
-    }
+    if (result != PASHKURE_BUSY) return result;
+    const int64_t end = now() + AWAKE;
+    for (int look = 0; result == PASHKURE_BUSY && look < LOOKS && yields_before(end, 1 << look); look++) result = take(locks, seat, request);
     return result;
 }
 
@@ -255,7 +296,7 @@ static pashkure_result lock(pashkure_locks *locks, struct seat *seat, uint32_t s
     result = ask(locks, seat, request, may_wait);
     if (result == PASHKURE_WAITS) result = sleep_for(locks, slot, request, limit);
     leave(locks);
-    return took(locks, result);
+    return took(locks, seat, request, result);
 }
 
 pashkure_result pashkure_locks_lock_all(pashkure_locks *locks, pashkure_key key, pashkure_request *requests, size_t count, int64_t nanoseconds)
@@ -288,9 +329,9 @@ static pashkure_result ask_for(
     enter(locks);
     seat->wake = wake;
     seat->context = context;
-    result = ask(locks, seat, request, true);
+    result = took(locks, seat, request, ask(locks, seat, request, true));
     leave(locks);
-    return took(locks, result);
+    return result;
 }
 
 pashkure_result pashkure_locks_ask(
@@ -331,36 +372,12 @@ pashkure_result pashkure_locks_interrupt(pashkure_locks *locks, pashkure_key key
     return PASHKURE_OK;
 }
 
-/* ---- Begins and ends ---- */
-
-/* The slot in which this thread began last, where it looks first: two threads that each begin one at a time do not meet. No call and no memory
- * is needed to find it. */
-static _Thread_local uint32_t last_slot __attribute__((tls_model("initial-exec"))) = NOBODY;
-
-pashkure_result pashkure_locks_begin(pashkure_locks *locks, pashkure_key *key)
-{
-    static _Atomic uint32_t threads;
-    if (last_slot == NOBODY) last_slot = atomic_fetch_add_explicit(&threads, 1, memory_order_relaxed);
-    for (uint32_t tried = 0; tried < locks->slots; tried++) {
-        const uint32_t slot = (uint32_t)(((uint64_t)last_slot + tried) % locks->slots);
-        struct seat *seat = &locks->seats[slot];
-        uint64_t word = atomic_load_explicit(&seat->word, memory_order_relaxed);
-        const uint32_t generation = generation_of(word) + 1;
-        if (state_of(word) != FREE || generation == 0) continue;
-        if (!atomic_compare_exchange_strong_explicit(
-                &seat->word, &word, word_of(generation, IDLE), memory_order_acquire, memory_order_relaxed))
-            continue;
-        last_slot = slot;
-        *key = (pashkure_key){slot, generation};
-        return PASHKURE_OK;
-    }
-    return PASHKURE_TRANSACTIONS_FULL;
-}
+/* ---- Ends ---- */
 
 /* Gives a name back that the worker could not give back by itself. */
-static uint32_t unlock_at_desk(pashkure_locks *locks, struct seat *seat, const void *name, size_t length)
+static pashkure_result unlock_at_desk(pashkure_locks *locks, struct seat *seat, const void *name, size_t length)
 {
-    uint32_t result;
+    pashkure_result result;
     seat->is_known = true;
     enter(locks);
     result = pashkure_desk_unlock(&locks->desk, &seat->worker, name, length);
@@ -373,16 +390,16 @@ static uint32_t unlock_at_desk(pashkure_locks *locks, struct seat *seat, const v
 pashkure_result pashkure_locks_unlock(pashkure_locks *locks, pashkure_key key, const void *name, size_t length)
 {
     pashkure_result refusal;
-    uint32_t result = PASHKURE_MUST_ABORT;
+    pashkure_result result = PASHKURE_MUST_ABORT;
     struct seat *seat = take_seat(locks, key, &refusal);
     if (seat == NULL) return refusal;
     if (!seat->is_victim) {
-        gives(locks);
+        gives(locks, name, length);
         result = pashkure_worker_give_back(&seat->worker, name, length);
         if (result != PASHKURE_OK) result = unlock_at_desk(locks, seat, name, length);
     }
     leave_seat(seat, key);
-    return (pashkure_result)result;
+    return result;
 }
 
 /* Counts one more. Nobody else writes this number. */
@@ -391,12 +408,58 @@ static void count(_Atomic uint64_t *number)
     atomic_store_explicit(number, atomic_load_explicit(number, memory_order_relaxed) + 1, memory_order_release);
 }
 
-/* Ends the transaction of a seat at the desk, and begins its next one there; nothing, if the desk knows nothing of it. */
+/* Gives the mutex back, and takes it again: after twice as long as this thread had had it since that time, if others wait for it. */
+static void give_way(pashkure_locks *locks, int64_t since)
+{
+    const int64_t left = now(), had = left - since, end = left + 2 * (had < AWAKE ? had : AWAKE);
+    leave(locks);
+    while (atomic_load_explicit(&locks->contenders, memory_order_relaxed) > 0 && yields_before(end, 1)) continue;
+    enter(locks);
+}
+
+/* Gives the name of this number back, which the transaction owns at the desk. */
+static void unlock_number(pashkure_locks *locks, struct seat *seat, uint32_t number)
+{
+    unsigned char name[NAME_BYTES];
+    size_t length;
+    pashkure_key owner;
+    if (pashkure_desk_name(&locks->desk, number, name, sizeof name, &length, &owner) != PASHKURE_OK) return;
+    if (pashkure_desk_unlock(&locks->desk, &seat->worker, name, length) == PASHKURE_OK) tell(locks);
+}
+
+/* Gives the first of these names back, up to a portion: how many. */
+static size_t unlock_portion(pashkure_locks *locks, struct seat *seat, const uint32_t *numbers, size_t count)
+{
+    const size_t first = count < PORTION ? count : PORTION;
+    for (size_t i = 0; i < first; i++) unlock_number(locks, seat, numbers[i]);
+    return first;
+}
+
+/* Gives names back in portions, until no more than one portion is left of what the transaction owns at the desk. */
+static void unlock_portions(pashkure_locks *locks, struct seat *seat, uint32_t slot)
+{
+    uint32_t numbers[LISTED];
+    size_t owned = pashkure_desk_owned(&locks->desk, slot, numbers, LISTED), before = SIZE_MAX, done = 0;
+    while (owned > PORTION && owned < before) {
+        const size_t listed = owned < LISTED ? owned : LISTED;
+        for (done = 0; done < listed;) {
+            const int64_t since = now();
+            done += unlock_portion(locks, seat, numbers + done, listed - done);
+            give_way(locks, since);
+        }
+        before = owned;
+        owned = pashkure_desk_owned(&locks->desk, slot, numbers, LISTED);
+    }
+}
+
+/* Ends the transaction of a seat at the desk, and begins its next one there; nothing, if the desk knows nothing of it. One that is in a deadlock
+ * gives all names back at once: the desk takes nothing else of it. */
 static void end_at_desk(pashkure_locks *locks, struct seat *seat, uint32_t slot, bool commits)
 {
     pashkure_key next;
     if (pashkure_worker_give_back_all(&seat->worker) == PASHKURE_OK && !seat->is_known) return;
     enter(locks);
+    if (!seat->is_victim) unlock_portions(locks, seat, slot);
     if (!commits || pashkure_desk_commit(&locks->desk, &seat->worker) != PASHKURE_OK) (void)pashkure_desk_abort(&locks->desk, &seat->worker);
     tell(locks);
     (void)pashkure_desk_begin(&locks->desk, slot, &next);
@@ -407,18 +470,18 @@ static void end_at_desk(pashkure_locks *locks, struct seat *seat, uint32_t slot,
 static pashkure_result end(pashkure_locks *locks, pashkure_key key, bool commits)
 {
     pashkure_result result;
-    struct seat *seat = take_seat(locks, key, &result);
+    struct seat *seat = take_seat_to(ENDING, locks, key, &result);
     if (seat == NULL) return result;
     if (commits && seat->is_victim) {
         leave_seat(seat, key);
         return PASHKURE_MUST_ABORT;
     }
-    gives(locks);
+    gives_all(locks, seat);
     end_at_desk(locks, seat, key.slot, commits);
     seat->is_known = false;
     seat->is_victim = false;
     count(commits ? &seat->committed : &seat->aborted);
-    free_seat(seat, key);
+    free_seat(locks, seat, key);
     return PASHKURE_OK;
 }
 

@@ -9,7 +9,8 @@
  *   THREADS. Any thread may make any call at any time, but for pashkure_locks_close, and for what stands at pashkure_locks_hold. A transaction is
  *   its key and belongs to no thread: to hand over the key is to hand over the transaction. It makes one request at a time: until that has
  *   returned, each other call for it is refused as WAITING, but pashkure_locks_interrupt. Rules 3 and 4 of pashkure.h hold here too. A thread is
- *   not cancelled in a call. A signal ends no sleep. ThreadSanitizer is told what the compare-and-swaps order.
+ *   not cancelled in a call. A signal ends no sleep. What a transaction wrote before it gave a name back is seen by the one that owns the name
+ *   next (it happens before). ThreadSanitizer is told so, name by name. helgrind and DRD know nothing of it, and report what is no race.
  *
  *   MEMORY. pashkure_locks_open takes all of it: that of pashkure_open, 16 bytes a bucket, 12 a name, and some 2,000 bytes a transaction. No other
  *   call takes any. A name of more than 63 bytes, a ninth name of a transaction, and two names of one bucket are the manager's. Of names that are
@@ -74,7 +75,8 @@ pashkure_result pashkure_locks_interrupt(pashkure_locks *locks, pashkure_key key
 /* Gives one name back, to the one that has waited longest: OK. Refusals as of pashkure_unlock. */
 pashkure_result pashkure_locks_unlock(pashkure_locks *locks, pashkure_key key, const void *name, size_t length) PASHKURE_CHECKED;
 
-/* Ends the transaction, and gives back all that it owns: OK. NO_TRANSACTION, MUST_ABORT, WAITING. */
+/* Ends the transaction, and gives back all that it owns: OK. NO_TRANSACTION, MUST_ABORT, WAITING. An end is no moment: names pass on one after
+ * another, so that others may own some while the transaction still owns the rest. After every 32 names other threads have their turn. */
 pashkure_result pashkure_locks_commit(pashkure_locks *locks, pashkure_key key) PASHKURE_CHECKED;
 
 /* The same, after a deadlock too: OK. Undo its work first: others own its names when this returns. NO_TRANSACTION; WAITING of one that waits:

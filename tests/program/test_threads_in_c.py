@@ -33,6 +33,16 @@ class Threads(test_library.LibraryCase):
             raise unittest.SkipTest(f"the compiler has no -fsanitize={kind}")
         self.passes(run(self.built("-pthread", LAYER, WRAPPED, *flags, SOURCE, f"{INCLUDE}/pashkure_threads.c", f"{INCLUDE}/pashkure_threads_open.c")))
 
+    def test_race(self) -> None:
+        """ThreadSanitizer reports two threads that count in one place under different names, and none under one name."""
+        if run("cc", "-fsanitize=thread", "-o", self.path("empty"), self.file("empty.c", "int main(void) { return 0; }\n")).status:
+            raise unittest.SkipTest("the compiler has no -fsanitize=thread")
+        program = self.built("-pthread", "-fsanitize=thread", f"{HERE}/race.c")
+        self.passes(run(program, "accounts/1", "accounts/1"))
+        told = run(program, "accounts/1", "accounts/2")
+        self.assertEqual(told.status, 66)
+        self.assertIn(b"WARNING: ThreadSanitizer: data race", told.err)
+
     def example(self, name: str) -> Run:
         return run(self.built("-std=c99", "-pthread", f"{TOP}/examples/{name}.c"))
 

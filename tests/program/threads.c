@@ -1,5 +1,5 @@
 /* The C library's layer for threads, a promise of its header a test: `threads NAME` runs one, `threads` all. It waits for states and never for a
- * time; an alarm ends what hangs. Calls of the C library, and pashkure_desk_cancel, come here first by -Wl,--wrap. */
+ * time; an alarm ends what hangs. Calls of the C library, and two of the desk, come here first by -Wl,--wrap. */
 #define _POSIX_C_SOURCE 200809L
 #include "pashkure_desk.h"
 #include "pashkure_threads.h"
@@ -22,6 +22,7 @@ static pashkure_key a, b, c, d, e, *const KEYS[] = {&a, &b, &c, &d, &e}, KEPT[12
 static bool is_counting;
 static unsigned long requests, frees, bytes, refused; /* while `is_counting`. `refused`: this request for memory is refused, counted from 1 */
 static atomic_int carried, missed, timed; /* timed: how many sleeps with a time have begun */
+static int portion, largest; /* how many names the desk was given back since somebody had the mutex, and how many at most */
 static atomic_bool is_late, is_signalled, has_time;
 static struct timespec untils[2]; /* of the last two sleeps with a time */
 
@@ -47,6 +48,18 @@ WRAP(pashkure_result, pashkure_desk_cancel, pashkure_desk *desk, uint32_t slot) 
     pashkure_result told = __real_pashkure_desk_cancel(desk, slot);
     carried += told == PASHKURE_CARRIED;
     return told;
+}
+
+WRAP(pashkure_result, pashkure_desk_unlock, pashkure_desk *desk, pashkure_worker *worker, const void *name, size_t length) {
+    pashkure_result told = __real_pashkure_desk_unlock(desk, worker, name, length);
+    portion += told == PASHKURE_OK;
+    return told;
+}
+
+WRAP(int, pthread_mutex_unlock, pthread_mutex_t *mutex) {
+    largest = portion > largest ? portion : largest;
+    portion = 0;
+    return __real_pthread_mutex_unlock(mutex);
 }
 
 WRAP(int, pthread_mutex_trylock, pthread_mutex_t *mutex) {
@@ -434,7 +447,7 @@ TEST(hold) {
     GIVES(pashkure_locks_hold_all(locks), PASHKURE_OK);
     missed = 0;
     CHECK(pthread_create(&thread, NULL, locks_x, NULL) == 0);
-    while (missed < 3) sched_yield();
+    while (missed < 1) sched_yield();
     GIVES(pashkure_locks_owner(locks, "x", 1, &owner), PASHKURE_FREE);
     GIVES(pashkure_locks_owner(locks, "y", 1, &owner), PASHKURE_OK);
     CHECK(owner.slot == b.slot && owner.generation == b.generation);
@@ -455,6 +468,66 @@ TEST(hold) {
     GIVES(pashkure_locks_owner(locks, "z", 1, &owner), PASHKURE_FREE); /* by its word again */
     pashkure_locks_let_go(locks);
     shut();
+}
+
+static const char *const WANTED[] = {"100", "2999"};
+static int halfway; /* how often one of these was handed over while the other was the ending transaction's still */
+
+static void looks(void *context, pashkure_key key, pashkure_result result) {
+    const int mine = context == WANTED[1];
+    pashkure_key owner, other;
+    pashkure_locks_hold(locks);
+    GIVES(pashkure_locks_owner(locks, WANTED[mine], strlen(WANTED[mine]), &owner), PASHKURE_OK);
+    GIVES(pashkure_locks_owner(locks, WANTED[!mine], strlen(WANTED[!mine]), &other), PASHKURE_OK);
+    pashkure_locks_let_go(locks);
+    CHECK(owner.slot == key.slot && result == PASHKURE_OK);
+    halfway += other.slot == a.slot;
+}
+
+/* A transaction of 3,000 names ends, for which two others wait, and of which it gives no more than 256 back while it has the mutex. */
+static void ends_by_portions(pashkure_result (*end)(pashkure_locks *, pashkure_key)) {
+    char name[16];
+    halfway = largest = 0;
+    opens(8, 3000);
+    a = begun(), b = begun(), c = begun();
+    for (int i = 0; i < 3000; i++) {
+        snprintf(name, sizeof name, "%d", i);
+        GIVES(lock(a, name, 0), PASHKURE_OK);
+    }
+    GIVES(pashkure_locks_ask(locks, b, WANTED[0], strlen(WANTED[0]), looks, (void *)WANTED[0]), PASHKURE_WAITS);
+    GIVES(pashkure_locks_ask(locks, c, WANTED[1], strlen(WANTED[1]), looks, (void *)WANTED[1]), PASHKURE_WAITS);
+    GIVES(end(locks, a), PASHKURE_OK);
+    CHECK(halfway == 1 && largest > 1 && largest <= 256);
+    GIVES(lock(c, "1500", 0), PASHKURE_OK);
+    ends(b);
+    ends(c);
+    GIVES(pashkure_locks_close(locks), PASHKURE_OK);
+}
+
+TEST(portions) {
+    ends_by_portions(pashkure_locks_commit);
+    ends_by_portions(pashkure_locks_abort);
+}
+
+/* Each slot is found, by whom it was left to. */
+TEST(slots) {
+    enum { SLOTS = 200 };
+    static pashkure_key keys[SLOTS];
+    pashkure_key key;
+    opens(SLOTS, 8);
+    for (int round = 0; round < 3; round++) {
+        for (int i = 0; i < SLOTS; i++) ends(begun()), keys[i] = begun();
+        GIVES(pashkure_locks_begin(locks, &key), PASHKURE_TRANSACTIONS_FULL);
+        for (int i = 0; i < SLOTS; i += 7) {
+            ends(keys[i]);
+            key = begun();
+            CHECK(key.slot == keys[i].slot && key.generation == keys[i].generation + 1);
+            keys[i] = key;
+            GIVES(pashkure_locks_begin(locks, &key), PASHKURE_TRANSACTIONS_FULL);
+        }
+        for (int i = 0; i < SLOTS; i++) ends(keys[i]);
+    }
+    GIVES(pashkure_locks_close(locks), PASHKURE_OK);
 }
 
 enum { MOST_THREADS = 64, MOST_NAMES = 1000 };
@@ -549,7 +622,7 @@ TEST(many_names) {
 
 static const struct test TESTS[] = {
     ROW(memory), ROW(refusals), ROW(order_of_sleepers), ROW(time_out), ROW(deadlock), ROW(behind_a_victim), ROW(interrupt),
-    ROW(several_names), ROW(wake_calls), ROW(one_request_at_a_time), ROW(hold), ROW(crowd), ROW(large_crowd), ROW(many_names),
+    ROW(several_names), ROW(wake_calls), ROW(one_request_at_a_time), ROW(hold), ROW(portions), ROW(slots), ROW(crowd), ROW(large_crowd), ROW(many_names),
 };
 
 int main(int count, char **words) {
