@@ -3,14 +3,14 @@
 mod transfers_threads;
 mod words;
 
-use pashkure::{Config, Locks};
+use pashkure::{Config, LockError, Locks};
 
 fn open(_threads: usize) -> Locks {
     Locks::open(&Config::new(65, 65_536).name_bytes(16).seed(7)).unwrap()
 }
 
 fn transfer(locks: &Locks, names: [&[u8]; 4]) -> bool {
-    locks.run(u32::MAX, |transaction| transaction.lock_all(&names)).is_ok()
+    locks.run(u32::MAX, |transaction| transaction.lock_all(&names).map_err(LockError::from)).is_ok()
 }
 
 fn main() {

@@ -17,6 +17,8 @@ def in_rust(declared: str) -> str:
     """A parameter or a result of C, as Rust declares it."""
     found = re.fullmatch(r"(const )?(\w+) *(\**)(\w*)", declared.strip())
     assert found, declared
+    if found[2] == "pashkure_wake_call":
+        return f"{found[4]}: WakeCall"
     kind = KINDS.get(found[2]) or found[2].removeprefix("pashkure_").capitalize()
     for star in range(len(found[3])):
         kind = ("*const " if found[1] and not star else "*mut ") + kind

@@ -19,8 +19,8 @@ struct Account {
 /// Moves the amount. Both names are locked before anything is written, so that there is nothing to undo after an error.
 fn transfer(locks: &Locks, from: &Account, to: &Account, amount: i64) -> Result<(), LockError> {
     locks.run(1_000, |transaction| {
-        transaction.lock(from.name.as_bytes())?;
-        transaction.lock(to.name.as_bytes())?;
+        transaction.lock(&from.name)?;
+        transaction.lock(&to.name)?;
         from.balance.store(from.balance.load(Relaxed) - amount, Relaxed);
         to.balance.store(to.balance.load(Relaxed) + amount, Relaxed);
         Ok(())

@@ -1,5 +1,5 @@
 //! Why calls fail.
-use crate::sys;
+use crate::{sys, Owned};
 use std::ffi::CStr;
 use std::fmt;
 
@@ -79,6 +79,8 @@ results! {
         Interrupted = 10,
         /// The transaction was told `Deadlock` before, and can only be rolled back.
         MustAbort = 17,
+        /// The transaction waits for the name of its [`ask`](crate::Transaction::ask), and makes no other request until it is woken.
+        Waiting = 18,
         /// The name has no bytes.
         NameEmpty = 20,
         /// The name has more bytes than [`Config::name_bytes`](crate::Config::name_bytes) allows.
@@ -95,6 +97,30 @@ results! {
         CountsFull = 26,
     }
 }
+
+/// Why [`Transaction::lock_all`](crate::Transaction::lock_all) or [`lock_all_for`](crate::Transaction::lock_all_for) fails. It becomes a
+/// [`LockError`] by `?`.
+#[derive(Clone, Debug, PartialEq, Eq)]
+pub struct LockAllError {
+    /// The answers to the names before the one that failed, in their order. These names stay locked.
+    pub owned: Vec<Owned>,
+    /// Why the next one failed. Those behind it were not asked for.
+    pub error: LockError,
+}
+
+impl From<LockAllError> for LockError {
+    fn from(failed: LockAllError) -> LockError {
+        failed.error
+    }
+}
+
+impl fmt::Display for LockAllError {
+    fn fmt(&self, to: &mut fmt::Formatter<'_>) -> fmt::Result {
+        self.error.fmt(to)
+    }
+}
+
+impl std::error::Error for LockAllError {}
 
 results! {
     /// Why there is no manager.

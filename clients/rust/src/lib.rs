@@ -12,8 +12,8 @@
 //!
 //! let locks = Locks::open(&Config::new(64, 1_000))?; // up to 64 transactions and 1,000 names at a time
 //! locks.run(100, |transaction| {
-//!     transaction.lock(b"accounts/1")?; // sleeps until it owns the name
-//!     transaction.lock_for(b"accounts/2", Duration::from_millis(200))?; // or fails as `TimedOut`
+//!     transaction.lock("accounts/1")?; // sleeps until it owns the name
+//!     transaction.lock_for("accounts/2", Duration::from_millis(200))?; // or fails as `TimedOut`
 //!     Ok::<_, LockError>(())
 //! })?;
 //! # Ok::<_, Box<dyn std::error::Error>>(())
@@ -31,8 +31,9 @@ mod sys;
 mod transaction;
 mod values;
 mod view;
+mod wait;
 
-pub use error::{LockError, OpenError, Refusal};
+pub use error::{LockAllError, LockError, OpenError, Refusal};
 pub use locks::Locks;
 pub use manager::{LockManager, Woken};
 pub use transaction::Transaction;

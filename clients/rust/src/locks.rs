@@ -7,8 +7,9 @@ use std::sync::Arc;
 /// A lock manager that threads share. It is `Send` and `Sync`, so share it as `&Locks` or as `Arc<Locks>`.
 ///
 /// A name that nobody else wants is locked by one compare-and-swap, without a mutex. For a name that another one wants a call takes one mutex,
-/// makes proved calls, and wakes the threads whose waits these ended. A thread that waits for a name sleeps without the mutex. A child of `fork`
-/// must not use the locks of its parent.
+/// makes proved calls, and wakes the threads whose waits these ended. A thread that waits for a name sleeps without the mutex. What a transaction
+/// wrote before it gave a name back is seen by the one that owns the name next (it happens before). A child of `fork` must not use the locks of
+/// its parent.
 ///
 /// ```
 /// use pashkure::{Config, LockError, Locks};
@@ -16,11 +17,11 @@ use std::sync::Arc;
 ///
 /// let locks = Locks::open(&Config::new(16, 100))?;
 /// let mut first = locks.begin()?;
-/// first.lock(b"accounts/1")?;
+/// first.lock("accounts/1")?;
 /// std::thread::scope(|scope| {
 ///     scope.spawn(|| {
 ///         let mut second = locks.begin()?;
-///         let told = second.lock_for(b"accounts/1", Duration::from_millis(1));
+///         let told = second.lock_for("accounts/1", Duration::from_millis(1));
 ///         assert_eq!(told, Err(LockError::TimedOut)); // it may go on
 ///         second.commit()
 ///     }).join().unwrap()
@@ -50,7 +51,8 @@ impl Drop for Held<'_> {
 }
 
 impl Locks {
-    /// Takes all memory that the locks need; a drop gives it back. No other call takes any, but those that return a `Vec`.
+    /// Takes all memory that the locks need; a drop gives it back. No other call takes any, but those that return a `Vec`, and
+    /// [`Transaction::ask`].
     ///
     /// # Errors
     /// A number of the configuration is out of its range, there is not enough memory, or the library is of another version.
@@ -67,7 +69,7 @@ impl Locks {
     /// Begins a transaction that borrows these locks.
     ///
     /// # Errors
-    /// `CountsFull`, `TransactionsFull`.
+    /// `TransactionsFull`.
     pub fn begin(&self) -> Result<Transaction<&Locks>, LockError> {
         self.new_key().map(|key| Transaction::new(self, key))
     }
@@ -75,7 +77,7 @@ impl Locks {
     /// Begins a transaction that shares these locks, for a session that keeps its transaction beside other things.
     ///
     /// # Errors
-    /// `CountsFull`, `TransactionsFull`.
+    /// `TransactionsFull`.
     pub fn begin_owned(self: &Arc<Self>) -> Result<Transaction<Arc<Locks>>, LockError> {
         self.new_key().map(|key| Transaction::new(Arc::clone(self), key))
     }
@@ -101,6 +103,17 @@ impl Locks {
     /// ```
     pub fn view<T>(&self, read: impl FnOnce(&View<'_>) -> T) -> T {
         let _has_all = unsafe { sys::pashkure_locks_hold_all(self.raw()) } == sys::OK;
+        self.read_held(read)
+    }
+
+    /// As `view`, but shows only the waits, and the names that somebody asked for while another one owned them. Brings no names together.
+    pub(crate) fn view_waits<T>(&self, read: impl FnOnce(&View<'_>) -> T) -> T {
+        unsafe { sys::pashkure_locks_hold(self.raw()) };
+        self.read_held(read)
+    }
+
+    /// Reads, and gives the mutex back, which this thread has taken.
+    fn read_held<T>(&self, read: impl FnOnce(&View<'_>) -> T) -> T {
         let _held = Held(self);
         read(&View::new(Viewed::Locks(self.raw()), &self.config))
     }

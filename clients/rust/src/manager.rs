@@ -13,10 +13,10 @@ use std::ptr;
 ///
 /// let mut manager = LockManager::open(&Config::new(16, 100))?;
 /// let (there, back) = (manager.begin()?, manager.begin()?);
-/// assert_eq!(manager.lock(there, b"accounts/1")?, Lock::Owned(Owned::New));
-/// assert_eq!(manager.lock(back, b"accounts/2")?, Lock::Owned(Owned::New));
-/// assert_eq!(manager.lock(there, b"accounts/2")?, Lock::Waits);
-/// assert_eq!(manager.lock(back, b"accounts/1")?, Lock::Deadlock); // first undo what `back` did
+/// assert_eq!(manager.lock(there, "accounts/1")?, Lock::Owned(Owned::New));
+/// assert_eq!(manager.lock(back, "accounts/2")?, Lock::Owned(Owned::New));
+/// assert_eq!(manager.lock(there, "accounts/2")?, Lock::Waits);
+/// assert_eq!(manager.lock(back, "accounts/1")?, Lock::Deadlock); // first undo what `back` did
 /// for woken in manager.abort(back)?.into_iter().flatten() {
 ///     assert_eq!(woken.key, there); // which owns accounts/2 now
 /// }
@@ -67,7 +67,8 @@ impl LockManager {
     ///
     /// # Errors
     /// `NoTransaction`, `MustAbort`, `Waiting`, `CountsFull`, `NameEmpty`, `NameTooLong`, `NamesFull`, `LabelsFull`.
-    pub fn lock(&mut self, key: Key, name: &[u8]) -> Result<Lock, Refusal> {
+    pub fn lock(&mut self, key: Key, name: impl AsRef<[u8]>) -> Result<Lock, Refusal> {
+        let name = name.as_ref();
         match unsafe { sys::pashkure_lock(&mut self.raw, key, name.as_ptr().cast(), name.len()) } {
             sys::WAITS => Ok(Lock::Waits),
             sys::DEADLOCK => Ok(Lock::Deadlock),
@@ -79,7 +80,8 @@ impl LockManager {
     ///
     /// # Errors
     /// As [`LockManager::lock`], but for `LabelsFull`.
-    pub fn try_lock(&mut self, key: Key, name: &[u8]) -> Result<Option<Owned>, Refusal> {
+    pub fn try_lock(&mut self, key: Key, name: impl AsRef<[u8]>) -> Result<Option<Owned>, Refusal> {
+        let name = name.as_ref();
         match unsafe { sys::pashkure_try_lock(&mut self.raw, key, name.as_ptr().cast(), name.len()) } {
             sys::BUSY => Ok(None),
             result => Owned::of(result).map(Some).ok_or_else(|| Refusal::of(result)),
@@ -90,7 +92,8 @@ impl LockManager {
     ///
     /// # Errors
     /// `NoTransaction`, `MustAbort`, `Waiting`, `NameEmpty`, `NameTooLong`, `NotOwner`.
-    pub fn unlock(&mut self, key: Key, name: &[u8]) -> Result<Woken<'_>, Refusal> {
+    pub fn unlock(&mut self, key: Key, name: impl AsRef<[u8]>) -> Result<Woken<'_>, Refusal> {
+        let name = name.as_ref();
         done(unsafe { sys::pashkure_unlock(&mut self.raw, key, name.as_ptr().cast(), name.len()) })?;
         Ok(self.woken())
     }

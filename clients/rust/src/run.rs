@@ -26,8 +26,8 @@ impl Locks {
     /// # use pashkure::{Config, LockError, Locks};
     /// # let locks = Locks::open(&Config::new(16, 100))?;
     /// let sum = locks.run(100, |transaction| {
-    ///     transaction.lock(b"accounts/1")?;
-    ///     transaction.lock(b"accounts/2")?;
+    ///     transaction.lock("accounts/1")?;
+    ///     transaction.lock("accounts/2")?;
     ///     Ok::<_, LockError>(1000 + 1000)
     /// })?;
     /// # assert_eq!(sum, 2000);

@@ -79,6 +79,8 @@ pub struct Locks {
     hidden: [u8; 0],
 }
 
+pub type WakeCall = extern "C" fn(context: *mut c_void, key: Key, result: u32);
+
 extern "C" {
     pub fn pashkure_message(result: u32) -> *const c_char;
     pub fn pashkure_open(locks: *mut Manager, config: *const Config) -> u32;
@@ -101,10 +103,12 @@ extern "C" {
     pub fn pashkure_locks_begin(locks: *mut Locks, key: *mut Key) -> u32;
     pub fn pashkure_locks_lock(locks: *mut Locks, key: Key, name: *const c_void, length: usize, nanoseconds: i64) -> u32;
     pub fn pashkure_locks_lock_all(locks: *mut Locks, key: Key, requests: *mut Request, count: usize, nanoseconds: i64) -> u32;
+    pub fn pashkure_locks_ask(locks: *mut Locks, key: Key, name: *const c_void, length: usize, wake: WakeCall, context: *mut c_void) -> u32;
     pub fn pashkure_locks_interrupt(locks: *mut Locks, key: Key) -> u32;
     pub fn pashkure_locks_unlock(locks: *mut Locks, key: Key, name: *const c_void, length: usize) -> u32;
     pub fn pashkure_locks_commit(locks: *mut Locks, key: Key) -> u32;
     pub fn pashkure_locks_abort(locks: *mut Locks, key: Key) -> u32;
+    pub fn pashkure_locks_hold(locks: *mut Locks);
     pub fn pashkure_locks_hold_all(locks: *mut Locks) -> u32;
     pub fn pashkure_locks_let_go(locks: *mut Locks);
     pub fn pashkure_locks_look(locks: *mut Locks, slot: u32, seen: *mut Seen) -> u32;

@@ -1,7 +1,8 @@
 //! A transaction whose thread sleeps while it waits.
-use crate::{sys, Key, LockError, Locks, Owned, Wait};
+use crate::wait::Wait;
+use crate::{sys, Key, LockAllError, LockError, Locks, Owned};
 use std::borrow::Borrow;
-use std::time::Duration;
+use std::time::{Duration, Instant};
 
 /// How many names one call of the library is given.
 const AT_ONCE: usize = 16;
@@ -15,10 +16,10 @@ const AT_ONCE: usize = 16;
 ///
 /// let locks = Locks::open(&Config::new(16, 100))?;
 /// let mut first = locks.begin()?;
-/// first.lock(b"accounts/1")?;
+/// first.lock("accounts/1")?;
 /// drop(first); // as `?` or a panic does
 /// let mut second = locks.begin()?;
-/// second.lock(b"accounts/1")?;
+/// second.lock("accounts/1")?;
 /// second.commit()?;
 /// # Ok::<_, Box<dyn std::error::Error>>(())
 /// ```
@@ -27,13 +28,14 @@ const AT_ONCE: usize = 16;
 pub struct Transaction<L: Borrow<Locks>> {
     locks: L,
     key: Key,
+    wait: Option<Wait>,
     is_over: bool,
     is_victim: bool,
 }
 
 impl<L: Borrow<Locks>> Transaction<L> {
     pub(crate) fn new(locks: L, key: Key) -> Transaction<L> {
-        Transaction { locks, key, is_over: false, is_victim: false }
+        Transaction { locks, key, wait: None, is_over: false, is_victim: false }
     }
 
     /// Its key: for [`Locks::interrupt`], and for what you keep of each transaction by its slot.
@@ -45,9 +47,9 @@ impl<L: Borrow<Locks>> Transaction<L> {
     ///
     /// # Errors
     /// `Deadlock` at once, if the wait would close a cycle of waits. A transaction that sleeps is never a victim. `Interrupted`, `MustAbort`,
-    /// `CountsFull`, `NameEmpty`, `NameTooLong`, `NamesFull`, `LabelsFull`.
-    pub fn lock(&mut self, name: &[u8]) -> Result<Owned, LockError> {
-        let told = self.ask(name, sys::FOREVER);
+    /// `Waiting`, `CountsFull`, `NameEmpty`, `NameTooLong`, `NamesFull`, `LabelsFull`.
+    pub fn lock(&mut self, name: impl AsRef<[u8]>) -> Result<Owned, LockError> {
+        let told = self.request(name.as_ref(), sys::FOREVER);
         owned(told)
     }
 
@@ -56,72 +58,106 @@ impl<L: Borrow<Locks>> Transaction<L> {
     /// # Errors
     /// `TimedOut`, not before the time is over: the transaction goes on with what it owns. Else as `lock`. With no time at all `TimedOut` comes
     /// in place of each wait, and of `Deadlock`.
-    pub fn lock_for(&mut self, name: &[u8], time: Duration) -> Result<Owned, LockError> {
-        let nanoseconds = i64::try_from(time.as_nanos()).unwrap_or(sys::FOREVER);
-        match self.ask(name, nanoseconds) {
-            sys::BUSY => Err(LockError::TimedOut),
-            told => owned(told),
-        }
+    pub fn lock_for(&mut self, name: impl AsRef<[u8]>, time: Duration) -> Result<Owned, LockError> {
+        let told = self.request(name.as_ref(), nanoseconds(time));
+        owned(told)
     }
 
     /// As [`Transaction::lock`], but never sleeps: `None` if another transaction owns the name.
     ///
     /// # Errors
     /// As `lock`, but for `Deadlock` and `LabelsFull`.
-    pub fn try_lock(&mut self, name: &[u8]) -> Result<Option<Owned>, LockError> {
-        match self.ask(name, 0) {
+    pub fn try_lock(&mut self, name: impl AsRef<[u8]>) -> Result<Option<Owned>, LockError> {
+        match self.request(name.as_ref(), 0) {
             sys::BUSY => Ok(None),
             told => owned(told).map(Some),
         }
     }
 
-    /// Locks names in this order, and takes the mutex once for sixteen of them.
+    /// Locks names in this order. Returns the answer to each.
     ///
     /// ```
     /// # let locks = pashkure::Locks::open(&pashkure::Config::new(16, 100))?;
+    /// use pashkure::Owned;
+    ///
     /// let mut transaction = locks.begin()?;
-    /// transaction.lock_all(&["accounts/1", "accounts/2"])?;
+    /// transaction.lock("accounts/1")?;
+    /// assert_eq!(transaction.lock_all(&["accounts/1", "accounts/2"])?, [Owned::Before, Owned::New]);
     /// transaction.commit()?;
     /// # Ok::<_, Box<dyn std::error::Error>>(())
     /// ```
     ///
     /// # Errors
-    /// As `lock`, of the first name that the transaction was not given. Those before it stay locked.
-    pub fn lock_all<N: AsRef<[u8]>>(&mut self, names: &[N]) -> Result<(), LockError> {
-        for names in names.chunks(AT_ONCE) {
-            let mut requests = [sys::Request { name: [].as_ptr(), length: 0, result: sys::NOT_ASKED }; AT_ONCE];
-            for (request, name) in requests.iter_mut().zip(names) {
-                let name = name.as_ref();
-                *request = sys::Request { name: name.as_ptr().cast(), length: name.len(), result: sys::NOT_ASKED };
-            }
-            // SAFETY: the locks are open, and this many requests are there, with their names.
-            let told = unsafe { sys::pashkure_locks_lock_all(self.raw(), self.key, requests.as_mut_ptr(), names.len(), sys::FOREVER) };
-            self.note(told);
-            owned(told)?;
+    /// As `lock`, of the first name that the transaction was not given. Those before it stay locked, and the error has their answers.
+    pub fn lock_all<N: AsRef<[u8]>>(&mut self, names: &[N]) -> Result<Vec<Owned>, LockAllError> {
+        self.lock_each(names, || sys::FOREVER)
+    }
+
+    /// As [`Transaction::lock_all`], but sleeps no longer than this time for all names together.
+    ///
+    /// # Errors
+    /// As `lock_for`, of the first name that the transaction was not given.
+    pub fn lock_all_for<N: AsRef<[u8]>>(&mut self, names: &[N], time: Duration) -> Result<Vec<Owned>, LockAllError> {
+        let begun = Instant::now();
+        self.lock_each(names, || nanoseconds(time.saturating_sub(begun.elapsed())))
+    }
+
+    /// Asks for a name as [`Transaction::lock`] does, and returns `None` in place of sleeping: for futures, event loops, and sleep of your own.
+    ///
+    /// After `None`, and no other answer, `wake` is called once, by the thread whose call ended the wait: with `Ok` if the transaction owns the
+    /// name, or with `Interrupted`. It may be called before this returns. It best only passes the news on, such as to a `Waker` or a channel;
+    /// if it panics, the program is aborted. Until then each other request is refused as `Waiting`. A transaction that is dropped while it waits
+    /// is rolled back, and `wake` is not called. Takes memory for `wake`.
+    ///
+    /// ```
+    /// # let locks = pashkure::Locks::open(&pashkure::Config::new(16, 100))?;
+    /// let (mut first, mut second) = (locks.begin()?, locks.begin()?);
+    /// first.lock("accounts/1")?;
+    /// let (passes_on, news) = std::sync::mpsc::channel();
+    /// assert_eq!(second.ask("accounts/1", move |told| passes_on.send(told).unwrap())?, None);
+    /// first.commit()?;
+    /// news.recv()??; // the second one owns it
+    /// second.commit()?;
+    /// # Ok::<_, Box<dyn std::error::Error>>(())
+    /// ```
+    ///
+    /// # Errors
+    /// As `lock`.
+    pub fn ask<W>(&mut self, name: impl AsRef<[u8]>, wake: W) -> Result<Option<Owned>, LockError>
+    where
+        W: FnOnce(Result<(), LockError>) + Send + 'static,
+    {
+        // SAFETY: the locks are open as long as this transaction is live.
+        let (told, wait) = unsafe { Wait::begin(self.raw(), self.key, name.as_ref(), Box::new(wake)) };
+        self.note(told);
+        if wait.is_some() {
+            self.wait = wait;
+            return Ok(None);
         }
-        Ok(())
+        owned(told).map(Some)
     }
 
     /// Gives one name back, to the transaction that has waited for it longest.
     ///
     /// # Errors
-    /// `MustAbort`, `NameEmpty`, `NameTooLong`, `NotOwner`.
-    pub fn unlock(&mut self, name: &[u8]) -> Result<(), LockError> {
-        // SAFETY: as in `ask`.
+    /// `MustAbort`, `Waiting`, `NameEmpty`, `NameTooLong`, `NotOwner`.
+    pub fn unlock(&mut self, name: impl AsRef<[u8]>) -> Result<(), LockError> {
+        let name = name.as_ref();
+        // SAFETY: as in `request`.
         done(unsafe { sys::pashkure_locks_unlock(self.raw(), self.key, name.as_ptr().cast(), name.len()) })
     }
 
-    /// After `Deadlock`: the waits, from this transaction on until it is the holder. Else empty.
-    pub fn cycle(&self) -> Vec<Wait> {
-        self.locks.borrow().view(|view| view.cycle(self.key))
+    /// After `Deadlock`: the waits, from this transaction on until it is the holder. Else empty. Takes the mutex, and time by the waits.
+    pub fn cycle(&self) -> Vec<crate::Wait> {
+        self.locks.borrow().view_waits(|view| view.cycle(self.key))
     }
 
-    /// Ends the transaction, and gives back all that it owns.
+    /// Ends the transaction, and gives back all that it owns. Names pass on one after another: others may own some before this returns.
     ///
     /// # Errors
-    /// `MustAbort` after `Deadlock`: then it is rolled back.
+    /// `MustAbort` after `Deadlock`, `Waiting` while it waits: then it is rolled back.
     pub fn commit(mut self) -> Result<(), LockError> {
-        // SAFETY: as in `ask`.
+        // SAFETY: as in `request`.
         done(unsafe { sys::pashkure_locks_commit(self.raw(), self.key) })?;
         self.is_over = true;
         Ok(())
@@ -139,8 +175,26 @@ impl<L: Borrow<Locks>> Transaction<L> {
         self.locks.borrow().raw()
     }
 
+    /// Asks for names in this order, each time for a few, with the time that is left.
+    fn lock_each<N: AsRef<[u8]>>(&mut self, names: &[N], left: impl Fn() -> i64) -> Result<Vec<Owned>, LockAllError> {
+        let mut owned = Vec::with_capacity(names.len());
+        for names in names.chunks(AT_ONCE) {
+            let mut requests = [sys::Request { name: [].as_ptr(), length: 0, result: sys::NOT_ASKED }; AT_ONCE];
+            for (request, name) in requests.iter_mut().zip(names) {
+                let name = name.as_ref();
+                *request = sys::Request { name: name.as_ptr().cast(), length: name.len(), result: sys::NOT_ASKED };
+            }
+            // SAFETY: the locks are open, and this many requests are there, with their names.
+            let told = unsafe { sys::pashkure_locks_lock_all(self.raw(), self.key, requests.as_mut_ptr(), names.len(), left()) };
+            self.note(told);
+            owned.extend(requests.iter().map_while(|request| Owned::of(request.result)));
+            done(told).map_err(|error| LockAllError { owned: std::mem::take(&mut owned), error })?;
+        }
+        Ok(owned)
+    }
+
     /// Asks for a name. What is told is the result of `pashkure_locks_lock`.
-    fn ask(&mut self, name: &[u8], nanoseconds: i64) -> u32 {
+    fn request(&mut self, name: &[u8], nanoseconds: i64) -> u32 {
         // SAFETY: the locks are open, the name is a slice, and by `&mut` the transaction makes one request at a time.
         let told = unsafe { sys::pashkure_locks_lock(self.raw(), self.key, name.as_ptr().cast(), name.len(), nanoseconds) };
         self.note(told);
@@ -154,21 +208,39 @@ impl<L: Borrow<Locks>> Transaction<L> {
 
 impl<L: Borrow<Locks>> Drop for Transaction<L> {
     fn drop(&mut self) {
-        if !self.is_over {
-            // SAFETY: as in `ask`.
+        if self.is_over {
+            return;
+        }
+        // SAFETY: as in `request`.
+        if self.wait.take().map_or(false, Wait::leave) {
+            let _is_live = unsafe { sys::pashkure_locks_interrupt(self.raw(), self.key) };
+        } else {
             let told = unsafe { sys::pashkure_locks_abort(self.raw(), self.key) };
             debug_assert_eq!(told, sys::OK, "a live transaction that makes no request can be aborted");
         }
     }
 }
 
+/// A time as the library takes it.
+fn nanoseconds(time: Duration) -> i64 {
+    i64::try_from(time.as_nanos()).unwrap_or(sys::FOREVER)
+}
+
+/// What the answer to a request means. `BUSY` is that of one with no time.
 fn owned(result: u32) -> Result<Owned, LockError> {
-    Owned::of(result).ok_or_else(|| LockError::of(result))
+    Owned::of(result).ok_or_else(|| error_of(result))
 }
 
 fn done(result: u32) -> Result<(), LockError> {
     match result {
         sys::OK => Ok(()),
-        why => Err(LockError::of(why)),
+        why => Err(error_of(why)),
+    }
+}
+
+fn error_of(result: u32) -> LockError {
+    match result {
+        sys::BUSY => LockError::TimedOut,
+        why => LockError::of(why),
     }
 }

@@ -39,7 +39,8 @@ impl<'l> View<'l> {
     }
 
     /// Who owns the name; `None` if nobody does.
-    pub fn owner(&self, name: &[u8]) -> Option<Key> {
+    pub fn owner(&self, name: impl AsRef<[u8]>) -> Option<Key> {
+        let name = name.as_ref();
         let mut owner = Key::default();
         let bytes = name.as_ptr().cast();
         // SAFETY: as `new` says. So in the functions below.

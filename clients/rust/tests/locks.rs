@@ -1,6 +1,11 @@
 //! Threads that sleep. Each test waits for a state, never for a time.
-use pashkure::{Config, Key, LockError, Locks, OpenError, Owned, Seen, Status, Transaction, View, Wait};
+use pashkure::{Config, Key, LockAllError, LockError, Locks, OpenError, Owned, Seen, Status, Transaction, View, Wait};
+use std::future::Future;
+use std::pin::Pin;
+use std::sync::atomic::{AtomicU32, Ordering::Relaxed};
+use std::sync::mpsc::{channel, Receiver};
 use std::sync::Arc;
+use std::task::{Context, Poll};
 use std::thread;
 use std::time::Duration;
 
@@ -17,6 +22,11 @@ fn owner<'l>(locks: &'l Locks, name: &str) -> Transaction<&'l Locks> {
     let mut transaction = locks.begin().unwrap();
     assert_eq!(transaction.lock(name.as_bytes()), Ok(Owned::New));
     transaction
+}
+
+/// What `lock_all` gives if these were the answers before the name that failed.
+fn failed(owned: &[Owned], error: LockError) -> Result<Vec<Owned>, LockAllError> {
+    Err(LockAllError { owned: owned.to_vec(), error })
 }
 
 fn live(view: &View<'_>) -> usize {
@@ -95,8 +105,8 @@ fn an_interrupt_ends_a_wait_or_the_next_request() {
     assert!(!locks.interrupt(key)); // it has ended
     let mut third = locks.begin().unwrap();
     assert!(locks.interrupt(third.key()));
-    assert_eq!(third.lock_all(&["z"]), Err(LockError::Interrupted));
-    assert_eq!(third.lock_all(&["z"]), Ok(()));
+    assert_eq!(third.lock_all(&["z"]), failed(&[], LockError::Interrupted));
+    assert_eq!(third.lock_all(&["z"]), Ok(vec![Owned::New]));
 }
 
 #[test]
@@ -118,11 +128,91 @@ fn several_names_are_locked_in_their_order() {
     let names: Vec<String> = (0..20).map(|number| format!("n{number}")).collect();
     transaction.lock_all(&names).unwrap();
     assert!(names.iter().all(|name| locks.view(|view| view.owner(name.as_bytes())) == Some(transaction.key())));
-    assert_eq!(transaction.lock_all(&["a", "", "b"]), Err(LockError::NameEmpty));
+    assert_eq!(transaction.lock_all(&["n3", "a", "", "b"]), failed(&[Owned::Before, Owned::New], LockError::NameEmpty));
     assert_eq!(locks.view(|view| view.owner(b"a")), Some(transaction.key()));
     assert_eq!(locks.view(|view| view.owner(b"b")), None);
     let many: Vec<&[u8]> = (0..18).map(|number| if number == 17 { &b"too long for it"[..] } else { b"a" }).collect();
-    assert_eq!(transaction.lock_all(&many), Err(LockError::NameTooLong));
+    assert_eq!(transaction.lock_all(&many), failed(&[Owned::Before; 17], LockError::NameTooLong));
+    let mut other = locks.begin().unwrap();
+    assert_eq!(other.lock_all_for(&["c", "a", "d"], SHORT), failed(&[Owned::New], LockError::TimedOut));
+    assert_eq!(other.lock_all_for(&["c", "d"], Duration::ZERO), Ok(vec![Owned::Before, Owned::New]));
+}
+
+/// A request for a name, to be awaited.
+struct Asks<'t, 'l> {
+    transaction: &'t mut Transaction<&'l Locks>,
+    name: &'static str,
+    told: Option<Receiver<Result<(), LockError>>>,
+}
+
+impl Future for Asks<'_, '_> {
+    type Output = Result<(), LockError>;
+
+    fn poll(mut self: Pin<&mut Self>, context: &mut Context<'_>) -> Poll<Self::Output> {
+        if let Some(told) = &self.told {
+            return told.try_recv().map_or(Poll::Pending, Poll::Ready);
+        }
+        let (passes_on, told) = channel();
+        let waker = context.waker().clone();
+        let name = self.name;
+        let wake = move |result| passes_on.send(result).map(|()| waker.wake()).unwrap();
+        match self.transaction.ask(name, wake) {
+            Ok(None) => self.told = Some(told),
+            answer => return Poll::Ready(answer.map(|_| ())),
+        }
+        self.poll(context)
+    }
+}
+
+/// Counts how often it was woken.
+struct Woken(AtomicU32);
+
+impl std::task::Wake for Woken {
+    fn wake(self: Arc<Self>) {
+        self.0.fetch_add(1, Relaxed);
+    }
+}
+
+#[test]
+fn a_future_is_woken_once() {
+    let locks = opened();
+    let (first, mut second) = (owner(&locks, "x"), locks.begin().unwrap());
+    let woken = Arc::new(Woken(AtomicU32::new(0)));
+    let waker = Arc::clone(&woken).into();
+    let mut context = Context::from_waker(&waker);
+    let mut asks = Asks { transaction: &mut second, name: "x", told: None };
+    assert!(Pin::new(&mut asks).poll(&mut context).is_pending());
+    assert_eq!(asks.transaction.lock("y"), Err(LockError::Waiting));
+    assert_eq!(asks.transaction.unlock("x"), Err(LockError::Waiting));
+    assert_eq!(woken.0.load(Relaxed), 0);
+    drop(first);
+    assert_eq!(woken.0.load(Relaxed), 1);
+    assert_eq!(Pin::new(&mut asks).poll(&mut context), Poll::Ready(Ok(())));
+    assert_eq!(second.ask("x", |_| unreachable!()), Ok(Some(Owned::Before)));
+    second.commit().unwrap();
+}
+
+#[test]
+fn who_is_dropped_while_it_waits_is_rolled_back() {
+    let locks = opened();
+    let (first, mut second, mut third) = (owner(&locks, "x"), owner(&locks, "y"), owner(&locks, "z"));
+    assert_eq!(second.ask("x", |_| unreachable!()), Ok(None));
+    drop(second); // and nobody is told
+    assert_eq!(third.ask("x", |_| unreachable!()), Ok(None));
+    assert_eq!(third.commit(), Err(LockError::Waiting));
+    assert_eq!(locks.view(|view| (live(view), view.owner("y"), view.owner("z"))), (1, None, None));
+    first.commit().unwrap();
+}
+
+#[test]
+fn an_interrupt_is_told_by_the_call() {
+    let locks = opened();
+    let (_first, mut second) = (owner(&locks, "x"), locks.begin().unwrap());
+    let (passes_on, told) = channel();
+    assert_eq!(second.ask("x", move |result| passes_on.send(result).unwrap()), Ok(None));
+    assert!(locks.interrupt(second.key()));
+    assert_eq!(told.try_recv(), Ok(Err(LockError::Interrupted)));
+    assert_eq!(second.lock("y"), Ok(Owned::New));
 }
 
 #[test]
