@@ -71,6 +71,7 @@ struct counts {
     atomic_long starts; /* threads that were to be started */
     atomic_long started; /* threads that were started */
     atomic_long ended; /* threads that have ended */
+    atomic_long bytes; /* of the requests, but for those that the C library made to start a thread */
 };
 
 static struct rule rules[MOST_RULES];
@@ -312,26 +313,27 @@ long syscall(long number, ...) {
 }
 
 /* Counts a request for memory. Whether it is refused. */
-static int refuses(void) {
+static int refuses(size_t size) {
     long none = 0;
     if (!is_ready) return 0;
     atomic_fetch_add(&counts->requests, 1);
     atomic_fetch_add(&counts->by_starts, is_starting);
     atomic_fetch_add(&counts->by_threads, is_started);
+    if (!is_starting) atomic_fetch_add(&counts->bytes, (long)size);
     if (faulty(MALLOC, -1, &none) == 0) return 0;
     atomic_fetch_add(&counts->refused, 1);
     errno = ENOMEM;
     return 1;
 }
 
-void *malloc(size_t size) { return refuses() ? NULL : __libc_malloc(size); }
-void *calloc(size_t count, size_t size) { return refuses() ? NULL : __libc_calloc(count, size); }
-void *realloc(void *old, size_t size) { return refuses() ? NULL : __libc_realloc(old, size); }
-void *memalign(size_t alignment, size_t size) { return refuses() ? NULL : __libc_memalign(alignment, size); }
-void *aligned_alloc(size_t alignment, size_t size) { return refuses() ? NULL : __libc_memalign(alignment, size); }
+void *malloc(size_t size) { return refuses(size) ? NULL : __libc_malloc(size); }
+void *calloc(size_t count, size_t size) { return refuses(count * size) ? NULL : __libc_calloc(count, size); }
+void *realloc(void *old, size_t size) { return refuses(size) ? NULL : __libc_realloc(old, size); }
+void *memalign(size_t alignment, size_t size) { return refuses(size) ? NULL : __libc_memalign(alignment, size); }
+void *aligned_alloc(size_t alignment, size_t size) { return refuses(size) ? NULL : __libc_memalign(alignment, size); }
 
 int posix_memalign(void **result, size_t alignment, size_t size) {
-    if (refuses()) return ENOMEM;
+    if (refuses(size)) return ENOMEM;
     *result = __libc_memalign(alignment, size);
     return *result != NULL ? 0 : ENOMEM;
 }

@@ -10,11 +10,11 @@ from typing import Any, NamedTuple, Optional
 from lib.world import Case, Run, run, wants, write
 
 SOURCE = os.path.join(os.path.dirname(os.path.abspath(__file__)), "fault.c")
-COUNTS = struct.Struct("7q")
+COUNTS = struct.Struct("8q")
 
 
-class Counts(namedtuple("Counts", "requests by_starts by_threads refused starts started ended")):
-    """What fault.c counts: requests for memory, those of the starts of threads and of threads, the refused ones, and threads."""
+class Counts(namedtuple("Counts", "requests by_starts by_threads refused starts started ended bytes")):
+    """What fault.c counts: requests for memory, those of the starts of threads and of threads, the refused ones, threads, and requested bytes."""
 
     def own(self) -> int:
         """The requests that the program made itself. (The C library starts a thread with fewer if it has the memory of one that ended.)"""

@@ -65,8 +65,9 @@ class Scripts(Case):
         with open(self.file("script", FIRST_RUN), "rb") as script:
             self.ends(self.run_program(*word.split(), stdin=script), 0, FIRST_REPLIES)
 
-    def test_empty(self) -> None:
-        self.ends(self.run_program())
+    @each([("nothing", b""), ("as many newlines as there may be", b"\n" * LONGEST)])
+    def test_silent(self, name: str, script: bytes) -> None:
+        self.ends(self.run_program(given=script))
 
     def test_malformed_line(self) -> None:
         self.ends(self.run_program(given="fly\nbegin"), 1, "malformed\nno table\n")

@@ -5,9 +5,12 @@ import os
 import re
 from typing import Any
 
-from lib.world import TOP, Case, each, read
+from lib.faults import FaultCase
+from lib.world import PROGRAM, TOP, Case, each, read
 
 TURNS = 10_000_000
+STEP = 8
+"""The bytes of a step."""
 USUAL = {"seed": 1, "clients": 8, "transmitters": 2, "resources": 8, "acquires": 4, "transactions": 1}
 STORMS = """|--verbose|--seed 0|--seed 1|--seed 2|--seed 3|--seed 7|-v --seed 7|--clients 64 --transmitters 0|--clients 64 --transmitters=64
 --clients 64 --transmitters=64 --verbose|--transmitters=64 --clients=1|--transmitters 0 --clients 1|--transmitters 0 --clients 1 --verbose
@@ -49,6 +52,26 @@ def acquired(seed: int, resources: int, acquires: int, transactions: int, client
 def options(words: str) -> dict[str, int]:
     """The numbers of a storm."""
     return {**USUAL, **{name: int(value) for name, value in re.findall(r"--(\w+)[ =](\d+)", words)}}
+
+
+class PlainStorms(FaultCase):
+    """Storms that print their two lines and nothing else."""
+
+    def extra(self, seed: int) -> tuple[int, int]:
+        """How many bytes of memory more the storm of this seed requests than that of seed 0, and how many steps more its clients have."""
+        requested, steps = [], []
+        for each_seed in (seed, 0):
+            told, counts = self.counted("", PROGRAM, "storm", "--clients", "64", "--transmitters", "0", "--seed", str(each_seed))
+            self.assertEqual((told.status, told.err), (0, b""))
+            requested.append(counts.bytes)
+            steps.append(sum(len(transaction) for client in acquired(each_seed, 8, 4, 1, 64) for transaction in client))
+        return requested[0] - requested[1], steps[0] - steps[1]
+
+    @each(["2", "3", "7", "18446744073709551615"])
+    def test_steps(self, seed: str) -> None:
+        """The clients' steps are those of the seed, as far as the memory that they take shows it."""
+        requested, steps = self.extra(int(seed))
+        self.assertEqual(requested, STEP * steps)
 
 
 class Storms(Case):
