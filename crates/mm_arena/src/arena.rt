@@ -176,6 +176,8 @@ impl<T> Arena<T> {
     }
 
     /// Returns how many keys are live, in constant time.
+    ///
+    /// Kept for the published interface: no crate above calls it.
     pub fn live(&self) -> u32
         ensures count { result ≡ live_count self.now }
         ensures within { result ≤ length self.now.places }

@@ -1,6 +1,4 @@
 //! How a client ends.
-ghost use Rattle.std.specs.Prelude.{◌≡◌};
-ghost use Rattle.mm_clients.specs.End.{is_aborted};
 
 /// How a client ends.
 #[derive(Clone, Copy, Debug, PartialEq, Eq)]
@@ -13,13 +11,4 @@ pub enum End {
     Spent,
     /// A call was refused, under this number.
     Refused(u8),
-}
-
-impl End {
-    /// Returns whether the client was aborted.
-    pub fn is_aborted(self) -> bool
-        ensures { result ≡ is_aborted self }
-    {
-        self == End::Aborted
-    }
 }

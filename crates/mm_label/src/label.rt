@@ -97,6 +97,8 @@ impl Label {
     /// Returns the label that this word keeps by the former packing, of 48 bits of counter and 16 of process, in constant time.
     ///
     /// `None` exactly if its counter is `COUNTER_RANGE` or more. A label is written as a word of today's packing alone.
+    ///
+    /// Kept for the published interface: no crate above calls it.
     pub fn of_old_word(word: u64) -> Option<Self>
         ensures label { let label = label_of_old word
             in SomeIff result (label.counter < counter_range) label }

@@ -90,6 +90,8 @@ impl Lists {
     }
 
     /// Returns the key after this one in its list, in constant time. `None` for the last of a list, and for a key that stands in no list.
+    ///
+    /// Kept for the published interface: no crate above calls it.
     #[inline]
     pub fn next(&self, key: Key) -> Option<Key>
         ensures listed { IsNextKey self.now key result }
@@ -115,6 +117,8 @@ impl Lists {
     }
 
     /// Takes a key out of its list, in constant time. `false` exactly if it stands in none, and then nothing changes.
+    ///
+    /// Kept for the published interface: no crate above calls it.
     #[inline]
     pub fn remove(&mut self, key: Key) -> bool
         ensures found { IsTrue result ↔ Stands self.old key }
@@ -147,6 +151,8 @@ impl Lists {
     }
 
     /// Takes the first key out of a list, in constant time. `None` if the list has none, and then nothing changes.
+    ///
+    /// Kept for the published interface: no crate above calls it.
     pub fn pop_front(&mut self, list: u32) -> Option<Key>
         requires { list < length self.old.lists }
         ensures key { result ≡ head (queue self.old list) }
@@ -158,6 +164,8 @@ impl Lists {
     }
 
     /// Returns how many keys a list has, in constant time.
+    ///
+    /// Kept for the published interface: no crate above calls it.
     pub fn len(&self, list: u32) -> u32
         requires { list < length self.now.lists }
         ensures { result ≡ length (queue self.now list) }
@@ -166,6 +174,8 @@ impl Lists {
     }
 
     /// Returns the list in which a key stands, in constant time. `None` exactly if it stands in none.
+    ///
+    /// Kept for the published interface: no crate above calls it.
     pub fn list_of(&self, key: Key) -> Option<u32>
         ensures { MatchOption result (¬ Stands self.now key) (λ list. Among key (queue self.now list)) }
     {
@@ -173,6 +183,8 @@ impl Lists {
     }
 
     /// Returns whether a key of this process stands in some list, in constant time.
+    ///
+    /// Kept for the published interface: no crate above calls it.
     pub fn occupied(&self, process: u32) -> bool
         ensures { IsTrue result ↔ IsOccupied self.now process }
     {
@@ -180,6 +192,8 @@ impl Lists {
     }
 
     /// What holds of any lists that a caller can hold: a process stands in at most one, once. It does nothing.
+    ///
+    /// Kept for the published interface, which says this: no proof above cites it.
     pub fn stands_once(&self)
         ensures { StandsOnce self.now }
     {

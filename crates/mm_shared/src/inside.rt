@@ -325,15 +325,8 @@ impl<N: Name, A: Ledger, V: Ledger, B: Ledger> Inside<N, A, V, B> {
         self.table.tenant(process)
     }
 
-    /// Returns the processes whose labels, wait, holder or verdict the last `release`, `finish`, `abort` or `settle` changed, each once, by
-    /// rising number: none if it was refused. Constant time.
-    pub fn changed(&self) -> &[u32]
-        ensures { result.now ≡ self.now.changed.items }
-    {
-        &self.changed
-    }
-
-    /// Changes the list of `changed` for another one, which has room for each process. Constant time.
+    /// Changes the list of the processes that the last `release`, `finish`, `abort` or `settle` changed for another one, which has room for each
+    /// process. Constant time.
     pub(crate) fn swap_changed(&mut self, board: &Board<N>, list: &mut Vec<u32>)
         requires room { board.now ≤ vec_capacity list.old }
         ensures list { list.new ≡ self.old.changed }

@@ -15,6 +15,8 @@ impl<N: Name, A: Ledger, V: Ledger, B: Ledger> SharedTable<N, A, V, B> {
     /// one that this pass had seen. The table may have changed since.
     ///
     /// Constant time: one load. It takes no lock and no memory.
+    ///
+    /// Kept for the published interface: no crate of the program calls it.
     pub fn peek(&self, pass: &mut Pass<N, A, V, B>, process: u32) -> Label
         requires { process < self.now }
         ensures answer { result ≡ label_at pass.new.seen.labels process }
