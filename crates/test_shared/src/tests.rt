@@ -1,9 +1,7 @@
-//! `board` for mm_board, `shared` for mm_shared, `rows` for the worked scripts on a shared table, `call` for the calls of a script, and `flush`
-//! for the writer of one.
+//! `board` for mm_board, `shared` for mm_shared, `rows` for the worked scripts on a shared table, and `call` for the calls of a script.
 
 mod board;
 mod call;
-mod flush;
 mod rows;
 mod same;
 mod shared;
