@@ -1,6 +1,7 @@
 //! The worked scripts, made on a shared table. A table beside it, whose replies to them the program's tests compare, says what is to be counted.
 
 use crate::tests::call::{call_of, is_told, on_shared};
+use crate::tests::same::same;
 use crate::tests::shared::{Work, on_a_table};
 use mm_script::{Call, make};
 use mm_shared::{Config, Name, Pass, Report, SharedTable};
@@ -10,9 +11,23 @@ use std::process::Abort;
 use std::sync::Wait;
 use std::sync::ledger::Ledger;
 use std::test::Fail;
+use std::thread::Threads;
 use test_support::{Row, all_rows};
 
-/// Makes the calls of a script on both tables, the first of which opens the table beside the shared one. That one's replies are compared.
+/// Ends the test unless each process has the same tenant in both tables.
+fn has_same_tenants<N: Name, A: Ledger, V: Ledger, B: Ledger, R: Wait + Abort>(
+    rt: &R,
+    shared: &SharedTable<N, A, V, B>,
+    pass: &mut Pass<N, A, V, B>,
+    table: &Table,
+) {
+    for process in 0..shared.processes() {
+        same(rt, shared.tenant(rt, pass, process), table.tenant(process));
+    }
+}
+
+/// Makes the calls of a script on both tables, the first of which opens the table beside the shared one. That one's replies are compared, and after
+/// each call the tenants of both.
 fn make_all<N: Name, A: Ledger, V: Ledger, B: Ledger, R: Wait + Abort>(
     rt: &R,
     alloc: Global,
@@ -29,6 +44,8 @@ fn make_all<N: Name, A: Ledger, V: Ledger, B: Ledger, R: Wait + Abort>(
         if !matches!(call, Call::Totals | Call::Table { .. }) {
             is_told(rt, on_shared(rt, shared, pass, call), reply);
         }
+        let table = table.as_ref().expect(rt, "a table");
+        has_same_tenants(rt, shared, pass, table);
     }
 }
 
@@ -66,7 +83,11 @@ fn config_of(line: &str) -> Option<Config> {
 }
 
 /// Opens a shared table for the script, and makes its calls.
-fn on_both<R: Wait + Abort>(rt: &R, alloc: Global, row: &'static Row) -> Result<(), Fail> {
+fn on_both<R: Threads + Wait + Abort + Sync>(
+    rt: &R,
+    alloc: Global,
+    row: &'static Row,
+) -> Result<(), Fail> {
     let first = row.input.lines().next().ok_or("a line")?;
     let config = config_of(first).ok_or("a configuration")?;
     on_a_table(rt, alloc, config, Work::Script(row))
@@ -80,7 +101,11 @@ fn shared_calls_answer_as_those_of_a_table(rt: HostRuntime) -> Result<(), Fail> 
     each_on_both(&rt, rt.alloc(), second)
 }
 
-fn each_on_both<R: Wait + Abort>(rt: &R, alloc: Global, rows: &'static [Row]) -> Result<(), Fail> {
+fn each_on_both<R: Threads + Wait + Abort + Sync>(
+    rt: &R,
+    alloc: Global,
+    rows: &'static [Row],
+) -> Result<(), Fail> {
     for row in rows {
         if row.output.starts_with("ok\n") && !row.output.lines().any(|line| line == "malformed") {
             on_both(rt, alloc, row)?;

@@ -4,7 +4,7 @@ use crate::tests::call::{call_of, is_told, on_shared, on_shared_waking};
 use crate::tests::same::same;
 use crate::tests::shared::{Work, config, on_a_table};
 use mm_label::Label;
-use mm_shared::{HintKind, Name, Pass, Report, SharedTable};
+use mm_shared::{Config, HintKind, Name, Pass, Report, SharedTable};
 use std::alloc::Global;
 use std::process::Abort;
 use std::sync::Wait;
@@ -19,9 +19,11 @@ type Seen = (u32, u32, HintKind);
 pub enum Step {
     /// A call, as a script has it, and its reply.
     Calls(&'static str, &'static str),
+    /// The same by the other pass.
+    OtherCalls(&'static str, &'static str),
     /// A call in the form that lists the processes to wake, its reply, and these.
     Wakes(&'static str, &'static str, &'static [u32]),
-    /// The label of a process: its counter and its process.
+    /// The label of a process, to both passes: its counter and its process.
     Peeks(u32, u64, u32),
     /// The first hints from each process of two on, and past both of them.
     Scans([Option<Seen>; 3]),
@@ -43,6 +45,18 @@ fn wakes<N: Name, A: Ledger, V: Ledger, B: Ledger, R: Wait + Abort>(
     same(rt, wake.as_slice(), woken);
 }
 
+/// Makes a call. Ends the test if it has another reply.
+pub fn calls<N: Name, A: Ledger, V: Ledger, B: Ledger, R: Wait + Abort>(
+    rt: &R,
+    table: &SharedTable<N, A, V, B>,
+    pass: &mut Pass<N, A, V, B>,
+    line: &str,
+    reply: &str,
+) {
+    let call = call_of(line).expect(rt, "a call");
+    is_told(rt, on_shared(rt, table, pass, call), reply);
+}
+
 impl Step {
     /// Makes the step. Ends the test if something else comes of it. A look at the board has no handle, so it may not wait.
     pub fn make<N: Name, A: Ledger, V: Ledger, B: Ledger, R: Wait + Abort>(
@@ -54,17 +68,17 @@ impl Step {
         other: &mut Pass<N, A, V, B>,
     ) {
         match self {
-            Step::Calls(line, reply) => {
-                let call = call_of(line).expect(rt, "a call");
-                is_told(rt, on_shared(rt, table, pass, call), reply);
-            }
+            Step::Calls(line, reply) => calls(rt, table, pass, line, reply),
+            Step::OtherCalls(line, reply) => calls(rt, table, other, line, reply),
             Step::Wakes(line, reply, woken) => {
                 wakes(rt, alloc, table, pass, (line, reply, woken));
             }
             Step::Peeks(process, counter, of) => {
                 assert!(rt; process < table.processes());
-                let label = Some(table.peek(other, process));
-                same(rt, label, Label::new(counter, of));
+                for pass in [other, pass] {
+                    let label = Some(table.peek(pass, process));
+                    same(rt, label, Label::new(counter, of));
+                }
             }
             Step::Scans(hints) => {
                 for from in 0..3usize {
@@ -133,6 +147,40 @@ fn the_board_shows_a_queue_and_a_settle(rt: HostRuntime) -> Result<(), Fail> {
     };
     let work = Work::Steps(&QUEUE_AND_SETTLE, report);
     on_a_table(&rt, rt.alloc(), config(3, 3), work)
+}
+
+/// The board shows the label of one that begins to wait, and then a hint of each of two that wait for each other.
+static CROSSWISE: [Step; 11] = [
+    Step::Peeks(0, 0, 0),
+    Step::Calls("begin", "key 0.1"),
+    Step::Calls("begin", "key 1.1"),
+    Step::Calls("acquire 0.1 0", "granted"),
+    Step::Calls("acquire 1.1 1", "granted"),
+    Step::Calls("acquire 0.1 1", "waits 1.1 1.0"),
+    Step::Peeks(0, 1, 0),
+    Step::Calls("acquire 1.1 0", "waits 0.1 2.1"),
+    Step::Scans([FIRST_RAISES, None, None]),
+    Step::Calls("transmit 0.1", "raised 2.1"),
+    Step::Scans([FIRST_IS_EQUAL, SECOND_IS_EQUAL_TO_FIRST, None]),
+];
+
+const SECOND_IS_EQUAL_TO_FIRST: Option<Seen> = Some((1, 0, HintKind::Equal));
+
+#[test]
+fn the_board_shows_two_that_wait_for_each_other(rt: HostRuntime) -> Result<(), Fail> {
+    let report = Report {
+        accepted: 7,
+        verdicts: 0,
+        aborts: 0,
+    };
+    for size in [2, 4] {
+        let limits = Config {
+            label_limit: 100,
+            ..config(size, size)
+        };
+        on_a_table(&rt, rt.alloc(), limits, Work::Steps(&CROSSWISE, report))?;
+    }
+    Ok(())
 }
 
 /// One of two that wait for each other gives up. From then on the board shows no holder of it, and the label that it had.
