@@ -3,7 +3,7 @@ ghost use Rattle.std.specs.Prelude.{◌≡◌};
 
 use crate::tests::passes::passes;
 use mm_shared::{Config, Key, Name, Pass, Prepared, SharedTable};
-use mm_table::Table;
+use mm_table::{Table, Totals};
 use mm_workers::{Desk, Gate, Report, SharedGate, Steps, Transmitter, shared_gates};
 use std::alloc::Global;
 use std::marker::Brand;
@@ -103,6 +103,28 @@ fn a_ring_of_three_on_a_table_alone(rt: HostRuntime) {
         passes(&rt, "a_ring_of_three_on_a_table_alone", goes);
         turns = turns.saturating_add(1);
     }
+}
+
+/// Two wait for each other, and a transmitter makes four turns. What the table has counted then.
+fn four_turns_alone<R: Wait>(rt: &R, alloc: Global) -> Option<Totals> {
+    let gate = gate(rt, alloc)?;
+    let mut table = Table::open(alloc, FOUR).ok()?;
+    wait_in_a_ring(&mut table, 2);
+    let table = transmit(table, gate, 4);
+    let totals = table.totals();
+    drop(table);
+    Some(totals)
+}
+
+#[test]
+fn a_deadlock_on_a_table_alone(rt: HostRuntime) {
+    let counted = Totals {
+        accepted: 9,
+        verdicts: 1,
+        aborts: 0,
+    };
+    let totals = four_turns_alone(&rt, rt.alloc());
+    passes(&rt, "a_deadlock_on_a_table_alone", totals == Some(counted));
 }
 
 /// Two wait for each other at a desk of a shared table, and a transmitter makes four turns there. Gives back the pass.

@@ -63,10 +63,11 @@ pub const ABORT: Line = (Call::Abort, Answer::Done);
 
 pub const LEAVE: Line = (Call::Leave, Answer::Done);
 
-/// The script, and how far it is.
+/// The script, which is gone through so many times, and how many calls were made.
 #[derive(Drop)]
 pub struct Script<'a> {
     lines: &'a [Line],
+    times: usize,
     place: Cell<usize>,
     /// Whether another call came than was expected.
     is_wrong: Cell<bool>,
@@ -74,8 +75,13 @@ pub struct Script<'a> {
 
 impl<'a> Script<'a> {
     pub fn new(lines: &'a [Line]) -> Script<'a> {
+        Script::repeated(lines, 1)
+    }
+
+    pub fn repeated(lines: &'a [Line], times: usize) -> Script<'a> {
         Script {
             lines,
+            times,
             place: Cell::new(0),
             is_wrong: Cell::new(false),
         }
@@ -85,8 +91,9 @@ impl<'a> Script<'a> {
     pub fn answer(&self, call: Call) -> Answer {
         let place = self.place.get();
         self.place.set(place.saturating_add(1));
-        match self.lines.get(place) {
-            Some((expected, answer)) if *expected == call => *answer,
+        let line = place.checked_rem(self.lines.len()).unwrap_or(0);
+        match self.lines.get(line) {
+            Some((expected, answer)) if *expected == call && place < self.count() => *answer,
             _ => {
                 self.is_wrong.set(true);
                 Answer::Refused(Refusal::CountsExhausted)
@@ -94,8 +101,13 @@ impl<'a> Script<'a> {
         }
     }
 
+    /// How many calls are to be made.
+    fn count(&self) -> usize {
+        self.lines.len().saturating_mul(self.times)
+    }
+
     /// Whether just the calls of the script were made.
     pub fn is_over(&self) -> bool {
-        !self.is_wrong.get() && self.place.get() == self.lines.len()
+        !self.is_wrong.get() && self.place.get() == self.count()
     }
 }

@@ -17,12 +17,7 @@ const GOES_ON: Line = (Call::Over, Answer::Done);
 
 const SEES_NOTHING: Line = (Call::Scan(0), Answer::Nothing);
 
-static CASES: [Case; 5] = [
-    Case {
-        name: "without a hint it looks alone",
-        turns: 2,
-        calls: &[GOES_ON, SEES_NOTHING, GOES_ON, SEES_NOTHING],
-    },
+static CASES: [Case; 4] = [
     Case {
         name: "once all clients have left it calls nothing",
         turns: 100,
@@ -67,14 +62,24 @@ static CASES: [Case; 5] = [
     },
 ];
 
-/// Each transmitter is one for four processes.
+/// Whether a transmitter for four processes makes just the calls of the script.
+fn runs_so(script: &Script<'_>, turns: u64) -> bool {
+    let steps = ScriptedSteps::new(script);
+    let mut transmitter = Transmitter::new(steps, ScriptedGate { script }, 4, turns);
+    transmitter.run();
+    script.is_over()
+}
+
 #[test]
 fn a_transmitter_looks_transmits_and_detects(rt: HostRuntime) {
     for case in &CASES {
-        let script = &Script::new(case.calls);
-        let steps = ScriptedSteps::new(script);
-        let mut transmitter = Transmitter::new(steps, ScriptedGate { script }, 4, case.turns);
-        transmitter.run();
-        passes(&rt, case.name, script.is_over());
+        let is_right = runs_so(&Script::new(case.calls), case.turns);
+        passes(&rt, case.name, is_right);
     }
+}
+
+#[test]
+fn without_a_hint_a_transmitter_looks_alone(rt: HostRuntime) {
+    let script = Script::repeated(&[GOES_ON, SEES_NOTHING], 100);
+    passes(&rt, "a hundred turns", runs_so(&script, 100));
 }
