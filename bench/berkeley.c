@@ -14,20 +14,23 @@ enum { FEWEST = 4, MOST = 4095, RUNS = 4, STACK = 128 * 1024 };
 static DB_ENV *env;
 static u_int32_t lockers[MOST + 1];
 
-static void must(int fault) {
+static void must(int fault)
+{
     if (fault != 0) {
         fprintf(stderr, "berkeley: %s\n", db_strerror(fault));
         exit(1);
     }
 }
 
-static void get(int transaction, int object) {
+static void get(int transaction, int object)
+{
     DBT name = {.data = &object, .size = sizeof object};
     DB_LOCK lock;
     must(env->lock_get(env, lockers[transaction], 0, &name, DB_LOCK_WRITE, &lock));
 }
 
-static void open_environment(void) {
+static void open_environment(void)
+{
     must(db_env_create(&env, 0));
     must(env->set_lk_max_lockers(env, MOST + 1));
     must(env->set_lk_max_locks(env, 2 * MOST + 2));
@@ -36,13 +39,15 @@ static void open_environment(void) {
 }
 
 /* Transaction n waits for n - 1. */
-static void *wait_for_the_one_before(void *number) {
+static void *wait_for_the_one_before(void *number)
+{
     int transaction = (int)(size_t)number;
     get(transaction, transaction - 1);
     return NULL;
 }
 
-static void wait_until(u_int64_t waits) {
+static void wait_until(u_int64_t waits)
+{
     for (;;) {
         DB_LOCK_STAT *stat;
         must(env->lock_stat(env, &stat, 0));
@@ -55,7 +60,8 @@ static void wait_until(u_int64_t waits) {
 }
 
 /* One more transaction, which owns an object of its own, and waits. */
-static void add(int transaction) {
+static void add(int transaction)
+{
     pthread_t thread;
     pthread_attr_t small;
     must(env->lock_id(env, &lockers[transaction]));
@@ -68,7 +74,8 @@ static void add(int transaction) {
     wait_until(transaction);
 }
 
-static double detect(void) {
+static double detect(void)
+{
     struct timespec start, end;
     int aborted = 0;
     clock_gettime(CLOCK_THREAD_CPUTIME_ID, &start);
@@ -79,7 +86,8 @@ static double detect(void) {
     return (end.tv_sec - start.tv_sec) * 1e9 + (end.tv_nsec - start.tv_nsec);
 }
 
-int main(void) {
+int main(void)
+{
     int length = FEWEST;
     double least = 0;
     open_environment();

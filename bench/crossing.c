@@ -8,23 +8,27 @@
 
 uint64_t mm_bench_lock_names(uint32_t names, uint32_t length, uint64_t count);
 
-static uint32_t next_number(uint32_t number) {
+static uint32_t next_number(uint32_t number)
+{
     number ^= number << 13;
     number ^= number >> 17;
     return number ^ number << 5;
 }
 
-static void write_name(char bytes[64], uint32_t number) {
+static void write_name(char bytes[64], uint32_t number)
+{
     uint64_t word = number * UINT64_C(0x9e3779b97f4a7c15);
     memcpy(bytes + 56, &word, sizeof word);
 }
 
-static void must(int is_so) {
+static void must(int is_so)
+{
     if (!is_so)
         exit(1);
 }
 
-static uint64_t lock_names(uint32_t names, uint32_t length, uint64_t count) {
+static uint64_t lock_names(uint32_t names, uint32_t length, uint64_t count)
+{
     pashkure locks = PASHKURE_CLOSED;
     pashkure_config config = {PASHKURE_VERSION, 2, names, length, UINT64_C(0x0123456789abcdef), 0};
     pashkure_key owner, key;
@@ -33,7 +37,8 @@ static uint64_t lock_names(uint32_t names, uint32_t length, uint64_t count) {
     uint32_t number = 1;
     uint64_t granted = 0;
     memset(bytes, 'a', sizeof bytes);
-    must(pashkure_open(&locks, &config) == PASHKURE_OK && pashkure_begin(&locks, &owner) == PASHKURE_OK && pashkure_begin(&locks, &key) == PASHKURE_OK);
+    must(pashkure_open(&locks, &config) == PASHKURE_OK && pashkure_begin(&locks, &owner) == PASHKURE_OK
+         && pashkure_begin(&locks, &key) == PASHKURE_OK);
     for (uint32_t even = 0; even < names; even += 2) {
         write_name(bytes, even);
         must(pashkure_lock(&locks, owner, name, length) == PASHKURE_OK);
@@ -48,7 +53,8 @@ static uint64_t lock_names(uint32_t names, uint32_t length, uint64_t count) {
     return granted;
 }
 
-int main(int count, char **words) {
+int main(int count, char **words)
+{
     if (count != 5)
         return 2;
     uint32_t names = (uint32_t)atoi(words[2]), length = (uint32_t)atoi(words[3]);

@@ -145,7 +145,8 @@ static enum ended transaction(struct client *client, const unsigned *names)
 
 /* ---- Redis: a script sets four keys that are not there, or none ---- */
 
-static const char SCRIPT[] = "for i=1,4 do if redis.call('EXISTS',KEYS[i])==1 then return 0 end end for i=1,4 do redis.call('SET',KEYS[i],ARGV[1]) end return 1";
+static const char SCRIPT[] =
+    "for i=1,4 do if redis.call('EXISTS',KEYS[i])==1 then return 0 end end for i=1,4 do redis.call('SET',KEYS[i],ARGV[1]) end return 1";
 static char script_sum[64];
 
 static void load_script(struct client *client)

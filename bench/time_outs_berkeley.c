@@ -20,30 +20,41 @@ static atomic_bool is_back;
 static pthread_barrier_t gate;
 static int64_t late = -1;
 
-static void must(int fault) {
+static void must(int fault)
+{
     if (fault != 0) {
         fprintf(stderr, "time_outs_berkeley: %s\n", db_strerror(fault));
         exit(1);
     }
 }
 
-static int64_t now(void) {
+static int64_t now(void)
+{
     struct timespec time;
     clock_gettime(CLOCK_MONOTONIC, &time);
     return time.tv_sec * 1000000000LL + time.tv_nsec;
 }
 
 /* The others wait after this many milliseconds. */
-static int settling(void) { return 10 + last / 2; }
+static int settling(void)
+{
+    return 10 + last / 2;
+}
 
-static int get(u_int32_t locker, int number, u_int32_t milliseconds) {
+static int get(u_int32_t locker, int number, u_int32_t milliseconds)
+{
     DBT name = {.data = &number, .size = sizeof number};
-    DB_LOCKREQ request = {.op = milliseconds ? DB_LOCK_GET_TIMEOUT : DB_LOCK_GET, .mode = DB_LOCK_WRITE, .obj = &name, .timeout = milliseconds * 1000}, *failed;
+    DB_LOCKREQ request = {.op = milliseconds ? DB_LOCK_GET_TIMEOUT : DB_LOCK_GET,
+                   .mode = DB_LOCK_WRITE,
+                   .obj = &name,
+                   .timeout = milliseconds * 1000},
+               *failed;
     return env->lock_vec(env, locker, 0, &request, 1, &failed);
 }
 
 /* Prints how late the last one came back, and ends the program: the others wait still. */
-static void await_last(void) {
+static void await_last(void)
+{
     while (!atomic_load(&is_back))
         usleep(1000);
     if (late >= 0)
@@ -52,7 +63,8 @@ static void await_last(void) {
     _exit(0);
 }
 
-static void *part(void *argument) {
+static void *part(void *argument)
+{
     int number = (int)(size_t)argument;
     u_int32_t locker;
     must(env->lock_id(env, &locker));
@@ -78,7 +90,8 @@ static void *part(void *argument) {
     return NULL;
 }
 
-static void *detect(void *nothing) {
+static void *detect(void *nothing)
+{
     while (!atomic_load(&is_back)) {
         must(env->lock_detect(env, 0, DB_LOCK_EXPIRE, NULL));
         usleep(1000);
@@ -86,7 +99,8 @@ static void *detect(void *nothing) {
     return nothing;
 }
 
-static void open_environment(void) {
+static void open_environment(void)
+{
     must(db_env_create(&env, 0));
     must(env->set_lk_max_lockers(env, 2 * MOST));
     must(env->set_lk_max_locks(env, 1 << 17));
@@ -97,7 +111,8 @@ static void open_environment(void) {
     must(env->open(env, NULL, DB_CREATE | DB_INIT_LOCK | DB_PRIVATE | DB_THREAD, 0));
 }
 
-int main(int count, char **words) {
+int main(int count, char **words)
+{
     static pthread_t threads[MOST + 2];
     if (count != 3 || (last = atoi(words[1])) < 2 || last > MOST)
         return 2;

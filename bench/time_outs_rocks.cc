@@ -29,83 +29,101 @@ constexpr milliseconds kLimit(20), kLater(10), kMinute(60'000);
 
 static std::unique_ptr<rocksdb::TransactionDB> database;
 
-static void must(const Status& status) {
-  if (!status.ok()) {
-    fprintf(stderr, "time_outs_rocks: %s\n", status.ToString().c_str());
-    exit(1);
-  }
+static void must(const Status &status)
+{
+    if (!status.ok()) {
+        fprintf(stderr, "time_outs_rocks: %s\n", status.ToString().c_str());
+        exit(1);
+    }
 }
 
 // A chain, and when its last one came back.
-class Chain {
- public:
-  Chain(int last, bool carried) : last_(last), carried_(carried), gate_(last + 1) {}
-
-  void part(int number) {
-    rocksdb::TransactionOptions options;
-    options.deadlock_detect = true;
-    options.deadlock_detect_depth = kMost + 1;
-    options.lock_timeout = (number == last_ ? kLimit : kMinute).count();
-    std::unique_ptr<rocksdb::Transaction> transaction(database->BeginTransaction(rocksdb::WriteOptions(), options));
-    must(get(*transaction, number));
-    gate_.arrive_and_wait();
-    if (number == 0) {
-      await_last();
-    } else if (number == last_) {
-      time_out(*transaction);
-    } else {
-      if (number == 1 && carried_) std::this_thread::sleep_for(settling() + kLater);
-      must(get(*transaction, number - 1));
+class Chain
+{
+  public:
+    Chain(int last, bool carried) : last_(last), carried_(carried), gate_(last + 1)
+    {
     }
-  }
 
- private:
-  // Prints how late the last one came back, and ends the program.
-  void await_last() const {
-    while (!is_back_) std::this_thread::sleep_for(milliseconds(1));
-    if (late_.count() >= 0) printf("%lld\n", static_cast<long long>(late_.count()));
-    fflush(stdout);
-    _exit(0);
-  }
+    void part(int number)
+    {
+        rocksdb::TransactionOptions options;
+        options.deadlock_detect = true;
+        options.deadlock_detect_depth = kMost + 1;
+        options.lock_timeout = (number == last_ ? kLimit : kMinute).count();
+        std::unique_ptr<rocksdb::Transaction> transaction(database->BeginTransaction(rocksdb::WriteOptions(), options));
+        must(get(*transaction, number));
+        gate_.arrive_and_wait();
+        if (number == 0) {
+            await_last();
+        } else if (number == last_) {
+            time_out(*transaction);
+        } else {
+            if (number == 1 && carried_)
+                std::this_thread::sleep_for(settling() + kLater);
+            must(get(*transaction, number - 1));
+        }
+    }
 
-  static Status get(rocksdb::Transaction& transaction, int number) {
-    return transaction.GetForUpdate(rocksdb::ReadOptions(), std::to_string(number), static_cast<std::string*>(nullptr));
-  }
+  private:
+    // Prints how late the last one came back, and ends the program.
+    void await_last() const
+    {
+        while (!is_back_)
+            std::this_thread::sleep_for(milliseconds(1));
+        if (late_.count() >= 0)
+            printf("%lld\n", static_cast<long long>(late_.count()));
+        fflush(stdout);
+        _exit(0);
+    }
 
-  // The others wait after so long.
-  milliseconds settling() const { return milliseconds(10 + last_ / 2); }
+    static Status get(rocksdb::Transaction &transaction, int number)
+    {
+        return transaction.GetForUpdate(rocksdb::ReadOptions(), std::to_string(number), static_cast<std::string *>(nullptr));
+    }
 
-  void time_out(rocksdb::Transaction& transaction) {
-    std::this_thread::sleep_for(settling());
-    auto start = steady_clock::now();
-    Status status = get(transaction, last_ - 1);
-    auto took = steady_clock::now() - start;
-    if (status.IsTimedOut())
-      late_ = took - kLimit;
-    else
-      must(status);
-    is_back_ = true;
-  }
+    // The others wait after so long.
+    milliseconds settling() const
+    {
+        return milliseconds(10 + last_ / 2);
+    }
 
-  const int last_;
-  const bool carried_;
-  std::barrier<> gate_;
-  std::atomic<bool> is_back_ = false;
-  std::chrono::nanoseconds late_{-1};
+    void time_out(rocksdb::Transaction &transaction)
+    {
+        std::this_thread::sleep_for(settling());
+        auto start = steady_clock::now();
+        Status status = get(transaction, last_ - 1);
+        auto took = steady_clock::now() - start;
+        if (status.IsTimedOut())
+            late_ = took - kLimit;
+        else
+            must(status);
+        is_back_ = true;
+    }
+
+    const int last_;
+    const bool carried_;
+    std::barrier<> gate_;
+    std::atomic<bool> is_back_ = false;
+    std::chrono::nanoseconds late_{-1};
 };
 
-int main(int count, char** argument) {
-  int last = count == 3 ? atoi(argument[1]) : 0;
-  if (last < 2 || last > kMost) return 2;
-  std::unique_ptr<rocksdb::Env> memory(rocksdb::NewMemEnv(rocksdb::Env::Default()));
-  rocksdb::Options options;
-  options.env = memory.get();
-  options.create_if_missing = true;
-  rocksdb::TransactionDB* opened;
-  must(rocksdb::TransactionDB::Open(options, rocksdb::TransactionDBOptions(), "/time_outs", &opened));
-  database.reset(opened);
-  Chain chain(last, std::string(argument[2]) == "carried");
-  std::vector<std::thread> started;
-  for (int number = 0; number <= last; number++) started.emplace_back([&chain, number] { chain.part(number); });
-  for (auto& thread : started) thread.join();
+int main(int count, char **argument)
+{
+    int last = count == 3 ? atoi(argument[1]) : 0;
+    if (last < 2 || last > kMost)
+        return 2;
+    std::unique_ptr<rocksdb::Env> memory(rocksdb::NewMemEnv(rocksdb::Env::Default()));
+    rocksdb::Options options;
+    options.env = memory.get();
+    options.create_if_missing = true;
+    rocksdb::TransactionDB *opened;
+    must(rocksdb::TransactionDB::Open(options, rocksdb::TransactionDBOptions(), "/time_outs", &opened));
+    database.reset(opened);
+    Chain chain(last, std::string(argument[2]) == "carried");
+    std::vector<std::thread> started;
+    for (int number = 0; number <= last; number++)
+        started.emplace_back([&chain, number] { chain.part(number); });
+    for (auto &thread : started)
+        thread.join();
 }

@@ -9,14 +9,16 @@ enum { MOST_YIELDS = 512 };
 
 static pashkure_locks *locks;
 
-static void must(pashkure_result result) {
+static void must(pashkure_result result)
+{
     if (result != PASHKURE_OK) {
         fprintf(stderr, "transfers_c: %s\n", pashkure_message(result));
         exit(1);
     }
 }
 
-static void open_locks(void) {
+static void open_locks(void)
+{
     pashkure_config config = PASHKURE_CONFIG;
     config.transactions = MAX_THREADS + 1;
     config.names = 65536;
@@ -25,17 +27,25 @@ static void open_locks(void) {
     must(pashkure_locks_open(&locks, &config));
 }
 
-static uint32_t open_session(void) { return 0; }
-static void close_session(uint32_t session) { (void)session; }
+static uint32_t open_session(void)
+{
+    return 0;
+}
+static void close_session(uint32_t session)
+{
+    (void)session;
+}
 
 /* A pause whose length differs from key to key. */
-static void pause_after(pashkure_key key) {
+static void pause_after(pashkure_key key)
+{
     uint64_t state = seeded((uint64_t)key.slot << 32 | key.generation);
     for (uint32_t yields = next_word(&state) % MOST_YIELDS; yields > 0; yields--)
         sched_yield();
 }
 
-static int transfer(uint32_t session, const uint32_t *chosen) {
+static int transfer(uint32_t session, const uint32_t *chosen)
+{
     pashkure_request requests[4];
     pashkure_key key;
     (void)session;

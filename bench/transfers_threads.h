@@ -33,14 +33,16 @@ struct __attribute__((aligned(128))) done {
 };
 
 /* The generator PCG-XSH-RR, on stream 0. */
-static uint32_t next_word(uint64_t *state) {
+static uint32_t next_word(uint64_t *state)
+{
     uint64_t old = *state;
     *state = old * 6364136223846793005u + 1;
     uint32_t shifted = (uint32_t)((old >> 18 ^ old) >> 27), turn = (uint32_t)(old >> 59);
     return shifted >> turn | shifted << (-turn & 31);
 }
 
-static uint64_t seeded(uint64_t seed) {
+static uint64_t seeded(uint64_t seed)
+{
     uint64_t state = 0;
     next_word(&state);
     state += seed;
@@ -49,7 +51,8 @@ static uint64_t seeded(uint64_t seed) {
 }
 
 /* Four numbers below the count of names by chance, no two the same. */
-static void four_names(uint64_t *state, uint32_t *chosen) {
+static void four_names(uint64_t *state, uint32_t *chosen)
+{
     for (int count = 0; count < 4;) {
         uint32_t number = (uint32_t)((uint64_t)next_word(state) * name_count >> 32);
         int is_new = 1;
@@ -60,7 +63,8 @@ static void four_names(uint64_t *state, uint32_t *chosen) {
     }
 }
 
-static void *work(void *argument) {
+static void *work(void *argument)
+{
     struct done *done = argument;
     uint64_t state = seeded(done->seed);
     uint32_t chosen[4];
@@ -79,13 +83,15 @@ static void *work(void *argument) {
     return NULL;
 }
 
-static void make_names(void) {
+static void make_names(void)
+{
     names = malloc(name_count * sizeof *names);
     for (uint32_t number = 0; number < name_count; number++)
         snprintf(names[number], sizeof *names, "accounts/%07u", number % 10000000);
 }
 
-int main(int count, char **words) {
+int main(int count, char **words)
+{
     if (count != 4)
         return 2;
     int threads = atoi(words[1]);

@@ -22,9 +22,9 @@ static long accounts[ACCOUNTS]; /* only the transaction that owns the name of an
 struct task {
     pashkure_key key;
     unsigned from, to;
-    int owned, left;       /* names that it owns, and transfers that it has yet to make */
-    pashkure_result news;  /* how its wait ended */
-    struct task *next;     /* in the list of those that have news */
+    int owned, left;      /* names that it owns, and transfers that it has yet to make */
+    pashkure_result news; /* how its wait ended */
+    struct task *next;    /* in the list of those that have news */
 };
 
 /* Those that have news. The wake calls of other threads add to it. */
@@ -102,7 +102,8 @@ static void go_on(struct task *task, pashkure_result told)
         accounts[task->from]--;
         accounts[task->to]++;
         must_be_ok(pashkure_locks_commit(locks, task->key));
-        if (--task->left == 0) return;
+        if (--task->left == 0)
+            return;
         told = start(task);
     }
 }
@@ -147,7 +148,8 @@ static void *transfers(void *given)
 static bool is_done(const struct task *tasks)
 {
     for (int i = 0; i < TASKS; i++)
-        if (tasks[i].left > 0) return false;
+        if (tasks[i].left > 0)
+            return false;
     return true;
 }
 
@@ -161,7 +163,8 @@ static void loop(struct task *tasks)
         go_on(&tasks[i], start(&tasks[i]));
     }
     while (!is_done(tasks)) {
-        if (epoll_wait(all, &event, 1, -1) < 1) continue; /* a signal */
+        if (epoll_wait(all, &event, 1, -1) < 1)
+            continue; /* a signal */
         for (struct task *task = take_ready(), *next; task != NULL; task = next) {
             next = task->next; /* the task may be in the list again before go_on returns */
             go_on(task, task->news);
@@ -182,7 +185,8 @@ int main(void)
     must(pthread_create(&thread, NULL, transfers, NULL) == 0, "no thread");
     loop(tasks);
     pthread_join(thread, NULL);
-    for (int i = 0; i < ACCOUNTS; i++) sum += accounts[i];
+    for (int i = 0; i < ACCOUNTS; i++)
+        sum += accounts[i];
     printf("%d transfers, and all accounts together have %ld\n", (TASKS + 1) * TRANSFERS, sum);
     must_be_ok(pashkure_locks_close(locks));
     return 0;

@@ -15,7 +15,7 @@
 enum { ROWS = 8, CHANGES = 16, TRANSACTIONS = 64, ATTEMPTS = 100, MILLISECOND = 1000000 };
 
 static pashkure_locks *locks;
-static long rows[ROWS]; /* only the transaction that owns the name of a row reads or writes it */
+static long rows[ROWS];                  /* only the transaction that owns the name of a row reads or writes it */
 static const char *titles[TRANSACTIONS]; /* of the transactions, by slot, for the log */
 
 /* What a transaction did to a row. */
@@ -65,7 +65,8 @@ static pashkure_result add(struct transaction *tx, unsigned row, long amount, in
     pashkure_result result;
     must(tx->count < CHANGES, "a transaction has too many changes");
     result = pashkure_locks_lock(locks, tx->key, name, length, nanoseconds);
-    if (!PASHKURE_OWNS(result)) return result;
+    if (!PASHKURE_OWNS(result))
+        return result;
     tx->changes[tx->count++] = (struct change){row, result == PASHKURE_OK, rows[row]};
     rows[row] += amount;
     return PASHKURE_OK;
@@ -86,14 +87,16 @@ static void roll_back_to(struct transaction *tx, size_t savepoint)
         struct change last = undo(tx);
         char name[16];
         size_t length = name_row(last.row, name);
-        if (last.is_locked_here) must_be_ok(pashkure_locks_unlock(locks, tx->key, name, length));
+        if (last.is_locked_here)
+            must_be_ok(pashkure_locks_unlock(locks, tx->key, name, length));
     }
 }
 
 /* Undoes all, and only then lets others have the rows. */
 static void roll_back(struct transaction *tx)
 {
-    while (tx->count > 0) undo(tx);
+    while (tx->count > 0)
+        undo(tx);
     must_be_ok(pashkure_locks_abort(locks, tx->key));
 }
 
@@ -110,7 +113,8 @@ static void log_deadlock(pashkure_key victim)
         char name[16];
         size_t length;
         pashkure_result does = pashkure_locks_look(locks, slot, &seen);
-        if (does != PASHKURE_WAITS && does != PASHKURE_DEADLOCK) break;
+        if (does != PASHKURE_WAITS && does != PASHKURE_DEADLOCK)
+            break;
         if (pashkure_locks_name(locks, seen.number, name, sizeof name, &length, &owner) == PASHKURE_OK)
             fprintf(stderr, "deadlock: %s waits for %.*s of %s\n", titles[slot], (int)length, name, titles[owner.slot]);
         slot = seen.holder.slot;
@@ -128,8 +132,10 @@ struct transfer {
 static pashkure_result move_ten(struct transfer *my, struct transaction *tx, bool meets)
 {
     pashkure_result result = add(tx, my->from, -10, PASHKURE_FOREVER);
-    if (meets) pthread_barrier_wait(my->both);
-    if (result == PASHKURE_OK) result = add(tx, my->to, 10, PASHKURE_FOREVER);
+    if (meets)
+        pthread_barrier_wait(my->both);
+    if (result == PASHKURE_OK)
+        result = add(tx, my->to, 10, PASHKURE_FOREVER);
     return result == PASHKURE_OK ? pashkure_locks_commit(locks, tx->key) : result;
 }
 
@@ -151,7 +157,8 @@ static void *transfers(void *given)
         pashkure_result result;
         begin(&tx, my->title);
         result = move_ten(my, &tx, attempt == 0);
-        if (result == PASHKURE_OK) return NULL;
+        if (result == PASHKURE_OK)
+            return NULL;
         must(result == PASHKURE_DEADLOCK, pashkure_message(result));
         my->deadlocks++;
         log_deadlock(tx.key);

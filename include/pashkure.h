@@ -43,15 +43,15 @@ extern "C" {
 
 /* ---- Results. The numbers do not change. From PASHKURE_REFUSED on, the call has changed nothing. ---- */
 typedef enum pashkure_result {
-    PASHKURE_OK = 0,       /* done. Of a request: the transaction owns the name from now on */
-    PASHKURE_HELD = 1,     /* the transaction owned the name before; it is still owned once */
-    PASHKURE_WAITS = 2,    /* it waits, and is never a victim later: pashkure_woken will name it. Until then it makes no request */
-    PASHKURE_DEADLOCK = 3, /* it closed a cycle of waits, and keeps what it owns: undo its work, then pashkure_abort, its one possible call */
-    PASHKURE_BUSY = 4,     /* another one owns the name, and nothing was changed */
-    PASHKURE_LATER = 5,    /* of abort: it waits behind a victim that has yet to abort, and ends in the call that ends its wait */
-    PASHKURE_CARRIED = 6,  /* of cancel: it waits behind a victim that has yet to abort; try again after some pashkure_abort */
-    PASHKURE_FREE = 7,     /* nobody owns the name, nobody has the slot, nobody has the number */
-    PASHKURE_ABORTED = 8,  /* its wait has ended, since it has: its abort was LATER, and has come due */
+    PASHKURE_OK = 0,           /* done. Of a request: the transaction owns the name from now on */
+    PASHKURE_HELD = 1,         /* the transaction owned the name before; it is still owned once */
+    PASHKURE_WAITS = 2,        /* it waits, and is never a victim later: pashkure_woken will name it. Until then it makes no request */
+    PASHKURE_DEADLOCK = 3,     /* it closed a cycle of waits, and keeps what it owns: undo its work, then pashkure_abort, its one possible call */
+    PASHKURE_BUSY = 4,         /* another one owns the name, and nothing was changed */
+    PASHKURE_LATER = 5,        /* of abort: it waits behind a victim that has yet to abort, and ends in the call that ends its wait */
+    PASHKURE_CARRIED = 6,      /* of cancel: it waits behind a victim that has yet to abort; try again after some pashkure_abort */
+    PASHKURE_FREE = 7,         /* nobody owns the name, nobody has the slot, nobody has the number */
+    PASHKURE_ABORTED = 8,      /* its wait has ended, since it has: its abort was LATER, and has come due */
     PASHKURE_TIMED_OUT = 9,    /* 9 to 11 are for callers that sleep, no call below gives them. Its time is up: it waits no longer, and may go on */
     PASHKURE_INTERRUPTED = 10, /* the same, since another thread said so */
     PASHKURE_NOT_ASKED = 11,   /* of several names, one behind the name that was not given */
@@ -74,15 +74,15 @@ typedef enum pashkure_result {
     PASHKURE_BAD_TRANSACTIONS = 35,  /* out of the range beside the member; so the next two */
     PASHKURE_BAD_NAMES = 36,
     PASHKURE_BAD_NAME_BYTES = 37,
-    PASHKURE_BAD_RESERVED = 38,      /* config.reserved is not 0 */
+    PASHKURE_BAD_RESERVED = 38, /* config.reserved is not 0 */
     PASHKURE_NO_MEMORY = 39,
     PASHKURE_BAD_BUCKETS = 40,
     /* 64 to 95 are for the client of the lock service, whose other results have the numbers above. */
     PASHKURE_RESULT_BITS_ = 0x7fffffff /* no result: gives the enum 32 bits with each compiler */
 } pashkure_result;
 
-#define PASHKURE_OWNS(result) ((result) <= PASHKURE_HELD)           /* a request: the transaction owns the name now */
-#define PASHKURE_IS_REFUSAL(result) ((result) >= PASHKURE_REFUSED)  /* the call has changed nothing */
+#define PASHKURE_OWNS(result) ((result) <= PASHKURE_HELD)          /* a request: the transaction owns the name now */
+#define PASHKURE_IS_REFUSAL(result) ((result) >= PASHKURE_REFUSED) /* the call has changed nothing */
 
 /* What a result means, in English, as "the transaction waits". Never NULL. Any thread, any time; the text is for ever. */
 const char *pashkure_message(pashkure_result result);
@@ -91,7 +91,9 @@ const char *pashkure_message(pashkure_result result);
 
 /* The key of a transaction. Of one manager no two transactions ever have the same key, and none has {0, 0}. So a key that is out of date does
  * no harm: calls refuse it. `slot` is below config.transactions, and no two live transactions share it: an index for what you keep of each. */
-typedef struct pashkure_key { uint32_t slot, generation; } pashkure_key;
+typedef struct pashkure_key {
+    uint32_t slot, generation;
+} pashkure_key;
 
 typedef struct pashkure_config {
     uint32_t header;       /* PASHKURE_VERSION, by PASHKURE_CONFIG: how the library knows what you were compiled with */
@@ -102,17 +104,34 @@ typedef struct pashkure_config {
     uint32_t buckets;      /* of pashkure_locks_open; else 0 */
     uint32_t reserved;     /* 0 */
 } pashkure_config;
-#define PASHKURE_CONFIG {PASHKURE_VERSION, 1024, 4096, 64, 0, 0, 0} /* pashkure_config config = PASHKURE_CONFIG; then set members */
+#define PASHKURE_CONFIG                                                                                                                              \
+    {                                                                                                                                                \
+        PASHKURE_VERSION, 1024, 4096, 64, 0, 0, 0                                                                                                    \
+    } /* pashkure_config config = PASHKURE_CONFIG; then set members */
 
 /* A manager. Its members are the library's. */
-typedef struct pashkure { void *manager; uint64_t state; } pashkure;
-#define PASHKURE_CLOSED {NULL, 0}
+typedef struct pashkure {
+    void *manager;
+    uint64_t state;
+} pashkure;
+#define PASHKURE_CLOSED                                                                                                                              \
+    {                                                                                                                                                \
+        NULL, 0                                                                                                                                      \
+    }
 
 /* Whose wait the last call ended, and how: PASHKURE_OK, it owns the name of this number; or PASHKURE_ABORTED, it has ended. */
-typedef struct pashkure_wake { pashkure_key key; uint32_t number; uint32_t result; } pashkure_wake;
+typedef struct pashkure_wake {
+    pashkure_key key;
+    uint32_t number;
+    uint32_t result;
+} pashkure_wake;
 
 /* A live transaction, as pashkure_look sees it. Holder and number are those of its wait; without one they are 0. */
-typedef struct pashkure_seen { pashkure_key key, holder; uint32_t number; uint32_t is_aborting; } pashkure_seen;
+typedef struct pashkure_seen {
+    pashkure_key key, holder;
+    uint32_t number;
+    uint32_t is_aborting;
+} pashkure_seen;
 
 /* What was counted since the opening. Live now: begun - committed - aborted. */
 typedef struct pashkure_counts {
@@ -194,8 +213,10 @@ pashkure_result pashkure_owner(const pashkure *locks, const void *name, size_t l
 void pashkure_totals(const pashkure *locks, pashkure_counts *counts);
 
 /* The sizes that the library was built for. An error in these lines: a compiler whose layout is another one. */
-typedef char pashkure_sizes_[sizeof(pashkure_result) == 4 && sizeof(pashkure_key) == 8 && sizeof(pashkure_config) == 32
-    && sizeof(pashkure_wake) == 16 && sizeof(pashkure_seen) == 24 && sizeof(pashkure_counts) == 64 && sizeof(pashkure) == 16 ? 1 : -1];
+typedef char pashkure_sizes_[sizeof(pashkure_result) == 4 && sizeof(pashkure_key) == 8 && sizeof(pashkure_config) == 32 && sizeof(pashkure_wake) == 16
+                                     && sizeof(pashkure_seen) == 24 && sizeof(pashkure_counts) == 64 && sizeof(pashkure) == 16
+                                 ? 1
+                                 : -1];
 
 #ifdef __cplusplus
 }

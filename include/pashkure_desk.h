@@ -21,10 +21,22 @@
 #define PASHKURE_NOT_THIN ((pashkure_result)15)   /* the name has no bytes, or more than 63 or than config.name_bytes: ask the desk */
 #define PASHKURE_NOT_LET_GO ((pashkure_result)27) /* a bucket is still lent to a worker of this number: worker and desk are of two openings */
 
-typedef struct pashkure_desk { void *at; uint64_t state; } pashkure_desk;
-typedef struct pashkure_worker { void *at; uint64_t state; } pashkure_worker;
-#define PASHKURE_DESK_CLOSED {NULL, 0}
-#define PASHKURE_WORKER_CLOSED {NULL, 0}
+typedef struct pashkure_desk {
+    void *at;
+    uint64_t state;
+} pashkure_desk;
+typedef struct pashkure_worker {
+    void *at;
+    uint64_t state;
+} pashkure_worker;
+#define PASHKURE_DESK_CLOSED                                                                                                                         \
+    {                                                                                                                                                \
+        NULL, 0                                                                                                                                      \
+    }
+#define PASHKURE_WORKER_CLOSED                                                                                                                       \
+    {                                                                                                                                                \
+        NULL, 0                                                                                                                                      \
+    }
 
 /* ---- Opening and closing ---- */
 

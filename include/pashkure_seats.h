@@ -33,24 +33,24 @@ struct seat {
     _Atomic uint32_t interrupted; /* the generation of the transaction whose next request is to be told; else 0 */
     bool is_known;                /* it may own something at the desk */
     bool is_victim;
-    _Atomic bool has_news;        /* its wait is over; it looks for that before it sleeps */
-    uint64_t orders;              /* for ThreadSanitizer: the addresses of the names that it has taken or asked for */
+    _Atomic bool has_news; /* its wait is over; it looks for that before it sleeps */
+    uint64_t orders;       /* for ThreadSanitizer: the addresses of the names that it has taken or asked for */
     pashkure_worker worker;
     _Atomic uint64_t committed, aborted; /* how many of the slot's transactions */
-    pashkure_result over;         /* how its last wait ended: OK, TIMED_OUT, INTERRUPTED */
-    pashkure_result withdraws_as; /* as what its wait ends once it can be taken back; OK if it is not to be */
-    uint32_t next_due;            /* in the list of those whose wake call is due */
-    pashkure_wake_call *wake;     /* NULL if a thread sleeps */
+    pashkure_result over;                /* how its last wait ended: OK, TIMED_OUT, INTERRUPTED */
+    pashkure_result withdraws_as;        /* as what its wait ends once it can be taken back; OK if it is not to be */
+    uint32_t next_due;                   /* in the list of those whose wake call is due */
+    pashkure_wake_call *wake;            /* NULL if a thread sleeps */
     void *context;
-    pthread_cond_t news;          /* its thread sleeps here */
-    void *between;                /* memory between its worker and the next one, which nobody uses */
+    pthread_cond_t news; /* its thread sleeps here */
+    void *between;       /* memory between its worker and the next one, which nobody uses */
     char apart[APART];
 };
 
 struct pashkure_locks {
     pthread_mutex_t mutex;
     pashkure_desk desk;
-    _Atomic uint32_t contenders;   /* how many threads wait for the mutex */
+    _Atomic uint32_t contenders; /* how many threads wait for the mutex */
     uint32_t slots;
     _Atomic uint64_t *may_be_free; /* a bit for each slot. If it is not set, a transaction has the slot, and its end sets it */
     _Atomic uint64_t doubts;       /* above: how often a bit was cleared that may have to be set again; below: how many of these are not decided */
@@ -62,9 +62,18 @@ struct pashkure_locks {
     struct seat seats[];
 };
 
-static inline uint64_t word_of(uint32_t generation, uint32_t state) { return (uint64_t)generation << 32 | state; }
-static inline uint32_t state_of(uint64_t word) { return (uint32_t)word; }
-static inline uint32_t generation_of(uint64_t word) { return (uint32_t)(word >> 32); }
+static inline uint64_t word_of(uint32_t generation, uint32_t state)
+{
+    return (uint64_t)generation << 32 | state;
+}
+static inline uint32_t state_of(uint64_t word)
+{
+    return (uint32_t)word;
+}
+static inline uint32_t generation_of(uint64_t word)
+{
+    return (uint32_t)(word >> 32);
+}
 
 /* Sleeps until the mutex is free, and takes it. */
 static inline void sleep_for_mutex(pashkure_locks *locks)
@@ -86,7 +95,8 @@ static inline uint32_t order_of(const void *name, size_t length)
 {
     const unsigned char *bytes = (const unsigned char *)name;
     uint32_t hash = 2166136261u;
-    for (size_t i = 0; i < length; i++) hash = (hash ^ bytes[i]) * 16777619u;
+    for (size_t i = 0; i < length; i++)
+        hash = (hash ^ bytes[i]) * 16777619u;
     return (hash ^ hash >> 16) % ORDERS;
 }
 
@@ -97,33 +107,39 @@ static inline pashkure_result took(pashkure_locks *locks, struct seat *seat, con
     if (__tsan_acquire != NULL && (PASHKURE_OWNS(result) || result == PASHKURE_WAITS)) {
         const uint32_t order = order_of(request->name, request->length);
         seat->orders |= (uint64_t)1 << order;
-        if (result != PASHKURE_WAITS) __tsan_acquire(&locks->orders[order]);
+        if (result != PASHKURE_WAITS)
+            __tsan_acquire(&locks->orders[order]);
     }
     return result;
 }
 
 static inline void gives(pashkure_locks *locks, const void *name, size_t length)
 {
-    if (__tsan_release != NULL) __tsan_release(&locks->orders[order_of(name, length)]);
+    if (__tsan_release != NULL)
+        __tsan_release(&locks->orders[order_of(name, length)]);
 }
 
 static inline void gives_all(pashkure_locks *locks, struct seat *seat)
 {
-    if (__tsan_release == NULL) return;
+    if (__tsan_release == NULL)
+        return;
     for (uint32_t order = 0; order < ORDERS; order++)
-        if (seat->orders >> order & 1) __tsan_release(&locks->orders[order]);
+        if (seat->orders >> order & 1)
+            __tsan_release(&locks->orders[order]);
     seat->orders = 0;
 }
 
 /* Round a call that writes a name which the desk may read, or reads one: it sees no more than that bytes are copied. */
 static inline void hides(void)
 {
-    if (AnnotateIgnoreReadsBegin != NULL) AnnotateIgnoreReadsBegin(__FILE__, __LINE__);
+    if (AnnotateIgnoreReadsBegin != NULL)
+        AnnotateIgnoreReadsBegin(__FILE__, __LINE__);
 }
 
 static inline void shows(void)
 {
-    if (AnnotateIgnoreReadsEnd != NULL) AnnotateIgnoreReadsEnd(__FILE__, __LINE__);
+    if (AnnotateIgnoreReadsEnd != NULL)
+        AnnotateIgnoreReadsEnd(__FILE__, __LINE__);
 }
 
 #endif

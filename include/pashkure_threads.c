@@ -32,7 +32,8 @@ static bool yields_before(int64_t time, int yields)
 {
     while (yields-- > 0) {
         sched_yield();
-        if (now() >= time) return false;
+        if (now() >= time)
+            return false;
     }
     return true;
 }
@@ -44,7 +45,8 @@ static void contend(pashkure_locks *locks)
     const int64_t end = now() + AWAKE;
     atomic_fetch_add_explicit(&locks->contenders, 1, memory_order_relaxed);
     for (int yields = FIRST_YIELDS; yields_before(end, yields); yields *= 2) {
-        if (pthread_mutex_trylock(&locks->mutex) != 0) continue;
+        if (pthread_mutex_trylock(&locks->mutex) != 0)
+            continue;
         atomic_fetch_sub_explicit(&locks->contenders, 1, memory_order_relaxed);
         return;
     }
@@ -54,7 +56,8 @@ static void contend(pashkure_locks *locks)
 
 static void enter(pashkure_locks *locks)
 {
-    if (pthread_mutex_trylock(&locks->mutex) != 0) contend(locks);
+    if (pthread_mutex_trylock(&locks->mutex) != 0)
+        contend(locks);
 }
 
 /* ---- Seats ---- */
@@ -65,10 +68,13 @@ static struct seat *take_seat_to(uint32_t to, pashkure_locks *locks, pashkure_ke
     struct seat *seat;
     uint64_t word = word_of(key.generation, IDLE);
     *refusal = PASHKURE_NO_TRANSACTION;
-    if (key.slot >= locks->slots) return NULL;
+    if (key.slot >= locks->slots)
+        return NULL;
     seat = &locks->seats[key.slot];
-    if (atomic_compare_exchange_strong(&seat->word, &word, word_of(key.generation, to))) return seat;
-    if (word == word_of(key.generation, CALLING) || word == word_of(key.generation, ENDING)) *refusal = PASHKURE_WAITING;
+    if (atomic_compare_exchange_strong(&seat->word, &word, word_of(key.generation, to)))
+        return seat;
+    if (word == word_of(key.generation, CALLING) || word == word_of(key.generation, ENDING))
+        *refusal = PASHKURE_WAITING;
     return NULL;
 }
 
@@ -90,13 +96,15 @@ static void free_seat(pashkure_locks *locks, struct seat *seat, pashkure_key key
     const uint64_t bit = (uint64_t)1 << key.slot % SLOTS_OF_WORD;
     const bool is_set = (atomic_load(bits) & bit) != 0;
     atomic_store_explicit(&seat->word, word_of(key.generation, FREE), memory_order_release);
-    if (!is_set) atomic_fetch_or(bits, bit);
+    if (!is_set)
+        atomic_fetch_or(bits, bit);
 }
 
 /* Whether the transaction is to be told of an interrupt, which it is once. */
 static bool is_interrupted(struct seat *seat, pashkure_key key)
 {
-    if (atomic_load_explicit(&seat->interrupted, memory_order_relaxed) != key.generation) return false;
+    if (atomic_load_explicit(&seat->interrupted, memory_order_relaxed) != key.generation)
+        return false;
     atomic_store_explicit(&seat->interrupted, 0, memory_order_relaxed);
     return true;
 }
@@ -164,7 +172,8 @@ static void end_wait(pashkure_locks *locks, uint32_t slot, pashkure_result over)
 static void tell(pashkure_locks *locks)
 {
     pashkure_wake woken;
-    for (size_t i = 0; pashkure_desk_woken(&locks->desk, i, &woken); i++) end_wait(locks, woken.key.slot, (pashkure_result)woken.result);
+    for (size_t i = 0; pashkure_desk_woken(&locks->desk, i, &woken); i++)
+        end_wait(locks, woken.key.slot, (pashkure_result)woken.result);
 }
 
 /* Takes the wait back, or notes that it is to be taken back after some abort. Nothing, if it is over. */
@@ -176,7 +185,8 @@ static void withdraw(pashkure_locks *locks, uint32_t slot, pashkure_result as)
         tell(locks);
         end_wait(locks, slot, as);
     } else if (told == PASHKURE_CARRIED) {
-        if (seat->withdraws_as == PASHKURE_OK) locks->withdrawing++;
+        if (seat->withdraws_as == PASHKURE_OK)
+            locks->withdrawing++;
         seat->withdraws_as = as;
     }
 }
@@ -186,7 +196,8 @@ static void withdraw_again(pashkure_locks *locks)
 {
     for (uint32_t slot = 0; locks->withdrawing > 0 && slot < locks->slots; slot++) {
         pashkure_result as = locks->seats[slot].withdraws_as;
-        if (as != PASHKURE_OK && does(locks, slot) == PASHKURE_WAITS) withdraw(locks, slot, as);
+        if (as != PASHKURE_OK && does(locks, slot) == PASHKURE_WAITS)
+            withdraw(locks, slot, as);
     }
 }
 
@@ -222,7 +233,8 @@ static void stay_awake(pashkure_locks *locks, struct seat *seat)
     atomic_store_explicit(&seat->has_news, false, memory_order_relaxed);
     pthread_mutex_unlock(&locks->mutex);
     for (int yields = 0; yields < YIELDS && !atomic_load_explicit(&seat->has_news, memory_order_relaxed); yields++)
-        if (!yields_before(end, 1)) break;
+        if (!yields_before(end, 1))
+            break;
     enter(locks);
 }
 
@@ -243,7 +255,8 @@ static pashkure_result sleep_for(pashkure_locks *locks, uint32_t slot, const pas
         else if (pthread_cond_timedwait(&seat->news, &locks->mutex, &limit->until) == ETIMEDOUT)
             withdraw(locks, slot, PASHKURE_TIMED_OUT);
     }
-    if (owns(locks, slot, request)) return PASHKURE_OK;
+    if (owns(locks, slot, request))
+        return PASHKURE_OK;
     return seat->over == PASHKURE_TIMED_OUT ? PASHKURE_TIMED_OUT : PASHKURE_INTERRUPTED;
 }
 
@@ -278,9 +291,11 @@ static pashkure_result take(pashkure_locks *locks, struct seat *seat, const pash
 static pashkure_result take_soon(pashkure_locks *locks, struct seat *seat, const pashkure_request *request)
 {
     pashkure_result result = take(locks, seat, request);
-    if (result != PASHKURE_BUSY) return result;
+    if (result != PASHKURE_BUSY)
+        return result;
     const int64_t end = now() + AWAKE;
-    for (int look = 0; result == PASHKURE_BUSY && look < LOOKS && yields_before(end, 1 << look); look++) result = take(locks, seat, request);
+    for (int look = 0; result == PASHKURE_BUSY && look < LOOKS && yields_before(end, 1 << look); look++)
+        result = take(locks, seat, request);
     return result;
 }
 
@@ -289,12 +304,15 @@ static pashkure_result lock(pashkure_locks *locks, struct seat *seat, uint32_t s
 {
     const bool may_wait = limit->nanoseconds > 0;
     pashkure_result result;
-    if (seat->is_victim) return PASHKURE_MUST_ABORT;
+    if (seat->is_victim)
+        return PASHKURE_MUST_ABORT;
     result = may_wait ? take_soon(locks, seat, request) : take(locks, seat, request);
-    if (PASHKURE_OWNS(result)) return result;
+    if (PASHKURE_OWNS(result))
+        return result;
     enter(locks);
     result = ask(locks, seat, request, may_wait);
-    if (result == PASHKURE_WAITS) result = sleep_for(locks, slot, request, limit);
+    if (result == PASHKURE_WAITS)
+        result = sleep_for(locks, slot, request, limit);
     leave(locks);
     return took(locks, seat, request, result);
 }
@@ -304,12 +322,16 @@ pashkure_result pashkure_locks_lock_all(pashkure_locks *locks, pashkure_key key,
     struct limit limit = {nanoseconds, false, {0, 0}};
     pashkure_result result;
     struct seat *seat = take_seat(locks, key, &result);
-    for (size_t i = 0; i < count; i++) requests[i].result = PASHKURE_NOT_ASKED;
-    if (seat != NULL) result = is_interrupted(seat, key) ? PASHKURE_INTERRUPTED : PASHKURE_OK;
-    if (result != PASHKURE_OK && count > 0) requests[0].result = result;
+    for (size_t i = 0; i < count; i++)
+        requests[i].result = PASHKURE_NOT_ASKED;
+    if (seat != NULL)
+        result = is_interrupted(seat, key) ? PASHKURE_INTERRUPTED : PASHKURE_OK;
+    if (result != PASHKURE_OK && count > 0)
+        requests[0].result = result;
     for (size_t i = 0; i < count && PASHKURE_OWNS(result); i++)
         result = requests[i].result = lock(locks, seat, key.slot, &requests[i], &limit);
-    if (seat != NULL) leave_seat(seat, key);
+    if (seat != NULL)
+        leave_seat(seat, key);
     return PASHKURE_OWNS(result) ? PASHKURE_OK : result;
 }
 
@@ -321,11 +343,11 @@ pashkure_result pashkure_locks_lock(pashkure_locks *locks, pashkure_key key, con
 }
 
 /* Locks the name, or waits for it from now on, with this call to make when the wait is over. */
-static pashkure_result ask_for(
-    pashkure_locks *locks, struct seat *seat, const pashkure_request *request, pashkure_wake_call *wake, void *context)
+static pashkure_result ask_for(pashkure_locks *locks, struct seat *seat, const pashkure_request *request, pashkure_wake_call *wake, void *context)
 {
     pashkure_result result = take(locks, seat, request);
-    if (PASHKURE_OWNS(result)) return result;
+    if (PASHKURE_OWNS(result))
+        return result;
     enter(locks);
     seat->wake = wake;
     seat->context = context;
@@ -334,20 +356,21 @@ static pashkure_result ask_for(
     return result;
 }
 
-pashkure_result pashkure_locks_ask(
-    pashkure_locks *locks, pashkure_key key, const void *name, size_t length, pashkure_wake_call *wake, void *context)
+pashkure_result pashkure_locks_ask(pashkure_locks *locks, pashkure_key key, const void *name, size_t length, pashkure_wake_call *wake, void *context)
 {
     const pashkure_request request = {name, length, PASHKURE_NOT_ASKED};
     pashkure_result result;
     struct seat *seat = take_seat(locks, key, &result);
-    if (seat == NULL) return result;
+    if (seat == NULL)
+        return result;
     if (is_interrupted(seat, key))
         result = PASHKURE_INTERRUPTED;
     else if (seat->is_victim)
         result = PASHKURE_MUST_ABORT;
     else
         result = ask_for(locks, seat, &request, wake, context);
-    if (result != PASHKURE_WAITS) leave_seat(seat, key); /* else it is left when the wait ends */
+    if (result != PASHKURE_WAITS)
+        leave_seat(seat, key); /* else it is left when the wait ends */
     return result;
 }
 
@@ -355,7 +378,8 @@ pashkure_result pashkure_locks_interrupt(pashkure_locks *locks, pashkure_key key
 {
     struct seat *seat;
     uint64_t word;
-    if (key.slot >= locks->slots) return PASHKURE_NO_TRANSACTION;
+    if (key.slot >= locks->slots)
+        return PASHKURE_NO_TRANSACTION;
     seat = &locks->seats[key.slot];
     enter(locks);
     word = atomic_load_explicit(&seat->word, memory_order_relaxed);
@@ -381,9 +405,11 @@ static pashkure_result unlock_at_desk(pashkure_locks *locks, struct seat *seat, 
     seat->is_known = true;
     enter(locks);
     result = pashkure_desk_unlock(&locks->desk, &seat->worker, name, length);
-    if (result == PASHKURE_OK) tell(locks);
+    if (result == PASHKURE_OK)
+        tell(locks);
     leave(locks);
-    if (result == PASHKURE_FREE) return PASHKURE_OK; /* by now the worker could */
+    if (result == PASHKURE_FREE)
+        return PASHKURE_OK; /* by now the worker could */
     return result == PASHKURE_NO_TRANSACTION ? PASHKURE_NOT_OWNER : result;
 }
 
@@ -392,11 +418,13 @@ pashkure_result pashkure_locks_unlock(pashkure_locks *locks, pashkure_key key, c
     pashkure_result refusal;
     pashkure_result result = PASHKURE_MUST_ABORT;
     struct seat *seat = take_seat(locks, key, &refusal);
-    if (seat == NULL) return refusal;
+    if (seat == NULL)
+        return refusal;
     if (!seat->is_victim) {
         gives(locks, name, length);
         result = pashkure_worker_give_back(&seat->worker, name, length);
-        if (result != PASHKURE_OK) result = unlock_at_desk(locks, seat, name, length);
+        if (result != PASHKURE_OK)
+            result = unlock_at_desk(locks, seat, name, length);
     }
     leave_seat(seat, key);
     return result;
@@ -413,7 +441,8 @@ static void give_way(pashkure_locks *locks, int64_t since)
 {
     const int64_t left = now(), had = left - since, end = left + 2 * (had < AWAKE ? had : AWAKE);
     leave(locks);
-    while (atomic_load_explicit(&locks->contenders, memory_order_relaxed) > 0 && yields_before(end, 1)) continue;
+    while (atomic_load_explicit(&locks->contenders, memory_order_relaxed) > 0 && yields_before(end, 1))
+        continue;
     enter(locks);
 }
 
@@ -423,15 +452,18 @@ static void unlock_number(pashkure_locks *locks, struct seat *seat, uint32_t num
     unsigned char name[NAME_BYTES];
     size_t length;
     pashkure_key owner;
-    if (pashkure_desk_name(&locks->desk, number, name, sizeof name, &length, &owner) != PASHKURE_OK) return;
-    if (pashkure_desk_unlock(&locks->desk, &seat->worker, name, length) == PASHKURE_OK) tell(locks);
+    if (pashkure_desk_name(&locks->desk, number, name, sizeof name, &length, &owner) != PASHKURE_OK)
+        return;
+    if (pashkure_desk_unlock(&locks->desk, &seat->worker, name, length) == PASHKURE_OK)
+        tell(locks);
 }
 
 /* Gives the first of these names back, up to a portion: how many. */
 static size_t unlock_portion(pashkure_locks *locks, struct seat *seat, const uint32_t *numbers, size_t count)
 {
     const size_t first = count < PORTION ? count : PORTION;
-    for (size_t i = 0; i < first; i++) unlock_number(locks, seat, numbers[i]);
+    for (size_t i = 0; i < first; i++)
+        unlock_number(locks, seat, numbers[i]);
     return first;
 }
 
@@ -457,13 +489,17 @@ static void unlock_portions(pashkure_locks *locks, struct seat *seat, uint32_t s
 static void end_at_desk(pashkure_locks *locks, struct seat *seat, uint32_t slot, bool commits)
 {
     pashkure_key next;
-    if (pashkure_worker_give_back_all(&seat->worker) == PASHKURE_OK && !seat->is_known) return;
+    if (pashkure_worker_give_back_all(&seat->worker) == PASHKURE_OK && !seat->is_known)
+        return;
     enter(locks);
-    if (!seat->is_victim) unlock_portions(locks, seat, slot);
-    if (!commits || pashkure_desk_commit(&locks->desk, &seat->worker) != PASHKURE_OK) (void)pashkure_desk_abort(&locks->desk, &seat->worker);
+    if (!seat->is_victim)
+        unlock_portions(locks, seat, slot);
+    if (!commits || pashkure_desk_commit(&locks->desk, &seat->worker) != PASHKURE_OK)
+        (void)pashkure_desk_abort(&locks->desk, &seat->worker);
     tell(locks);
     (void)pashkure_desk_begin(&locks->desk, slot, &next);
-    if (!commits) withdraw_again(locks);
+    if (!commits)
+        withdraw_again(locks);
     leave(locks);
 }
 
@@ -471,7 +507,8 @@ static pashkure_result end(pashkure_locks *locks, pashkure_key key, bool commits
 {
     pashkure_result result;
     struct seat *seat = take_seat_to(ENDING, locks, key, &result);
-    if (seat == NULL) return result;
+    if (seat == NULL)
+        return result;
     if (commits && seat->is_victim) {
         leave_seat(seat, key);
         return PASHKURE_MUST_ABORT;
@@ -485,6 +522,12 @@ static pashkure_result end(pashkure_locks *locks, pashkure_key key, bool commits
     return PASHKURE_OK;
 }
 
-pashkure_result pashkure_locks_commit(pashkure_locks *locks, pashkure_key key) { return end(locks, key, true); }
+pashkure_result pashkure_locks_commit(pashkure_locks *locks, pashkure_key key)
+{
+    return end(locks, key, true);
+}
 
-pashkure_result pashkure_locks_abort(pashkure_locks *locks, pashkure_key key) { return end(locks, key, false); }
+pashkure_result pashkure_locks_abort(pashkure_locks *locks, pashkure_key key)
+{
+    return end(locks, key, false);
+}

@@ -32,7 +32,11 @@ extern "C" {
 typedef struct pashkure_locks pashkure_locks;
 
 /* One of several names, and the answer to it. */
-typedef struct pashkure_request { const void *name; size_t length; pashkure_result result; } pashkure_request;
+typedef struct pashkure_request {
+    const void *name;
+    size_t length;
+    pashkure_result result;
+} pashkure_request;
 
 #define PASHKURE_FOREVER INT64_MAX /* nanoseconds without an end. 0 and less is no time at all: a time that has run out never becomes a long one */
 
@@ -51,8 +55,7 @@ pashkure_result pashkure_locks_begin(pashkure_locks *locks, pashkure_key *key) P
  * one owns it. TIMED_OUT, INTERRUPTED: it waits no longer, keeps what it owns, and may go on. Refusals as of pashkure_lock.
  * It is never TIMED_OUT before the time is over by CLOCK_MONOTONIC. One that waits behind a victim sleeps on until that victim's
  * pashkure_locks_abort, and then gets OK if that gave it the name. */
-pashkure_result pashkure_locks_lock(
-    pashkure_locks *locks, pashkure_key key, const void *name, size_t length, int64_t nanoseconds) PASHKURE_CHECKED;
+pashkure_result pashkure_locks_lock(pashkure_locks *locks, pashkure_key key, const void *name, size_t length, int64_t nanoseconds) PASHKURE_CHECKED;
 
 /* Locks names in the order given, all within the time: OK, it owns all of them. Else the answer to the first that it was not given; those before
  * stay locked. Each request has its answer: OK or HELD, then that one, then NOT_ASKED. */

@@ -11,7 +11,8 @@ enum { LEAST_BUCKETS = 8192 };
 
 static uint32_t buckets_of(const pashkure_config *config)
 {
-    if (config->buckets != 0) return config->buckets;
+    if (config->buckets != 0)
+        return config->buckets;
     return config->names < LEAST_BUCKETS ? LEAST_BUCKETS : config->names;
 }
 
@@ -30,7 +31,8 @@ static bool take_slot(pashkure_locks *locks, uint32_t slot, pashkure_key *key)
     struct seat *seat = &locks->seats[slot];
     uint64_t word = atomic_load_explicit(&seat->word, memory_order_relaxed);
     const uint32_t generation = generation_of(word) + 1;
-    if (state_of(word) != FREE || generation == 0) return false;
+    if (state_of(word) != FREE || generation == 0)
+        return false;
     if (!atomic_compare_exchange_strong_explicit(&seat->word, &word, word_of(generation, IDLE), memory_order_acquire, memory_order_relaxed))
         return false;
     last_slot = slot;
@@ -59,7 +61,8 @@ static bool take_marked(pashkure_locks *locks, uint32_t index, uint64_t among, p
         }
         atomic_fetch_add(&locks->doubts, DOUBT);
         atomic_fetch_and(bits, ~bit);
-        if (comes_free(locks, slot)) atomic_fetch_or(bits, bit);
+        if (comes_free(locks, slot))
+            atomic_fetch_or(bits, bit);
         atomic_fetch_sub(&locks->doubts, 1);
     }
     return false;
@@ -71,33 +74,43 @@ static bool take_any(pashkure_locks *locks, pashkure_key *key)
     const uint32_t words = (locks->slots - 1) / SLOTS_OF_WORD + 1, slot = last_slot % locks->slots, first = slot / SLOTS_OF_WORD;
     uint64_t among = UINT64_MAX << slot % SLOTS_OF_WORD;
     for (uint32_t tried = 0; tried <= words; tried++, among = UINT64_MAX)
-        if (take_marked(locks, (first + tried) % words, among, key)) return true;
+        if (take_marked(locks, (first + tried) % words, among, key))
+            return true;
     return false;
 }
 
 pashkure_result pashkure_locks_begin(pashkure_locks *locks, pashkure_key *key)
 {
     static _Atomic uint32_t threads;
-    if (last_slot == NOBODY) last_slot = atomic_fetch_add_explicit(&threads, 1, memory_order_relaxed);
-    if (take_slot(locks, last_slot % locks->slots, key)) return PASHKURE_OK;
+    if (last_slot == NOBODY)
+        last_slot = atomic_fetch_add_explicit(&threads, 1, memory_order_relaxed);
+    if (take_slot(locks, last_slot % locks->slots, key))
+        return PASHKURE_OK;
     for (;;) {
         const uint64_t doubts = atomic_load(&locks->doubts);
-        if (take_any(locks, key)) return PASHKURE_OK;
-        if (atomic_load(&locks->doubts) == doubts && (uint32_t)doubts == 0) return PASHKURE_TRANSACTIONS_FULL;
+        if (take_any(locks, key))
+            return PASHKURE_OK;
+        if (atomic_load(&locks->doubts) == doubts && (uint32_t)doubts == 0)
+            return PASHKURE_TRANSACTIONS_FULL;
         sched_yield(); /* a bit that this has not seen may have been set again */
     }
 }
 
 /* ---- Reading ---- */
 
-void pashkure_locks_hold(pashkure_locks *locks) { sleep_for_mutex(locks); }
+void pashkure_locks_hold(pashkure_locks *locks)
+{
+    sleep_for_mutex(locks);
+}
 
 pashkure_result pashkure_locks_hold_all(pashkure_locks *locks)
 {
     pashkure_result result;
     sleep_for_mutex(locks);
     hides();
-    do result = pashkure_desk_adopt_all(&locks->desk); while (result == PASHKURE_AGAIN);
+    do
+        result = pashkure_desk_adopt_all(&locks->desk);
+    while (result == PASHKURE_AGAIN);
     shows();
     locks->has_all = true;
     return result;
@@ -105,7 +118,8 @@ pashkure_result pashkure_locks_hold_all(pashkure_locks *locks)
 
 void pashkure_locks_let_go(pashkure_locks *locks)
 {
-    if (locks->has_all) pashkure_desk_free_all(&locks->desk);
+    if (locks->has_all)
+        pashkure_desk_free_all(&locks->desk);
     locks->has_all = false;
     pthread_mutex_unlock(&locks->mutex);
 }
@@ -119,25 +133,28 @@ static pashkure_key key_of(const pashkure_locks *locks, uint32_t slot)
 pashkure_result pashkure_locks_look(pashkure_locks *locks, uint32_t slot, pashkure_seen *seen)
 {
     pashkure_result result;
-    if (slot >= locks->slots || state_of(atomic_load_explicit(&locks->seats[slot].word, memory_order_relaxed)) == FREE) return PASHKURE_FREE;
+    if (slot >= locks->slots || state_of(atomic_load_explicit(&locks->seats[slot].word, memory_order_relaxed)) == FREE)
+        return PASHKURE_FREE;
     result = pashkure_desk_look(&locks->desk, slot, seen);
     seen->key = key_of(locks, slot);
-    if (result == PASHKURE_WAITS || result == PASHKURE_DEADLOCK) seen->holder = key_of(locks, seen->holder.slot);
+    if (result == PASHKURE_WAITS || result == PASHKURE_DEADLOCK)
+        seen->holder = key_of(locks, seen->holder.slot);
     return result;
 }
 
-pashkure_result pashkure_locks_name(
-    pashkure_locks *locks, uint32_t number, void *bytes, size_t room, size_t *length, pashkure_key *owner)
+pashkure_result pashkure_locks_name(pashkure_locks *locks, uint32_t number, void *bytes, size_t room, size_t *length, pashkure_key *owner)
 {
     const pashkure_result result = pashkure_desk_name(&locks->desk, number, bytes, room, length, owner);
-    if (result == PASHKURE_OK) *owner = key_of(locks, owner->slot);
+    if (result == PASHKURE_OK)
+        *owner = key_of(locks, owner->slot);
     return result;
 }
 
 pashkure_result pashkure_locks_owner(pashkure_locks *locks, const void *name, size_t length, pashkure_key *owner)
 {
     const pashkure_result result = pashkure_desk_owner(&locks->desk, name, length, owner);
-    if (result == PASHKURE_OK) *owner = key_of(locks, owner->slot);
+    if (result == PASHKURE_OK)
+        *owner = key_of(locks, owner->slot);
     return result;
 }
 
@@ -173,9 +190,11 @@ static void destroy(pashkure_locks *locks, uint32_t seats)
 /* Makes a seat: whether that is done. */
 static bool make_seat(pashkure_locks *locks, struct seat *seat, const pthread_condattr_t *clock)
 {
-    if (pashkure_desk_add_worker(&locks->desk, &seat->worker) != PASHKURE_OK) return false;
+    if (pashkure_desk_add_worker(&locks->desk, &seat->worker) != PASHKURE_OK)
+        return false;
     seat->between = malloc(APART);
-    if (seat->between != NULL && pthread_cond_init(&seat->news, clock) == 0) return true;
+    if (seat->between != NULL && pthread_cond_init(&seat->news, clock) == 0)
+        return true;
     free(seat->between);
     pashkure_worker_close(&seat->worker);
     return false;
@@ -186,9 +205,11 @@ static uint32_t make_seats(pashkure_locks *locks)
 {
     uint32_t made = 0;
     pthread_condattr_t clock;
-    if (pthread_condattr_init(&clock) != 0) return 0;
+    if (pthread_condattr_init(&clock) != 0)
+        return 0;
     if (pthread_condattr_setclock(&clock, CLOCK_MONOTONIC) == 0)
-        while (made < locks->slots && make_seat(locks, &locks->seats[made], &clock)) made++;
+        while (made < locks->slots && make_seat(locks, &locks->seats[made], &clock))
+            made++;
     pthread_condattr_destroy(&clock);
     return made;
 }
@@ -197,7 +218,8 @@ static uint32_t make_seats(pashkure_locks *locks)
 static void mark_all(pashkure_locks *locks)
 {
     locks->may_be_free = (_Atomic uint64_t *)&locks->seats[locks->slots];
-    for (uint32_t slot = 0; slot < locks->slots; slot++) locks->may_be_free[slot / SLOTS_OF_WORD] |= (uint64_t)1 << slot % SLOTS_OF_WORD;
+    for (uint32_t slot = 0; slot < locks->slots; slot++)
+        locks->may_be_free[slot / SLOTS_OF_WORD] |= (uint64_t)1 << slot % SLOTS_OF_WORD;
 }
 
 pashkure_result pashkure_locks_open(pashkure_locks **locks, const pashkure_config *config)
@@ -211,7 +233,8 @@ pashkure_result pashkure_locks_open(pashkure_locks **locks, const pashkure_confi
     numbers.buckets = 0;
     result = pashkure_desk_open(&desk, &numbers, buckets_of(config));
     *locks = NULL;
-    if (result != PASHKURE_OK) return result;
+    if (result != PASHKURE_OK)
+        return result;
     opened = calloc(1, sizeof *opened + config->transactions * sizeof opened->seats[0] + words * sizeof opened->may_be_free[0]);
     if (opened == NULL || pthread_mutex_init(&opened->mutex, NULL) != 0) {
         free(opened);
@@ -234,11 +257,13 @@ pashkure_result pashkure_locks_open(pashkure_locks **locks, const pashkure_confi
 pashkure_result pashkure_locks_close(pashkure_locks *locks)
 {
     pashkure_counts counts;
-    if (locks == NULL) return PASHKURE_OK;
+    if (locks == NULL)
+        return PASHKURE_OK;
     pthread_mutex_lock(&locks->mutex);
     pashkure_locks_totals(locks, &counts);
     pthread_mutex_unlock(&locks->mutex);
-    if (counts.begun != counts.committed + counts.aborted) return PASHKURE_IN_USE;
+    if (counts.begun != counts.committed + counts.aborted)
+        return PASHKURE_IN_USE;
     destroy(locks, locks->slots);
     return PASHKURE_OK;
 }

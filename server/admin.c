@@ -36,7 +36,7 @@ static void gives_clients(struct front *front, struct client *admin)
         if (client == NULL || client->file < 0)
             continue;
         int length = snprintf(line, sizeof line, "* %u %ld %lu %lld\n", number, (long)client->process, (unsigned long)client->user,
-                              (long long)(clock_seconds() - client->since));
+            (long long)(clock_seconds() - client->since));
         gives(front, admin, line, (size_t)length);
         if (admin->file < 0)
             return;

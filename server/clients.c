@@ -12,9 +12,9 @@
 #include <unistd.h>
 
 enum {
-    RETRY = 100, /* milliseconds until it accepts again if that failed */
+    RETRY = 100,  /* milliseconds until it accepts again if that failed */
     AT_ONCE = 64, /* clients that are taken in before others have their turn */
-    ROUNDS = 4, /* in which the end of one that is gone is read */
+    ROUNDS = 4,   /* in which the end of one that is gone is read */
 };
 
 static const char full[] = "refused connections-full\n";

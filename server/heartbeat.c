@@ -9,9 +9,9 @@
 #include <unistd.h>
 
 enum {
-    LOOKS = 16, /* how often it looks in the time that a line may take */
+    LOOKS = 16,           /* how often it looks in the time that a line may take */
     LONGEST_PAUSE = 1000, /* milliseconds between two looks at most, so that the pipe does not fill */
-    MOST_READS = 256, /* of one look: whoever writes without end does not keep the server from its clients */
+    MOST_READS = 256,     /* of one look: whoever writes without end does not keep the server from its clients */
 };
 
 static int64_t now(void)

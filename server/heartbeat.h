@@ -6,13 +6,13 @@
 #include "options.h"
 
 struct heartbeat {
-    int file; /* -1: none is needed */
-    int64_t limit; /* milliseconds */
-    int64_t beat; /* the greatest number of a line that was not of the future; -1: none has come */
-    int64_t looked; /* when the descriptor was read last */
-    int64_t number; /* of the line that has begun */
+    int file;                 /* -1: none is needed */
+    int64_t limit;            /* milliseconds */
+    int64_t beat;             /* the greatest number of a line that was not of the future; -1: none has come */
+    int64_t looked;           /* when the descriptor was read last */
+    int64_t number;           /* of the line that has begun */
     bool has_digits, is_text; /* that line has digits; it can be no number any more */
-    bool is_over; /* no further line can come */
+    bool is_over;             /* no further line can come */
 };
 
 void heartbeat_begin(struct heartbeat *heartbeat, const struct options *options);

@@ -20,7 +20,7 @@ bool lines_may_take(const struct front *front, const struct client *client)
 {
     bool is_open = client->file >= 0 && !client->is_over, is_answered = client->unanswered == 0;
     return is_open && (is_answered || !client->is_alone) && client->unanswered + turns_lines(front, client) <= share_of(client)
-        && buffer_length(&client->out) <= UNREAD;
+           && buffer_length(&client->out) <= UNREAD;
 }
 
 /* Passes on a line behind the number of its client. */

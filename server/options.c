@@ -8,32 +8,31 @@
 #include <stdlib.h>
 #include <string.h>
 
-static const char usage[] =
-    "usage: pashkure-serve --socket PATH [OPTION..]\n"
-    "\n"
-    "Starts one lock service and passes the lines of many clients to it.\n"
-    "\n"
-    "  --socket PATH       the file of the clients' socket, which is removed at the end\n"
-    "  --mode MODE         its rights, in digits (600 if missing)\n"
-    "  --group GROUP       its group, by name or number\n"
-    "  --admin PATH        the file of the operator's socket, of mode 600\n"
-    "  --program PATH      the program mmdetect (that on the PATH if missing)\n"
-    "  --transactions N    how many transactions can be live at once\n"
-    "  --names N           how many names can be owned at once\n"
-    "  --name-bytes N      how many bytes a name may have\n"
-    "  --each N            how many transactions a client can have at once\n"
-    "  --connections N     how many clients can be connected at once (16384 if missing)\n"
-    "  --unread BYTES      what a client may leave unread before it is hung up\n"
-    "  --unread-total N    bytes that all may leave unread before the one with most is hung up\n"
-    "                      (268435456 if missing)\n"
-    "  --turn N            how many lines it takes of a client in its turn (1 if missing)\n"
-    "  --epoch E           the epoch of fences; without it one that rises at each start\n"
-    "  --epoch-file PATH   the file of the last epoch (the socket's path and .epoch if missing)\n"
-    "  --heartbeat-fd N    a descriptor on which lines come, each the time in milliseconds from\n"
-    "                      which it counts (CLOCK_BOOTTIME); the server starts with the first\n"
-    "  --heartbeat-ms N    it stops when the last one is this old\n"
-    "  --quiet             no lines for start, end and deadlocks on standard error\n"
-    "  --version           prints the version\n";
+static const char usage[] = "usage: pashkure-serve --socket PATH [OPTION..]\n"
+                            "\n"
+                            "Starts one lock service and passes the lines of many clients to it.\n"
+                            "\n"
+                            "  --socket PATH       the file of the clients' socket, which is removed at the end\n"
+                            "  --mode MODE         its rights, in digits (600 if missing)\n"
+                            "  --group GROUP       its group, by name or number\n"
+                            "  --admin PATH        the file of the operator's socket, of mode 600\n"
+                            "  --program PATH      the program mmdetect (that on the PATH if missing)\n"
+                            "  --transactions N    how many transactions can be live at once\n"
+                            "  --names N           how many names can be owned at once\n"
+                            "  --name-bytes N      how many bytes a name may have\n"
+                            "  --each N            how many transactions a client can have at once\n"
+                            "  --connections N     how many clients can be connected at once (16384 if missing)\n"
+                            "  --unread BYTES      what a client may leave unread before it is hung up\n"
+                            "  --unread-total N    bytes that all may leave unread before the one with most is hung up\n"
+                            "                      (268435456 if missing)\n"
+                            "  --turn N            how many lines it takes of a client in its turn (1 if missing)\n"
+                            "  --epoch E           the epoch of fences; without it one that rises at each start\n"
+                            "  --epoch-file PATH   the file of the last epoch (the socket's path and .epoch if missing)\n"
+                            "  --heartbeat-fd N    a descriptor on which lines come, each the time in milliseconds from\n"
+                            "                      which it counts (CLOCK_BOOTTIME); the server starts with the first\n"
+                            "  --heartbeat-ms N    it stops when the last one is this old\n"
+                            "  --quiet             no lines for start, end and deadlocks on standard error\n"
+                            "  --version           prints the version\n";
 
 struct text_option {
     const char *name;
@@ -41,9 +40,12 @@ struct text_option {
 };
 
 static const struct text_option texts[] = {
-    {"socket", offsetof(struct options, socket)},         {"admin", offsetof(struct options, admin)},
-    {"program", offsetof(struct options, program)},       {"group", offsetof(struct options, group)},
-    {"epoch-file", offsetof(struct options, epoch_file)}, {"mode", offsetof(struct options, mode_text)},
+    {"socket", offsetof(struct options, socket)},
+    {"admin", offsetof(struct options, admin)},
+    {"program", offsetof(struct options, program)},
+    {"group", offsetof(struct options, group)},
+    {"epoch-file", offsetof(struct options, epoch_file)},
+    {"mode", offsetof(struct options, mode_text)},
 };
 
 struct number_option {
@@ -108,7 +110,7 @@ static bool takes_value(struct options *options, const char *name, const char *v
             uint64_t *field = (uint64_t *)((char *)options + numbers[place].place);
             options->given |= (uint64_t)1 << place;
             return (number_of(value, 10, numbers[place].greatest, field) && *field >= numbers[place].least)
-                || is_wrong(value, "a number out of range");
+                   || is_wrong(value, "a number out of range");
         }
     return is_wrong(name, "no option");
 }
@@ -169,8 +171,13 @@ static bool reads_words(struct options *options, int count, char **words)
 
 bool options_read(struct options *options, int count, char **words, int *status)
 {
-    *options = (struct options){.program = "mmdetect", .transactions = 65536, .names = 65536, .name_bytes = 64, .connections = 16384,
-                                .unread_total = (uint64_t)256 << 20, .turn = 1};
+    *options = (struct options){.program = "mmdetect",
+        .transactions = 65536,
+        .names = 65536,
+        .name_bytes = 64,
+        .connections = 16384,
+        .unread_total = (uint64_t)256 << 20,
+        .turn = 1};
     for (int place = 1; place < count; place++)
         if (strcmp(words[place], "--help") == 0 || strcmp(words[place], "-h") == 0) {
             *status = fputs(usage, stdout) < 0 || fflush(stdout) != 0 ? 3 : 0;

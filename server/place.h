@@ -8,12 +8,12 @@
 
 struct place {
     const char *path; /* NULL: there is none */
-    int lock; /* PATH.lock, which is held as long as the server lives, and stays */
-    int socket; /* -1: not open */
-    bool is_watched; /* for those that connect */
-    bool has_failed; /* the last accept did, for want of room */
+    int lock;         /* PATH.lock, which is held as long as the server lives, and stays */
+    int socket;       /* -1: not open */
+    bool is_watched;  /* for those that connect */
+    bool has_failed;  /* the last accept did, for want of room */
     int64_t retry_at; /* when it is watched again, by CLOCK_MONOTONIC in milliseconds; 0: it need not be */
-    bool is_made; /* the file is the server's own, to be removed */
+    bool is_made;     /* the file is the server's own, to be removed */
     dev_t device;
     ino_t file;
 };

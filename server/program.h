@@ -9,12 +9,12 @@
 
 struct program {
     const char *name;
-    pid_t pid; /* 0: it was not started, or has ended */
-    int in, out; /* where it reads, and what it writes; neither waits */
+    pid_t pid;             /* 0: it was not started, or has ended */
+    int in, out;           /* where it reads, and what it writes; neither waits */
     struct buffer waiting; /* lines that it has not taken yet */
-    struct buffer line; /* the beginning of a line of it */
-    clockid_t clock; /* of the processor time that it has used */
-    bool is_full; /* it takes no more for now, so the front waits until it does */
+    struct buffer line;    /* the beginning of a line of it */
+    clockid_t clock;       /* of the processor time that it has used */
+    bool is_full;          /* it takes no more for now, so the front waits until it does */
 };
 
 /* Starts the program for this many connections. Says why it cannot, and returns false. */

@@ -15,7 +15,7 @@ struct queue {
 };
 
 /* The thing that has this link as its field. */
-#define THING_OF(link, type, field) ((type *)((char *)(link) - offsetof(type, field)))
+#define THING_OF(link, type, field) ((type *)((char *)(link)-offsetof(type, field)))
 
 /* Adds a thing at the end, unless it is in a queue already. */
 static inline void queue_add(struct queue *queue, struct link *link)

@@ -58,7 +58,7 @@ void replies_bound(struct front *front)
     struct client *client;
     while (front->unread_sum > front->options.unread_total && (client = greatest(front)) != NULL) {
         notes("client %u is hung up: it left %zu bytes unread, and all clients %llu", client->number, buffer_length(&client->out),
-              (unsigned long long)front->unread_sum);
+            (unsigned long long)front->unread_sum);
         client_cut(front, client);
     }
 }

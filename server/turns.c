@@ -4,8 +4,8 @@
 #include "clock.h"
 
 enum {
-    LONG_WORK = 150, /* microseconds of the program's work after which a line is a long one */
-    SHORT_WORK = 10, /* microseconds that a line beside a tried one is taken to need */
+    LONG_WORK = 150,   /* microseconds of the program's work after which a line is a long one */
+    SHORT_WORK = 10,   /* microseconds that a line beside a tried one is taken to need */
     LONG_FOR = 100000, /* microseconds of the program's work for which a client with a long line is tried */
 };
 

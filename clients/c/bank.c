@@ -33,8 +33,7 @@ static pashkure_remote_result transfer(pashkure_remote_connection *connection, s
     const char *const names[] = {from->name, to->name};
     pashkure_remote_transaction transaction;
     size_t place;
-    pashkure_remote_result result =
-        pashkure_remote_begin_with(connection, &transaction, names, 2, PASHKURE_REMOTE_FOREVER, &place);
+    pashkure_remote_result result = pashkure_remote_begin_with(connection, &transaction, names, 2, PASHKURE_REMOTE_FOREVER, &place);
     if (result != PASHKURE_REMOTE_OK) {
         pashkure_remote_abort(connection, transaction);
         return result;

@@ -188,7 +188,8 @@ uint64_t remote_read_number(connection *at, uint64_t most)
 transaction remote_transaction_of(connection *at, const char *word)
 {
     uint64_t slot, generation;
-    if (remote_take_number(&word, UINT32_MAX, &slot) && *word++ == '.' && remote_take_number(&word, UINT32_MAX, &generation) && *word == '\0' && at->is_open)
+    if (remote_take_number(&word, UINT32_MAX, &slot) && *word++ == '.' && remote_take_number(&word, UINT32_MAX, &generation) && *word == '\0'
+        && at->is_open)
         return (transaction){(uint32_t)slot, (uint32_t)generation, at->opening};
     remote_fail(at, PASHKURE_REMOTE_PROTOCOL);
     return NOBODY;

@@ -228,8 +228,7 @@ static result lock_rest(connection *at, transaction of, struct names *names, res
     return last;
 }
 
-result pashkure_remote_lock_all(
-    connection *at, transaction of, const char *const *names, size_t count, unsigned milliseconds, size_t *place)
+result pashkure_remote_lock_all(connection *at, transaction of, const char *const *names, size_t count, unsigned milliseconds, size_t *place)
 {
     struct names wanted = {names, count, 0};
     int64_t end = at->call_end = remote_after(milliseconds);
@@ -265,8 +264,7 @@ static result begin_some(connection *at, transaction *begun, struct names *names
     return remote_done(at, PASHKURE_REMOTE_OK);
 }
 
-result pashkure_remote_begin_with(
-    connection *at, transaction *begun, const char *const *names, size_t count, unsigned milliseconds, size_t *place)
+result pashkure_remote_begin_with(connection *at, transaction *begun, const char *const *names, size_t count, unsigned milliseconds, size_t *place)
 {
     struct names wanted = {names, count, 0};
     int64_t end = remote_after(milliseconds);

@@ -25,9 +25,9 @@
 extern "C" {
 #endif
 
-#define PASHKURE_REMOTE_NAME_BYTES 1024  /* the longest name that any service accepts */
-#define PASHKURE_REMOTE_FENCE_BYTES 42   /* room for the text of a fence, and the zero at its end */
-#define PASHKURE_REMOTE_FOREVER UINT_MAX /* of milliseconds: without an end */
+#define PASHKURE_REMOTE_NAME_BYTES 1024          /* the longest name that any service accepts */
+#define PASHKURE_REMOTE_FENCE_BYTES 42           /* room for the text of a fence, and the zero at its end */
+#define PASHKURE_REMOTE_FOREVER UINT_MAX         /* of milliseconds: without an end */
 #define PASHKURE_REMOTE_REPLY_MILLISECONDS 10000 /* in which the service has to answer, unless pashkure_remote_reply_within says otherwise */
 
 /* ---- Results. Each keeps its number. ---- */
@@ -44,12 +44,12 @@ typedef enum pashkure_remote_result {
     PASHKURE_REMOTE_TIMED_OUT = 9, /* its time is up. It waits no longer, and keeps what it owns */
 
     /* Refusals: the call has changed nothing. */
-    PASHKURE_REMOTE_NO_TRANSACTION = 16, /* it ended, was never begun, or is another connection's. Nothing is sent for one of before an opening */
-    PASHKURE_REMOTE_MUST_ABORT = 17,     /* it was told of a deadlock */
-    PASHKURE_REMOTE_WAITING = 18,        /* it waits */
-    PASHKURE_REMOTE_NOT_WAITING = 19,    /* it does not wait: what it asked for it was given */
-    PASHKURE_REMOTE_NAME_TOO_LONG = 21,  /* the name is longer than the service was started for */
-    PASHKURE_REMOTE_NOT_OWNER = 22,      /* it does not own the name */
+    PASHKURE_REMOTE_NO_TRANSACTION = 16,    /* it ended, was never begun, or is another connection's. Nothing is sent for one of before an opening */
+    PASHKURE_REMOTE_MUST_ABORT = 17,        /* it was told of a deadlock */
+    PASHKURE_REMOTE_WAITING = 18,           /* it waits */
+    PASHKURE_REMOTE_NOT_WAITING = 19,       /* it does not wait: what it asked for it was given */
+    PASHKURE_REMOTE_NAME_TOO_LONG = 21,     /* the name is longer than the service was started for */
+    PASHKURE_REMOTE_NOT_OWNER = 22,         /* it does not own the name */
     PASHKURE_REMOTE_TRANSACTIONS_FULL = 23, /* as many are live, at the service or on this connection, as can be */
     PASHKURE_REMOTE_NAMES_FULL = 24,        /* as many names are owned as can be */
     PASHKURE_REMOTE_LABELS_FULL = 25,       /* nobody may begin to wait any more: the service has to be started anew */
@@ -57,16 +57,16 @@ typedef enum pashkure_remote_result {
     PASHKURE_REMOTE_NOT_OPEN = 32,          /* the connection is closed */
     PASHKURE_REMOTE_IN_USE = 33,            /* of open: the connection is open */
 
-    PASHKURE_REMOTE_LOST = 64,             /* the service has ended, hangs, or ended the connection: all that was locked over it is lost */
-    PASHKURE_REMOTE_PROTOCOL = 65,         /* the service answered what this client does not understand */
-    PASHKURE_REMOTE_CANNOT_CONNECT = 66,   /* of open: errno says why */
-    PASHKURE_REMOTE_BAD_NAME = 67,         /* it is empty, longer than 1,024 bytes, or has a space or a control character. Nothing was sent */
-    PASHKURE_REMOTE_OPERATOR = 80,         /* only the operator's socket takes the request; or it does not take it */
-    PASHKURE_REMOTE_NO_EPOCH = 81,         /* the service has no epoch, and so no fences */
-    PASHKURE_REMOTE_NOT_DEADLOCKED = 82,   /* it was told of no deadlock */
-    PASHKURE_REMOTE_TOO_MANY = 83,         /* it owns more names than a reply has */
-    PASHKURE_REMOTE_CONNECTIONS_FULL = 84, /* the service has as many clients as it can */
-    PASHKURE_REMOTE_OTHER_PROTOCOL = 85,   /* of open: the service speaks another protocol. Restart it first, from this client's version */
+    PASHKURE_REMOTE_LOST = 64,                /* the service has ended, hangs, or ended the connection: all that was locked over it is lost */
+    PASHKURE_REMOTE_PROTOCOL = 65,            /* the service answered what this client does not understand */
+    PASHKURE_REMOTE_CANNOT_CONNECT = 66,      /* of open: errno says why */
+    PASHKURE_REMOTE_BAD_NAME = 67,            /* it is empty, longer than 1,024 bytes, or has a space or a control character. Nothing was sent */
+    PASHKURE_REMOTE_OPERATOR = 80,            /* only the operator's socket takes the request; or it does not take it */
+    PASHKURE_REMOTE_NO_EPOCH = 81,            /* the service has no epoch, and so no fences */
+    PASHKURE_REMOTE_NOT_DEADLOCKED = 82,      /* it was told of no deadlock */
+    PASHKURE_REMOTE_TOO_MANY = 83,            /* it owns more names than a reply has */
+    PASHKURE_REMOTE_CONNECTIONS_FULL = 84,    /* the service has as many clients as it can */
+    PASHKURE_REMOTE_OTHER_PROTOCOL = 85,      /* of open: the service speaks another protocol. Restart it first, from this client's version */
     PASHKURE_REMOTE_RESULT_BITS_ = 0x7fffffff /* no result: gives the enum 32 bits with each compiler */
 } pashkure_remote_result;
 
@@ -105,13 +105,18 @@ typedef struct pashkure_remote_connection {
     uint64_t deadlocks;          /* how many it was told of */
     unsigned reply_milliseconds; /* in which the service has to answer; 0: PASHKURE_REMOTE_REPLY_MILLISECONDS */
     int64_t call_end, due;       /* when the time of the call ends, 0: it has none; when the line has to be there */
-    size_t start, end; /* the bytes of input that were received and are not yet read */
+    size_t start, end;           /* the bytes of input that were received and are not yet read */
     char input[2048];
 } pashkure_remote_connection;
 #ifdef __cplusplus
-#define PASHKURE_REMOTE_CLOSED {}
+#define PASHKURE_REMOTE_CLOSED                                                                                                                       \
+    {                                                                                                                                                \
+    }
 #else
-#define PASHKURE_REMOTE_CLOSED {0}
+#define PASHKURE_REMOTE_CLOSED                                                                                                                       \
+    {                                                                                                                                                \
+        0                                                                                                                                            \
+    }
 #endif
 
 /* ---- Opening and closing ---- */
@@ -139,8 +144,7 @@ pashkure_remote_result pashkure_remote_begin_with(pashkure_remote_connection *co
 
 /* Waits until the transaction owns the name: OK or HELD; or returns DEADLOCK, at once. A thread that waits for a transaction of its own waits for
  * ever: use pashkure_remote_ask there. */
-pashkure_remote_result pashkure_remote_lock(
-    pashkure_remote_connection *connection, pashkure_remote_transaction transaction, const char *name);
+pashkure_remote_result pashkure_remote_lock(pashkure_remote_connection *connection, pashkure_remote_transaction transaction, const char *name);
 
 /* As pashkure_remote_lock, and TIMED_OUT if the name was not granted in time. Behind a deadlock whose victim has yet to abort the wait cannot be
  * taken back: the call asks again after pauses of 1 to 100 milliseconds, and the name may be granted meanwhile. */
@@ -153,12 +157,10 @@ pashkure_remote_result pashkure_remote_lock_all(pashkure_remote_connection *conn
     const char *const *names, size_t count, unsigned milliseconds, size_t *place);
 
 /* Never waits for a lock: OK, HELD, or BUSY. */
-pashkure_remote_result pashkure_remote_try_lock(
-    pashkure_remote_connection *connection, pashkure_remote_transaction transaction, const char *name);
+pashkure_remote_result pashkure_remote_try_lock(pashkure_remote_connection *connection, pashkure_remote_transaction transaction, const char *name);
 
 /* Gives one name back. */
-pashkure_remote_result pashkure_remote_unlock(
-    pashkure_remote_connection *connection, pashkure_remote_transaction transaction, const char *name);
+pashkure_remote_result pashkure_remote_unlock(pashkure_remote_connection *connection, pashkure_remote_transaction transaction, const char *name);
 
 /* Ends the transaction, and gives back all that it owns. */
 pashkure_remote_result pashkure_remote_commit(pashkure_remote_connection *connection, pashkure_remote_transaction transaction);
@@ -169,8 +171,7 @@ pashkure_remote_result pashkure_remote_abort(pashkure_remote_connection *connect
 /* For several transactions of one thread. pashkure_remote_ask asks for a name and does not wait: OK, HELD, WAITS or DEADLOCK.
  * pashkure_remote_wait waits until the transaction owns what it asked for: a grant that came during other calls is not lost.
  * pashkure_remote_cancel takes the wait back: OK, CARRIED, or NOT_WAITING if the name was granted before. */
-pashkure_remote_result pashkure_remote_ask(
-    pashkure_remote_connection *connection, pashkure_remote_transaction transaction, const char *name);
+pashkure_remote_result pashkure_remote_ask(pashkure_remote_connection *connection, pashkure_remote_transaction transaction, const char *name);
 pashkure_remote_result pashkure_remote_wait(pashkure_remote_connection *connection, pashkure_remote_transaction transaction);
 pashkure_remote_result pashkure_remote_cancel(pashkure_remote_connection *connection, pashkure_remote_transaction transaction);
 
@@ -181,19 +182,15 @@ typedef struct pashkure_remote_fence {
 } pashkure_remote_fence;
 
 /* The fence of a name that the transaction owns: OK, or NO_EPOCH, NOT_OWNER. */
-pashkure_remote_result pashkure_remote_fence_of(pashkure_remote_connection *connection, pashkure_remote_transaction transaction,
-    const char *name, pashkure_remote_fence *fence);
+pashkure_remote_result pashkure_remote_fence_of(
+    pashkure_remote_connection *connection, pashkure_remote_transaction transaction, const char *name, pashkure_remote_fence *fence);
 
 /* Writes a fence as text: both numbers with 19 digits, zeros in front, and a point between. Such texts sort as the fences do. */
 void pashkure_remote_fence_text(pashkure_remote_fence fence, char text[PASHKURE_REMOTE_FENCE_BYTES]);
 
 /* ---- Reading ---- */
 
-typedef enum pashkure_remote_mode {
-    PASHKURE_REMOTE_IS_ACTIVE,
-    PASHKURE_REMOTE_IS_WAITING,
-    PASHKURE_REMOTE_IS_DEADLOCKED
-} pashkure_remote_mode;
+typedef enum pashkure_remote_mode { PASHKURE_REMOTE_IS_ACTIVE, PASHKURE_REMOTE_IS_WAITING, PASHKURE_REMOTE_IS_DEADLOCKED } pashkure_remote_mode;
 
 /* What a transaction does. Name and holder are those of its wait, and empty if it is active. */
 typedef struct pashkure_remote_status {
@@ -217,21 +214,20 @@ typedef struct pashkure_remote_counts {
 } pashkure_remote_counts;
 
 /* Who owns the name: OK, or FREE. */
-pashkure_remote_result pashkure_remote_owner(
-    pashkure_remote_connection *connection, const char *name, pashkure_remote_transaction *owner);
+pashkure_remote_result pashkure_remote_owner(pashkure_remote_connection *connection, const char *name, pashkure_remote_transaction *owner);
 
 /* What the transaction does. */
 pashkure_remote_result pashkure_remote_status_of(
     pashkure_remote_connection *connection, pashkure_remote_transaction transaction, pashkure_remote_status *status);
 
 /* Calls each for every name that the transaction owns, in the order of their bytes. Of more than 1,024: TOO_MANY, but for the operator. */
-pashkure_remote_result pashkure_remote_holds(pashkure_remote_connection *connection, pashkure_remote_transaction transaction,
-    pashkure_remote_each_name *each, void *context);
+pashkure_remote_result pashkure_remote_holds(
+    pashkure_remote_connection *connection, pashkure_remote_transaction transaction, pashkure_remote_each_name *each, void *context);
 
 /* Of a transaction that was told of a deadlock, calls each for every wait on its cycle, its own first; each holder is the next waiter, and the last
  * one is the first waiter again. Of a cycle of more than 16 it gives 16, and the last holder is nobody. */
-pashkure_remote_result pashkure_remote_cycle(pashkure_remote_connection *connection, pashkure_remote_transaction transaction,
-    pashkure_remote_each_wait *each, void *context);
+pashkure_remote_result pashkure_remote_cycle(
+    pashkure_remote_connection *connection, pashkure_remote_transaction transaction, pashkure_remote_each_wait *each, void *context);
 
 pashkure_remote_result pashkure_remote_hello(pashkure_remote_connection *connection, pashkure_remote_service *service);
 pashkure_remote_result pashkure_remote_totals(pashkure_remote_connection *connection, pashkure_remote_counts *counts);

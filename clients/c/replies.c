@@ -38,7 +38,8 @@ static const struct {
     {PASHKURE_REMOTE_NOT_DEADLOCKED, "the transaction was told of no deadlock", "not-deadlocked"},
     {PASHKURE_REMOTE_TOO_MANY, "the transaction owns more names than a reply has", "too-many"},
     {PASHKURE_REMOTE_CONNECTIONS_FULL, "the service has as many clients as it can", "connections-full"},
-    {PASHKURE_REMOTE_OTHER_PROTOCOL, "the service is of another version than this client: restart the service first, from the client's version", NULL},
+    {PASHKURE_REMOTE_OTHER_PROTOCOL, "the service is of another version than this client: restart the service first, from the client's version",
+        NULL},
 };
 #define RESULT_COUNT (sizeof RESULTS / sizeof *RESULTS)
 

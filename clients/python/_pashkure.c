@@ -8,37 +8,43 @@
 
 /* A transaction, from its begin on: what its thread or task is to be told. */
 typedef struct Seat {
-    PyObject_HEAD
-    PyObject *news;        /* is called when there is something to be told */
+    PyObject_HEAD PyObject *news; /* is called when there is something to be told */
     pashkure_key key;
-    uint32_t over;         /* how its last wait ended: PASHKURE_OK or PASHKURE_ABORTED; or NOTHING */
-    bool is_due;           /* news is to be called */
+    uint32_t over; /* how its last wait ended: PASHKURE_OK or PASHKURE_ABORTED; or NOTHING */
+    bool is_due;   /* news is to be called */
     struct Seat *next_due;
 } Seat;
 
 typedef struct Manager {
-    PyObject_HEAD
-    pashkure core;
+    PyObject_HEAD pashkure core;
     pashkure_config config;
-    Seat **seats;          /* by slot, as long as the transaction is live */
+    Seat **seats; /* by slot, as long as the transaction is live */
     Seat *first_due, *last_due;
 } Manager;
 
 static PyTypeObject seat_type, manager_type;
 
 /* The same object, with one reference more. (Py_NewRef is of Python 3.10.) */
-static void *kept(void *object) { return Py_INCREF((PyObject *)object), object; }
+static void *kept(void *object)
+{
+    return Py_INCREF((PyObject *)object), object;
+}
 
-static PyObject *text_of(pashkure_key key) { return PyBytes_FromFormat("%u.%u", (unsigned)key.slot, (unsigned)key.generation); }
+static PyObject *text_of(pashkure_key key)
+{
+    return PyBytes_FromFormat("%u.%u", (unsigned)key.slot, (unsigned)key.generation);
+}
 
 static PyObject *seat_new(PyTypeObject *type, PyObject *words, PyObject *named)
 {
     PyObject *news;
     Seat *seat;
     (void)named;
-    if (!PyArg_ParseTuple(words, "O", &news)) return NULL;
+    if (!PyArg_ParseTuple(words, "O", &news))
+        return NULL;
     seat = (Seat *)type->tp_alloc(type, 0);
-    if (seat == NULL) return NULL;
+    if (seat == NULL)
+        return NULL;
     seat->news = kept(news);
     seat->over = NOTHING;
     return (PyObject *)seat;
@@ -63,15 +69,22 @@ static void seat_dealloc(PyObject *self)
     Py_TYPE(self)->tp_free(self);
 }
 
-static PyObject *seat_key(PyObject *self, void *unused) { return (void)unused, text_of(((Seat *)self)->key); }
-static PyObject *seat_slot(PyObject *self, void *unused) { return (void)unused, PyLong_FromUnsignedLong(((Seat *)self)->key.slot); }
+static PyObject *seat_key(PyObject *self, void *unused)
+{
+    return (void)unused, text_of(((Seat *)self)->key);
+}
+static PyObject *seat_slot(PyObject *self, void *unused)
+{
+    return (void)unused, PyLong_FromUnsignedLong(((Seat *)self)->key.slot);
+}
 
 /* How its last wait ended: the number of a result, or None. */
 static PyObject *seat_told(PyObject *self, PyObject *unused)
 {
     const uint32_t over = ((Seat *)self)->over;
     (void)unused;
-    if (over == NOTHING) Py_RETURN_NONE;
+    if (over == NOTHING)
+        Py_RETURN_NONE;
     return PyLong_FromUnsignedLong(over);
 }
 
@@ -80,8 +93,10 @@ static void forget_if_over(Manager *manager, Seat *seat)
 {
     const uint32_t slot = seat->key.slot;
     pashkure_seen seen = {{0, 0}, {0, 0}, 0, 0};
-    if (manager->seats[slot] != seat) return;
-    if (pashkure_look(&manager->core, slot, &seen) <= PASHKURE_DEADLOCK && seen.key.generation == seat->key.generation) return;
+    if (manager->seats[slot] != seat)
+        return;
+    if (pashkure_look(&manager->core, slot, &seen) <= PASHKURE_DEADLOCK && seen.key.generation == seat->key.generation)
+        return;
     manager->seats[slot] = NULL;
     Py_DECREF(seat);
 }
@@ -92,9 +107,11 @@ static void note(Manager *manager)
     pashkure_wake woken;
     for (size_t i = 0; pashkure_woken(&manager->core, i, &woken); i++) {
         Seat *seat = manager->seats[woken.key.slot];
-        if (seat == NULL) continue;
+        if (seat == NULL)
+            continue;
         seat->over = woken.result;
-        if (seat->is_due) continue;
+        if (seat->is_due)
+            continue;
         seat->is_due = true;
         seat->next_due = NULL;
         Py_INCREF(seat);
@@ -133,16 +150,21 @@ static PyObject *manager_new(PyTypeObject *type, PyObject *words, PyObject *name
     unsigned long long seed;
     pashkure_result result;
     Manager *manager;
-    if (!PyArg_ParseTupleAndKeywords(words, named, "IIIK", names, &transactions, &count, &name_bytes, &seed)) return NULL;
+    if (!PyArg_ParseTupleAndKeywords(words, named, "IIIK", names, &transactions, &count, &name_bytes, &seed))
+        return NULL;
     config.transactions = transactions, config.names = count, config.name_bytes = name_bytes, config.seed = seed;
     manager = (Manager *)type->tp_alloc(type, 0);
-    if (manager == NULL) return NULL;
+    if (manager == NULL)
+        return NULL;
     manager->config = config;
     result = pashkure_open(&manager->core, &config);
-    if (result == PASHKURE_OK) manager->seats = PyMem_Calloc(transactions, sizeof(Seat *));
-    if (result == PASHKURE_OK && manager->seats != NULL) return (PyObject *)manager;
+    if (result == PASHKURE_OK)
+        manager->seats = PyMem_Calloc(transactions, sizeof(Seat *));
+    if (result == PASHKURE_OK && manager->seats != NULL)
+        return (PyObject *)manager;
     Py_DECREF(manager);
-    if (result == PASHKURE_OK || result == PASHKURE_NO_MEMORY) return PyErr_NoMemory();
+    if (result == PASHKURE_OK || result == PASHKURE_NO_MEMORY)
+        return PyErr_NoMemory();
     PyErr_SetString(result == PASHKURE_BAD_VERSION ? PyExc_ImportError : PyExc_ValueError, pashkure_message(result));
     return NULL;
 }
@@ -151,7 +173,8 @@ static void manager_dealloc(PyObject *self)
 {
     Manager *manager = (Manager *)self;
     pashkure_close(&manager->core);
-    for (uint32_t slot = 0; manager->seats != NULL && slot < manager->config.transactions; slot++) Py_XDECREF(manager->seats[slot]);
+    for (uint32_t slot = 0; manager->seats != NULL && slot < manager->config.transactions; slot++)
+        Py_XDECREF(manager->seats[slot]);
     PyMem_Free(manager->seats);
     Py_TYPE(self)->tp_free(self);
 }
@@ -177,7 +200,8 @@ static PyObject *manager_begin(PyObject *self, PyObject *words)
     Manager *manager = (Manager *)self;
     Seat *seat;
     pashkure_result result;
-    if (!PyArg_ParseTuple(words, "O!", &seat_type, &seat)) return NULL;
+    if (!PyArg_ParseTuple(words, "O!", &seat_type, &seat))
+        return NULL;
     result = pashkure_begin(&manager->core, &seat->key);
     if (result == PASHKURE_OK) {
         Seat *before = manager->seats[seat->key.slot]; /* none, or one whose end has yet to be told */
@@ -198,16 +222,25 @@ static PyObject *requested(PyObject *self, PyObject *words, request *call)
     Seat *seat;
     pashkure_key holder;
     pashkure_result result;
-    if (!PyArg_ParseTuple(words, "O!y#", &seat_type, &seat, &name, &length)) return NULL;
+    if (!PyArg_ParseTuple(words, "O!y#", &seat_type, &seat, &name, &length))
+        return NULL;
     seat->over = NOTHING;
     result = call(core, seat->key, name, (size_t)length);
-    if (result != PASHKURE_WAITS && result != PASHKURE_DEADLOCK && result != PASHKURE_BUSY) return Py_BuildValue("iO", (int)result, Py_None);
-    if (pashkure_owner(core, name, (size_t)length, &holder) != PASHKURE_OK) return Py_BuildValue("iO", (int)result, Py_None);
+    if (result != PASHKURE_WAITS && result != PASHKURE_DEADLOCK && result != PASHKURE_BUSY)
+        return Py_BuildValue("iO", (int)result, Py_None);
+    if (pashkure_owner(core, name, (size_t)length, &holder) != PASHKURE_OK)
+        return Py_BuildValue("iO", (int)result, Py_None);
     return Py_BuildValue("iN", (int)result, text_of(holder));
 }
 
-static PyObject *manager_lock(PyObject *self, PyObject *words) { return requested(self, words, pashkure_lock); }
-static PyObject *manager_try_lock(PyObject *self, PyObject *words) { return requested(self, words, pashkure_try_lock); }
+static PyObject *manager_lock(PyObject *self, PyObject *words)
+{
+    return requested(self, words, pashkure_lock);
+}
+static PyObject *manager_try_lock(PyObject *self, PyObject *words)
+{
+    return requested(self, words, pashkure_try_lock);
+}
 
 static PyObject *manager_unlock(PyObject *self, PyObject *words)
 {
@@ -216,9 +249,11 @@ static PyObject *manager_unlock(PyObject *self, PyObject *words)
     Py_ssize_t length;
     Seat *seat;
     pashkure_result result;
-    if (!PyArg_ParseTuple(words, "O!y#", &seat_type, &seat, &name, &length)) return NULL;
+    if (!PyArg_ParseTuple(words, "O!y#", &seat_type, &seat, &name, &length))
+        return NULL;
     result = pashkure_unlock(&manager->core, seat->key, name, (size_t)length);
-    if (result == PASHKURE_OK) note(manager), tell(manager);
+    if (result == PASHKURE_OK)
+        note(manager), tell(manager);
     return PyLong_FromLong(result);
 }
 
@@ -229,7 +264,8 @@ static PyObject *ended(PyObject *self, PyObject *words, end *call)
     Manager *manager = (Manager *)self;
     Seat *seat;
     pashkure_result result;
-    if (!PyArg_ParseTuple(words, "O!", &seat_type, &seat)) return NULL;
+    if (!PyArg_ParseTuple(words, "O!", &seat_type, &seat))
+        return NULL;
     result = call(&manager->core, seat->key);
     if (result == PASHKURE_OK) {
         note(manager);
@@ -239,16 +275,26 @@ static PyObject *ended(PyObject *self, PyObject *words, end *call)
     return PyLong_FromLong(result);
 }
 
-static PyObject *manager_commit(PyObject *self, PyObject *words) { return ended(self, words, pashkure_commit); }
-static PyObject *manager_abort(PyObject *self, PyObject *words) { return ended(self, words, pashkure_abort); }
-static PyObject *manager_cancel(PyObject *self, PyObject *words) { return ended(self, words, pashkure_cancel); }
+static PyObject *manager_commit(PyObject *self, PyObject *words)
+{
+    return ended(self, words, pashkure_commit);
+}
+static PyObject *manager_abort(PyObject *self, PyObject *words)
+{
+    return ended(self, words, pashkure_abort);
+}
+static PyObject *manager_cancel(PyObject *self, PyObject *words)
+{
+    return ended(self, words, pashkure_cancel);
+}
 
 /* The name of a number as bytes. NULL without an exception: nobody owns it. */
 static PyObject *name_of(const Manager *manager, uint32_t number, pashkure_key *owner)
 {
     char bytes[1024];
     size_t length = 0;
-    if (pashkure_name(&manager->core, number, bytes, sizeof bytes, &length, owner) != PASHKURE_OK) return NULL;
+    if (pashkure_name(&manager->core, number, bytes, sizeof bytes, &length, owner) != PASHKURE_OK)
+        return NULL;
     return PyBytes_FromStringAndSize(bytes, (Py_ssize_t)length);
 }
 
@@ -261,11 +307,14 @@ static PyObject *manager_status(PyObject *self, PyObject *words)
     pashkure_key owner;
     pashkure_result result;
     PyObject *name;
-    if (!PyArg_ParseTuple(words, "I", &slot)) return NULL;
+    if (!PyArg_ParseTuple(words, "I", &slot))
+        return NULL;
     result = pashkure_look(&manager->core, slot, &seen);
-    if (result != PASHKURE_WAITS && result != PASHKURE_DEADLOCK) return Py_BuildValue("iN", (int)result, text_of(seen.key));
+    if (result != PASHKURE_WAITS && result != PASHKURE_DEADLOCK)
+        return Py_BuildValue("iN", (int)result, text_of(seen.key));
     name = name_of(manager, seen.number, &owner);
-    if (name == NULL) return NULL; /* of memory: a name that is waited for is owned */
+    if (name == NULL)
+        return NULL; /* of memory: a name that is waited for is owned */
     return Py_BuildValue("iNNN", (int)result, text_of(seen.key), name, text_of(seen.holder));
 }
 
@@ -278,10 +327,13 @@ static PyObject *manager_owned(PyObject *self, PyObject *unused)
     for (uint32_t number = 0; owned != NULL && number < manager->config.names; number++) {
         pashkure_key owner;
         PyObject *name = name_of(manager, number, &owner), *pair;
-        if (name == NULL && PyErr_Occurred()) Py_CLEAR(owned);
-        if (name == NULL) continue;
+        if (name == NULL && PyErr_Occurred())
+            Py_CLEAR(owned);
+        if (name == NULL)
+            continue;
         pair = Py_BuildValue("NN", name, text_of(owner));
-        if (pair == NULL || PyList_Append(owned, pair) < 0) Py_CLEAR(owned);
+        if (pair == NULL || PyList_Append(owned, pair) < 0)
+            Py_CLEAR(owned);
         Py_XDECREF(pair);
     }
     return owned;
@@ -292,8 +344,10 @@ static PyObject *manager_owner(PyObject *self, PyObject *words)
     const char *name;
     Py_ssize_t length;
     pashkure_key owner;
-    if (!PyArg_ParseTuple(words, "y#", &name, &length)) return NULL;
-    if (pashkure_owner(&((Manager *)self)->core, name, (size_t)length, &owner) != PASHKURE_OK) Py_RETURN_NONE;
+    if (!PyArg_ParseTuple(words, "y#", &name, &length))
+        return NULL;
+    if (pashkure_owner(&((Manager *)self)->core, name, (size_t)length, &owner) != PASHKURE_OK)
+        Py_RETURN_NONE;
     return text_of(owner);
 }
 
@@ -303,33 +357,49 @@ static PyObject *manager_totals(PyObject *self, PyObject *unused)
     (void)unused;
     pashkure_totals(&((Manager *)self)->core, &counts);
     return Py_BuildValue("KKKKKKK", (unsigned long long)counts.begun, (unsigned long long)counts.committed, (unsigned long long)counts.aborted,
-                         (unsigned long long)counts.deadlocks, (unsigned long long)counts.waits, (unsigned long long)counts.withdrawn,
-                         (unsigned long long)counts.events);
+        (unsigned long long)counts.deadlocks, (unsigned long long)counts.waits, (unsigned long long)counts.withdrawn,
+        (unsigned long long)counts.events);
 }
 
 static PyMethodDef seat_methods[] = {{"told", seat_told, METH_NOARGS, NULL}, {NULL, NULL, 0, NULL}};
 static PyGetSetDef seat_members[] = {{"key", seat_key, NULL, NULL, NULL}, {"slot", seat_slot, NULL, NULL, NULL}, {NULL, NULL, NULL, NULL, NULL}};
 
 static PyMethodDef manager_methods[] = {
-    {"close", manager_close, METH_NOARGS, NULL},      {"forget", manager_forget, METH_NOARGS, NULL},
-    {"begin", manager_begin, METH_VARARGS, NULL},     {"lock", manager_lock, METH_VARARGS, NULL},
-    {"try_lock", manager_try_lock, METH_VARARGS, NULL}, {"unlock", manager_unlock, METH_VARARGS, NULL},
-    {"commit", manager_commit, METH_VARARGS, NULL},   {"abort", manager_abort, METH_VARARGS, NULL},
-    {"cancel", manager_cancel, METH_VARARGS, NULL},   {"status", manager_status, METH_VARARGS, NULL},
-    {"owned", manager_owned, METH_NOARGS, NULL},      {"owner", manager_owner, METH_VARARGS, NULL},
-    {"totals", manager_totals, METH_NOARGS, NULL},    {NULL, NULL, 0, NULL},
+    {"close", manager_close, METH_NOARGS, NULL},
+    {"forget", manager_forget, METH_NOARGS, NULL},
+    {"begin", manager_begin, METH_VARARGS, NULL},
+    {"lock", manager_lock, METH_VARARGS, NULL},
+    {"try_lock", manager_try_lock, METH_VARARGS, NULL},
+    {"unlock", manager_unlock, METH_VARARGS, NULL},
+    {"commit", manager_commit, METH_VARARGS, NULL},
+    {"abort", manager_abort, METH_VARARGS, NULL},
+    {"cancel", manager_cancel, METH_VARARGS, NULL},
+    {"status", manager_status, METH_VARARGS, NULL},
+    {"owned", manager_owned, METH_NOARGS, NULL},
+    {"owner", manager_owner, METH_VARARGS, NULL},
+    {"totals", manager_totals, METH_NOARGS, NULL},
+    {NULL, NULL, 0, NULL},
 };
 
 static PyTypeObject seat_type = {
-    PyVarObject_HEAD_INIT(NULL, 0)
-    .tp_name = "_pashkure.Seat", .tp_basicsize = sizeof(Seat), .tp_flags = Py_TPFLAGS_DEFAULT | Py_TPFLAGS_HAVE_GC, .tp_new = seat_new,
-    .tp_dealloc = seat_dealloc, .tp_traverse = seat_traverse, .tp_clear = seat_clear, .tp_methods = seat_methods, .tp_getset = seat_members,
+    PyVarObject_HEAD_INIT(NULL, 0).tp_name = "_pashkure.Seat",
+    .tp_basicsize = sizeof(Seat),
+    .tp_flags = Py_TPFLAGS_DEFAULT | Py_TPFLAGS_HAVE_GC,
+    .tp_new = seat_new,
+    .tp_dealloc = seat_dealloc,
+    .tp_traverse = seat_traverse,
+    .tp_clear = seat_clear,
+    .tp_methods = seat_methods,
+    .tp_getset = seat_members,
 };
 
 static PyTypeObject manager_type = {
-    PyVarObject_HEAD_INIT(NULL, 0)
-    .tp_name = "_pashkure.Manager", .tp_basicsize = sizeof(Manager), .tp_flags = Py_TPFLAGS_DEFAULT, .tp_new = manager_new,
-    .tp_dealloc = manager_dealloc, .tp_methods = manager_methods,
+    PyVarObject_HEAD_INIT(NULL, 0).tp_name = "_pashkure.Manager",
+    .tp_basicsize = sizeof(Manager),
+    .tp_flags = Py_TPFLAGS_DEFAULT,
+    .tp_new = manager_new,
+    .tp_dealloc = manager_dealloc,
+    .tp_methods = manager_methods,
 };
 
 static struct PyModuleDef module = {PyModuleDef_HEAD_INIT, .m_name = "_pashkure", .m_size = -1};
@@ -339,9 +409,12 @@ PyMODINIT_FUNC PyInit__pashkure(void);
 PyMODINIT_FUNC PyInit__pashkure(void)
 {
     PyObject *made;
-    if (PyType_Ready(&seat_type) < 0 || PyType_Ready(&manager_type) < 0) return NULL;
+    if (PyType_Ready(&seat_type) < 0 || PyType_Ready(&manager_type) < 0)
+        return NULL;
     made = PyModule_Create(&module);
-    if (made == NULL) return NULL;
-    if (PyModule_AddObject(made, "Seat", kept(&seat_type)) < 0 || PyModule_AddObject(made, "Manager", kept(&manager_type)) < 0) Py_CLEAR(made);
+    if (made == NULL)
+        return NULL;
+    if (PyModule_AddObject(made, "Seat", kept(&seat_type)) < 0 || PyModule_AddObject(made, "Manager", kept(&manager_type)) < 0)
+        Py_CLEAR(made);
     return made;
 }

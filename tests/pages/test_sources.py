@@ -1,10 +1,11 @@
-"""What no clause says, read in the sources: that two calls take no lock, and that five have no loop."""
+"""What no clause says, read in the sources: that two calls take no lock, that five have no loop, and that C has one layout."""
+import glob
 import os
 import re
 import sys
 from typing import Iterator
 
-from lib.world import TOP, Case, each, read
+from lib.world import TOP, Case, each, read, run, wants
 
 sys.path.insert(0, os.path.join(TOP, "docs"))
 from sources import CLAUSE, FUNCTION, closing, owners, signature_end  # noqa: E402
@@ -119,3 +120,14 @@ class NoLock(Case):
             self.assertNotIn(f"fn {name}", shared)
         self.assertNotRegex(look, "[Ll]ock|Guard|Mutex|Wait")
         self.assertNotRegex(look, r"\buse [^;]* as ", "an alias")
+
+
+class Layout(Case):
+    def test_c(self) -> None:
+        """Each file in C and C++ has the layout of .clang-format, by the version that made it: others lay some lines out otherwise."""
+        wants("clang-format")
+        if b" version 14." not in run("clang-format", "--version").out:
+            self.skipTest("the layout is that of clang-format 14")
+        files = [path for kind in ("c", "h", "cc") for path in glob.glob(f"{TOP}/**/*.{kind}", recursive=True) if "/out/" not in path and "/mutants/" not in path]
+        self.assertGreater(len(files), 50)
+        self.passes(run("clang-format", "--dry-run", "--Werror", *files, cwd=TOP))

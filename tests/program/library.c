@@ -10,18 +10,21 @@ void __real_free(void *memory);
 void *__wrap_malloc(size_t size);
 void __wrap_free(void *memory);
 
-void *__wrap_malloc(size_t size) {
+void *__wrap_malloc(size_t size)
+{
     mallocs++;
     bytes += size;
     return mallocs == refused ? NULL : __real_malloc(size);
 }
 
-void __wrap_free(void *memory) {
+void __wrap_free(void *memory)
+{
     frees += memory != NULL;
     __real_free(memory);
 }
 
-static pashkure opened(uint32_t transactions, uint32_t names) {
+static pashkure opened(uint32_t transactions, uint32_t names)
+{
     pashkure locks = PASHKURE_CLOSED;
     pashkure_config config = PASHKURE_CONFIG;
     config.transactions = transactions;
@@ -31,18 +34,26 @@ static pashkure opened(uint32_t transactions, uint32_t names) {
     return locks;
 }
 
-static pashkure_key begun(pashkure *locks) {
+static pashkure_key begun(pashkure *locks)
+{
     pashkure_key key = {9, 0};
     GIVES(pashkure_begin(locks, &key), PASHKURE_OK);
     return key;
 }
 
-static pashkure_result locks_name(pashkure *locks, pashkure_key key, const char *name) { return pashkure_lock(locks, key, name, strlen(name)); }
+static pashkure_result locks_name(pashkure *locks, pashkure_key key, const char *name)
+{
+    return pashkure_lock(locks, key, name, strlen(name));
+}
 
-static int is_same(pashkure_key one, pashkure_key other) { return one.slot == other.slot && one.generation == other.generation; }
+static int is_same(pashkure_key one, pashkure_key other)
+{
+    return one.slot == other.slot && one.generation == other.generation;
+}
 
 /* The name of a number, as text. */
-static const char *named(const pashkure *locks, uint32_t number) {
+static const char *named(const pashkure *locks, uint32_t number)
+{
     static char text[9];
     pashkure_key owner;
     size_t length = 0;
@@ -52,7 +63,8 @@ static const char *named(const pashkure *locks, uint32_t number) {
 }
 
 /* The waits from a slot on, holder by holder, as "slot:name>", and what ended the walk: '.' that the first one is back, else what is there. */
-static const char *walk(const pashkure *locks, uint32_t first) {
+static const char *walk(const pashkure *locks, uint32_t first)
+{
     static char text[200];
     char *end = text;
     uint32_t slot = first;
@@ -72,23 +84,27 @@ static const char *walk(const pashkure *locks, uint32_t first) {
 }
 
 /* What the last call told: "slot+number" of each that was given a name, "slot-" of each that ended. */
-static const char *woken(const pashkure *locks) {
+static const char *woken(const pashkure *locks)
+{
     static char text[200];
     char *end = text;
     pashkure_wake wake;
     *end = 0;
     for (size_t i = 0; pashkure_woken(locks, i, &wake); i++) {
         CHECK(wake.result == PASHKURE_OK || wake.result == PASHKURE_ABORTED);
-        end += wake.result == PASHKURE_OK ? sprintf(end, "%u+%u ", (unsigned)wake.key.slot, (unsigned)wake.number) : sprintf(end, "%u- ", (unsigned)wake.key.slot);
+        end += wake.result == PASHKURE_OK ? sprintf(end, "%u+%u ", (unsigned)wake.key.slot, (unsigned)wake.number)
+                                          : sprintf(end, "%u- ", (unsigned)wake.key.slot);
     }
     return text;
 }
 
-TEST(version) {
+TEST(version)
+{
     CHECK(pashkure_version() == PASHKURE_VERSION);
 }
 
-TEST(closed_manager) {
+TEST(closed_manager)
+{
     pashkure locks = PASHKURE_CLOSED, zero;
     pashkure_key key = {7, 7};
     pashkure_seen seen;
@@ -119,14 +135,28 @@ TEST(closed_manager) {
     GIVES(pashkure_begin(&locks, &key), PASHKURE_NOT_OPEN);
 }
 
-TEST(refused_open) {
+TEST(refused_open)
+{
     const uint32_t is = PASHKURE_VERSION;
-    const struct { pashkure_config config; pashkure_result result; } rows[] = {
-        {{is, 1, 1, 1, 0, 0, 0}, PASHKURE_OK}, {{is, 65536, 65536, 1024, 0, 0, 0}, PASHKURE_OK}, {{is + 1, 1, 1, 1, 0, 0, 0}, PASHKURE_OK},
-        {{is + 1000, 1, 1, 1, 0, 0, 0}, PASHKURE_BAD_VERSION}, {{is + 1000000, 1, 1, 1, 0, 0, 0}, PASHKURE_BAD_VERSION}, {{is - 1, 0, 0, 0, 0, 0, 1}, PASHKURE_BAD_VERSION},
-        {{is, 0, 0, 0, 0, 0, 1}, PASHKURE_BAD_TRANSACTIONS}, {{is, 65537, 1, 1, 0, 0, 0}, PASHKURE_BAD_TRANSACTIONS}, {{is, 1, 0, 0, 0, 0, 1}, PASHKURE_BAD_NAMES},
-        {{is, 1, 65537, 1, 0, 0, 0}, PASHKURE_BAD_NAMES}, {{is, 1, 1, 0, 0, 0, 1}, PASHKURE_BAD_NAME_BYTES}, {{is, 1, 1, 1025, 0, 0, 0}, PASHKURE_BAD_NAME_BYTES},
-        {{is, 1, 1, 1, 0, 0, 1}, PASHKURE_BAD_RESERVED}, {{is, 1, 1, 1, 0, 1, 0}, PASHKURE_BAD_RESERVED}, {{0, 0, 0, 0, 0, 0, 0}, PASHKURE_BAD_VERSION},
+    const struct {
+        pashkure_config config;
+        pashkure_result result;
+    } rows[] = {
+        {{is, 1, 1, 1, 0, 0, 0}, PASHKURE_OK},
+        {{is, 65536, 65536, 1024, 0, 0, 0}, PASHKURE_OK},
+        {{is + 1, 1, 1, 1, 0, 0, 0}, PASHKURE_OK},
+        {{is + 1000, 1, 1, 1, 0, 0, 0}, PASHKURE_BAD_VERSION},
+        {{is + 1000000, 1, 1, 1, 0, 0, 0}, PASHKURE_BAD_VERSION},
+        {{is - 1, 0, 0, 0, 0, 0, 1}, PASHKURE_BAD_VERSION},
+        {{is, 0, 0, 0, 0, 0, 1}, PASHKURE_BAD_TRANSACTIONS},
+        {{is, 65537, 1, 1, 0, 0, 0}, PASHKURE_BAD_TRANSACTIONS},
+        {{is, 1, 0, 0, 0, 0, 1}, PASHKURE_BAD_NAMES},
+        {{is, 1, 65537, 1, 0, 0, 0}, PASHKURE_BAD_NAMES},
+        {{is, 1, 1, 0, 0, 0, 1}, PASHKURE_BAD_NAME_BYTES},
+        {{is, 1, 1, 1025, 0, 0, 0}, PASHKURE_BAD_NAME_BYTES},
+        {{is, 1, 1, 1, 0, 0, 1}, PASHKURE_BAD_RESERVED},
+        {{is, 1, 1, 1, 0, 1, 0}, PASHKURE_BAD_RESERVED},
+        {{0, 0, 0, 0, 0, 0, 0}, PASHKURE_BAD_VERSION},
     };
     pashkure locks = PASHKURE_CLOSED, was;
     pashkure_config config = PASHKURE_CONFIG, zero;
@@ -146,7 +176,8 @@ TEST(refused_open) {
     pashkure_close(&locks);
 }
 
-TEST(transactions) {
+TEST(transactions)
+{
     pashkure locks = opened(3, 1);
     pashkure_key keys[3], none = {7, 7}, next;
     int seen[3] = {0, 0, 0};
@@ -165,7 +196,8 @@ TEST(transactions) {
     pashkure_close(&locks);
 }
 
-TEST(requests) {
+TEST(requests)
+{
     pashkure locks = opened(4, 4);
     pashkure_key a = begun(&locks), b = begun(&locks), owner = {7, 7};
     GIVES(pashkure_owner(&locks, "x", 1, &owner), PASHKURE_FREE);
@@ -188,13 +220,16 @@ TEST(requests) {
     pashkure_close(&locks);
 }
 
-TEST(order_of_waiters) {
+TEST(order_of_waiters)
+{
     pashkure locks = opened(4, 4);
     pashkure_key t[4];
     pashkure_wake wake = {{7, 7}, 7, 7};
-    for (int i = 0; i < 4; i++) t[i] = begun(&locks);
+    for (int i = 0; i < 4; i++)
+        t[i] = begun(&locks);
     GIVES(locks_name(&locks, t[3], "x"), PASHKURE_OK);
-    for (int i = 2; i >= 0; i--) GIVES(locks_name(&locks, t[i], "x"), PASHKURE_WAITS);
+    for (int i = 2; i >= 0; i--)
+        GIVES(locks_name(&locks, t[i], "x"), PASHKURE_WAITS);
     for (int i = 3; i >= 1; i--) {
         GIVES(pashkure_commit(&locks, t[i]), PASHKURE_OK);
         CHECK(pashkure_woken(&locks, 0, &wake) && is_same(wake.key, t[i - 1]) && wake.result == PASHKURE_OK);
@@ -206,18 +241,21 @@ TEST(order_of_waiters) {
     pashkure_close(&locks);
 }
 
-TEST(deadlock_by_names) {
+TEST(deadlock_by_names)
+{
     pashkure locks = opened(8, 8);
     pashkure_key t[4];
     pashkure_seen seen;
     const char *names[] = {"red", "green", "blue"};
-    for (int i = 0; i < 4; i++) t[i] = begun(&locks);
-    for (int i = 0; i < 3; i++) GIVES(locks_name(&locks, t[i], names[i]), PASHKURE_OK);
+    for (int i = 0; i < 4; i++)
+        t[i] = begun(&locks);
+    for (int i = 0; i < 3; i++)
+        GIVES(locks_name(&locks, t[i], names[i]), PASHKURE_OK);
     GIVES(locks_name(&locks, t[3], "red"), PASHKURE_WAITS);
     GIVES(locks_name(&locks, t[0], "green"), PASHKURE_WAITS);
     GIVES(locks_name(&locks, t[1], "blue"), PASHKURE_WAITS);
     CHECK(strcmp(walk(&locks, 3), "3:red>0:green>1:blue>0") == 0); /* ends at who works: 2 is PASHKURE_OK */
-    CHECK(strcmp(walk(&locks, 7), "7") == 0);                     /* PASHKURE_FREE */
+    CHECK(strcmp(walk(&locks, 7), "7") == 0);                      /* PASHKURE_FREE */
     CHECK(strcmp(walk(&locks, 4000000000u), "7") == 0);
     GIVES(locks_name(&locks, t[2], "red"), PASHKURE_DEADLOCK);
     CHECK(strcmp(walk(&locks, 2), "2:red>0:green>1:blue>.") == 0);
@@ -235,7 +273,8 @@ TEST(deadlock_by_names) {
     pashkure_close(&locks);
 }
 
-TEST(cancelled_wait) {
+TEST(cancelled_wait)
+{
     pashkure locks = opened(8, 8);
     pashkure_key a = begun(&locks), b = begun(&locks);
     pashkure_counts counts;
@@ -257,7 +296,8 @@ TEST(cancelled_wait) {
     pashkure_close(&locks);
 }
 
-TEST(behind_a_victim) {
+TEST(behind_a_victim)
+{
     pashkure locks = opened(8, 8);
     pashkure_key a = begun(&locks), b = begun(&locks);
     pashkure_seen seen;
@@ -276,7 +316,8 @@ TEST(behind_a_victim) {
 }
 
 /* An abort that was LATER comes due by a cancel too, once no victim is ahead any more. */
-TEST(cancelled_wait_of_who_aborts) {
+TEST(cancelled_wait_of_who_aborts)
+{
     pashkure locks = opened(8, 8);
     pashkure_key a = begun(&locks), b = begun(&locks), c = begun(&locks), d = begun(&locks);
     pashkure_seen seen;
@@ -298,7 +339,8 @@ TEST(cancelled_wait_of_who_aborts) {
     pashkure_close(&locks);
 }
 
-TEST(names) {
+TEST(names)
+{
     pashkure locks = opened(2, 2);
     pashkure_key a = begun(&locks), owner = {7, 7};
     const unsigned char name[3] = {0, 255, 0};
@@ -323,7 +365,8 @@ TEST(names) {
     pashkure_close(&locks);
 }
 
-TEST(moved_and_opened_again) {
+TEST(moved_and_opened_again)
+{
     pashkure locks = opened(2, 2), there = locks;
     pashkure_key a = begun(&there), again;
     GIVES(locks_name(&there, a, "x"), PASHKURE_OK);
@@ -337,7 +380,8 @@ TEST(moved_and_opened_again) {
 }
 
 /* Every request for memory is one of an open, each can be refused, and all is given back. */
-TEST(memory) {
+TEST(memory)
+{
     pashkure_config config = PASHKURE_CONFIG;
     pashkure locks = PASHKURE_CLOSED;
     unsigned long requests;
@@ -350,7 +394,8 @@ TEST(memory) {
         pashkure_key key = begun(&locks);
         sprintf(name, "n%d", i % 700);
         (void)!locks_name(&locks, key, name);
-        if (i % 5 == 0) (void)!pashkure_abort(&locks, key);
+        if (i % 5 == 0)
+            (void)!pashkure_abort(&locks, key);
     }
     CHECK(mallocs == requests && frees == 0);
     pashkure_close(&locks);
@@ -367,7 +412,8 @@ TEST(memory) {
 }
 
 /* What an open takes is at most what the header says, and nearly that. */
-TEST(bytes_of_an_open) {
+TEST(bytes_of_an_open)
+{
     static const uint32_t SIZES[][3] = {{1, 1, 1}, {1024, 4096, 64}, {65536, 65536, 64}, {1024, 65536, 64}, {65536, 4096, 8}, {64, 1024, 1024}};
     for (size_t i = 0; i < sizeof SIZES / sizeof *SIZES; i++) {
         pashkure locks = PASHKURE_CLOSED;
@@ -384,16 +430,32 @@ TEST(bytes_of_an_open) {
     }
 }
 
-TEST(messages) {
-    for (int result = 0; result < 96; result++) printf("%d %s\n", result, pashkure_message((pashkure_result)result));
+TEST(messages)
+{
+    for (int result = 0; result < 96; result++)
+        printf("%d %s\n", result, pashkure_message((pashkure_result)result));
 }
 
 static const struct test TESTS[] = {
-    ROW(version), ROW(closed_manager), ROW(refused_open), ROW(transactions), ROW(requests), ROW(order_of_waiters), ROW(deadlock_by_names), ROW(cancelled_wait),
-    ROW(behind_a_victim), ROW(cancelled_wait_of_who_aborts), ROW(names), ROW(moved_and_opened_again), ROW(memory), ROW(bytes_of_an_open), ROW(messages),
+    ROW(version),
+    ROW(closed_manager),
+    ROW(refused_open),
+    ROW(transactions),
+    ROW(requests),
+    ROW(order_of_waiters),
+    ROW(deadlock_by_names),
+    ROW(cancelled_wait),
+    ROW(behind_a_victim),
+    ROW(cancelled_wait_of_who_aborts),
+    ROW(names),
+    ROW(moved_and_opened_again),
+    ROW(memory),
+    ROW(bytes_of_an_open),
+    ROW(messages),
 };
 
-int main(int count, char **words) {
+int main(int count, char **words)
+{
     (void)count;
     return tested(TESTS, sizeof TESTS / sizeof *TESTS, words);
 }

@@ -21,62 +21,75 @@ static pashkure_locks *locks;
 static pashkure_key a, b, c, d, e, *const KEYS[] = {&a, &b, &c, &d, &e}, KEPT[12];
 static bool is_counting;
 static unsigned long requests, frees, bytes, refused; /* while `is_counting`. `refused`: this request for memory is refused, counted from 1 */
-static atomic_int carried, missed, timed; /* timed: how many sleeps with a time have begun */
-static int portion, largest; /* how many names the desk was given back since somebody had the mutex, and how many at most */
+static atomic_int carried, missed, timed;             /* timed: how many sleeps with a time have begun */
+static int portion, largest;                          /* how many names the desk was given back since somebody had the mutex, and how many at most */
 static atomic_bool is_late, is_signalled, has_time;
 static struct timespec untils[2]; /* of the last two sleeps with a time */
 
 /* A function in place of another one, which is __real_.. here. */
-#define WRAP(type, name, ...) type __real_##name(__VA_ARGS__); type __wrap_##name(__VA_ARGS__); type __wrap_##name(__VA_ARGS__)
+#define WRAP(type, name, ...)                                                                                                                        \
+    type __real_##name(__VA_ARGS__);                                                                                                                 \
+    type __wrap_##name(__VA_ARGS__);                                                                                                                 \
+    type __wrap_##name(__VA_ARGS__)
 
-WRAP(void *, malloc, size_t size) {
+WRAP(void *, malloc, size_t size)
+{
     bytes += is_counting ? size : 0;
     return is_counting && ++requests == refused ? NULL : __real_malloc(size);
 }
 
-WRAP(void *, calloc, size_t count, size_t size) {
+WRAP(void *, calloc, size_t count, size_t size)
+{
     bytes += is_counting ? count * size : 0;
     return is_counting && ++requests == refused ? NULL : __real_calloc(count, size);
 }
 
-WRAP(void, free, void *memory) {
+WRAP(void, free, void *memory)
+{
     frees += is_counting && memory != NULL;
     __real_free(memory);
 }
 
-WRAP(pashkure_result, pashkure_desk_cancel, pashkure_desk *desk, uint32_t slot) {
+WRAP(pashkure_result, pashkure_desk_cancel, pashkure_desk *desk, uint32_t slot)
+{
     pashkure_result told = __real_pashkure_desk_cancel(desk, slot);
     carried += told == PASHKURE_CARRIED;
     return told;
 }
 
-WRAP(pashkure_result, pashkure_desk_unlock, pashkure_desk *desk, pashkure_worker *worker, const void *name, size_t length) {
+WRAP(pashkure_result, pashkure_desk_unlock, pashkure_desk *desk, pashkure_worker *worker, const void *name, size_t length)
+{
     pashkure_result told = __real_pashkure_desk_unlock(desk, worker, name, length);
     portion += told == PASHKURE_OK;
     return told;
 }
 
-WRAP(int, pthread_mutex_unlock, pthread_mutex_t *mutex) {
+WRAP(int, pthread_mutex_unlock, pthread_mutex_t *mutex)
+{
     largest = portion > largest ? portion : largest;
     portion = 0;
     return __real_pthread_mutex_unlock(mutex);
 }
 
-WRAP(int, pthread_mutex_trylock, pthread_mutex_t *mutex) {
+WRAP(int, pthread_mutex_trylock, pthread_mutex_t *mutex)
+{
     int told = __real_pthread_mutex_trylock(mutex);
     missed += told != 0;
     return told;
 }
 
 /* A thread that is woken while `is_late` comes to the mutex only afterwards. */
-WRAP(int, pthread_cond_wait, pthread_cond_t *news, pthread_mutex_t *mutex) {
+WRAP(int, pthread_cond_wait, pthread_cond_t *news, pthread_mutex_t *mutex)
+{
     int told = __real_pthread_cond_wait(news, mutex);
-    while (is_late) (void)pthread_mutex_unlock(mutex), (void)sched_yield(), (void)pthread_mutex_lock(mutex);
+    while (is_late)
+        (void)pthread_mutex_unlock(mutex), (void)sched_yield(), (void)pthread_mutex_lock(mutex);
     return told;
 }
 
 /* While `has_time` no time is over: a thread is woken without a reason, as it may be. */
-WRAP(int, pthread_cond_timedwait, pthread_cond_t *news, pthread_mutex_t *mutex, const struct timespec *until) {
+WRAP(int, pthread_cond_timedwait, pthread_cond_t *news, pthread_mutex_t *mutex, const struct timespec *until)
+{
     timed++;
     int told = __real_pthread_cond_timedwait(news, mutex, until);
     untils[0] = untils[1];
@@ -84,13 +97,15 @@ WRAP(int, pthread_cond_timedwait, pthread_cond_t *news, pthread_mutex_t *mutex, 
     return told == ETIMEDOUT && has_time ? 0 : told;
 }
 
-static pashkure_key begun(void) {
+static pashkure_key begun(void)
+{
     pashkure_key key;
     GIVES(pashkure_locks_begin(locks, &key), PASHKURE_OK);
     return key;
 }
 
-static void opens(uint32_t transactions, uint32_t names) {
+static void opens(uint32_t transactions, uint32_t names)
+{
     pashkure_config config = PASHKURE_CONFIG;
     config.transactions = transactions;
     config.names = names;
@@ -99,25 +114,41 @@ static void opens(uint32_t transactions, uint32_t names) {
 }
 
 /* Opens a manager in which `live` transactions are begun, and the first one owns x, the second one y. */
-static void opened(uint32_t live, uint32_t names) {
+static void opened(uint32_t live, uint32_t names)
+{
     const pashkure_key none = {0, 0};
     opens(live + 12, names);
-    for (uint32_t i = 0; i < 5; i++) *KEYS[i] = i < live ? begun() : none;
-    if (live > 0) GIVES(pashkure_locks_lock(locks, a, "x", 1, PASHKURE_FOREVER), PASHKURE_OK);
-    if (live > 1) GIVES(pashkure_locks_lock(locks, b, "y", 1, PASHKURE_FOREVER), PASHKURE_OK);
+    for (uint32_t i = 0; i < 5; i++)
+        *KEYS[i] = i < live ? begun() : none;
+    if (live > 0)
+        GIVES(pashkure_locks_lock(locks, a, "x", 1, PASHKURE_FOREVER), PASHKURE_OK);
+    if (live > 1)
+        GIVES(pashkure_locks_lock(locks, b, "y", 1, PASHKURE_FOREVER), PASHKURE_OK);
 }
 
-static pashkure_result lock(pashkure_key key, const char *name, int64_t time) { return pashkure_locks_lock(locks, key, name, strlen(name), time); }
-static void interrupted(pashkure_key key) { GIVES(pashkure_locks_interrupt(locks, key), PASHKURE_OK); }
-static void ends(pashkure_key key) { GIVES(pashkure_locks_commit(locks, key), PASHKURE_OK); }
+static pashkure_result lock(pashkure_key key, const char *name, int64_t time)
+{
+    return pashkure_locks_lock(locks, key, name, strlen(name), time);
+}
+static void interrupted(pashkure_key key)
+{
+    GIVES(pashkure_locks_interrupt(locks, key), PASHKURE_OK);
+}
+static void ends(pashkure_key key)
+{
+    GIVES(pashkure_locks_commit(locks, key), PASHKURE_OK);
+}
 
 /* Ends those of `opened` that are live, and closes: none but these may be. */
-static void shut(void) {
-    for (size_t i = 0; i < 5; i++) (void)pashkure_locks_abort(locks, *KEYS[i]);
+static void shut(void)
+{
+    for (size_t i = 0; i < 5; i++)
+        (void)pashkure_locks_abort(locks, *KEYS[i]);
     GIVES(pashkure_locks_close(locks), PASHKURE_OK);
 }
 
-static pashkure_result state(pashkure_key key) {
+static pashkure_result state(pashkure_key key)
+{
     pashkure_seen seen;
     pashkure_result is;
     pashkure_locks_hold(locks);
@@ -126,7 +157,8 @@ static pashkure_result state(pashkure_key key) {
     return is;
 }
 
-static pashkure_counts totals(void) {
+static pashkure_counts totals(void)
+{
     pashkure_counts counts;
     pashkure_locks_hold(locks);
     pashkure_locks_totals(locks, &counts);
@@ -135,28 +167,43 @@ static pashkure_counts totals(void) {
 }
 
 /* A thread that locks one name. */
-struct sleeper { pthread_t thread; pashkure_key key; const char *name; int64_t time; pashkure_result result; };
+struct sleeper {
+    pthread_t thread;
+    pashkure_key key;
+    const char *name;
+    int64_t time;
+    pashkure_result result;
+};
 
-static void *sleeps(void *argument) {
+static void *sleeps(void *argument)
+{
     struct sleeper *my = argument;
     return my->result = lock(my->key, my->name, my->time), NULL;
 }
 
 /* Starts it. When this returns, it waits, and sleeps or is about to. */
-static void starts(struct sleeper *sleeper, pashkure_key key, const char *name, int64_t time) {
+static void starts(struct sleeper *sleeper, pashkure_key key, const char *name, int64_t time)
+{
     *sleeper = (struct sleeper){.key = key, .name = name, .time = time};
     CHECK(pthread_create(&sleeper->thread, NULL, sleeps, sleeper) == 0);
-    while (state(key) != PASHKURE_WAITS) sched_yield();
+    while (state(key) != PASHKURE_WAITS)
+        sched_yield();
 }
 
-static pashkure_result result_of(struct sleeper *sleeper) {
+static pashkure_result result_of(struct sleeper *sleeper)
+{
     CHECK(pthread_join(sleeper->thread, NULL) == 0);
     return sleeper->result;
 }
 
-struct note { int calls; pashkure_result result; pthread_t thread; };
+struct note {
+    int calls;
+    pashkure_result result;
+    pthread_t thread;
+};
 
-static void notes(void *context, pashkure_key key, pashkure_result result) {
+static void notes(void *context, pashkure_key key, pashkure_result result)
+{
     struct note *note = context;
     CHECK(state(key) != PASHKURE_WAITS); /* the mutex is free */
     note->calls++;
@@ -164,13 +211,18 @@ static void notes(void *context, pashkure_key key, pashkure_result result) {
     note->thread = pthread_self();
 }
 
-static pashkure_result ask(pashkure_key key, const char *name, struct note *note) {
+static pashkure_result ask(pashkure_key key, const char *name, struct note *note)
+{
     return pashkure_locks_ask(locks, key, name, strlen(name), notes, note);
 }
 
-static void handles(int number) { is_signalled = number != 0; }
+static void handles(int number)
+{
+    is_signalled = number != 0;
+}
 
-TEST(memory) {
+TEST(memory)
+{
     pashkure_config config = PASHKURE_CONFIG;
     pashkure core = PASHKURE_CLOSED;
     unsigned long wanted, of_core, of_opening;
@@ -209,7 +261,8 @@ TEST(memory) {
     GIVES(pashkure_locks_close(NULL), PASHKURE_OK);
 }
 
-TEST(refusals) {
+TEST(refusals)
+{
     opened(2, 2);
     GIVES(lock(b, "x", 0), PASHKURE_BUSY);
     GIVES(lock(b, "x", INT64_MIN), PASHKURE_BUSY);
@@ -220,9 +273,11 @@ TEST(refusals) {
     GIVES(lock(b, "z", LONG), PASHKURE_OK);
     GIVES(lock(a, "z", LONG), PASHKURE_NAMES_FULL);
     GIVES(pashkure_locks_unlock(locks, b, "x", 1), PASHKURE_NOT_OWNER);
-    for (int i = 0; i < 12; i++) KEPT[i] = begun();
+    for (int i = 0; i < 12; i++)
+        KEPT[i] = begun();
     GIVES(pashkure_locks_begin(locks, &c), PASHKURE_TRANSACTIONS_FULL);
-    for (int i = 0; i < 12; i++) ends(KEPT[i]);
+    for (int i = 0; i < 12; i++)
+        ends(KEPT[i]);
     ends(b);
     GIVES(pashkure_locks_close(locks), PASHKURE_IN_USE);
     GIVES(lock(a, "x", 0), PASHKURE_HELD);
@@ -233,7 +288,8 @@ TEST(refusals) {
     shut();
 }
 
-TEST(order_of_sleepers) {
+TEST(order_of_sleepers)
+{
     struct sleeper first, second, other;
     opened(4, 4);
     GIVES(lock(a, "z", 0), PASHKURE_OK);
@@ -251,9 +307,13 @@ TEST(order_of_sleepers) {
     shut();
 }
 
-static long long between(struct timespec from, struct timespec to) { return (to.tv_sec - from.tv_sec) * 1000000000ll + to.tv_nsec - from.tv_nsec; }
+static long long between(struct timespec from, struct timespec to)
+{
+    return (to.tv_sec - from.tv_sec) * 1000000000ll + to.tv_nsec - from.tv_nsec;
+}
 
-TEST(time_out) {
+TEST(time_out)
+{
     struct timespec from, to;
     struct sleeper sleeper;
     opened(3, 4);
@@ -271,7 +331,8 @@ TEST(time_out) {
 }
 
 /* The victim is b; a waits for it, and c and d wait behind a. */
-TEST(deadlock) {
+TEST(deadlock)
+{
     struct sleeper given, timed, both;
     opened(5, 8);
     has_time = true;
@@ -283,7 +344,8 @@ TEST(deadlock) {
     GIVES(lock(b, "z", 0), PASHKURE_MUST_ABORT);
     GIVES(pashkure_locks_commit(locks, b), PASHKURE_MUST_ABORT);
     has_time = false;
-    while (carried < 2) sched_yield(); /* the times are over */
+    while (carried < 2)
+        sched_yield(); /* the times are over */
     interrupted(d);
     interrupted(a);
     ends(e);
@@ -299,7 +361,8 @@ TEST(deadlock) {
 }
 
 /* A time that is over behind a victim, whose abort grants the name: nothing is left of that time then. */
-TEST(behind_a_victim) {
+TEST(behind_a_victim)
+{
     struct sleeper given, timed;
     int before = carried;
     opened(4, 8);
@@ -309,7 +372,8 @@ TEST(behind_a_victim) {
     starts(&given, a, "w", PASHKURE_FOREVER);
     GIVES(lock(d, "x", PASHKURE_FOREVER), PASHKURE_DEADLOCK);
     has_time = false;
-    while (carried == before) sched_yield();
+    while (carried == before)
+        sched_yield();
     GIVES(pashkure_locks_abort(locks, d), PASHKURE_OK);
     GIVES(result_of(&timed), PASHKURE_OK);
     GIVES(lock(c, "z", 0), PASHKURE_OK);
@@ -320,7 +384,8 @@ TEST(behind_a_victim) {
     shut();
 }
 
-TEST(interrupt) {
+TEST(interrupt)
+{
     struct sleeper sleeper;
     opened(2, 4);
     interrupted(a);
@@ -339,22 +404,26 @@ TEST(interrupt) {
     shut();
 }
 
-static void *locks_all(void *argument) {
+static void *locks_all(void *argument)
+{
     GIVES(pashkure_locks_lock_all(locks, c, argument, 2, LONG), PASHKURE_OK);
     return NULL;
 }
 
 /* The time is one for all: both waits end at the same one. */
-TEST(several_names) {
+TEST(several_names)
+{
     pashkure_request two[2] = {{"x", 1, PASHKURE_BUSY}, {"y", 1, PASHKURE_BUSY}};
     pashkure_request three[3] = {{"w", 1, PASHKURE_BUSY}, {"x", 1, PASHKURE_BUSY}, {"z", 1, PASHKURE_BUSY}};
     pthread_t thread;
     opened(4, 8);
     const int before = timed;
     CHECK(pthread_create(&thread, NULL, locks_all, two) == 0);
-    while (timed == before) sched_yield();
+    while (timed == before)
+        sched_yield();
     ends(a);
-    while (timed == before + 1) sched_yield();
+    while (timed == before + 1)
+        sched_yield();
     ends(b);
     CHECK(pthread_join(thread, NULL) == 0 && between(untils[0], untils[1]) == 0);
     GIVES(pashkure_locks_lock_all(locks, d, three, 3, SHORT), PASHKURE_TIMED_OUT);
@@ -368,16 +437,20 @@ TEST(several_names) {
     shut();
 }
 
-static void ends_itself(void *context, pashkure_key key, pashkure_result result) {
+static void ends_itself(void *context, pashkure_key key, pashkure_result result)
+{
     notes(context, key, result);
-    if (key.slot != KEPT[9].slot) GIVES(pashkure_locks_commit(locks, KEPT[9]), PASHKURE_WAITING); /* it is not told yet */
+    if (key.slot != KEPT[9].slot)
+        GIVES(pashkure_locks_commit(locks, KEPT[9]), PASHKURE_WAITING); /* it is not told yet */
     ends(key);
 }
 
-TEST(wake_calls) {
+TEST(wake_calls)
+{
     struct note told[10] = {{0}}, other = {0};
     opened(2, 16);
-    for (char name = '0'; name <= '9'; name++) GIVES(pashkure_locks_ask(locks, a, &name, 1, notes, &other), PASHKURE_OK);
+    for (char name = '0'; name <= '9'; name++)
+        GIVES(pashkure_locks_ask(locks, a, &name, 1, notes, &other), PASHKURE_OK);
     GIVES(ask(a, "x", &other), PASHKURE_HELD);
     GIVES(ask(b, "x", &other), PASHKURE_WAITS);
     GIVES(ask(b, "z", &told[0]), PASHKURE_WAITING);
@@ -390,12 +463,14 @@ TEST(wake_calls) {
         GIVES(pashkure_locks_ask(locks, KEPT[i], &name, 1, ends_itself, &told[i]), PASHKURE_WAITS);
     }
     ends(a);
-    for (int i = 0; i < 10; i++) CHECK(told[i].calls == 1 && told[i].result == PASHKURE_OK && pthread_equal(told[i].thread, pthread_self()));
+    for (int i = 0; i < 10; i++)
+        CHECK(told[i].calls == 1 && told[i].result == PASHKURE_OK && pthread_equal(told[i].thread, pthread_self()));
     CHECK(other.calls == 1);
     shut();
 }
 
-static void refuses_all(pashkure_key key) {
+static void refuses_all(pashkure_key key)
+{
     GIVES(lock(key, "z", 0), PASHKURE_WAITING);
     GIVES(ask(key, "z", NULL), PASHKURE_WAITING);
     GIVES(pashkure_locks_unlock(locks, key, "x", 1), PASHKURE_WAITING);
@@ -404,7 +479,8 @@ static void refuses_all(pashkure_key key) {
 }
 
 /* Of a thread that was given the name too, as long as it has not seen it. A signal is no news. */
-TEST(one_request_at_a_time) {
+TEST(one_request_at_a_time)
+{
     struct sleeper sleeper;
     struct sigaction action = {.sa_handler = handles};
     opened(2, 4);
@@ -412,7 +488,8 @@ TEST(one_request_at_a_time) {
     is_late = true;
     starts(&sleeper, b, "x", PASHKURE_FOREVER);
     CHECK(pthread_kill(sleeper.thread, SIGUSR1) == 0);
-    while (!is_signalled) sched_yield();
+    while (!is_signalled)
+        sched_yield();
     refuses_all(b);
     ends(a);
     CHECK(state(b) == PASHKURE_OK);
@@ -424,13 +501,15 @@ TEST(one_request_at_a_time) {
     shut();
 }
 
-static void *locks_x(void *argument) {
+static void *locks_x(void *argument)
+{
     (void)argument;
     GIVES(lock(a, "x", PASHKURE_FOREVER), PASHKURE_OK);
     return NULL;
 }
 
-TEST(hold) {
+TEST(hold)
+{
     pashkure_key owner;
     pashkure_seen seen;
     struct note told = {0};
@@ -438,7 +517,8 @@ TEST(hold) {
     char name[8];
     pthread_t thread;
     opened(0, 2);
-    for (int i = 0; i < 3; i++) ends(begun()); /* of which the desk knows nothing */
+    for (int i = 0; i < 3; i++)
+        ends(begun()); /* of which the desk knows nothing */
     b = begun(), a = begun();
     GIVES(lock(b, "y", 0), PASHKURE_OK);
     pashkure_locks_hold(locks);
@@ -447,7 +527,8 @@ TEST(hold) {
     GIVES(pashkure_locks_hold_all(locks), PASHKURE_OK);
     missed = 0;
     CHECK(pthread_create(&thread, NULL, locks_x, NULL) == 0);
-    while (missed < 1) sched_yield();
+    while (missed < 1)
+        sched_yield();
     GIVES(pashkure_locks_owner(locks, "x", 1, &owner), PASHKURE_FREE);
     GIVES(pashkure_locks_owner(locks, "y", 1, &owner), PASHKURE_OK);
     CHECK(owner.slot == b.slot && owner.generation == b.generation);
@@ -473,7 +554,8 @@ TEST(hold) {
 static const char *const WANTED[] = {"100", "2999"};
 static int halfway; /* how often one of these was handed over while the other was the ending transaction's still */
 
-static void looks(void *context, pashkure_key key, pashkure_result result) {
+static void looks(void *context, pashkure_key key, pashkure_result result)
+{
     const int mine = context == WANTED[1];
     pashkure_key owner, other;
     pashkure_locks_hold(locks);
@@ -485,7 +567,8 @@ static void looks(void *context, pashkure_key key, pashkure_result result) {
 }
 
 /* A transaction of 3,000 names ends, for which two others wait, and of which it gives no more than 256 back while it has the mutex. */
-static void ends_by_portions(pashkure_result (*end)(pashkure_locks *, pashkure_key)) {
+static void ends_by_portions(pashkure_result (*end)(pashkure_locks *, pashkure_key))
+{
     char name[16];
     halfway = largest = 0;
     opens(8, 3000);
@@ -504,19 +587,22 @@ static void ends_by_portions(pashkure_result (*end)(pashkure_locks *, pashkure_k
     GIVES(pashkure_locks_close(locks), PASHKURE_OK);
 }
 
-TEST(portions) {
+TEST(portions)
+{
     ends_by_portions(pashkure_locks_commit);
     ends_by_portions(pashkure_locks_abort);
 }
 
 /* Each slot is found, by whom it was left to. */
-TEST(slots) {
+TEST(slots)
+{
     enum { SLOTS = 200 };
     static pashkure_key keys[SLOTS];
     pashkure_key key;
     opens(SLOTS, 8);
     for (int round = 0; round < 3; round++) {
-        for (int i = 0; i < SLOTS; i++) ends(begun()), keys[i] = begun();
+        for (int i = 0; i < SLOTS; i++)
+            ends(begun()), keys[i] = begun();
         GIVES(pashkure_locks_begin(locks, &key), PASHKURE_TRANSACTIONS_FULL);
         for (int i = 0; i < SLOTS; i += 7) {
             ends(keys[i]);
@@ -525,33 +611,42 @@ TEST(slots) {
             keys[i] = key;
             GIVES(pashkure_locks_begin(locks, &key), PASHKURE_TRANSACTIONS_FULL);
         }
-        for (int i = 0; i < SLOTS; i++) ends(keys[i]);
+        for (int i = 0; i < SLOTS; i++)
+            ends(keys[i]);
     }
     GIVES(pashkure_locks_close(locks), PASHKURE_OK);
 }
 
 enum { MOST_THREADS = 64, MOST_NAMES = 1000 };
-static struct { int threads, names, rounds; } of;
+static struct {
+    int threads, names, rounds;
+} of;
 static int in_hands[MOST_NAMES]; /* plain: a name in two hands is a race */
 static _Atomic(pashkure_key) now[MOST_THREADS];
 
-static void posts(void *context, pashkure_key key, pashkure_result result) {
+static void posts(void *context, pashkure_key key, pashkure_result result)
+{
     CHECK(key.generation != 0);
     *(atomic_int *)context = (int)result;
 }
 
 /* Locks the name in one of four ways. */
-static pashkure_result locks_somehow(pashkure_key key, const int *name, unsigned how) {
+static pashkure_result locks_somehow(pashkure_key key, const int *name, unsigned how)
+{
     atomic_int mail = PASHKURE_WAITS;
     pashkure_result told;
-    if (how < 3) return pashkure_locks_lock(locks, key, name, sizeof *name, how == 0 ? PASHKURE_FOREVER : how == 1 ? 100000 : 0);
+    if (how < 3)
+        return pashkure_locks_lock(locks, key, name, sizeof *name, how == 0 ? PASHKURE_FOREVER : how == 1 ? 100000 : 0);
     told = pashkure_locks_ask(locks, key, name, sizeof *name, posts, &mail);
-    if (told != PASHKURE_WAITS) return told;
-    while (mail == PASHKURE_WAITS) sched_yield();
+    if (told != PASHKURE_WAITS)
+        return told;
+    while (mail == PASHKURE_WAITS)
+        sched_yield();
     return (pashkure_result)mail;
 }
 
-static void *works(void *argument) {
+static void *works(void *argument)
+{
     _Atomic(pashkure_key) *place = argument;
     unsigned random = (unsigned)(place - now) + 1;
     for (int round = 0; round < of.rounds; round++) {
@@ -563,7 +658,8 @@ static void *works(void *argument) {
         for (int i = 0; i < 3 && PASHKURE_OWNS(told); i++) {
             const int name = rand_r(&random) % of.names;
             told = locks_somehow(key, &name, (unsigned)rand_r(&random) % 4);
-            if (told == PASHKURE_OK) CHECK(in_hands[mine[count++] = name]++ == 0);
+            if (told == PASHKURE_OK)
+                CHECK(in_hands[mine[count++] = name]++ == 0);
             sched_yield();
         }
         CHECK(!PASHKURE_IS_REFUSAL(told));
@@ -571,28 +667,36 @@ static void *works(void *argument) {
             CHECK(--in_hands[mine[--count]] == 0);
             GIVES(pashkure_locks_unlock(locks, key, &mine[count], sizeof *mine), PASHKURE_OK);
         }
-        while (count > 0) CHECK(--in_hands[mine[--count]] == 0);
+        while (count > 0)
+            CHECK(--in_hands[mine[--count]] == 0);
         GIVES(PASHKURE_OWNS(told) ? pashkure_locks_commit(locks, key) : pashkure_locks_abort(locks, key), PASHKURE_OK);
     }
     return NULL;
 }
 
 /* No name is in two hands. */
-static void come(int count, int of_names, int of_rounds) {
+static void come(int count, int of_names, int of_rounds)
+{
     pthread_t threads[MOST_THREADS];
     pashkure_counts counts;
     of.threads = count, of.names = of_names, of.rounds = of_rounds;
     opens((uint32_t)count, MOST_NAMES);
-    for (int i = 0; i < count; i++) CHECK(pthread_create(&threads[i], NULL, works, (void *)&now[i]) == 0);
-    for (int i = 0; i < count; i++) CHECK(pthread_join(threads[i], NULL) == 0);
+    for (int i = 0; i < count; i++)
+        CHECK(pthread_create(&threads[i], NULL, works, (void *)&now[i]) == 0);
+    for (int i = 0; i < count; i++)
+        CHECK(pthread_join(threads[i], NULL) == 0);
     counts = totals();
     CHECK(counts.begun == (uint64_t)count * (uint64_t)of_rounds && counts.begun == counts.committed + counts.aborted);
     GIVES(pashkure_locks_close(locks), PASHKURE_OK);
 }
 
-TEST(crowd) { come(8, 8, 1000); }
+TEST(crowd)
+{
+    come(8, 8, 1000);
+}
 
-TEST(large_crowd) {
+TEST(large_crowd)
+{
     const char *rounds = getenv("ROUNDS");
     come(64, 1000, rounds == NULL ? 100 : atoi(rounds));
 }
@@ -604,7 +708,8 @@ enum { MANY = 32768 };
 #endif
 
 /* Far more names than the manager has room for, since nobody waits for one. */
-TEST(many_names) {
+TEST(many_names)
+{
     static pashkure_key keys[MANY];
     pashkure_config config = PASHKURE_CONFIG;
     config.transactions = MANY;
@@ -612,20 +717,37 @@ TEST(many_names) {
     config.buckets = 128 * MANY;
     GIVES(pashkure_locks_open(&locks, &config), PASHKURE_OK);
     for (uint32_t i = 0; i < 8 * MANY; i++) {
-        if (i % 8 == 0) keys[i / 8] = begun();
+        if (i % 8 == 0)
+            keys[i / 8] = begun();
         GIVES(pashkure_locks_lock(locks, keys[i / 8], &i, sizeof i, 0), PASHKURE_OK);
     }
     CHECK(totals().begun == MANY);
-    for (uint32_t i = 0; i < MANY; i++) ends(keys[i]);
+    for (uint32_t i = 0; i < MANY; i++)
+        ends(keys[i]);
     GIVES(pashkure_locks_close(locks), PASHKURE_OK);
 }
 
 static const struct test TESTS[] = {
-    ROW(memory), ROW(refusals), ROW(order_of_sleepers), ROW(time_out), ROW(deadlock), ROW(behind_a_victim), ROW(interrupt),
-    ROW(several_names), ROW(wake_calls), ROW(one_request_at_a_time), ROW(hold), ROW(portions), ROW(slots), ROW(crowd), ROW(large_crowd), ROW(many_names),
+    ROW(memory),
+    ROW(refusals),
+    ROW(order_of_sleepers),
+    ROW(time_out),
+    ROW(deadlock),
+    ROW(behind_a_victim),
+    ROW(interrupt),
+    ROW(several_names),
+    ROW(wake_calls),
+    ROW(one_request_at_a_time),
+    ROW(hold),
+    ROW(portions),
+    ROW(slots),
+    ROW(crowd),
+    ROW(large_crowd),
+    ROW(many_names),
 };
 
-int main(int count, char **words) {
+int main(int count, char **words)
+{
     (void)count;
     alarm(300);
     return tested(TESTS, sizeof TESTS / sizeof *TESTS, words);

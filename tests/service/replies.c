@@ -14,32 +14,42 @@ static int there;
 static const pashkure_remote_transaction first = {0, 1, 1};
 
 /* What the other end says. */
-static void say(const char *text) {
+static void say(const char *text)
+{
     while (*text != '\0') {
         ssize_t count = send(there, text, strlen(text), MSG_NOSIGNAL);
-        if (count < 0 && errno != EINTR) break;
+        if (count < 0 && errno != EINTR)
+            break;
         text += count < 0 ? 0 : count;
     }
 }
 
 /* A new connection, whose other end has said this; with an end behind it or not. */
-static void answered(const char *replies, bool is_end) {
+static void answered(const char *replies, bool is_end)
+{
     int pair[2];
     pashkure_remote_close(&here);
-    if (there >= 0) close(there);
-    if (socketpair(AF_UNIX, SOCK_STREAM, 0, pair) != 0) return;
+    if (there >= 0)
+        close(there);
+    if (socketpair(AF_UNIX, SOCK_STREAM, 0, pair) != 0)
+        return;
     here.socket = pair[0];
     here.is_open = true;
     here.opening = 1;
     there = pair[1];
     say(replies);
-    if (is_end) shutdown(there, SHUT_WR);
+    if (is_end)
+        shutdown(there, SHUT_WR);
 }
 
-static void replies(const char *text) { answered(text, false); }
+static void replies(const char *text)
+{
+    answered(text, false);
+}
 
 /* What the client sent. */
-static const char *all_sent(void) {
+static const char *all_sent(void)
+{
     static char bytes[8192];
     size_t length = 0;
     ssize_t count;
@@ -51,14 +61,20 @@ static const char *all_sent(void) {
     return bytes;
 }
 
-static bool sent(const char *wanted) { return strcmp(all_sent(), wanted) == 0; }
+static bool sent(const char *wanted)
+{
+    return strcmp(all_sent(), wanted) == 0;
+}
 
 /* What the other end reads, and what it says then. The last one has no request: it is said when all others are. */
-struct turn { const char *request, *reply; };
+struct turn {
+    const char *request, *reply;
+};
 
 static pthread_t other_end;
 
-static void *answer(void *argument) {
+static void *answer(void *argument)
+{
     const struct turn *turn = argument;
     char line[256];
     for (; turn->reply != NULL; turn++) {
@@ -70,7 +86,8 @@ static void *answer(void *argument) {
             else if (count == 0 || errno != EINTR)
                 break;
         }
-        if (length < wanted || (wanted > 0 && memcmp(line, turn->request, wanted) != 0)) break;
+        if (length < wanted || (wanted > 0 && memcmp(line, turn->request, wanted) != 0))
+            break;
         say(turn->reply);
     }
     shutdown(there, SHUT_WR);
@@ -78,7 +95,8 @@ static void *answer(void *argument) {
 }
 
 /* Gives what a lock says in this many milliseconds over a new connection, whose other end takes these turns and then ends. */
-static pashkure_remote_result after_turns(const struct turn *turns, unsigned milliseconds) {
+static pashkure_remote_result after_turns(const struct turn *turns, unsigned milliseconds)
+{
     pashkure_remote_result result;
     answered("", false);
     CHECK(pthread_create(&other_end, NULL, answer, (void *)turns) == 0);
@@ -94,22 +112,31 @@ static const struct {
     const char *sent, *reply;
     pashkure_remote_result result;
 } words[] = {
-    {pashkure_remote_ask, NULL, "lock 0.1 a\n", "granted\n", IS(OK)}, {pashkure_remote_ask, NULL, "lock 0.1 a\n", "held\n", IS(HELD)},
-    {pashkure_remote_ask, NULL, "lock 0.1 a\n", "waits 1.1\n", IS(WAITS)}, {pashkure_remote_ask, NULL, "lock 0.1 a\n", "deadlock 1.1\n", IS(DEADLOCK)},
-    {pashkure_remote_lock, NULL, "lock 0.1 a\n", "held\n", IS(HELD)}, {pashkure_remote_try_lock, NULL, "try 0.1 a\n", "granted\n", IS(OK)},
-    {pashkure_remote_try_lock, NULL, "try 0.1 a\n", "held\n", IS(HELD)}, {pashkure_remote_try_lock, NULL, "try 0.1 a\n", "busy 1.1\n", IS(BUSY)},
-    {pashkure_remote_unlock, NULL, "unlock 0.1 a\n", "unlocked\n", IS(OK)}, {NULL, pashkure_remote_commit, "commit 0.1\n", "committed\n", IS(OK)},
-    {NULL, pashkure_remote_abort, "abort 0.1\n", "aborted\n", IS(OK)}, {NULL, pashkure_remote_abort, "abort 0.1\n", "later\n", IS(LATER)},
-    {NULL, pashkure_remote_cancel, "cancel 0.1\n", "cancelled\n", IS(OK)}, {NULL, pashkure_remote_cancel, "cancel 0.1\n", "carried\n", IS(CARRIED)},
+    {pashkure_remote_ask, NULL, "lock 0.1 a\n", "granted\n", IS(OK)},
+    {pashkure_remote_ask, NULL, "lock 0.1 a\n", "held\n", IS(HELD)},
+    {pashkure_remote_ask, NULL, "lock 0.1 a\n", "waits 1.1\n", IS(WAITS)},
+    {pashkure_remote_ask, NULL, "lock 0.1 a\n", "deadlock 1.1\n", IS(DEADLOCK)},
+    {pashkure_remote_lock, NULL, "lock 0.1 a\n", "held\n", IS(HELD)},
+    {pashkure_remote_try_lock, NULL, "try 0.1 a\n", "granted\n", IS(OK)},
+    {pashkure_remote_try_lock, NULL, "try 0.1 a\n", "held\n", IS(HELD)},
+    {pashkure_remote_try_lock, NULL, "try 0.1 a\n", "busy 1.1\n", IS(BUSY)},
+    {pashkure_remote_unlock, NULL, "unlock 0.1 a\n", "unlocked\n", IS(OK)},
+    {NULL, pashkure_remote_commit, "commit 0.1\n", "committed\n", IS(OK)},
+    {NULL, pashkure_remote_abort, "abort 0.1\n", "aborted\n", IS(OK)},
+    {NULL, pashkure_remote_abort, "abort 0.1\n", "later\n", IS(LATER)},
+    {NULL, pashkure_remote_cancel, "cancel 0.1\n", "cancelled\n", IS(OK)},
+    {NULL, pashkure_remote_cancel, "cancel 0.1\n", "carried\n", IS(CARRIED)},
     {NULL, pashkure_remote_wait, "status 0.1\n", "active\n", IS(OK)},
 };
 #define WORDS (sizeof words / sizeof *words)
 
-static pashkure_remote_result asked(size_t row, pashkure_remote_transaction of) {
+static pashkure_remote_result asked(size_t row, pashkure_remote_transaction of)
+{
     return words[row].plain != NULL ? words[row].plain(&here, of) : words[row].named(&here, of, "a");
 }
 
-static void test_words(void) {
+static void test_words(void)
+{
     pashkure_remote_transaction begun;
     size_t row;
     replies("begun 65535.4294967295\n");
@@ -122,15 +149,30 @@ static void test_words(void) {
 }
 
 /* Their numbers are those of the library for a program of its own, and from 64 on the client's. */
-static void test_refusals(void) {
-    static const char *const refusals[85] = {[16] = "no-transaction", "must-abort", "waiting", "not-waiting", [21] = "name-too-long", "not-owner",
-        "transactions-full", "names-full", "labels-full", "counts-full", [65] = "of-another-time", [80] = "operator", "no-epoch", "not-deadlocked", "too-many",
+static void test_refusals(void)
+{
+    static const char *const refusals[85] = {[16] = "no-transaction",
+        "must-abort",
+        "waiting",
+        "not-waiting",
+        [21] = "name-too-long",
+        "not-owner",
+        "transactions-full",
+        "names-full",
+        "labels-full",
+        "counts-full",
+        [65] = "of-another-time",
+        [80] = "operator",
+        "no-epoch",
+        "not-deadlocked",
+        "too-many",
         "connections-full"};
     char line[64];
     int number;
     for (number = 0; number < 85; number++) {
         bool is_over = number == 65 || number == 84;
-        if (refusals[number] == NULL) continue;
+        if (refusals[number] == NULL)
+            continue;
         snprintf(line, sizeof line, "refused %s\ngranted\n", refusals[number]);
         replies(line);
         CHECK((int)pashkure_remote_lock(&here, first, "a") == number);
@@ -142,7 +184,8 @@ static void test_refusals(void) {
 }
 
 /* A key of before this opening, and one of nobody, are refused, whatever the request: nothing is sent. */
-static void test_other_openings(void) {
+static void test_other_openings(void)
+{
     static const char *const names[] = {"a", "b"};
     static const pashkure_remote_transaction others[] = {{0, 1, 2}, {0, 1, 0}, {0, 0, 0}};
     pashkure_remote_status status;
@@ -150,7 +193,8 @@ static void test_other_openings(void) {
     size_t place, row, other;
     replies("granted\n");
     for (other = 0; other < 3; other++) {
-        for (row = 0; row < WORDS; row++) GIVES(NO_TRANSACTION, asked(row, others[other]));
+        for (row = 0; row < WORDS; row++)
+            GIVES(NO_TRANSACTION, asked(row, others[other]));
         GIVES(NO_TRANSACTION, pashkure_remote_lock_all(&here, others[other], names, 2, 0, &place));
         GIVES(NO_TRANSACTION, pashkure_remote_status_of(&here, others[other], &status));
         GIVES(NO_TRANSACTION, pashkure_remote_holds(&here, others[other], NULL, NULL));
@@ -161,7 +205,8 @@ static void test_other_openings(void) {
     CHECK(sent("lock 0.1 a\n"));
 }
 
-static void test_names(void) {
+static void test_names(void)
+{
     static const char *const bad[] = {"", "a b", " a", "a\nabort 0.1", "a\r", "a\tb", "\x7f", "\x01"};
     char name[PASHKURE_REMOTE_NAME_BYTES + 2], line[PASHKURE_REMOTE_NAME_BYTES + 32];
     pashkure_remote_transaction nobody = first;
@@ -190,7 +235,8 @@ static void test_names(void) {
     CHECK(sent("lock 0.1 !~\xc3\xbc#\n"));
 }
 
-static void test_waits(void) {
+static void test_waits(void)
+{
     replies("waits 1.1\n* granted 2.1 b\n* aborted 3.1\n* granted 0.2 a\n* granted 0.1 a\n");
     GIVES(OK, pashkure_remote_lock(&here, first, "a"));
     replies("* granted 2.1 b\nwaits 1.1\n* aborted 0.1\n");
@@ -207,22 +253,30 @@ static void test_waits(void) {
 }
 
 /* Several names: where it stops, and what is sent for them, and for the rest after a grant. */
-static void test_several(void) {
+static void test_several(void)
+{
     static const char *const names[] = {"a", "b", "c"};
     static const struct {
         const char *replies, *rest;
         pashkure_remote_result result;
         size_t place;
     } rows[] = {
-        {"refused must-abort\n", "", IS(MUST_ABORT), 0}, {"granted\n", "", IS(OK), 3}, /* these two are no replies behind `begun K` */
-        {"deadlock 2 1.1\n", "", IS(DEADLOCK), 2}, {"refused 1 names-full\n", "", IS(NAMES_FULL), 1},
+        {"refused must-abort\n", "", IS(MUST_ABORT), 0},
+        {"granted\n", "", IS(OK), 3}, /* these two are no replies behind `begun K` */
+        {"deadlock 2 1.1\n", "", IS(DEADLOCK), 2},
+        {"refused 1 names-full\n", "", IS(NAMES_FULL), 1},
         {"waits 0 1.1\n* granted 0.1 a\nwaits 0 1.1\n* granted 0.1 b\nheld\n", "lock 0.1 b c\nlock 0.1 c\n", IS(OK), 3},
         {"waits 1 1.1\n* granted 0.1 b\nwaits 1.1\n* granted 0.1 c\n", "lock 0.1 c\n", IS(OK), 3},
         {"waits 1 1.1\n* granted 0.1 b\nrefused names-full\n", "lock 0.1 c\n", IS(NAMES_FULL), 2},
         {"waits 1 1.1\n* granted 0.1 b\ndeadlock 1.1\n", "lock 0.1 c\n", IS(DEADLOCK), 2},
-        {"waits 1 1.1\n* aborted 0.1\n", "", IS(ABORTED), 1}, {"waits 3 1.1\n", "", IS(PROTOCOL), 0}, {"waits 1.1\n", "", IS(PROTOCOL), 0},
-        {"refused 3 names-full\n", "", IS(PROTOCOL), 0}, {"refused 1x names-full\n", "", IS(PROTOCOL), 0}, {"refused 1\n", "", IS(PROTOCOL), 0},
-        {"held\n", "", IS(PROTOCOL), 0}, {"malformed\n", "", IS(PROTOCOL), 0},
+        {"waits 1 1.1\n* aborted 0.1\n", "", IS(ABORTED), 1},
+        {"waits 3 1.1\n", "", IS(PROTOCOL), 0},
+        {"waits 1.1\n", "", IS(PROTOCOL), 0},
+        {"refused 3 names-full\n", "", IS(PROTOCOL), 0},
+        {"refused 1x names-full\n", "", IS(PROTOCOL), 0},
+        {"refused 1\n", "", IS(PROTOCOL), 0},
+        {"held\n", "", IS(PROTOCOL), 0},
+        {"malformed\n", "", IS(PROTOCOL), 0},
     };
     pashkure_remote_transaction begun;
     char line[256];
@@ -235,7 +289,8 @@ static void test_several(void) {
         CHECK(is_fault || (place == rows[row].place && sent(line)));
         snprintf(line, sizeof line, "begun 0.1 %s", row == 1 ? "\n" : rows[row].replies);
         replies(line);
-        if (row > 0) CHECK(pashkure_remote_begin_with(&here, &begun, names, 3, PASHKURE_REMOTE_FOREVER, &place) == rows[row].result);
+        if (row > 0)
+            CHECK(pashkure_remote_begin_with(&here, &begun, names, 3, PASHKURE_REMOTE_FOREVER, &place) == rows[row].result);
         snprintf(line, sizeof line, "begin a b c\n%s", rows[row].rest);
         CHECK(is_fault || row == 0 || (place == rows[row].place && same(begun, KEY(0, 1)) && sent(line)));
     }
@@ -249,12 +304,14 @@ static void test_several(void) {
 }
 
 /* More names than a line has: the rest of them are asked for in further lines, none of which is too long. */
-static void test_many_names(void) {
+static void test_many_names(void)
+{
     static char text[500][8], *line;
     const char *names[500];
     pashkure_remote_transaction begun;
     size_t place;
-    for (place = 0; place < 500; names[place] = text[place], place++) snprintf(text[place], sizeof *text, "%06d", (int)place);
+    for (place = 0; place < 500; names[place] = text[place], place++)
+        snprintf(text[place], sizeof *text, "%06d", (int)place);
     replies("begun 0.1\ngranted\ngranted\nwaits 6 1.1\n* granted 0.1 x\ngranted\n");
     GIVES(OK, pashkure_remote_begin_with(&here, &begun, names, 500, 1, &place));
     CHECK(place == 500);
@@ -263,7 +320,8 @@ static void test_many_names(void) {
     CHECK(place == 5);
 }
 
-static void test_reads(void) {
+static void test_reads(void)
+{
     static const pashkure_remote_mode modes[] = {IS(IS_ACTIVE), IS(IS_WAITING), IS(IS_WAITING), IS(IS_DEADLOCKED)};
     pashkure_remote_transaction owner;
     pashkure_remote_status status;
@@ -304,22 +362,31 @@ static void test_reads(void) {
     GIVES(PROTOCOL, pashkure_remote_fence_of(&here, first, "a", &fence));
 }
 
-static void add_name(void *context, const char *name) { strcat(strcat(context, name), " "); }
-
-static void add_wait(void *context, const pashkure_remote_wait_for *wait) {
-    sprintf((char *)context + strlen(context), "%d-%s-%d%s ", (int)wait->waiter.slot, wait->name, (int)wait->holder.slot, wait->holder.opening ? "" : "?");
+static void add_name(void *context, const char *name)
+{
+    strcat(strcat(context, name), " ");
 }
 
-static void add_live(void *context, const pashkure_remote_live *live) {
-    sprintf((char *)context + strlen(context), "%d:%d:%d%s ", (int)live->transaction.slot, (int)live->connection, (int)live->status.mode, live->status.name);
+static void add_wait(void *context, const pashkure_remote_wait_for *wait)
+{
+    sprintf((char *)context + strlen(context), "%d-%s-%d%s ", (int)wait->waiter.slot, wait->name, (int)wait->holder.slot,
+        wait->holder.opening ? "" : "?");
 }
 
-static void test_lists(void) {
+static void add_live(void *context, const pashkure_remote_live *live)
+{
+    sprintf((char *)context + strlen(context), "%d:%d:%d%s ", (int)live->transaction.slot, (int)live->connection, (int)live->status.mode,
+        live->status.name);
+}
+
+static void test_lists(void)
+{
     char text[256] = "", told[256] = "";
     pashkure_remote_on_deadlock(&here, add_wait, told);
-    replies("holds\nholds a b c\n* granted 5.1 x\ngraph 0\ngraph 2\n* 0.1 a 1.1\n* 1.1 b 2.1\n* deadlock 3.1 x 4.1 y\ncycle 0.1 a 1.1 b\n"
-            "* granted 6.1 x\ncycle 0.1 a 1.1 b 2.1 c ..\nlist 0\nlist 3\n* 0.1 1 active 7 later\n* 1.1 - waiting a 0.1 aborting later\n* 2.1 3 deadlock b 0.1 of-a-later-version-and-longer-than-any-word\n"
-            "* deadlock 5.1 a ..\nfree\n");
+    replies(
+        "holds\nholds a b c\n* granted 5.1 x\ngraph 0\ngraph 2\n* 0.1 a 1.1\n* 1.1 b 2.1\n* deadlock 3.1 x 4.1 y\ncycle 0.1 a 1.1 b\n"
+        "* granted 6.1 x\ncycle 0.1 a 1.1 b 2.1 c ..\nlist 0\nlist 3\n* 0.1 1 active 7 later\n* 1.1 - waiting a 0.1 aborting later\n* 2.1 3 deadlock b 0.1 of-a-later-version-and-longer-than-any-word\n"
+        "* deadlock 5.1 a ..\nfree\n");
     GIVES(OK, pashkure_remote_holds(&here, first, add_name, text));
     GIVES(OK, pashkure_remote_holds(&here, first, add_name, text));
     GIVES(OK, pashkure_remote_graph(&here, add_wait, text));
@@ -347,11 +414,12 @@ static void test_lists(void) {
     GIVES(PROTOCOL, pashkure_remote_list(&here, add_live, text));
 }
 
-static void test_bad_replies(void) {
-    static const char *const bad[] = {"\n", "hello\n", "committed\n", "granted again\n", "waits\n", "waits 1.1 2.1\n", "refused\n",
-        "refused a b\n", "* moved 0.1 a\n", "* granted 1.1\n", "* aborted 1.1 a\n", "*\n", "waits 1.1\ngranted\n",
-        "waits 123456789012345678901234567890\n", "waits 1\n", "waits 1.\n", "waits 1.4294967296\n", "waits 1.1x\n", "waits 1.-1\n", "malformed\n",
-        "* deadlock 1.1 a 1.1\n", "* deadlock 1.1\n", "* deadlock 1.1 a .. b\n", "refused 0 names-full\n"};
+static void test_bad_replies(void)
+{
+    static const char *const bad[] = {"\n", "hello\n", "committed\n", "granted again\n", "waits\n", "waits 1.1 2.1\n", "refused\n", "refused a b\n",
+        "* moved 0.1 a\n", "* granted 1.1\n", "* aborted 1.1 a\n", "*\n", "waits 1.1\ngranted\n", "waits 123456789012345678901234567890\n",
+        "waits 1\n", "waits 1.\n", "waits 1.4294967296\n", "waits 1.1x\n", "waits 1.-1\n", "malformed\n", "* deadlock 1.1 a 1.1\n",
+        "* deadlock 1.1\n", "* deadlock 1.1 a .. b\n", "refused 0 names-full\n"};
     size_t place;
     for (place = 0; place < sizeof bad / sizeof *bad; place++) {
         replies(bad[place]);
@@ -365,7 +433,8 @@ static void test_bad_replies(void) {
 }
 
 /* A connection that was never opened, and one that was closed. */
-static void test_closed(void) {
+static void test_closed(void)
+{
     pashkure_remote_connection zero;
     pashkure_remote_transaction begun;
     pashkure_remote_counts counts;
@@ -383,7 +452,8 @@ static void test_closed(void) {
     GIVES(NOT_OPEN, pashkure_remote_wait(&here, first));
 }
 
-static void test_time_outs(void) {
+static void test_time_outs(void)
+{
     replies("waits 1.1\n");
     shutdown(there, SHUT_RD);
     GIVES(LOST, pashkure_remote_lock_for(&here, first, "a", 1)); /* and SIGPIPE does not end the program */
@@ -397,8 +467,12 @@ static void test_time_outs(void) {
 }
 
 /* The time of a lock is up: the wait is taken back, again and again while it may not be. Each turn of the other end comes after a request. */
-static void test_taken_back(void) {
-#define LOCKED {"lock 0.1 a\n", "waits 1.1\n"}
+static void test_taken_back(void)
+{
+#define LOCKED                                                                                                                                       \
+    {                                                                                                                                                \
+        "lock 0.1 a\n", "waits 1.1\n"                                                                                                                \
+    }
     static const struct turn back[] = {LOCKED, {"cancel 0.1\n", "carried\n"}, {"cancel 0.1\n", "carried\n"}, {"cancel 0.1\n", "cancelled\n"}, {0, 0}};
     static const struct turn granted[] = {LOCKED, {"cancel 0.1\n", "* granted 0.1 a\nrefused not-waiting\n"}, {0, 0}};
     static const struct turn late[] = {LOCKED, {"cancel 0.1\n", "carried\n* granted 2.1 b\n* granted 0.1 a\n"}, {0, 0}};
@@ -412,20 +486,23 @@ static void test_taken_back(void) {
 }
 
 /* A lock that may take more than 2 to the 31 milliseconds. (What poll is told the test of the program reads in a log.) */
-static void test_long_time(void) {
+static void test_long_time(void)
+{
     static const struct turn granted[] = {LOCKED, {NULL, "* granted 0.1 a\n"}, {0, 0}};
     pashkure_remote_reply_within(&here, PASHKURE_REMOTE_FOREVER);
     GIVES(OK, after_turns(granted, PASHKURE_REMOTE_FOREVER - 1));
 }
 
 /* A reply to a lock that may take no time is due a second later. (What poll is told the test of the program reads in a log.) */
-static void test_short_time(void) {
+static void test_short_time(void)
+{
     static const struct turn granted[] = {{"lock 0.1 a\n", "waits 1.1\n* granted 0.1 a\n"}, {0, 0}};
     GIVES(OK, after_turns(granted, 0));
 }
 
 /* A service that says nothing for the time of a reply is asked what became of the wait, and is lost if it does not answer. */
-static void test_looks(void) {
+static void test_looks(void)
+{
     static const struct turn granted[] = {LOCKED, {"status 0.1\n", "waiting a 1.1\n"}, {"status 0.1\n", "* granted 0.1 a\nactive\n"}, {0, 0}};
     static const struct turn over[] = {LOCKED, {"status 0.1\n", "* aborted 0.1\nrefused no-transaction\n"}, {0, 0}};
     pashkure_remote_reply_within(&here, 200);
@@ -445,11 +522,13 @@ static void test_looks(void) {
 }
 
 /* A message for each result, each another one, which names what there is none left of. */
-static void test_messages(void) {
+static void test_messages(void)
+{
     static const char *const parts[86] = {"done", "owned the name before", "waits for the name", "cycle", "another transaction owns", "as soon as",
-        "cannot be taken back", "nobody owns", "aborted while", "in time", [16] = "has ended", "to be aborted", "the transaction waits", "does not wait",
-        [21] = "longer", "does not own", "transactions", "names", "wait", "counted", [32] = "is closed", "is open", [64] = "lost", "does not understand",
-        "no connection", "control", [80] = "operator", "epoch", "no deadlock", "more names", "clients", "restart the service first"};
+        "cannot be taken back", "nobody owns", "aborted while", "in time", [16] = "has ended", "to be aborted", "the transaction waits",
+        "does not wait", [21] = "longer", "does not own", "transactions", "names", "wait", "counted", [32] = "is closed", "is open", [64] = "lost",
+        "does not understand", "no connection", "control", [80] = "operator", "epoch", "no deadlock", "more names", "clients",
+        "restart the service first"};
     int place, other;
     for (place = 0; place < 86; place++) {
         const char *message = pashkure_remote_message((pashkure_remote_result)place);
@@ -459,10 +538,11 @@ static void test_messages(void) {
     }
 }
 
-int main(int count, char *words[]) {
+int main(int count, char *words[])
+{
     static const struct test tests[] = {TEST(words), TEST(refusals), TEST(other_openings), TEST(names), TEST(waits), TEST(several), TEST(many_names),
-        TEST(reads), TEST(lists), TEST(bad_replies), TEST(closed), TEST(time_outs), TEST(taken_back), TEST(long_time), TEST(short_time),
-        TEST(looks), TEST(messages)};
+        TEST(reads), TEST(lists), TEST(bad_replies), TEST(closed), TEST(time_outs), TEST(taken_back), TEST(long_time), TEST(short_time), TEST(looks),
+        TEST(messages)};
     there = -1;
     return tested(tests, sizeof tests / sizeof *tests, count > 1 ? words[1] : "");
 }

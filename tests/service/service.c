@@ -15,16 +15,21 @@ typedef pashkure_remote_transaction key;
 static const char *path;
 static pashkure_remote_connection one, two;
 
-static key begun(pashkure_remote_connection *connection) {
+static key begun(pashkure_remote_connection *connection)
+{
     key transaction;
     GIVES(OK, pashkure_remote_begin(connection, &transaction));
     return transaction;
 }
 
-static void count_wait(void *context, const pashkure_remote_wait_for *wait) { *(int *)context += wait->name[0] != '\0'; }
+static void count_wait(void *context, const pashkure_remote_wait_for *wait)
+{
+    *(int *)context += wait->name[0] != '\0';
+}
 
 /* Connects the operator, whose socket is at the service's path and `.admin`. */
-static void open_operator(pashkure_remote_connection *operator) {
+static void open_operator(pashkure_remote_connection *operator)
+{
     char admin[PATH_MAX];
     memset(operator, 0, sizeof *operator);
     snprintf(admin, sizeof admin, "%s.admin", path);
@@ -32,7 +37,8 @@ static void open_operator(pashkure_remote_connection *operator) {
 }
 
 /* Rests until this many transactions wait, however long that takes. */
-static void until_waiting(int wanted) {
+static void until_waiting(int wanted)
+{
     pashkure_remote_connection operator;
     int waiting = -1;
     open_operator(&operator);
@@ -53,13 +59,15 @@ struct asker {
     pashkure_remote_result result;
 };
 
-static void *ask(void *argument) {
+static void *ask(void *argument)
+{
     struct asker *asker = argument;
     asker->result = pashkure_remote_lock(&asker->connection, asker->transaction, asker->name);
     return NULL;
 }
 
-static void start(struct asker *asker, const char *name) {
+static void start(struct asker *asker, const char *name)
+{
     asker->name = name;
     memset(&asker->connection, 0, sizeof asker->connection);
     GIVES(OK, pashkure_remote_open(&asker->connection, path));
@@ -67,12 +75,14 @@ static void start(struct asker *asker, const char *name) {
     CHECK(pthread_create(&asker->thread, NULL, ask, asker) == 0);
 }
 
-static pashkure_remote_result joined(struct asker *asker) {
+static pashkure_remote_result joined(struct asker *asker)
+{
     pthread_join(asker->thread, NULL);
     return asker->result;
 }
 
-static void test_two(void) {
+static void test_two(void)
+{
     key first = begun(&one), second = begun(&two);
     struct asker third;
     GIVES(NO_TRANSACTION, pashkure_remote_lock(&one, second, "a")); /* it is the other connection's */
@@ -90,7 +100,8 @@ static void test_two(void) {
     pashkure_remote_close(&third.connection);
 }
 
-static void test_deadlock(void) {
+static void test_deadlock(void)
+{
     key first = begun(&one), second = begun(&two);
     pashkure_remote_status status;
     GIVES(OK, pashkure_remote_lock(&one, first, "a"));
@@ -109,7 +120,8 @@ static void test_deadlock(void) {
 }
 
 /* Several transactions of one connection: what one is granted while another one asks is not lost. */
-static void test_one_connection(void) {
+static void test_one_connection(void)
+{
     key first = begun(&one), second = begun(&one), third = begun(&one);
     GIVES(OK, pashkure_remote_lock(&one, first, "a"));
     GIVES(WAITS, pashkure_remote_ask(&one, second, "a"));
@@ -125,7 +137,8 @@ static void test_one_connection(void) {
 }
 
 /* Who hangs up gives back what it owned. */
-static void test_hang_up(void) {
+static void test_hang_up(void)
+{
     pashkure_remote_connection third = PASHKURE_REMOTE_CLOSED;
     key transaction;
     struct asker asker;
@@ -147,20 +160,23 @@ struct names {
     bool is_ordered;
 };
 
-static void take_name(void *context, const char *name) {
+static void take_name(void *context, const char *name)
+{
     struct names *names = context;
     names->is_ordered = names->is_ordered && strcmp(names->last, name) < 0;
     strcpy(names->last, name);
     names->count++;
 }
 
-static void test_limits(void) {
+static void test_limits(void)
+{
     key transactions[64], more;
     struct names names = {0, "", true};
     pashkure_remote_connection operator;
     char name[PASHKURE_REMOTE_NAME_BYTES + 1];
     int place;
-    for (place = 0; place < 64; place++) transactions[place] = begun(&one);
+    for (place = 0; place < 64; place++)
+        transactions[place] = begun(&one);
     GIVES(TRANSACTIONS_FULL, pashkure_remote_begin(&one, &more));
     for (place = 0; place < 2048; place++) {
         snprintf(name, sizeof name, "%048d/%015d", place, place * 7 % 2048);
@@ -173,7 +189,8 @@ static void test_limits(void) {
     GIVES(OK, pashkure_remote_holds(&operator, (key){transactions[0].slot, transactions[0].generation, operator.opening}, take_name, &names));
     pashkure_remote_close(&operator);
     CHECK(names.count == 2048 && names.is_ordered);
-    for (place = 0; place < 64; place++) GIVES(OK, pashkure_remote_commit(&one, transactions[place]));
+    for (place = 0; place < 64; place++)
+        GIVES(OK, pashkure_remote_commit(&one, transactions[place]));
     more = begun(&one);
     memset(name, 'n', sizeof name);
     name[65] = '\0';
@@ -184,7 +201,8 @@ static void test_limits(void) {
 }
 
 /* Several names at once: what is owned by another one is waited for, then the rest is asked for. */
-static void test_several(void) {
+static void test_several(void)
+{
     static const char *const names[] = {"a", "b", "a", "c"}, *const back[] = {"c", "a"};
     key first, second, owner;
     pashkure_remote_fence early, late;
@@ -215,17 +233,21 @@ static void test_several(void) {
     CHECK(same(owner, second));
 }
 
-static void find_victim(void *context, const pashkure_remote_wait_for *wait) {
+static void find_victim(void *context, const pashkure_remote_wait_for *wait)
+{
     key *victim = context;
-    if (victim->opening == 0) *victim = wait->waiter;
+    if (victim->opening == 0)
+        *victim = wait->waiter;
 }
 
-static void count_live(void *context, const pashkure_remote_live *live) {
+static void count_live(void *context, const pashkure_remote_live *live)
+{
     *(int *)context += live->connection > 0 && live->status.mode != PASHKURE_REMOTE_IS_ACTIVE;
 }
 
 /* The operator is told of a deadlock, and ends it for a client that does not. */
-static void test_operator(void) {
+static void test_operator(void)
+{
     pashkure_remote_connection operator;
     pashkure_remote_counts counts;
     key first = begun(&one), second = begun(&two), victim = {0, 0, 0};
@@ -244,9 +266,9 @@ static void test_operator(void) {
     GIVES(OK, pashkure_remote_abort(&operator, victim));
     GIVES(OK, pashkure_remote_wait(&one, first));
     GIVES(NO_TRANSACTION, pashkure_remote_abort(&two, second));
-    GIVES(OK, pashkure_remote_counts_of(&operator, &counts));
+    GIVES(OK, pashkure_remote_counts_of(&operator, & counts));
     CHECK(counts.begun == 2 && counts.aborted == 1 && counts.deadlocks == 1 && counts.waits == 1 && counts.labels_left > counts.events);
-    GIVES(OPERATOR, pashkure_remote_begin(&operator, &victim));
+    GIVES(OPERATOR, pashkure_remote_begin(&operator, & victim));
     GIVES(OPERATOR, pashkure_remote_list(&one, count_live, &live));
     GIVES(OPERATOR, pashkure_remote_graph(&one, count_wait, &live));
     GIVES(OPERATOR, pashkure_remote_counts_of(&one, &counts));
@@ -254,7 +276,8 @@ static void test_operator(void) {
 }
 
 /* Waits for a lock for ever, and is told when the service ends, which whoever reads its line ends. Whoever writes one has started it anew. */
-static void test_killed(void) {
+static void test_killed(void)
+{
     key first = begun(&one), second = begun(&one), again;
     GIVES(OK, pashkure_remote_lock(&one, first, "w"));
     GIVES(WAITS, pashkure_remote_ask(&one, second, "w"));
@@ -262,7 +285,8 @@ static void test_killed(void) {
     fflush(stdout);
     GIVES(LOST, pashkure_remote_wait(&one, second));
     GIVES(LOST, pashkure_remote_lock(&one, first, "w"));
-    while (getchar() != '\n' && !feof(stdin)) continue;
+    while (getchar() != '\n' && !feof(stdin))
+        continue;
     GIVES(OK, pashkure_remote_open(&one, path));
     GIVES(IN_USE, pashkure_remote_open(&one, path));
     again = begun(&one);
@@ -272,7 +296,8 @@ static void test_killed(void) {
 }
 
 /* The service was started for two clients. */
-static void test_full(void) {
+static void test_full(void)
+{
     pashkure_remote_connection third = PASHKURE_REMOTE_CLOSED;
     key transaction;
     GIVES(CONNECTIONS_FULL, pashkure_remote_open(&third, path));
@@ -280,13 +305,15 @@ static void test_full(void) {
 }
 
 /* A program that this one starts does not have the connection. */
-static void test_started_program(void) {
+static void test_started_program(void)
+{
     char command[64];
     snprintf(command, sizeof command, "[ ! -e /proc/self/fd/%d ]", one.socket);
     CHECK(system(command) == 0);
 }
 
-static void test_paths(void) {
+static void test_paths(void)
+{
     pashkure_remote_connection none = PASHKURE_REMOTE_CLOSED;
     char long_path[200];
     memset(long_path, 'p', sizeof long_path);
@@ -299,7 +326,8 @@ static void test_paths(void) {
     GIVES(NOT_OPEN, pashkure_remote_totals(&none, &(pashkure_remote_counts){0}));
 }
 
-int main(int count, char *words[]) {
+int main(int count, char *words[])
+{
     static const struct test tests[] = {TEST(two), TEST(deadlock), TEST(one_connection), TEST(hang_up), TEST(limits), TEST(several), TEST(operator),
         TEST(killed), TEST(full), TEST(started_program), TEST(paths)};
     int status;
