@@ -57,6 +57,18 @@ pub fn calls<N: Name, A: Ledger, V: Ledger, B: Ledger, R: Wait + Abort>(
     is_told(rt, on_shared(rt, table, pass, call), reply);
 }
 
+/// Ends the test unless the board shows the pass this label of a process.
+fn peeks<N: Name, A: Ledger, V: Ledger, B: Ledger, R: Wait + Abort>(
+    rt: &R,
+    table: &SharedTable<N, A, V, B>,
+    pass: &mut Pass<N, A, V, B>,
+    (process, counter, of): (u32, u64, u32),
+) {
+    assert!(rt; process < table.processes());
+    let label = Some(table.peek(pass, process));
+    same(rt, label, Label::new(counter, of));
+}
+
 impl Step {
     /// Makes the step. Ends the test if something else comes of it. A look at the board has no handle, so it may not wait.
     pub fn make<N: Name, A: Ledger, V: Ledger, B: Ledger, R: Wait + Abort>(
@@ -74,11 +86,8 @@ impl Step {
                 wakes(rt, alloc, table, pass, (line, reply, woken));
             }
             Step::Peeks(process, counter, of) => {
-                assert!(rt; process < table.processes());
-                for pass in [other, pass] {
-                    let label = Some(table.peek(pass, process));
-                    same(rt, label, Label::new(counter, of));
-                }
+                peeks(rt, table, other, (process, counter, of));
+                peeks(rt, table, pass, (process, counter, of));
             }
             Step::Scans(hints) => {
                 for from in 0..3usize {
