@@ -186,7 +186,7 @@ class Proofs(Checkout):
 
     def test_library(self) -> None:
         """It is that of the proved build, and of no other sources. What it writes, test_library tries."""
-        self.gives(2, "", "mmdetect: usage: mmdetect library [DIR]\n", "", "library", self.work, "b")
+        self.gives(2, "", "mmdetect: usage: mmdetect library [DIR [LIBDIR]]\n", "", "library", self.work, "b", "c")
         self.gives(126, "", PROVE_FIRST, "", "library", self.work)
         self.proved()
         made = read(f"{self.top}/crates/pashkure/out/libpashkure.a")

@@ -207,10 +207,13 @@ class Linked(LibraryCase):
 
     def test_pkg_config(self) -> None:
         wants("pkg-config")
-        env = {**os.environ, "PKG_CONFIG_PATH": f"{self.top}/lib/pkgconfig"}
-        told = self.passes(run("pkg-config", "--cflags", "--libs", "pashkure", env=env))
-        places = [os.path.normpath(word[2:]) for word in told.out.decode().split() if word[:2] in ("-I", "-L")]
-        self.assertEqual(places, [f"{self.top}/include", f"{self.top}/lib"])
+        other = self.path("usr")
+        self.ends(run(f"{TOP}/mmdetect", "library", other, "lib/x86_64-linux-gnu"), 0, "", f"mmdetect: the C library is in {other}\n")
+        for top, lib in (other, "lib/x86_64-linux-gnu"), (self.top, "lib"):
+            env = {**os.environ, "PKG_CONFIG_PATH": f"{top}/{lib}/pkgconfig"}
+            told = self.passes(run("pkg-config", "--cflags", "--libs", "pashkure", env=env))
+            places = [os.path.normpath(word[2:]) for word in told.out.decode().split() if word[:2] in ("-I", "-L")]
+            self.assertEqual(places, [f"{top}/include", f"{top}/{lib}"])
         self.ends(run("pkg-config", "--modversion", "pashkure", env=env), 0, "0.2.0\n")
 
     def test_folder_by_a_relative_path(self) -> None:
